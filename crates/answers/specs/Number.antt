@@ -1,0 +1,31 @@
+-- "The answer list": the number of each answer, and what a refusal returns.
+-- Assumes nothing.
+use Prim.Native.Nat.{ℕ}
+use Rattle.answers.specs.declared.Answer.{Answer}
+use Rattle.answers.specs.declared.Answer.the-variants as answer
+use Rattle.answers.specs.declared.Prepared.{Prepared}
+use Rattle.answers.specs.declared.Shown.{Shown}
+
+abbrev pub numberOf : Answer → ℕ
+numberOf answer.Done = 0
+numberOf answer.CodeLength = 1
+numberOf answer.Token = 2
+numberOf answer.SectionCount = 3
+numberOf answer.Kind = 4
+numberOf answer.Standing = 5
+numberOf answer.Limit = 6
+numberOf answer.TableRoom = 7
+numberOf answer.Table = 8
+numberOf answer.Range = 9
+numberOf answer.NoSection = 10
+numberOf answer.Sort = 11
+numberOf answer.General = 12
+numberOf answer.TextRoom = 13
+numberOf answer.Line = 14
+
+-- "On a refusal every returned number but the answer and the place is 0."
+abbrev pub refusedPrepared : Answer → ℕ → Prepared
+refusedPrepared a at = record { answer = a; place = at; words = 0 }
+
+abbrev pub refusedShown : Answer → Shown
+refusedShown a = record { answer = a; length = 0; colour = 0; section = 0 }

@@ -1,0 +1,60 @@
+// What a call answers: the answer list, and the results of preparing and of showing.
+ghost use mathlib.Core.Path.{_≡_};
+ghost use Rattle.answers.specs.Number.{numberOf};
+
+// The answer list of document 01, in its order. `numberOf` in specs/ gives each its number.
+pub enum Answer {
+    Done,
+    CodeLength,
+    Token,
+    SectionCount,
+    Kind,
+    Standing,
+    Limit,
+    TableRoom,
+    Table,
+    Range,
+    NoSection,
+    Sort,
+    General,
+    TextRoom,
+    Line,
+}
+
+// What preparing returns. On a refusal every number but the answer and the place is 0.
+pub struct Prepared {
+    pub answer: Answer,
+    pub place: u32,
+    pub words: u32,
+}
+
+// What showing returns. On a refusal every number but the answer is 0.
+pub struct Shown {
+    pub answer: Answer,
+    pub length: u32,
+    pub colour: u16,
+    pub section: u16,
+}
+
+// The number of an answer in the answer list.
+pub fn number(a: Answer) -> u16
+    ensures { λ r. ⌜ r ≡ numberOf a ⌝ }
+{
+    match a {
+        Answer::Done => 0,
+        Answer::CodeLength => 1,
+        Answer::Token => 2,
+        Answer::SectionCount => 3,
+        Answer::Kind => 4,
+        Answer::Standing => 5,
+        Answer::Limit => 6,
+        Answer::TableRoom => 7,
+        Answer::Table => 8,
+        Answer::Range => 9,
+        Answer::NoSection => 10,
+        Answer::Sort => 11,
+        Answer::General => 12,
+        Answer::TextRoom => 13,
+        Answer::Line => 14,
+    }
+}

@@ -1,0 +1,4 @@
+pub mod Year
+pub mod Date
+pub mod Clock
+pub mod Names

@@ -1,0 +1,1 @@
+// Days and times: the definitions stand in specs/, their laws in proofs/.

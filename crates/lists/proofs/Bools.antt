@@ -1,0 +1,79 @@
+-- Tests and their facts: conjunctions, cases of a test, and tests over a list.
+-- Assumes nothing.
+use mathlib.Core.Path.{_≡_, refl}
+use mathlib.Core.Bool.{Bool, true, false, cond, not, _&&_, _||_, true≢false}
+use mathlib.Core.List.{List, [], _∷_, _++_}
+use lib.Dec.{T}
+use Rattle.lists.specs.Lists.{every, any}
+
+pub and-left : (a b : Bool) → T (a && b) → T a
+and-left true b t = tt
+and-left false b t = t
+
+pub and-right : (a b : Bool) → T (a && b) → T b
+and-right true b t = t
+and-right false b t = absurd t
+
+pub and-in : (a b : Bool) → T a → T b → T (a && b)
+and-in true b t u = u
+and-in false b t u = t
+
+pub cond-left : (a b : Bool) → T (cond a b false) → T a
+cond-left true b t = tt
+cond-left false b t = t
+
+pub cond-right : (a b : Bool) → T (cond a b false) → T b
+cond-right true b t = t
+cond-right false b t = absurd t
+
+pub or-false : (a b : Bool) → a || b ≡ false → (a ≡ false) × (b ≡ false)
+or-false true b e = absurd (true≢false e)
+or-false false b e = (refl, e)
+
+pub T-true : (b : Bool) → T b → b ≡ true
+T-true true t = refl
+T-true false t = absurd t
+
+pub true-T : {b : Bool} → b ≡ true → T b
+true-T {b} e = rw e tt
+
+pub not-false : (b : Bool) → not b ≡ false → b ≡ true
+not-false true e = refl
+not-false false e = absurd (true≢false e)
+
+-- a case for each way that a test goes
+pub by-cases {ℓ} : {P : Type ℓ} (b : Bool) → (b ≡ true → P) → (b ≡ false → P) → P
+by-cases true f g = f refl
+by-cases false f g = g refl
+
+-- a property of both branches is one of the whole
+pub cond-both {ℓ} : {A : Type ℓ} (P : A → Type 0) (b : Bool) {x y : A} → P x → P y → P (cond b x y)
+cond-both P true p q = p
+cond-both P false p q = q
+
+-- a property of a branching value, where each branch knows how its test went
+pub cond-case {ℓ} : {A : Type ℓ} (P : A → Type 0) (b : Bool) {x y : A} → (b ≡ true → P x) → (b ≡ false → P y) → P (cond b x y)
+cond-case P true f g = f refl
+cond-case P false f g = g refl
+
+module _ {A : Type 0} (f : A → Bool) where
+  pub every-head : (x : A) (xs : List A) → T (every f (x ∷ xs)) → T (f x)
+  unfolding every
+  every-head x xs t = cond-left (f x) (every f xs) t
+
+  pub every-tail : (x : A) (xs : List A) → T (every f (x ∷ xs)) → T (every f xs)
+  unfolding every
+  every-tail x xs t = cond-right (f x) (every f xs) t
+
+  pub every-cons : (x : A) (xs : List A) → T (f x) → T (every f xs) → T (every f (x ∷ xs))
+  unfolding every
+  every-cons x xs t u = and-cond (f x) t
+    where
+      and-cond : (b : Bool) → T b → T (cond b (every f xs) false)
+      and-cond true t = u
+      and-cond false t = t
+
+  pub every-append : (xs ys : List A) → T (every f xs) → T (every f ys) → T (every f (xs ++ ys))
+  unfolding every
+  every-append [] ys t u = u
+  every-append (x ∷ xs) ys t u = every-cons x (xs ++ ys) (every-head x xs t) (every-append xs ys (every-tail x xs t) u)
