@@ -22,10 +22,10 @@ module _ {A : Type 0} where
   count f [] = 0
   count f (x ∷ xs) = let r = count f xs in cond (f x) (suc r) r
 
-  -- the place of the first element that fails, where one does; the list begins at place k
-  unfoldable pub firstFrom : ℕ → (A → Bool) → List A → Option ℕ
-  firstFrom k f [] = none
-  firstFrom k f (x ∷ xs) = let r = firstFrom (suc k) f xs in cond (f x) r (some k)
+  -- the place of the first element that fails a test of place and element, where one does; the list begins at place k
+  unfoldable pub firstFailing : (ℕ → A → Bool) → ℕ → List A → Option ℕ
+  firstFailing f k [] = none
+  firstFailing f k (x ∷ xs) = let r = firstFailing f (suc k) xs in cond (f k x) r (some k)
 
   unfoldable pub isEmpty : List A → Bool
   isEmpty [] = true

@@ -1,0 +1,11 @@
+pub mod Tokens
+pub mod Items
+pub mod Kinds
+pub mod Where
+pub mod Limits
+pub mod Accept
+pub mod WellFormed
+pub mod Choice
+pub mod Minus
+pub mod Text
+pub mod Reading

@@ -1,0 +1,49 @@
+-- "Limits (6)": "20 integer places, 15 decimal places, 5 percents, 5 dividing commas, condition numbers of 9 digits before and
+-- 6 after the point, elapsed runs of 9."
+-- Assumes nothing.
+use Prim.Native.Nat.{ℕ}
+use mathlib.Core.Bool.{Bool, true, _&&_}
+use mathlib.Core.List.{List}
+use mathlib.Core.Option.{Option, none, some}
+use lib.ListN.{length}
+use lib.Dec.{leb}
+use Rattle.lists.specs.Lists.{every, count}
+use Rattle.formats.specs.Tokens.{Written, Elapsed}
+use Rattle.formats.specs.Items.{Item, literal, blank, fill, place, point, percent, general, at, year, month, day, hour, minute, second, part, elapsed, half, Section, isPercent, integerPlaces, decimalPlaces}
+use Rattle.formats.specs.Kinds.{Parts, sectionOf}
+
+unfoldable pub elapsedShort : Item → Bool
+elapsedShort (elapsed e n) = leb n 9
+elapsedShort (literal u) = true
+elapsedShort (blank u) = true
+elapsedShort (fill u) = true
+elapsedShort (place p) = true
+elapsedShort point = true
+elapsedShort percent = true
+elapsedShort general = true
+elapsedShort at = true
+elapsedShort (year n) = true
+elapsedShort (month n) = true
+elapsedShort (day n) = true
+elapsedShort (hour n) = true
+elapsedShort (minute n) = true
+elapsedShort (second n) = true
+elapsedShort (part n) = true
+elapsedShort (half h) = true
+
+-- the limits on a section, whether a code or a table gives it
+unfoldable pub sectionWithin : Section → Bool
+sectionWithin s =
+    leb (integerPlaces (s .items)) 20
+    && leb (decimalPlaces (s .items)) 15
+    && leb (count isPercent (s .items)) 5
+    && leb (s .thousands) 5
+    && every elapsedShort (s .items)
+
+-- the limits on a condition's digits, as written
+unfoldable pub writtenWithin : Option Written → Bool
+writtenWithin none = true
+writtenWithin (some w) = leb (length (w .whole)) 9 && leb (length (w .decimals)) 6
+
+unfoldable pub withinLimits : Parts → Bool
+withinLimits p = writtenWithin (p .condition) && sectionWithin (sectionOf p)

@@ -1,0 +1,158 @@
+-- "A reading of an accepted code, or of a table that passes, takes a value and the text room's length. It gives the first of
+-- showing's refusals after 8 that applies, or 0 with text, colour and section."
+-- Assumes nothing.
+use Prim.Native.Nat.{ℕ, zero}
+use mathlib.Core.Bool.{Bool, true, false, cond, not, _&&_, _||_}
+use mathlib.Core.List.{List, [], _∷_, _++_}
+use lib.ListN.{length}
+use lib.Dec.{leb, eqb}
+use lib.IntN.{natAbs}
+use Rattle.answers.specs.declared.Answer.{Answer}
+use Rattle.answers.specs.declared.Answer.the-variants as answer
+use Rattle.values.specs.declared.Number.{Number}
+use Rattle.values.specs.declared.Day.{Day}
+use Rattle.values.specs.declared.Millisecond.{Millisecond}
+use Rattle.values.specs.declared.Value.{Value}
+use Rattle.values.specs.declared.Value.the-variants as value
+use Rattle.values.specs.declared.Ask.{Ask}
+use Rattle.values.specs.Ranges.{inRange}
+use Rattle.lists.specs.Lists.{any, count}
+use Rattle.figures.specs.Rounding.{Magnitude, scaled, rounded}
+use Rattle.figures.specs.General.{generalRounded, generalTooWide, generalUnits}
+use Rattle.calendar.specs.Date.{dateOf}
+use Rattle.calendar.specs.Clock.{clockOf, sinceDayZero}
+use Rattle.formats.specs.Items.{Section, Kind, literalKind, generalKind, numberKind, textKind, dateKind, sameKind, kindOf, isPercent, isHalf, integerPlaces, decimalPlaces}
+use Rattle.formats.specs.Choice.{Exact, numberExact, instantExact, Choice, nothing, chosen, Reason, choose, counted, TextChoice, itself, textIn, chooseText}
+use Rattle.formats.specs.Minus.{Sign, isOwn, firstHasCondition, exceptionA, signFor, signUnits}
+use Rattle.formats.specs.Text.{Context, sectionUnits}
+use Rattle.formats.specs.Accept.{Accepted, sections, refusal, accept}
+
+pub data Reading : Type 0 where
+  refused : Answer → Reading
+  shown : List ℕ → ℕ → ℕ → Reading
+
+-- 13: "the text is longer than the room"
+unfoldable pub within : ℕ → List ℕ → ℕ → ℕ → Reading
+within room text colour section = cond (leb (length text) room) (shown text colour section) (refused answer.TextRoom)
+
+-- 11: "Number sections and General refuse instants; date-time refuses numbers (11). Literal sections take both." A text
+-- section is chosen only where N = 0: "a number appears as General wherever `@` stands; an instant is 11".
+unfoldable pub takesNumber : Kind → Bool
+takesNumber literalKind = true
+takesNumber generalKind = true
+takesNumber numberKind = true
+takesNumber textKind = true
+takesNumber dateKind = false
+
+unfoldable pub takesInstant : Kind → Bool
+takesInstant literalKind = true
+takesInstant generalKind = false
+takesInstant numberKind = false
+takesInstant textKind = false
+takesInstant dateKind = true
+
+-- General is shown of a number: by a General section, and by a text section
+unfoldable pub showsGeneral : Kind → Bool
+showsGeneral k = sameKind k generalKind || sameKind k textKind
+
+-- the rounded number of a number section: the exact scaled number to its decimals
+unfoldable pub sectionRounded : Section → Number → ℕ
+sectionRounded s x =
+    rounded (scaled (natAbs (x .coefficient)) (x .scale) (count isPercent (s .items)) (s .thousands)) (decimalPlaces (s .items))
+
+-- the rounded number of General
+unfoldable pub standingRounded : Number → ℕ
+standingRounded x = generalRounded ((numberExact x) .size)
+
+-- what a section's items show of a number
+unfoldable pub numberContext : Section → Number → Context
+numberContext s x =
+    record {
+      figures = sectionRounded s x;
+      grouped = s .grouped;
+      integerPlaces = integerPlaces (s .items);
+      standing = generalUnits (standingRounded x);
+      date = dateOf 0;
+      clock = clockOf 0;
+      twelve = false;
+      elapsed = 0;
+    }
+
+-- what they show of an instant
+unfoldable pub instantContext : Section → Day → Millisecond → Context
+instantContext s d m =
+    record {
+      figures = 0;
+      grouped = false;
+      integerPlaces = 0;
+      standing = [];
+      date = dateOf (d .0);
+      clock = clockOf (m .0);
+      twelve = any isHalf (s .items);
+      elapsed = sinceDayZero (d .0) (m .0);
+    }
+
+-- what they show of a text: "General there stands for the text"
+unfoldable pub textContext : List ℕ → Context
+textContext text =
+    record {
+      figures = 0;
+      grouped = false;
+      integerPlaces = 0;
+      standing = text;
+      date = dateOf 0;
+      clock = clockOf 0;
+      twelve = false;
+      elapsed = 0;
+    }
+
+-- "it shows places or General and these round to zero"
+unfoldable pub showsNought : Section → Number → Bool
+showsNought s x =
+    sameKind (kindOf s) numberKind && eqb (sectionRounded s x) 0
+    || showsGeneral (kindOf s) && eqb (standingRounded x) 0
+
+-- the added minus of a number that went to section i for this reason
+unfoldable pub numberSign : List Section → ℕ → Section → Reason → Number → Sign
+numberSign ss i s why x =
+    signFor (numberExact x) s (exceptionA (counted ss) i (isOwn why) (firstHasCondition ss)) (showsNought s x)
+
+unfoldable pub numberUnits : List Section → ℕ → Section → Reason → Number → List ℕ
+numberUnits ss i s why x = signUnits (numberSign ss i s why x) ++ sectionUnits (numberContext s x) (s .items)
+
+-- 10, 11, 12, 13 of a number
+unfoldable pub readNumber : List Section → Number → ℕ → Choice → Reading
+readNumber ss x room nothing = refused answer.NoSection
+readNumber ss x room (chosen i s why) =
+    cond (not (takesNumber (kindOf s))) (refused answer.Sort)
+    (cond (showsGeneral (kindOf s) && generalTooWide ((numberExact x) .size)) (refused answer.General)
+    (within room (numberUnits ss i s why x) (s .colour) i))
+
+-- 10, 11, 13 of an instant, which is never below 0
+unfoldable pub readInstant : Day → Millisecond → ℕ → Choice → Reading
+readInstant d m room nothing = refused answer.NoSection
+readInstant d m room (chosen i s why) =
+    cond (not (takesInstant (kindOf s))) (refused answer.Sort)
+    (within room (sectionUnits (instantContext s d m) (s .items)) (s .colour) i)
+
+-- 13 of a text: "with no such section the text itself is shown, section 4, colour 0"
+unfoldable pub readText : List ℕ → ℕ → TextChoice → Reading
+readText text room itself = within room text 0 4
+readText text room (textIn i s) = within room (sectionUnits (textContext text) (s .items)) (s .colour) i
+
+unfoldable pub readValue : List Section → Value → List ℕ → ℕ → Reading
+readValue ss (value.Number x) text room = readNumber ss x room (choose ss (numberExact x))
+readValue ss (value.Instant d m) text room = readInstant d m room (choose ss (instantExact d m))
+readValue ss value.Text text room = readText text room (chooseText ss)
+
+-- the reading of sections; 9: "the value is out of range"
+unfoldable pub reading : List Section → Ask → List ℕ → ℕ → Reading
+reading ss ask text room = cond (inRange (ask .value) text) (readValue ss (ask .value) text room) (refused answer.Range)
+
+-- the reading of a code: a refused code gives its refusal
+unfoldable pub readAccepted : Accepted → Ask → List ℕ → ℕ → Reading
+readAccepted (refusal a k) ask text room = refused a
+readAccepted (sections ss) ask text room = reading ss ask text room
+
+unfoldable pub codeReading : List ℕ → Ask → List ℕ → ℕ → Reading
+codeReading code ask text room = readAccepted (accept code) ask text room

@@ -1,0 +1,125 @@
+-- "Figures" and "Days": the text of each item, and of a section.
+-- Assumes nothing.
+use Prim.Native.Nat.{ℕ, zero, suc, _+_, _-_, _*_, _/_, _%_, _^_}
+use mathlib.Core.Bool.{Bool, true, false, cond, not, _&&_}
+use mathlib.Core.List.{List, [], _∷_, _++_}
+use lib.Dec.{leb, ltb, eqb}
+use Rattle.figures.specs.Digits.{digit, digitUnit, digitUnits, numeral}
+use Rattle.calendar.specs.Date.{Date}
+use Rattle.calendar.specs.Clock.{Clock, twelveHour, afternoon, elapsedHours, elapsedMinutes, elapsedSeconds}
+use Rattle.calendar.specs.Names.{units, monthName, weekdayName, shortName, firstLetter}
+use Rattle.formats.specs.Tokens.{Place, zeroPlace, hashPlace, spacePlace, Elapsed, hours, minutes, seconds, HalfDay, short, long}
+use Rattle.formats.specs.Items.{Item, literal, blank, fill, place, point, percent, general, at, year, month, day, hour, minute, second, part, elapsed, half, isPlace}
+
+-- all that the items of a section show
+pub record Context : Type 0 where
+  pub figures : ℕ
+  pub grouped : Bool
+  pub integerPlaces : ℕ
+  pub standing : List ℕ
+  pub date : Date
+  pub clock : Clock
+  pub twelve : Bool
+  pub elapsed : ℕ
+
+-- A digit of the rounded number n, a count of 10^-15, is told by its power of ten and 15: 15 is the last integer digit's.
+-- "An insignificant integer zero has no nonzero integer digit before it, an insignificant decimal zero no nonzero digit after it."
+unfoldable pub insignificant : ℕ → ℕ → Bool
+insignificant n q = cond (leb 15 q) (eqb (n / 10 ^ q) 0) (eqb (n % 10 ^ suc q) 0)
+
+-- "An insignificant zero shows 0 under `0`, nothing under `#`, a space under `?`."
+unfoldable pub idleUnits : Place → List ℕ
+idleUnits zeroPlace = 48 ∷ []
+idleUnits hashPlace = []
+idleUnits spacePlace = 32 ∷ []
+
+-- the digit of 10^3, 10^6 and so on
+unfoldable pub endsGroup : ℕ → Bool
+endsGroup q = ltb 15 q && eqb ((q - 15) % 3) 0
+
+-- "the digit or 0 [..] is followed by a comma, such a space by a space"
+unfoldable pub withSeparator : List ℕ → List ℕ
+withSeparator [] = []
+withSeparator (u ∷ us) = u ∷ cond (eqb u 32) 32 44 ∷ us
+
+-- what a place shows of the digit q
+unfoldable pub figureUnits : ℕ → Bool → Place → ℕ → List ℕ
+figureUnits n grouped p q =
+    let us = cond (insignificant n q) (idleUnits p) (digitUnit (digit n q) ∷ []) in
+    cond (grouped && endsGroup q) (withSeparator us) us
+
+-- the significant digits from q + count - 1 down to q
+unfoldable pub extraUnits : ℕ → Bool → ℕ → ℕ → List ℕ
+extraUnits n grouped q zero = []
+extraUnits n grouped q (suc count) = figureUnits n grouped hashPlace (q + count) ++ extraUnits n grouped q count
+
+-- "Integer digits beyond the places go in at the first integer place, or before the point if there is none."
+unfoldable pub placeUnits : Context → Place → ℕ → List ℕ
+placeUnits c p q =
+    cond (ltb 0 (c .integerPlaces) && eqb (suc q) (15 + c .integerPlaces)) (extraUnits (c .figures) (c .grouped) (suc q) (39 - q)) []
+    ++ figureUnits (c .figures) (c .grouped) p q
+
+-- "The point always shows."
+unfoldable pub pointUnits : Context → List ℕ
+pointUnits c = cond (eqb (c .integerPlaces) 0) (extraUnits (c .figures) (c .grouped) 15 25) [] ++ (46 ∷ [])
+
+unfoldable pub yearUnits : ℕ → ℕ → List ℕ
+yearUnits n y = cond (eqb n 2) (numeral 2 (y % 100)) (numeral 4 y)
+
+-- a month or a day: one or two digits, the short name, the name, and for months the first letter
+unfoldable pub namedUnits : ℕ → ℕ → List ℕ → List ℕ
+namedUnits n number name =
+    cond (leb n 2) (numeral n number)
+    (cond (eqb n 3) (shortName name)
+    (cond (eqb n 4) name (firstLetter name)))
+
+-- "A half-day mark sets a 12-hour clock"
+unfoldable pub hourShown : Bool → ℕ → ℕ
+hourShown twelve h = cond twelve (twelveHour h) h
+
+-- "a part of a second and shows its point": times are cut
+unfoldable pub partUnits : ℕ → ℕ → List ℕ
+partUnits n thousandth = 46 ∷ digitUnits n (thousandth / 10 ^ (3 - n))
+
+unfoldable pub elapsedCount : Elapsed → ℕ → ℕ
+elapsedCount hours total = elapsedHours total
+elapsedCount minutes total = elapsedMinutes total
+elapsedCount seconds total = elapsedSeconds total
+
+unfoldable pub halfUnits : HalfDay → Bool → List ℕ
+halfUnits short true = units "P"
+halfUnits short false = units "A"
+halfUnits long true = units "PM"
+halfUnits long false = units "AM"
+
+-- an item's text; q tells the digit of a place
+unfoldable pub itemUnits : Context → ℕ → Item → List ℕ
+itemUnits c q (literal u) = u ∷ []
+itemUnits c q (blank u) = 32 ∷ []
+itemUnits c q (fill u) = []
+itemUnits c q (place p) = placeUnits c p q
+itemUnits c q point = pointUnits c
+itemUnits c q percent = units "%"
+itemUnits c q general = c .standing
+itemUnits c q at = c .standing
+itemUnits c q (year n) = yearUnits n (c .date .year)
+itemUnits c q (month n) = namedUnits n (c .date .month) (monthName (c .date .month))
+itemUnits c q (day n) = namedUnits n (c .date .dayOfMonth) (weekdayName (c .date .weekday))
+itemUnits c q (hour n) = numeral n (hourShown (c .twelve) (c .clock .hour))
+itemUnits c q (minute n) = numeral n (c .clock .minute)
+itemUnits c q (second n) = numeral n (c .clock .second)
+itemUnits c q (part n) = partUnits n (c .clock .thousandth)
+itemUnits c q (elapsed e n) = numeral n (elapsedCount e (c .elapsed))
+itemUnits c q (half h) = halfUnits h (afternoon (c .clock .hour))
+
+-- the digit after an item: each place has the next lower power
+unfoldable pub digitAfter : ℕ → Item → ℕ
+digitAfter q i = cond (isPlace i) (q - 1) q
+
+unfoldable pub itemsUnits : Context → ℕ → List Item → List ℕ
+itemsUnits c q [] = []
+itemsUnits c q (i ∷ is) = itemUnits c q i ++ itemsUnits c (digitAfter q i) is
+
+-- the items of a section: its last integer place has the digit 15, its first decimal place 14
+unfoldable pub sectionUnits : Context → List Item → List ℕ
+sectionUnits c is = itemsUnits c (14 + c .integerPlaces) is

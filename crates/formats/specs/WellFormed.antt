@@ -1,0 +1,116 @@
+-- What holds of the sections that a code is accepted as, and of those that a table which passes stands for.
+-- Assumes nothing.
+use Prim.Native.Nat.{ℕ, zero, suc, _+_, _^_}
+use mathlib.Core.Bool.{Bool, true, false, cond, not, _&&_, _||_}
+use mathlib.Core.List.{List, [], _∷_}
+use mathlib.Core.Option.{Option, none, some}
+use lib.ListN.{length}
+use lib.Dec.{leb, ltb, eqb}
+use Rattle.values.specs.Ranges.{between}
+use Rattle.lists.specs.Lists.{every, count, firstFailing, isSome}
+use Rattle.formats.specs.Items.{Item, literal, blank, fill, place, point, percent, general, at, year, month, day, hour, minute, second, part, elapsed, half, Condition, Section, Kind, numberKind, sameKind, kindOf, sortOf, isFill, isPart, itemsFit, integerPlaces, Run, noRun, runOf, nearer, firstRun, settledItem, isSecondsElapsed}
+use Rattle.formats.specs.Where.{implies, standsAt}
+use Rattle.formats.specs.Limits.{sectionWithin}
+
+-- a unit is any number to 65,535; runs have the lengths that their tokens may have
+unfoldable pub itemInRange : Item → Bool
+itemInRange (literal u) = ltb u 65536
+itemInRange (blank u) = ltb u 65536
+itemInRange (fill u) = ltb u 65536
+itemInRange (place p) = true
+itemInRange point = true
+itemInRange percent = true
+itemInRange general = true
+itemInRange at = true
+itemInRange (year n) = eqb n 2 || eqb n 4
+itemInRange (month n) = between 1 5 n
+itemInRange (day n) = between 1 4 n
+itemInRange (hour n) = between 1 2 n
+itemInRange (minute n) = between 1 2 n
+itemInRange (second n) = between 1 2 n
+itemInRange (part n) = between 1 3 n
+itemInRange (elapsed e n) = between 1 9 n
+itemInRange (half h) = true
+
+-- a whole part to 999,999,999 and six decimals; the sign is false at zero
+unfoldable pub conditionInRange : Option Condition → Bool
+conditionInRange none = true
+conditionInRange (some c) = ltb (c .millionths) (10 ^ 15) && implies (c .negative) (ltb 0 (c .millionths))
+
+-- "at most one fill a section"
+unfoldable pub oneFill : List Item → Bool
+oneFill is = leb (count isFill is) 1
+
+-- seconds, elapsed or not
+unfoldable pub isSeconds : Item → Bool
+isSeconds (second n) = true
+isSeconds (elapsed e n) = isSecondsElapsed e
+isSeconds (literal u) = false
+isSeconds (blank u) = false
+isSeconds (fill u) = false
+isSeconds (place p) = false
+isSeconds point = false
+isSeconds percent = false
+isSeconds general = false
+isSeconds at = false
+isSeconds (year n) = false
+isSeconds (month n) = false
+isSeconds (day n) = false
+isSeconds (hour n) = false
+isSeconds (minute n) = false
+isSeconds (part n) = false
+isSeconds (half h) = false
+
+-- a part of a second stands directly behind seconds; behindSeconds: the item just before is seconds
+unfoldable pub partsFrom : Bool → List Item → Bool
+partsFrom behindSeconds [] = true
+partsFrom behindSeconds (i ∷ is) = let r = partsFrom (isSeconds i) is in implies (isPart i) behindSeconds && r
+
+unfoldable pub partsFollow : List Item → Bool
+partsFollow is = partsFrom false is
+
+-- every m run of 1 or 2 is a month or minutes as the rule for m says: the rule changes no item's sort
+unfoldable pub settledTest : Run → List Item → Bool
+settledTest earlier [] = true
+settledTest earlier (i ∷ is) =
+    let r = settledTest (nearer (runOf i) earlier) is in
+    eqb (sortOf (settledItem earlier (firstRun is) i)) (sortOf i) && r
+
+unfoldable pub isSettled : List Item → Bool
+isSettled is = settledTest noRun is
+
+-- "grouping only with two integer places"
+unfoldable pub groupingFits : Section → Bool
+groupingFits s = implies (s .grouped) (leb 2 (integerPlaces (s .items)))
+
+-- only a number section divides
+unfoldable pub dividingFits : Section → Bool
+dividingFits s = sameKind (kindOf s) numberKind || eqb (s .thousands) 0
+
+-- all rules for one section that do not speak of where it stands
+unfoldable pub sectionFormed : Section → Bool
+sectionFormed s =
+    leb (s .colour) 56
+    && conditionInRange (s .condition)
+    && every itemInRange (s .items)
+    && itemsFit (s .items)
+    && partsFollow (s .items)
+    && oneFill (s .items)
+    && isSettled (s .items)
+    && groupingFits s
+    && dividingFits s
+    && sectionWithin s
+
+unfoldable pub itemsInAll : List Section → ℕ
+itemsInAll [] = 0
+itemsInAll (s ∷ ss) = length (s .items) + itemsInAll ss
+
+unfoldable pub allStand : List Section → Bool
+allStand ss = not (isSome (firstFailing (standsAt (length ss)) 0 ss))
+
+unfoldable pub wellFormed : List Section → Bool
+wellFormed ss =
+    between 1 4 (length ss)
+    && leb (itemsInAll ss) 254
+    && every sectionFormed ss
+    && allStand ss

@@ -1,0 +1,65 @@
+-- What preparing and showing return, and what they leave in the memory lent to them.
+-- Assumes nothing.
+use Prim.Native.Nat.{ℕ}
+use mathlib.Core.Bool.{Bool, cond}
+use mathlib.Core.List.{List, []}
+use lib.ListN.{length}
+use lib.Dec.{leb}
+use Rattle.answers.specs.declared.Answer.{Answer}
+use Rattle.answers.specs.declared.Answer.the-variants as answer
+use Rattle.answers.specs.declared.Prepared.{Prepared}
+use Rattle.answers.specs.declared.Shown.{Shown}
+use Rattle.answers.specs.Number.{refusedPrepared, refusedShown}
+use Rattle.values.specs.declared.Ask.{Ask}
+use Rattle.lists.specs.Lists.{overlay}
+use Rattle.formats.specs.Accept.{Accepted, sections, refusal, accept}
+use Rattle.formats.specs.Reading.{Reading, refused, shown, reading}
+use Rattle.tables.specs.Encode.{encode}
+use Rattle.tables.specs.Decode.{decode}
+use Rattle.tables.specs.Rules.{passes}
+
+-- "The table made from a code": of a refused code no word
+unfoldable pub wordsOf : Accepted → List ℕ
+wordsOf (sections ss) = encode ss
+wordsOf (refusal a k) = []
+
+unfoldable pub tableOf : List ℕ → List ℕ
+tableOf code = wordsOf (accept code)
+
+-- preparing in a table room of `size` words; 7: "the table needs more words than lent"
+unfoldable pub preparedAs : Accepted → ℕ → Prepared
+preparedAs (refusal a k) size = refusedPrepared a k
+preparedAs (sections ss) size =
+    cond (leb (length (encode ss)) size) (record { answer = answer.Done; place = 0; words = length (encode ss) })
+    (refusedPrepared answer.TableRoom 0)
+
+unfoldable pub prepared : List ℕ → ℕ → Prepared
+prepared code size = preparedAs (accept code) size
+
+-- what fits stands in front, what does not is not written: "Memory past the reported length keeps its contents."
+unfoldable pub written : List ℕ → List ℕ → List ℕ
+written new old = cond (leb (length new) (length old)) (overlay new old) old
+
+unfoldable pub tableAfter : List ℕ → List ℕ → List ℕ
+tableAfter code old = written (tableOf code) old
+
+-- the reading through a table; 8: "the table breaks a table rule"
+unfoldable pub tableReading : List ℕ → Ask → List ℕ → ℕ → Reading
+tableReading table ask text room = cond (passes table) (reading (decode table) ask text room) (refused answer.Table)
+
+-- "Showing a table that passes returns its reading's answer; with 0 also its colour, section and text length, and the room
+-- begins with its text."
+unfoldable pub shownAs : Reading → Shown
+shownAs (refused a) = refusedShown a
+shownAs (shown text colour section) =
+    record { answer = answer.Done; length = length text; colour = colour; section = section }
+
+unfoldable pub textAs : Reading → List ℕ
+textAs (refused a) = []
+textAs (shown text colour section) = text
+
+unfoldable pub showing : List ℕ → Ask → List ℕ → ℕ → Shown
+showing table ask text size = shownAs (tableReading table ask text size)
+
+unfoldable pub roomAfter : List ℕ → Ask → List ℕ → List ℕ → List ℕ
+roomAfter table ask text old = overlay (textAs (tableReading table ask text (length old))) old

@@ -1,0 +1,156 @@
+-- The table made from sections.
+-- Assumes nothing.
+use Prim.Native.Nat.{ℕ, zero, suc, _+_, _-_, _*_, _/_, _%_, _^_}
+use mathlib.Core.Bool.{Bool, true, false, cond}
+use mathlib.Core.List.{List, [], _∷_}
+use mathlib.Core.Option.{Option, none, some}
+use lib.ListN.{length}
+use Rattle.lists.specs.Lists.{any, count}
+use Rattle.formats.specs.Tokens.{Place, zeroPlace, hashPlace, spacePlace, Elapsed, hours, minutes, seconds, HalfDay, short, long, Comparison, equal, less, greater, atMost, atLeast, unequal}
+use Rattle.formats.specs.Items.{Item, literal, blank, fill, place, point, percent, general, at, year, month, day, hour, minute, second, part, elapsed, half, Condition, Section, Kind, textKind, generalKind, dateKind, numberKind, literalKind, sameKind, kindOf, isPercent, isHalf, integerPlaces, decimalPlaces}
+use Rattle.formats.specs.Where.{hasCondition}
+use Rattle.formats.specs.Choice.{counted}
+use Rattle.formats.specs.Minus.{firstHasCondition, exceptionA}
+use Rattle.formats.specs.Text.{digitAfter}
+use Rattle.tables.specs.Words.{Head, Entry, Row, tableWords}
+
+-- "kind (0 literal, 1 General, 2 number, 3 text, 4 date-time)"
+unfoldable pub kindWord : Kind → ℕ
+kindWord literalKind = 0
+kindWord generalKind = 1
+kindWord numberKind = 2
+kindWord textKind = 3
+kindWord dateKind = 4
+
+-- "operator (0 none [..]; then 1 to 6 in the order above)": `= < > <= >= <>`
+unfoldable pub comparisonWord : Comparison → ℕ
+comparisonWord equal = 1
+comparisonWord less = 2
+comparisonWord greater = 3
+comparisonWord atMost = 4
+comparisonWord atLeast = 5
+comparisonWord unequal = 6
+
+unfoldable pub operatorWord : Option Condition → ℕ
+operatorWord none = 0
+operatorWord (some c) = comparisonWord (c .comparison)
+
+unfoldable pub bit : Bool → ℕ
+bit true = 1
+bit false = 0
+
+unfoldable pub negativeWord : Option Condition → ℕ
+negativeWord none = 0
+negativeWord (some c) = bit (c .negative)
+
+unfoldable pub wholePart : Option Condition → ℕ
+wholePart none = 0
+wholePart (some c) = c .millionths / 10 ^ 6
+
+unfoldable pub millionthsPart : Option Condition → ℕ
+millionthsPart none = 0
+millionthsPart (some c) = c .millionths % 10 ^ 6
+
+-- a number in two words
+unfoldable pub lowWord : ℕ → ℕ
+lowWord n = n % 65536
+
+unfoldable pub highWord : ℕ → ℕ
+highWord n = n / 65536
+
+-- "shift (number: 15 + 2 percents - 3 commas; else 0)"
+unfoldable pub shiftWord : Section → ℕ
+shiftWord s = cond (sameKind (kindOf s) numberKind) (15 + 2 * count isPercent (s .items) - 3 * s .thousands) 0
+
+-- "flags (1 grouping, 2 no minus by (a), 4 twelve-hour)"
+unfoldable pub flagsWord : Bool → Bool → Bool → ℕ
+flagsWord grouping noMinus twelve = bit grouping + 2 * bit noMinus + 4 * bit twelve
+
+-- section i of N has no minus by (a), where the first section has a condition or none
+unfoldable pub noMinus : ℕ → ℕ → Bool → Section → Bool
+noMinus n i firstHas s = exceptionA n i (hasCondition s) firstHas
+
+unfoldable pub hasHalf : List Item → Bool
+hasHalf is = any isHalf is
+
+unfoldable pub decimalsWord : Section → ℕ
+decimalsWord s = cond (sameKind (kindOf s) numberKind) (decimalPlaces (s .items)) 0
+
+unfoldable pub headOf : ℕ → ℕ → Bool → Section → Head
+headOf n i firstHas s =
+    record {
+      kind = kindWord (kindOf s);
+      colour = s .colour;
+      operator = operatorWord (s .condition);
+      negative = negativeWord (s .condition);
+      wholeLow = lowWord (wholePart (s .condition));
+      wholeHigh = highWord (wholePart (s .condition));
+      millionthsLow = lowWord (millionthsPart (s .condition));
+      millionthsHigh = highWord (millionthsPart (s .condition));
+      shift = shiftWord s;
+      flags = flagsWord (s .grouped) (noMinus n i firstHas s) (hasHalf (s .items));
+      decimals = decimalsWord s;
+      items = length (s .items);
+    }
+
+abbrev pub entry : ℕ → ℕ → Entry
+entry t a = record { tag = t; argument = a }
+
+-- "4, 5, 6 places `0 # ?` (power + 16)"
+unfoldable pub placeTag : Place → ℕ
+placeTag zeroPlace = 4
+placeTag hashPlace = 5
+placeTag spacePlace = 6
+
+-- "18 to 20 elapsed h, m, s"
+unfoldable pub elapsedTag : Elapsed → ℕ
+elapsedTag hours = 18
+elapsedTag minutes = 19
+elapsedTag seconds = 20
+
+-- "21 half-day (1 A/P, 2 AM/PM)"
+unfoldable pub halfWord : HalfDay → ℕ
+halfWord short = 1
+halfWord long = 2
+
+-- an item's two words; q is the power of its digit and 15
+unfoldable pub entryOf : ℕ → Item → Entry
+entryOf q (literal u) = entry 1 u
+entryOf q (blank u) = entry 2 u
+entryOf q (fill u) = entry 3 u
+entryOf q (place p) = entry (placeTag p) (suc q)
+entryOf q point = entry 7 0
+entryOf q percent = entry 8 0
+entryOf q general = entry 9 0
+entryOf q at = entry 10 0
+entryOf q (year n) = entry 11 n
+entryOf q (month n) = entry 12 n
+entryOf q (day n) = entry 13 n
+entryOf q (hour n) = entry 14 n
+entryOf q (minute n) = entry 15 n
+entryOf q (second n) = entry 16 n
+entryOf q (part n) = entry 17 n
+entryOf q (elapsed e n) = entry (elapsedTag e) n
+entryOf q (half h) = entry 21 (halfWord h)
+
+unfoldable pub entriesFrom : ℕ → List Item → List Entry
+entriesFrom q [] = []
+entriesFrom q (i ∷ is) = entryOf q i ∷ entriesFrom (digitAfter q i) is
+
+-- "the last integer place having 0 and the first decimal place -1"
+unfoldable pub entriesOf : List Item → List Entry
+entriesOf is = entriesFrom (14 + integerPlaces is) is
+
+unfoldable pub rowOf : ℕ → ℕ → Bool → Section → Row
+rowOf n i firstHas s = record { head = headOf n i firstHas s; entries = entriesOf (s .items) }
+
+unfoldable pub rowsFrom : ℕ → ℕ → Bool → List Section → List Row
+rowsFrom n i firstHas [] = []
+rowsFrom n i firstHas (s ∷ ss) = rowOf n i firstHas s ∷ rowsFrom n (suc i) firstHas ss
+
+unfoldable pub rowsOf : List Section → List Row
+rowsOf ss = rowsFrom (counted ss) 0 (firstHasCondition ss) ss
+
+-- the table's words
+unfoldable pub encode : List Section → List ℕ
+encode ss = tableWords (rowsOf ss)

@@ -1,0 +1,5 @@
+pub mod Words
+pub mod Encode
+pub mod Decode
+pub mod Rules
+pub mod Calls

@@ -1,0 +1,128 @@
+-- "Table rules": a test for each clause of their sentence.
+-- Assumes nothing.
+use Prim.Native.Nat.{ℕ, zero, suc, _+_, _-_, _*_}
+use mathlib.Core.Bool.{Bool, true, cond, not, _&&_, _||_}
+use mathlib.Core.List.{List, [], _∷_, map}
+use lib.ListN.{length}
+use lib.Dec.{leb, ltb, eqb}
+use Rattle.values.specs.Ranges.{between}
+use Rattle.lists.specs.Lists.{every, any, count}
+use Rattle.formats.specs.Items.{Item, Section, numberKind, sameKind, kindOf, isPercent, isPlace, itemsFit, integerPlaces}
+use Rattle.formats.specs.Where.{implies, hasCondition}
+use Rattle.formats.specs.Limits.{sectionWithin}
+use Rattle.formats.specs.WellFormed.{oneFill, partsFollow, isSettled, groupingFits, itemsInAll, allStand}
+use Rattle.formats.specs.Choice.{counted}
+use Rattle.formats.specs.Minus.{firstHasCondition}
+use Rattle.formats.specs.Text.{digitAfter}
+use Rattle.tables.specs.Words.{Head, Entry, Row, rowsIn, exactWords}
+use Rattle.tables.specs.Encode.{kindWord, flagsWord, noMinus, hasHalf, decimalsWord}
+use Rattle.tables.specs.Decode.{wholeAt, millionthsAt, itemAt, itemsAt, groupedAt, thousandsAt, sectionAt, decode}
+
+-- "every word in its range"
+abbrev pub isWord : ℕ → Bool
+isWord w = ltb w 65536
+
+unfoldable pub headInRange : Head → Bool
+headInRange h =
+    leb (h .kind) 4
+    && leb (h .colour) 56
+    && leb (h .operator) 6
+    && leb (h .negative) 1
+    && isWord (h .wholeLow) && isWord (h .wholeHigh) && leb (wholeAt h) 999999999
+    && isWord (h .millionthsLow) && isWord (h .millionthsHigh) && leb (millionthsAt h) 999999
+    && leb (h .shift) 25
+    && leb (h .flags) 7
+    && leb (h .decimals) 15
+    && leb (h .items) 254
+
+-- a literal's, blank's or fill's unit may be any; powers are -15 to 19; runs have the lengths that their tokens may have
+unfoldable pub entryInRange : Entry → Bool
+entryInRange e =
+    let t = e .tag in
+    let a = e .argument in
+    cond (between 1 3 t) (isWord a)
+    (cond (between 4 6 t) (between 1 35 a)
+    (cond (between 7 10 t) (eqb a 0)
+    (cond (eqb t 11) (eqb a 2 || eqb a 4)
+    (cond (eqb t 12) (between 1 5 a)
+    (cond (eqb t 13) (between 1 4 a)
+    (cond (between 14 16 t) (between 1 2 a)
+    (cond (eqb t 17) (between 1 3 a)
+    (cond (between 18 20 t) (between 1 9 a)
+    (eqb t 21 && between 1 2 a)))))))))
+
+unfoldable pub rowInRange : Row → Bool
+rowInRange r = headInRange (r .head) && every entryInRange (r .entries)
+
+-- "(0 none, condition words 0 [..]), negative 0/1 (0 at zero)"
+unfoldable pub conditionFits : Head → Bool
+conditionFits h =
+    implies (eqb (h .operator) 0) (eqb (h .negative) 0 && eqb (wholeAt h) 0 && eqb (millionthsAt h) 0)
+    && implies (eqb (wholeAt h) 0 && eqb (millionthsAt h) 0) (eqb (h .negative) 0)
+
+-- "powers run down by one": q is the power and 15 that the next place must have
+unfoldable pub powersFrom : ℕ → List Entry → Bool
+powersFrom q [] = true
+powersFrom q (e ∷ es) =
+    let r = powersFrom (digitAfter q (itemAt e)) es in
+    implies (isPlace (itemAt e)) (eqb (e .argument) (suc q)) && r
+
+-- "the last integer place having 0 and the first decimal place -1"
+unfoldable pub powersRunDown : List Entry → Bool
+powersRunDown es = powersFrom (14 + integerPlaces (itemsAt es)) es
+
+-- "the shift, beside the percents, must tell 0 to 5 dividing commas"
+unfoldable pub shiftTells : ℕ → ℕ → Bool
+shiftTells shift percents =
+    let t = thousandsAt shift percents in
+    leb t 5 && eqb (shift + 3 * t) (15 + 2 * percents)
+
+unfoldable pub shiftFits : Row → Bool
+shiftFits r =
+    let s = sectionAt r in
+    cond (sameKind (kindOf s) numberKind) (shiftTells (r .head .shift) (count isPercent (s .items))) (eqb (r .head .shift) 0)
+
+-- the other derived words of section i of N
+unfoldable pub kindFits : Row → Bool
+kindFits r = eqb (r .head .kind) (kindWord (kindOf (sectionAt r)))
+
+unfoldable pub decimalsFit : Row → Bool
+decimalsFit r = eqb (r .head .decimals) (decimalsWord (sectionAt r))
+
+unfoldable pub flagsFit : ℕ → ℕ → Bool → Row → Bool
+flagsFit n i firstHas r =
+    let s = sectionAt r in
+    eqb (r .head .flags) (flagsWord (s .grouped) (noMinus n i firstHas s) (hasHalf (s .items)))
+
+unfoldable pub flagsFrom : ℕ → ℕ → Bool → List Row → Bool
+flagsFrom n i firstHas [] = true
+flagsFrom n i firstHas (r ∷ rs) = let b = flagsFrom n (suc i) firstHas rs in flagsFit n i firstHas r && b
+
+-- the rules for one row that do not speak of where it stands
+unfoldable pub rowFits : Row → Bool
+rowFits r =
+    let s = sectionAt r in
+    rowInRange r
+    && conditionFits (r .head)
+    && itemsFit (s .items)
+    && partsFollow (s .items)
+    && oneFill (s .items)
+    && sectionWithin s
+    && powersRunDown (r .entries)
+    && groupingFits s
+    && isSettled (s .items)
+    && kindFits r
+    && shiftFits r
+    && decimalsFit r
+
+-- "Table rules: exactly those words and no more; at most 254 items in all; every word in its range; items, kinds, where
+-- sections may stand, places and limits as above, [..]; every derived word is what its rule gives"
+unfoldable pub passes : List ℕ → Bool
+passes ws =
+    let rs = rowsIn ws in
+    let ss = decode ws in
+    exactWords ws
+    && leb (itemsInAll ss) 254
+    && every rowFits rs
+    && allStand ss
+    && flagsFrom (counted ss) 0 (firstHasCondition ss) rs
