@@ -1,0 +1,4 @@
+pub mod Tens
+pub mod Rounding
+pub mod Table
+pub mod Digits
