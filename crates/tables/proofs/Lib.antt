@@ -1,1 +1,3 @@
 pub mod Evaluate
+pub mod Words
+pub mod Cases
