@@ -54,7 +54,7 @@ unfolding cases evaluated
 cases-right = (refl, (refl, (refl, (refl, (refl, (refl, (refl, (refl, (refl, (refl, (refl, (refl, tt))))))))))))
 
 -- "Splitting at a semicolon inside quotes. Dropping the minus in `[>100]0;0` for -5" (above). A section's own condition keeps the
--- minus. A text that is longer than the room is refused whole; here the room is short.
+-- minus. A bound belongs to `>=`. A text that is longer than the room is refused whole; here the room is short.
 unfoldable pub slips : List Case
 unfolding units shows
 slips =
@@ -62,6 +62,7 @@ slips =
     ∷ shows "0;[<0](0)" (number (negsuc 4) 0) "-(5)" 1
     ∷ shows "\"The End\"" (number (negsuc 12344) 2) "-The End" 0
     ∷ shows "h;h;\"zero\"" (instant 0 0) "zero" 2
+    ∷ shows "[>=10]\"a\";\"b\"" (number (pos 100) 1) "a" 0
     ∷ record { code = "00000000000000000"; ask = number (pos 1) 0; answer = refused answer.TextRoom }
     ∷ []
 
@@ -70,4 +71,4 @@ RightInShortRoom c = codeReading (units (c .code)) (c .ask) [] 16 ≡ c .answer
 
 pub slips-right : All RightInShortRoom slips
 unfolding slips evaluated
-slips-right = (refl, (refl, (refl, (refl, (refl, tt)))))
+slips-right = (refl, (refl, (refl, (refl, (refl, (refl, tt))))))

@@ -1,7 +1,7 @@
 -- "A reading of an accepted code, or of a table that passes, takes a value and the text room's length. It gives the first of
 -- showing's refusals after 8 that applies, or 0 with text, colour and section."
 -- Assumes nothing.
-use Prim.Native.Nat.{ℕ, zero}
+use Prim.Native.Nat.{ℕ, zero, suc}
 use mathlib.Core.Bool.{Bool, true, false, cond, not, _&&_, _||_}
 use mathlib.Core.List.{List, [], _∷_, _++_}
 use lib.ListN.{length}

@@ -1,12 +1,15 @@
--- "Cases to settle by hand", through the tables made from their codes; and some codes with the words of their tables.
+-- "Cases to settle by hand", through the tables made from their codes; some codes with the words of their tables;
+-- and tables that no code makes.
 -- Assumes nothing.
 use Prim.Native.Nat.{ℕ}
 use Prim.Native.String.{String}
+use mathlib.Core.Bool.{Bool, true, false}
 use mathlib.Core.List.{List, [], _∷_}
 use mathlib.Core.Path.{_≡_, refl}
 use Rattle.lists.specs.Lists.{All}
 use Rattle.calendar.specs.Names.{units}
 use Rattle.formats.proofs.Cases.{Case, cases}
+use Rattle.tables.specs.Rules.{passes}
 use Rattle.tables.specs.Calls.{tableOf, tableReading}
 use Rattle.tables.proofs.Evaluate.{evaluatedTable}
 
@@ -46,3 +49,43 @@ RightWords m = tableOf (units (m .code)) ≡ m .words
 pub made-right : All RightWords made
 unfolding made evaluatedTable
 made-right = (refl, (refl, (refl, (refl, (refl, (refl, (refl, (refl, (refl, (refl, tt))))))))))
+
+-- tables that break a rule: grouping with one integer place; a decimal place before the point; a kind that its items do not give; a half-day mark without a date; a shift of no dividing commas; a shift that multiplies; a whole part of ten digits; a minus zero; a number without an operator; a part of a second behind a fill; a month behind hours; a word behind the end; colour 57; two fills; a power
+-- that does not fit its place; a shift of a third of a comma
+unfoldable pub brokenTables : List (List ℕ)
+brokenTables =
+    (1 ∷ 2 ∷ 0 ∷ 0 ∷ 0 ∷ 0 ∷ 0 ∷ 0 ∷ 0 ∷ 15 ∷ 1 ∷ 1 ∷ 3 ∷ 4 ∷ 16 ∷ 7 ∷ 0 ∷ 4 ∷ 15 ∷ [])
+    ∷ (1 ∷ 2 ∷ 0 ∷ 0 ∷ 0 ∷ 0 ∷ 0 ∷ 0 ∷ 0 ∷ 15 ∷ 0 ∷ 1 ∷ 3 ∷ 4 ∷ 16 ∷ 4 ∷ 15 ∷ 7 ∷ 0 ∷ [])
+    ∷ (1 ∷ 2 ∷ 0 ∷ 0 ∷ 0 ∷ 0 ∷ 0 ∷ 0 ∷ 0 ∷ 15 ∷ 0 ∷ 0 ∷ 0 ∷ [])
+    ∷ (1 ∷ 4 ∷ 0 ∷ 0 ∷ 0 ∷ 0 ∷ 0 ∷ 0 ∷ 0 ∷ 0 ∷ 4 ∷ 0 ∷ 1 ∷ 21 ∷ 1 ∷ [])
+    ∷ (1 ∷ 2 ∷ 0 ∷ 0 ∷ 0 ∷ 0 ∷ 0 ∷ 0 ∷ 0 ∷ 16 ∷ 0 ∷ 0 ∷ 1 ∷ 4 ∷ 16 ∷ [])
+    ∷ (1 ∷ 2 ∷ 0 ∷ 0 ∷ 0 ∷ 0 ∷ 0 ∷ 0 ∷ 0 ∷ 18 ∷ 0 ∷ 0 ∷ 1 ∷ 4 ∷ 16 ∷ [])
+    ∷ (1 ∷ 1 ∷ 0 ∷ 1 ∷ 0 ∷ 51712 ∷ 15258 ∷ 0 ∷ 0 ∷ 0 ∷ 0 ∷ 0 ∷ 1 ∷ 9 ∷ 0 ∷ [])
+    ∷ (1 ∷ 1 ∷ 0 ∷ 1 ∷ 1 ∷ 0 ∷ 0 ∷ 0 ∷ 0 ∷ 0 ∷ 0 ∷ 0 ∷ 1 ∷ 9 ∷ 0 ∷ [])
+    ∷ (1 ∷ 1 ∷ 0 ∷ 0 ∷ 0 ∷ 5 ∷ 0 ∷ 0 ∷ 0 ∷ 0 ∷ 0 ∷ 0 ∷ 1 ∷ 9 ∷ 0 ∷ [])
+    ∷ (1 ∷ 4 ∷ 0 ∷ 0 ∷ 0 ∷ 0 ∷ 0 ∷ 0 ∷ 0 ∷ 0 ∷ 0 ∷ 0 ∷ 3 ∷ 16 ∷ 1 ∷ 3 ∷ 65 ∷ 17 ∷ 1 ∷ [])
+    ∷ (1 ∷ 4 ∷ 0 ∷ 0 ∷ 0 ∷ 0 ∷ 0 ∷ 0 ∷ 0 ∷ 0 ∷ 0 ∷ 0 ∷ 2 ∷ 14 ∷ 1 ∷ 12 ∷ 1 ∷ [])
+    ∷ (1 ∷ 0 ∷ 0 ∷ 0 ∷ 0 ∷ 0 ∷ 0 ∷ 0 ∷ 0 ∷ 0 ∷ 0 ∷ 0 ∷ 0 ∷ 0 ∷ [])
+    ∷ (1 ∷ 0 ∷ 57 ∷ 0 ∷ 0 ∷ 0 ∷ 0 ∷ 0 ∷ 0 ∷ 0 ∷ 0 ∷ 0 ∷ 0 ∷ [])
+    ∷ (1 ∷ 0 ∷ 0 ∷ 0 ∷ 0 ∷ 0 ∷ 0 ∷ 0 ∷ 0 ∷ 0 ∷ 0 ∷ 0 ∷ 2 ∷ 3 ∷ 1 ∷ 3 ∷ 1 ∷ [])
+    ∷ (1 ∷ 2 ∷ 0 ∷ 0 ∷ 0 ∷ 0 ∷ 0 ∷ 0 ∷ 0 ∷ 15 ∷ 0 ∷ 0 ∷ 1 ∷ 4 ∷ 17 ∷ [])
+    ∷ (1 ∷ 2 ∷ 0 ∷ 0 ∷ 0 ∷ 0 ∷ 0 ∷ 0 ∷ 0 ∷ 14 ∷ 0 ∷ 0 ∷ 1 ∷ 4 ∷ 16 ∷ [])
+    ∷ []
+
+pub broken-refused : All (λ (ws : List ℕ). passes ws ≡ false) brokenTables
+unfolding brokenTables evaluatedTable
+broken-refused = (refl, (refl, (refl, (refl, (refl, (refl, (refl, (refl, (refl, (refl, (refl, (refl, (refl, (refl, (refl, (refl, tt))))))))))))))))
+
+-- tables that pass: a point and decimals alone; a dividing shift of five; a percent and a comma; equal runs side by side; the greatest condition
+unfoldable pub soundTables : List (List ℕ)
+soundTables =
+    (1 ∷ 2 ∷ 0 ∷ 0 ∷ 0 ∷ 0 ∷ 0 ∷ 0 ∷ 0 ∷ 15 ∷ 0 ∷ 1 ∷ 2 ∷ 7 ∷ 0 ∷ 4 ∷ 15 ∷ [])
+    ∷ (1 ∷ 2 ∷ 0 ∷ 0 ∷ 0 ∷ 0 ∷ 0 ∷ 0 ∷ 0 ∷ 0 ∷ 0 ∷ 0 ∷ 1 ∷ 4 ∷ 16 ∷ [])
+    ∷ (1 ∷ 2 ∷ 0 ∷ 0 ∷ 0 ∷ 0 ∷ 0 ∷ 0 ∷ 0 ∷ 14 ∷ 0 ∷ 0 ∷ 2 ∷ 4 ∷ 16 ∷ 8 ∷ 0 ∷ [])
+    ∷ (1 ∷ 4 ∷ 0 ∷ 0 ∷ 0 ∷ 0 ∷ 0 ∷ 0 ∷ 0 ∷ 0 ∷ 0 ∷ 0 ∷ 2 ∷ 11 ∷ 2 ∷ 11 ∷ 2 ∷ [])
+    ∷ (1 ∷ 1 ∷ 0 ∷ 1 ∷ 0 ∷ 51711 ∷ 15258 ∷ 0 ∷ 0 ∷ 0 ∷ 0 ∷ 0 ∷ 1 ∷ 9 ∷ 0 ∷ [])
+    ∷ []
+
+pub sound-pass : All (λ (ws : List ℕ). passes ws ≡ true) soundTables
+unfolding soundTables evaluatedTable
+sound-pass = (refl, (refl, (refl, (refl, (refl, tt)))))
