@@ -1,2 +1,4 @@
 pub mod Evaluate
 pub mod Cases
+pub mod TokenRanges
+pub mod ItemCount

@@ -1,3 +1,6 @@
 pub mod Evaluate
-pub mod Words
 pub mod Cases
+pub mod Words
+pub mod MadeItems
+pub mod MadeHeads
+pub mod Made

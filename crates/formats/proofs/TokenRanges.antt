@@ -1,0 +1,384 @@
+-- What the tokens of a code hold: units, runs, colours and digits in their ranges, and no semicolon in a section.
+-- Assumes nothing.
+use Prim.Native.Nat.{ℕ, zero, suc, _+_, _-_, _≤_, _<_}
+use Prim.Native.String.{String}
+use native.Mathlib.Omega.{arith}
+use mathlib.Core.Path.{_≡_}
+use mathlib.Core.Bool.{Bool, true, false, not, _&&_, _||_}
+use mathlib.Core.List.{List, [], _∷_, map}
+use mathlib.Core.Option.{Option, none, some}
+use lib.ListN.{length, take, drop}
+use lib.Dec.{T, leb, ltb, eqb, leb→le, le→leb, lt→ltb}
+use Rattle.lists.specs.Lists.{every, any, isEmpty}
+use Rattle.lists.proofs.Bools.{and-left, and-right, and-in, true-T, by-cases, cond-both, cond-case, every-head, every-tail, every-cons}
+use Rattle.lists.proofs.Counts.{every-map, every-weaker}
+use Rattle.calendar.specs.Names.{units}
+use Rattle.formats.specs.Tokens.{Letter, Elapsed, hours, minutes, seconds, Comparison, equal, less, greater, atMost, atLeast, unequal, Written, Token, literal, bare, blank, fill, place, point, comma, percent, at, semicolon, general, half, run, elapsed, colour, condition, Step, read, broken, before, leading, startsWith, same, quoted, marked, generalWord, halfDayWord, runAllowed, runStep, isDigit, digitOf, numberFrom, colourNames, namedFrom, noLeadingZero, colourDigits, numbered, elapsedInside, decimalsOf, wholeOf, signedOf, conditionInside, firstForm, insideOf, closed, bracketed, First, quote, backslash, underscore, asterisk, openBracket, capitalG, capitalA, other, letter, single, FirstRow, firstRows, firstIn, bareLiterals, stepBy, stepAt, Placed, Lexed, good, bad, onto, afterStep, lexFrom, lex}
+use Rattle.formats.specs.Kinds.{isSemicolon, isColour, isCondition, Parts, colourIn, conditionIn, afterColour, partsOf}
+use Rattle.formats.specs.Accept.{placedOf, tokensOf, joined, split, partsIn}
+
+abbrev pub isUnit : ℕ → Bool
+isUnit u = ltb u 65536
+
+abbrev pub belowTen : ℕ → Bool
+belowTen d = ltb d 10
+
+-- the digits of a condition are digits
+unfoldable pub writtenInRange : Written → Bool
+writtenInRange w = every belowTen (w .whole) && every belowTen (w .decimals)
+
+unfoldable pub tokenInRange : Token → Bool
+tokenInRange (literal us) = every isUnit us
+tokenInRange (bare u) = isUnit u
+tokenInRange (blank u) = isUnit u
+tokenInRange (fill u) = isUnit u
+tokenInRange (place p) = true
+tokenInRange point = true
+tokenInRange comma = true
+tokenInRange percent = true
+tokenInRange at = true
+tokenInRange semicolon = true
+tokenInRange general = true
+tokenInRange (half h) = true
+tokenInRange (run l n) = runAllowed l n
+tokenInRange (elapsed e n) = leb 1 n
+tokenInRange (colour n) = leb n 56
+tokenInRange (condition w) = writtenInRange w
+
+-- lists of units
+every-take : {A : Type 0} (f : A → Bool) (n : ℕ) (xs : List A) → T (every f xs) → T (every f (take n xs))
+unfolding every
+every-take f zero xs t = tt
+every-take f (suc n) [] t = tt
+every-take f (suc n) (x ∷ xs) t = every-cons f x (take n xs) (every-head f x xs t) (every-take f n xs (every-tail f x xs t))
+
+-- the units that `leading` counts pass its test
+leading-every : (f : ℕ → Bool) (us : List ℕ) → T (every f (take (leading f us) us))
+unfolding leading every
+leading-every f [] = tt
+leading-every f (u ∷ us) = by-cases (f u) (λ e. rw e (rw e (leading-every f us))) (λ e. rw e tt)
+
+digit-below : (u : ℕ) → T (isDigit u) → T (belowTen (digitOf u))
+unfolding isDigit digitOf
+digit-below u t = lt→ltb (u - 48) 10 (omega (arith, leb→le u 57 (and-right (leb 48 u) (leb u 57) t)))
+
+digits-below : (us : List ℕ) → T (every isDigit us) → T (every belowTen (map digitOf us))
+digits-below us t = rw (every-map belowTen digitOf us) (every-weaker isDigit (λ (u : ℕ). belowTen (digitOf u)) digit-below us t)
+
+length-least : (us : List ℕ) → T (not (isEmpty us)) → T (leb 1 (length us))
+unfolding isEmpty
+length-least [] t = absurd t
+length-least (u ∷ us) t = le→leb 1 (suc (length us)) (omega arith)
+
+-- a property of the token that a form gives, where it gives one
+abbrev pub InForm : (Token → Type 0) → Option Token → Type 0
+InForm P none = Unit {0}
+InForm P (some t) = P t
+
+-- what a bracket's inside may stand for: a property of these is one of the token inside any bracket
+module _ (P : Token → Type 0)
+    (colours : (n : ℕ) → n ≤ 56 → P (colour n))
+    (elapses : (e : Elapsed) (n : ℕ) → T (leb 1 n) → P (elapsed e n))
+    (conditions : (w : Written) → T (writtenInRange w) → P (condition w)) where
+
+  named-form : (n : ℕ) (names : List String) (us : List ℕ) → n + length names ≤ 57 → InForm P (namedFrom n names us)
+  unfolding namedFrom
+  named-form n [] us h = tt
+  named-form n (name ∷ names) us h =
+      cond-both (InForm P) (same (units name) us) (colours n (omega arith)) (named-form (suc n) names us (omega arith))
+
+  digits-form : (us : List ℕ) → InForm P (colourDigits us)
+  unfolding colourDigits
+  digits-form us =
+      cond-case (InForm P) (noLeadingZero us && every isDigit us && leb (numberFrom 0 (map digitOf us)) 56)
+      (λ e.
+      let t : T (noLeadingZero us && every isDigit us && leb (numberFrom 0 (map digitOf us)) 56) = true-T e in
+      colours (numberFrom 0 (map digitOf us)) (search (and-left, and-right, leb→le)))
+      (λ e. tt)
+
+  numbered-form : (us : List ℕ) → InForm P (numbered us)
+  unfolding numbered
+  numbered-form us = cond-both (InForm P) (startsWith (units "Color") us) (digits-form (drop 5 us)) tt
+
+  elapsed-form : (u : ℕ) (e : Elapsed) (us : List ℕ) → InForm P (elapsedInside u e us)
+  unfolding elapsedInside
+  elapsed-form u e us =
+      cond-case (InForm P) (not (isEmpty us) && every (eqb u) us)
+      (λ h. elapses e (length us) (length-least us (and-left (not (isEmpty us)) (every (eqb u) us) (true-T h))))
+      (λ h. tt)
+
+  decimals-form : (c : Comparison) (negative : Bool) (whole us : List ℕ) → T (every isDigit whole) → InForm P (decimalsOf c negative whole us)
+  unfolding decimalsOf every writtenInRange
+  decimals-form c negative whole [] t = conditions _ (and-in (every belowTen (map digitOf whole)) true (digits-below whole t) tt)
+  decimals-form c negative whole (u ∷ us) t =
+      cond-case (InForm P) (eqb u 46 && not (isEmpty us) && every isDigit us)
+      (λ h.
+      let a : T (eqb u 46 && not (isEmpty us) && every isDigit us) = true-T h in
+      let d : T (every isDigit us) = search (and-left, and-right) in
+      conditions _ (and-in (every belowTen (map digitOf whole)) (every belowTen (map digitOf us)) (digits-below whole t) (digits-below us d)))
+      (λ h. tt)
+
+  whole-form : (c : Comparison) (negative : Bool) (us : List ℕ) → InForm P (wholeOf c negative us)
+  unfolding wholeOf
+  whole-form c negative us =
+      cond-both (InForm P) (eqb (leading isDigit us) 0) tt
+      (decimals-form c negative (take (leading isDigit us) us) (drop (leading isDigit us) us) (leading-every isDigit us))
+
+  signed-form : (c : Comparison) (us : List ℕ) → InForm P (signedOf c us)
+  unfolding signedOf
+  signed-form c us = cond-both (InForm P) (startsWith (units "-") us) (whole-form c true (drop 1 us)) (whole-form c false us)
+
+  condition-form : (us : List ℕ) → InForm P (conditionInside us)
+  unfolding conditionInside
+  condition-form us =
+      cond-both (InForm P) (startsWith (units "<=") us) (signed-form atMost (drop 2 us))
+      (cond-both (InForm P) (startsWith (units ">=") us) (signed-form atLeast (drop 2 us))
+      (cond-both (InForm P) (startsWith (units "<>") us) (signed-form unequal (drop 2 us))
+      (cond-both (InForm P) (startsWith (units "=") us) (signed-form equal (drop 1 us))
+      (cond-both (InForm P) (startsWith (units "<") us) (signed-form less (drop 1 us))
+      (cond-both (InForm P) (startsWith (units ">") us) (signed-form greater (drop 1 us)) tt)))))
+
+  first-form : (o p : Option Token) → InForm P o → InForm P p → InForm P (firstForm o p)
+  unfolding firstForm
+  first-form none p h k = k
+  first-form (some t) p h k = h
+
+  pub inside-form : (us : List ℕ) → InForm P (insideOf us)
+  unfolding insideOf colourNames
+  inside-form us =
+      first-form (namedFrom 1 colourNames us) _ (named-form 1 colourNames us (omega arith))
+      (first-form (numbered us) _ (numbered-form us)
+      (first-form (elapsedInside 104 hours us) _ (elapsed-form 104 hours us)
+      (first-form (elapsedInside 109 minutes us) _ (elapsed-form 109 minutes us)
+      (first-form (elapsedInside 115 seconds us) _ (elapsed-form 115 seconds us) (condition-form us)))))
+
+-- a property of the token that a step reads and of the units behind its first one, where it reads one
+abbrev pub InStep : (Token → ℕ → Type 0) → Step → Type 0
+InStep P (read t more) = P t more
+InStep P broken = Unit {0}
+
+pub closed-step : (P : Token → ℕ → Type 0) (n : ℕ) (o : Option Token) → InForm (λ (t : Token). P t (suc n)) o → InStep P (closed n o)
+unfolding closed
+closed-step P n none h = tt
+closed-step P n (some t) h = h
+
+-- a test that all rows and `other` pass is passed by what any unit is
+pub first-passes : (f : First → Bool) (rs : List FirstRow) (u : ℕ)
+    → T (f other) → T (every (λ (r : FirstRow). f (r .first)) rs) → T (f (firstIn rs u))
+unfolding firstIn
+first-passes f [] u o t = o
+first-passes f (r ∷ rs) u o t =
+    cond-both (λ (x : First). T (f x)) (eqb (r .unit) u)
+    (every-head (λ (r : FirstRow). f (r .first)) r rs t)
+    (first-passes f rs u o (every-tail (λ (r : FirstRow). f (r .first)) r rs t))
+
+-- the token of a row passes the test
+unfoldable pub singlePasses : (Token → Bool) → First → Bool
+singlePasses f quote = true
+singlePasses f backslash = true
+singlePasses f underscore = true
+singlePasses f asterisk = true
+singlePasses f openBracket = true
+singlePasses f capitalG = true
+singlePasses f capitalA = true
+singlePasses f other = true
+singlePasses f (letter l) = true
+singlePasses f (single t) = f t
+
+abbrev Ranged : Token → ℕ → Type 0
+Ranged t more = T (tokenInRange t)
+
+quoted-ranged : (us : List ℕ) → T (every isUnit us) → InStep Ranged (quoted us)
+unfolding quoted tokenInRange
+quoted-ranged us t =
+    cond-both (InStep Ranged) (eqb (before 34 us) 0 || eqb (before 34 us) (length us)) tt (every-take isUnit (before 34 us) us t)
+
+marked-ranged : (f : ℕ → Token) (us : List ℕ) → ((u : ℕ) → T (isUnit u) → T (tokenInRange (f u))) → T (every isUnit us) → InStep Ranged (marked f us)
+unfolding marked
+marked-ranged f [] h t = tt
+marked-ranged f (u ∷ us) h t = h u (every-head isUnit u us t)
+
+run-ranged : (l : Letter) (u : ℕ) (us : List ℕ) → InStep Ranged (runStep l u us)
+unfolding runStep tokenInRange
+run-ranged l u us = cond-case (InStep Ranged) (runAllowed l (suc (leading (eqb u) us))) (λ e. true-T e) (λ e. tt)
+
+general-ranged : (us : List ℕ) → InStep Ranged (generalWord us)
+unfolding generalWord tokenInRange
+general-ranged us = cond-both (InStep Ranged) (startsWith (units "General") us) tt tt
+
+half-ranged : (us : List ℕ) → InStep Ranged (halfDayWord us)
+unfolding halfDayWord tokenInRange
+half-ranged us =
+    cond-both (InStep Ranged) (startsWith (units "AM/PM") us) tt (cond-both (InStep Ranged) (startsWith (units "A/P") us) tt tt)
+
+bracketed-ranged : (us : List ℕ) → InStep Ranged (bracketed us)
+unfolding bracketed tokenInRange
+bracketed-ranged us =
+    cond-both (InStep Ranged) (eqb (before 93 us) (length us)) tt
+    (closed-step Ranged (before 93 us) (insideOf (take (before 93 us) us))
+    (inside-form (λ (t : Token). T (tokenInRange t)) (λ n h. le→leb n 56 h) (λ e n h. h) (λ w h. h) (take (before 93 us) us)))
+
+by-ranged : (f : First) (u : ℕ) (us : List ℕ) → T (singlePasses tokenInRange f) → T (isUnit u) → T (every isUnit us) → InStep Ranged (stepBy f u us)
+unfolding stepBy singlePasses tokenInRange every
+by-ranged quote u us s t ts = quoted-ranged us ts
+by-ranged backslash u us s t ts = marked-ranged (λ (v : ℕ). literal (v ∷ [])) us (λ v h. every-cons isUnit v [] h tt) ts
+by-ranged underscore u us s t ts = marked-ranged blank us (λ v h. h) ts
+by-ranged asterisk u us s t ts = marked-ranged fill us (λ v h. h) ts
+by-ranged openBracket u us s t ts = bracketed-ranged us
+by-ranged capitalG u us s t ts = general-ranged (u ∷ us)
+by-ranged capitalA u us s t ts = half-ranged (u ∷ us)
+by-ranged (letter l) u us s t ts = run-ranged l u us
+by-ranged (single x) u us s t ts = s
+by-ranged other u us s t ts = cond-both (InStep Ranged) (any (eqb u) bareLiterals) t tt
+
+rows-ranged : T (every (λ (r : FirstRow). singlePasses tokenInRange (r .first)) firstRows)
+unfolding every firstRows singlePasses tokenInRange
+rows-ranged = tt
+
+step-ranged : (u : ℕ) (us : List ℕ) → T (isUnit u) → T (every isUnit us) → InStep Ranged (stepAt u us)
+unfolding stepAt singlePasses
+step-ranged u us t ts =
+    by-ranged (firstIn firstRows u) u us (first-passes (singlePasses tokenInRange) firstRows u tt rows-ranged) t ts
+
+-- the tokens of a code
+abbrev AllRanged : Lexed → Type 0
+AllRanged l = T (every tokenInRange (tokensOf (placedOf l)))
+
+onto-ranged : (p : Placed) (l : Lexed) → T (tokenInRange (p .token)) → AllRanged l → AllRanged (onto p l)
+unfolding onto placedOf tokensOf every
+onto-ranged p (good ps) t h = every-cons tokenInRange (p .token) (tokensOf ps) t h
+onto-ranged p (bad k) t h = tt
+
+after-ranged : (k : ℕ) (s : Step) (rest : ℕ → Lexed) → InStep Ranged s → ((n : ℕ) → AllRanged (rest n)) → AllRanged (afterStep k s rest)
+unfolding afterStep placedOf tokensOf every
+after-ranged k (read t more) rest h r = onto-ranged _ (rest more) h (r more)
+after-ranged k broken rest h r = tt
+
+lex-ranged : (k skip : ℕ) (us : List ℕ) → T (every isUnit us) → AllRanged (lexFrom k skip us)
+unfolding lexFrom placedOf tokensOf every
+lex-ranged k skip [] t = tt
+lex-ranged k (suc skip) (u ∷ us) t = lex-ranged (suc k) skip us (every-tail isUnit u us t)
+lex-ranged k zero (u ∷ us) t =
+    after-ranged k (stepAt u us) _
+    (step-ranged u us (every-head isUnit u us t) (every-tail isUnit u us t))
+    (λ (n : ℕ). lex-ranged (suc k) n us (every-tail isUnit u us t))
+
+pub tokens-in-range : (code : List ℕ) → T (every isUnit code) → T (every tokenInRange (tokensOf (placedOf (lex code))))
+unfolding lex
+tokens-in-range code t = lex-ranged 0 0 code t
+
+-- the sections' tokens: a test that each token but the semicolons passes is passed by every token of a section
+joined-passes : (f : Token → Bool) (t : Token) (r : List (List Token)) → T (f t) → T (every (every f) r) → T (every (every f) (joined t r))
+unfolding joined every
+joined-passes f t [] h r = every-cons (every f) (t ∷ []) [] (every-cons f t [] h tt) tt
+joined-passes f t (s ∷ ss) h r =
+    every-cons (every f) (t ∷ s) ss (every-cons f t s h (every-head (every f) s ss r)) (every-tail (every f) s ss r)
+
+split-passes : (g f : Token → Bool) → ((t : Token) → isSemicolon t ≡ false → T (g t) → T (f t))
+    → (ts : List Token) → T (every g ts) → T (every (every f) (split ts))
+unfolding split every
+split-passes g f h [] a = tt
+split-passes g f h (t ∷ ts) a =
+    let r : T (every (every f) (split ts)) = split-passes g f h ts (every-tail g t ts a) in
+    cond-case (λ (ss : List (List Token)). T (every (every f) ss)) (isSemicolon t)
+    (λ e. every-cons (every f) [] (split ts) tt r)
+    (λ e. joined-passes f t (split ts) (h t e (every-head g t ts a)) r)
+
+pub sections-in-range : (code : List ℕ) → T (every isUnit code) → T (every (every tokenInRange) (split (tokensOf (placedOf (lex code)))))
+sections-in-range code t =
+    split-passes tokenInRange tokenInRange (λ x e h. h) (tokensOf (placedOf (lex code))) (tokens-in-range code t)
+
+-- the parts of a section
+unfoldable pub conditionDigits : Option Written → Bool
+conditionDigits none = true
+conditionDigits (some w) = writtenInRange w
+
+unfoldable pub partsInRange : Parts → Bool
+partsInRange p =
+    leb (p .colour) 56
+    && conditionDigits (p .condition)
+    && every tokenInRange (p .body)
+    && every (λ (t : Token). not (isSemicolon t)) (p .body)
+
+-- a token that may stand in a section
+abbrev inSection : Token → Bool
+inSection t = tokenInRange t && not (isSemicolon t)
+
+colour-in : (t : Token) → T (tokenInRange t) → T (leb (colourIn t) 56)
+unfolding colourIn tokenInRange
+colour-in (colour n) h = h
+colour-in (literal us) h = tt
+colour-in (bare u) h = tt
+colour-in (blank u) h = tt
+colour-in (fill u) h = tt
+colour-in (place p) h = tt
+colour-in point h = tt
+colour-in comma h = tt
+colour-in percent h = tt
+colour-in at h = tt
+colour-in semicolon h = tt
+colour-in general h = tt
+colour-in (half x) h = tt
+colour-in (run l n) h = tt
+colour-in (elapsed e n) h = tt
+colour-in (condition w) h = tt
+
+condition-in : (t : Token) → T (tokenInRange t) → T (conditionDigits (conditionIn t))
+unfolding conditionIn conditionDigits tokenInRange
+condition-in (condition w) h = h
+condition-in (literal us) h = tt
+condition-in (bare u) h = tt
+condition-in (blank u) h = tt
+condition-in (fill u) h = tt
+condition-in (place p) h = tt
+condition-in point h = tt
+condition-in comma h = tt
+condition-in percent h = tt
+condition-in at h = tt
+condition-in semicolon h = tt
+condition-in general h = tt
+condition-in (half x) h = tt
+condition-in (run l n) h = tt
+condition-in (elapsed e n) h = tt
+condition-in (colour n) h = tt
+
+made-in-range : (c : ℕ) (w : Option Written) (ts : List Token)
+    → T (leb c 56) → T (conditionDigits w) → T (every inSection ts) → T (partsInRange (record { colour = c; condition = w; body = ts }))
+unfolding partsInRange
+made-in-range c w ts hc hw t =
+    let a : T (every tokenInRange ts)
+    = every-weaker inSection tokenInRange (λ x h. and-left (tokenInRange x) (not (isSemicolon x)) h) ts t in
+    let b : T (every (λ (x : Token). not (isSemicolon x)) ts)
+    = every-weaker inSection (λ (x : Token). not (isSemicolon x)) (λ x h. and-right (tokenInRange x) (not (isSemicolon x)) h) ts t in
+    search and-in depth 8
+
+after-in-range : (c : ℕ) (ts : List Token) → T (leb c 56) → T (every inSection ts) → T (partsInRange (afterColour c ts))
+unfolding afterColour conditionDigits
+after-in-range c [] hc h = made-in-range c none [] hc tt h
+after-in-range c (t ∷ ts) hc h =
+    let x : T (tokenInRange t) = and-left (tokenInRange t) (not (isSemicolon t)) (every-head inSection t ts h) in
+    cond-both (λ (p : Parts). T (partsInRange p)) (isCondition t)
+    (made-in-range c (conditionIn t) ts hc (condition-in t x) (every-tail inSection t ts h))
+    (made-in-range c none (t ∷ ts) hc tt h)
+
+parts-made : (ts : List Token) → T (every inSection ts) → T (partsInRange (partsOf ts))
+unfolding partsOf
+parts-made [] h = after-in-range 0 [] tt h
+parts-made (t ∷ ts) h =
+    let x : T (tokenInRange t) = and-left (tokenInRange t) (not (isSemicolon t)) (every-head inSection t ts h) in
+    cond-both (λ (p : Parts). T (partsInRange p)) (isColour t)
+    (after-in-range (colourIn t) ts (colour-in t x) (every-tail inSection t ts h))
+    (after-in-range 0 (t ∷ ts) tt h)
+
+false-not : (b : Bool) → b ≡ false → T (not b)
+false-not b e = rw e tt
+
+pub parts-in-range : (code : List ℕ) → T (every isUnit code) → T (every partsInRange (partsIn code))
+unfolding partsIn
+parts-in-range code t =
+    let ts = tokensOf (placedOf (lex code)) in
+    let s : T (every (every inSection) (split ts))
+    = split-passes tokenInRange inSection
+    (λ x e h. and-in (tokenInRange x) (not (isSemicolon x)) h (false-not (isSemicolon x) e)) ts (tokens-in-range code t) in
+    rw (every-map partsInRange partsOf (split ts))
+    (every-weaker (every inSection) (λ (x : List Token). partsInRange (partsOf x)) parts-made (split ts) s)
