@@ -4,3 +4,6 @@ pub mod Words
 pub mod MadeItems
 pub mod MadeHeads
 pub mod Made
+pub mod BackEntries
+pub mod BackHead
+pub mod Back

@@ -1,0 +1,121 @@
+-- Entries in their ranges are the entries of the items that they stand for, and those items are in range.
+-- Assumes nothing.
+use Prim.Native.Nat.{ℕ, zero, suc, _+_, _≤_, _<_}
+use native.Mathlib.Omega.{arith}
+use mathlib.Core.Path.{_≡_, refl, ap}
+use mathlib.Core.Bool.{Bool}
+use mathlib.Core.List.{List, [], _∷_}
+use lib.ListN.{length}
+use lib.Dec.{T, eqb, leb→le, eqb→eq}
+use borrow.Author.Tests.{eqb-true, eqb-false}
+use Rattle.values.specs.Ranges.{between}
+use Rattle.lists.specs.Lists.{every}
+use Rattle.lists.proofs.Bools.{and-left, and-right, true-T, by-cases, cond-case, every-head, every-tail, every-cons}
+use Rattle.formats.specs.Items.{isPlace}
+use Rattle.formats.specs.Where.{implies}
+use Rattle.formats.specs.WellFormed.{itemInRange}
+use Rattle.formats.specs.Text.{digitAfter}
+use Rattle.tables.specs.Words.{Entry}
+use Rattle.tables.specs.Encode.{entry, placeTag, elapsedTag, halfWord, entryOf, entriesFrom}
+use Rattle.tables.specs.Decode.{halfAt, itemAt, itemsAt}
+use Rattle.tables.specs.Rules.{entryInRange, powersFrom}
+
+-- what holds of each of the n numbers from k
+abbrev pub Span : (ℕ → Type 0) → ℕ → ℕ → Type 0
+Span P k zero = Unit {0}
+Span P k (suc n) = P k × Span P (suc k) n
+
+-- a number between two bounds is one of those between them
+pub span-at : (P : ℕ → Type 0) (k n t : ℕ) → Span P k n → k ≤ t → t < k + n → P t
+span-at P k zero t ps least most = absurd (omega arith)
+span-at P k (suc n) t ps least most =
+    by-cases (eqb k t) (λ e. rw (eqb-true k t e) at (ps .0))
+    (λ e. span-at P (suc k) n t (ps .1) (later (eqb-false k t e)) (omega arith))
+  where
+    later : (k ≡ t → ⊥) → suc k ≤ t
+    later apart = omega arith
+
+pub between-facts : (least greatest n : ℕ) → T (between least greatest n) → (least ≤ n) × (n ≤ greatest)
+between-facts least greatest n t = search (and-left, and-right, leb→le)
+
+-- an entry in its range has one of the tags
+pub tag-known : (e : Entry) → T (entryInRange e) → (1 ≤ e .tag) × (e .tag ≤ 21)
+unfolding entryInRange
+tag-known e =
+    cond-case Known (between 1 3 t) (λ h _. omega (arith, between-facts 1 3 t (true-T h)))
+    (λ _. cond-case Known (between 4 6 t) (λ h _. omega (arith, between-facts 4 6 t (true-T h)))
+    (λ _. cond-case Known (between 7 10 t) (λ h _. omega (arith, between-facts 7 10 t (true-T h)))
+    (λ _. cond-case Known (eqb t 11) (λ h _. omega (arith, eqb-true t 11 h))
+    (λ _. cond-case Known (eqb t 12) (λ h _. omega (arith, eqb-true t 12 h))
+    (λ _. cond-case Known (eqb t 13) (λ h _. omega (arith, eqb-true t 13 h))
+    (λ _. cond-case Known (between 14 16 t) (λ h _. omega (arith, between-facts 14 16 t (true-T h)))
+    (λ _. cond-case Known (eqb t 17) (λ h _. omega (arith, eqb-true t 17 h))
+    (λ _. cond-case Known (between 18 20 t) (λ h _. omega (arith, between-facts 18 20 t (true-T h)))
+    (λ _ u. omega (arith, eqb→eq t 21 (and-left (eqb t 21) (between 1 2 (e .argument)) u)))))))))))
+  where
+    t : ℕ
+    t = e .tag
+    Known : Bool → Type 0
+    Known b = T b → (1 ≤ t) × (t ≤ 21)
+
+-- what holds at each tag holds of every entry in its range
+pub by-tag : (P : Entry → Type 0) → Span (λ t. (a : ℕ) → T (entryInRange (entry t a)) → P (entry t a)) 1 21
+    → (e : Entry) → T (entryInRange e) → P e
+by-tag P ps e r =
+    span-at (λ t. (a : ℕ) → T (entryInRange (entry t a)) → P (entry t a)) 1 21 (e .tag) ps
+      (tag-known e r .0) (omega (arith, tag-known e r)) (e .argument) r
+
+half-back : (a : ℕ) → T (between 1 2 a) → halfWord (halfAt a) ≡ a
+unfolding halfAt halfWord
+half-back a r =
+    let f : (1 ≤ a) × (a ≤ 2) = between-facts 1 2 a r in
+    span-at (λ n. halfWord (halfAt n) ≡ n) 1 2 a (refl, (refl, tt)) (f .0) (omega arith)
+
+-- a place's argument is what its power asks for; q is the power of the entry's digit and 15
+abbrev pub powerFits : ℕ → Entry → Bool
+powerFits q e = implies (isPlace (itemAt e)) (eqb (e .argument) (suc q))
+
+pub entry-back : (q : ℕ) (e : Entry) → T (entryInRange e) → T (powerFits q e) → entryOf q (itemAt e) ≡ e
+unfolding entryInRange itemAt entryOf placeTag elapsedTag
+entry-back q =
+    by-tag (λ e. T (powerFits q e) → entryOf q (itemAt e) ≡ e)
+    ((λ a r f. refl), ((λ a r f. refl), ((λ a r f. refl),
+    ((λ a r f. rw (eqb→eq a (suc q) f)), ((λ a r f. rw (eqb→eq a (suc q) f)), ((λ a r f. rw (eqb→eq a (suc q) f)),
+    ((λ a r f. rw (eqb→eq a 0 r)), ((λ a r f. rw (eqb→eq a 0 r)), ((λ a r f. rw (eqb→eq a 0 r)), ((λ a r f. rw (eqb→eq a 0 r)),
+    ((λ a r f. refl), ((λ a r f. refl), ((λ a r f. refl),
+    ((λ a r f. refl), ((λ a r f. refl), ((λ a r f. refl), ((λ a r f. refl),
+    ((λ a r f. refl), ((λ a r f. refl), ((λ a r f. refl),
+    ((λ a r f. rw (half-back a r)), tt)))))))))))))))))))))
+
+pub entries-back : (q : ℕ) (es : List Entry) → T (every entryInRange es) → T (powersFrom q es) → entriesFrom q (itemsAt es) ≡ es
+unfolding powersFrom entriesFrom itemsAt
+entries-back q [] r f = refl
+entries-back q (e ∷ es) r f =
+    let here : T (powerFits q e) = and-left (powerFits q e) (powersFrom (digitAfter q (itemAt e)) es) f in
+    let later : T (powersFrom (digitAfter q (itemAt e)) es) = and-right (powerFits q e) (powersFrom (digitAfter q (itemAt e)) es) f in
+    rw (entry-back q e (every-head entryInRange e es r) here,
+      entries-back (digitAfter q (itemAt e)) es (every-tail entryInRange e es r) later)
+
+pub item-ranged : (e : Entry) → T (entryInRange e) → T (itemInRange (itemAt e))
+unfolding entryInRange itemAt itemInRange
+item-ranged =
+    by-tag (λ e. T (itemInRange (itemAt e)))
+    ((λ a r. r), ((λ a r. r), ((λ a r. r),
+    ((λ a r. tt), ((λ a r. tt), ((λ a r. tt),
+    ((λ a r. tt), ((λ a r. tt), ((λ a r. tt), ((λ a r. tt),
+    ((λ a r. r), ((λ a r. r), ((λ a r. r),
+    ((λ a r. r), ((λ a r. r), ((λ a r. r), ((λ a r. r),
+    ((λ a r. r), ((λ a r. r), ((λ a r. r),
+    ((λ a r. tt), tt)))))))))))))))))))))
+
+pub items-ranged : (es : List Entry) → T (every entryInRange es) → T (every itemInRange (itemsAt es))
+unfolding itemsAt every
+items-ranged [] r = tt
+items-ranged (e ∷ es) r =
+    every-cons itemInRange (itemAt e) (itemsAt es) (item-ranged e (every-head entryInRange e es r))
+      (items-ranged es (every-tail entryInRange e es r))
+
+pub items-length : (es : List Entry) → length (itemsAt es) ≡ length es
+unfolding itemsAt
+items-length [] = refl
+items-length (e ∷ es) = ap suc (items-length es)
