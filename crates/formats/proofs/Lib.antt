@@ -2,3 +2,12 @@ pub mod Evaluate
 pub mod Cases
 pub mod TokenRanges
 pub mod ItemCount
+pub mod FormedBools
+pub mod FormedItems
+pub mod FormedPieces
+pub mod FormedKinds
+pub mod FormedParts
+pub mod FormedGrouping
+pub mod FormedLengths
+pub mod FormedCondition
+pub mod Formed

@@ -12,11 +12,15 @@ use Rattle.formats.specs.Items.{Item, literal, blank, fill, place, point
 use Rattle.formats.specs.Where.{implies, standsAt}
 use Rattle.formats.specs.Limits.{sectionWithin}
 
--- a unit is any number to 65,535; runs have the lengths that their tokens may have
+-- "A unit may be any number to 65,535."
+abbrev pub isUnit : ℕ → Bool
+isUnit u = ltb u 65536
+
+-- a literal's, blank's or fill's unit is a unit; runs have the lengths that their tokens may have
 unfoldable pub itemInRange : Item → Bool
-itemInRange (literal u) = ltb u 65536
-itemInRange (blank u) = ltb u 65536
-itemInRange (fill u) = ltb u 65536
+itemInRange (literal u) = isUnit u
+itemInRange (blank u) = isUnit u
+itemInRange (fill u) = isUnit u
 itemInRange (place p) = true
 itemInRange point = true
 itemInRange percent = true

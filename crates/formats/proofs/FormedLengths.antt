@@ -1,0 +1,146 @@
+-- The items of tokens in range are in range, but for the limit on elapsed runs.
+-- Assumes nothing.
+use Prim.Native.Nat.{ℕ, zero, suc, _≤_}
+use native.Mathlib.Omega.{arith}
+use mathlib.Core.Path.{_≡_, refl}
+use mathlib.Core.Bool.{Bool, true, false, _&&_}
+use mathlib.Core.List.{List, [], _∷_, map}
+use lib.Dec.{T, leb, eqb, leb→le, le→leb}
+use borrow.Author.Tests.{eqb-false}
+use Rattle.lists.specs.Lists.{every}
+use Rattle.lists.proofs.Bools.{by-cases, cond-both, cond-case, and-left, and-right, and-in, true-T, every-head, every-tail, every-cons, every-append}
+use Rattle.lists.proofs.Counts.{every-map}
+use Rattle.values.specs.Ranges.{between}
+use Rattle.formats.specs.Tokens as token
+use Rattle.formats.specs.Tokens.{Token, Letter, letterY, letterM, letterD, letterH, letterS, runAllowed}
+use Rattle.formats.specs.Items as item
+use Rattle.formats.specs.Items.{Item, dateKind, sameKind, Run, noRun, runOf, nearer, firstRun, meansMinutes, monthOrMinute, settledItem, settledFrom, settled}
+use Rattle.formats.specs.Kinds.{bodyKind, partZeros, isSecondsToken, piecesFrom, runItem, tokenItems, pieceItems, plainItems, dateItems, bodyItems, lastFill}
+use Rattle.formats.specs.Where.{implies}
+use Rattle.formats.specs.Limits.{elapsedShort}
+use Rattle.formats.specs.WellFormed.{isUnit, itemInRange}
+use Rattle.formats.proofs.TokenRanges.{tokenInRange}
+use Rattle.formats.proofs.FormedBools.{implies-in, implies-out}
+use Rattle.formats.proofs.FormedItems.{every-lastFill}
+use Rattle.formats.proofs.FormedPieces.{zeros-most}
+
+-- in range where it is within the limit on elapsed runs
+unfoldable pub rangedShort : Item → Bool
+rangedShort i = implies (elapsedShort i) (itemInRange i)
+
+literals-ranged : (us : List ℕ) → T (every isUnit us) → T (every rangedShort (map item.literal us))
+unfolding rangedShort elapsedShort itemInRange
+literals-ranged us t = rw (every-map rangedShort item.literal us) t
+
+run-ranged : (l : Letter) (n : ℕ) → T (runAllowed l n) → T (rangedShort (runItem l n))
+unfolding rangedShort elapsedShort itemInRange runItem runAllowed
+run-ranged letterY n t = t
+run-ranged letterM n t = t
+run-ranged letterD n t = t
+run-ranged letterH n t = t
+run-ranged letterS n t = t
+
+token-ranged : (d : Bool) (t : Token) → T (tokenInRange t) → T (every rangedShort (tokenItems d t))
+unfolding every rangedShort elapsedShort itemInRange tokenItems tokenInRange
+token-ranged d (token.literal us) h = literals-ranged us h
+token-ranged d (token.bare u) h = every-cons rangedShort (item.literal u) [] h tt
+token-ranged d (token.blank u) h = every-cons rangedShort (item.blank u) [] h tt
+token-ranged d (token.fill u) h = every-cons rangedShort (item.fill u) [] h tt
+token-ranged d (token.place p) h = tt
+token-ranged d token.point h = cond-both (λ (i : Item). T (every rangedShort (i ∷ []))) d {x = item.literal 46} {y = item.point} tt tt
+token-ranged d token.comma h = cond-both (λ (is : List Item). T (every rangedShort is)) d {x = item.literal 44 ∷ []} {y = []} tt tt
+token-ranged d token.percent h = tt
+token-ranged d token.at h = tt
+token-ranged d token.semicolon h = tt
+token-ranged d token.general h = tt
+token-ranged d (token.half k) h = tt
+token-ranged d (token.run l n) h = every-cons rangedShort (runItem l n) [] (run-ranged l n h) tt
+token-ranged d (token.elapsed e n) h =
+    every-cons rangedShort (item.elapsed e n) [] (implies-in (leb n 9) (leb 1 n && leb n 9) (λ s. and-in (leb 1 n) (leb n 9) h (true-T s))) tt
+token-ranged d (token.colour n) h = tt
+token-ranged d (token.condition w) h = tt
+
+plain-ranged : (ts : List Token) → T (every tokenInRange ts) → T (every rangedShort (plainItems ts))
+unfolding plainItems every
+plain-ranged [] h = tt
+plain-ranged (t ∷ ts) h =
+    every-append rangedShort (tokenItems false t) (plainItems ts)
+    (token-ranged false t (every-head tokenInRange t ts h)) (plain-ranged ts (every-tail tokenInRange t ts h))
+
+part-ranged : (n : ℕ) → n ≤ 3 → eqb n 0 ≡ false → T (rangedShort (item.part n))
+unfolding rangedShort elapsedShort itemInRange
+part-ranged zero h e = absurd (eqb-false 0 0 e refl)
+part-ranged (suc n) h e = and-in (leb 1 (suc n)) (leb (suc n) 3) (le→leb 1 (suc n) (omega arith)) (le→leb (suc n) 3 h)
+
+date-ranged : (b : Bool) (skip : ℕ) (ts : List Token) → T (every tokenInRange ts) → T (every rangedShort (dateItems (piecesFrom b skip ts)))
+unfolding piecesFrom dateItems pieceItems every
+date-ranged b skip [] h = tt
+date-ranged b (suc skip) (t ∷ ts) h = date-ranged false skip ts (every-tail tokenInRange t ts h)
+date-ranged b zero (t ∷ ts) h =
+    let n = partZeros b t ts in
+    let is = dateItems (piecesFrom (isSecondsToken t) n ts) in
+    let r : T (every rangedShort is) = date-ranged (isSecondsToken t) n ts (every-tail tokenInRange t ts h) in
+    by-cases (eqb n 0)
+    (λ e. rw e (every-append rangedShort (tokenItems true t) is (token-ranged true t (every-head tokenInRange t ts h)) r))
+    (λ e. rw e (every-cons rangedShort (item.part n) is (part-ranged n (zeros-most b t ts) e) r))
+
+body-ranged : (ts : List Token) → T (every tokenInRange ts) → T (every rangedShort (bodyItems ts))
+unfolding bodyItems
+body-ranged ts h =
+    cond-both (λ (is : List Item). T (every rangedShort is)) (sameKind (bodyKind ts) dateKind) (date-ranged false 0 ts h) (plain-ranged ts h)
+
+-- a run of m of 1 to 5 is minutes only where it is one of 1 or 2
+month-ranged : (b : Bool) (n : ℕ) → T (between 1 5 n) → T (rangedShort (monthOrMinute b n))
+unfolding rangedShort elapsedShort itemInRange monthOrMinute
+month-ranged b n t =
+    cond-case (λ (i : Item). T (rangedShort i)) (b && leb n 2)
+    (λ h. and-in (leb 1 n) (leb n 2) (and-left (leb 1 n) (leb n 5) t) (and-right b (leb n 2) (true-T h)))
+    (λ h. t)
+
+minute-month : (n : ℕ) → T (between 1 2 n) → T (between 1 5 n)
+minute-month n t =
+    let h : n ≤ 2 = leb→le n 2 (and-right (leb 1 n) (leb n 2) t) in
+    and-in (leb 1 n) (leb n 5) (and-left (leb 1 n) (leb n 2) t) (le→leb n 5 (omega arith))
+
+item-settled : (e l : Run) (i : Item) → T (rangedShort i) → T (rangedShort (settledItem e l i))
+unfolding settledItem rangedShort elapsedShort itemInRange
+item-settled e l (item.month n) t = month-ranged (meansMinutes e l) n t
+item-settled e l (item.minute n) t = month-ranged (meansMinutes e l) n (minute-month n t)
+item-settled e l (item.literal u) t = t
+item-settled e l (item.blank u) t = t
+item-settled e l (item.fill u) t = t
+item-settled e l (item.place p) t = t
+item-settled e l item.point t = t
+item-settled e l item.percent t = t
+item-settled e l item.general t = t
+item-settled e l item.at t = t
+item-settled e l (item.year n) t = t
+item-settled e l (item.day n) t = t
+item-settled e l (item.hour n) t = t
+item-settled e l (item.second n) t = t
+item-settled e l (item.part n) t = t
+item-settled e l (item.elapsed s n) t = t
+item-settled e l (item.half h) t = t
+
+items-settled : (e : Run) (is : List Item) → T (every rangedShort is) → T (every rangedShort (settledFrom e is))
+unfolding settledFrom every
+items-settled e [] t = tt
+items-settled e (i ∷ is) t =
+    every-cons rangedShort (settledItem e (firstRun is) i) (settledFrom (nearer (runOf i) e) is)
+    (item-settled e (firstRun is) i (every-head rangedShort i is t)) (items-settled (nearer (runOf i) e) is (every-tail rangedShort i is t))
+
+within-ranged : (is : List Item) → T (every rangedShort is) → T (every elapsedShort is) → T (every itemInRange is)
+unfolding every rangedShort
+within-ranged [] t u = tt
+within-ranged (i ∷ is) t u =
+    every-cons itemInRange i is
+    (implies-out (elapsedShort i) (itemInRange i) (every-head rangedShort i is t) (every-head elapsedShort i is u))
+    (within-ranged is (every-tail rangedShort i is t) (every-tail elapsedShort i is u))
+
+-- the items of a section
+pub items-in-range : (ts : List Token) → T (every tokenInRange ts)
+    → T (every elapsedShort (settled (lastFill (bodyItems ts)))) → T (every itemInRange (settled (lastFill (bodyItems ts))))
+unfolding settled
+items-in-range ts t u =
+    within-ranged (settledFrom noRun (lastFill (bodyItems ts)))
+    (items-settled noRun (lastFill (bodyItems ts)) (every-lastFill rangedShort (bodyItems ts) (body-ranged ts t))) u

@@ -1,0 +1,101 @@
+-- A part of a second stands directly behind seconds in the items of a body.
+-- Assumes nothing.
+use Prim.Native.Nat.{ℕ, zero, suc}
+use mathlib.Core.Path.{_≡_, refl}
+use mathlib.Core.Bool.{Bool, true, false, cond, _&&_}
+use mathlib.Core.List.{List, [], _∷_, _++_, map}
+use lib.Dec.{T, eqb}
+use Rattle.lists.proofs.Bools.{by-cases, cond-both, and-left, and-right, T-true, true-T}
+use Rattle.formats.specs.Tokens as token
+use Rattle.formats.specs.Tokens.{Token, Letter, letterY, letterM, letterD, letterH, letterS}
+use Rattle.formats.specs.Items as item
+use Rattle.formats.specs.Items.{Item, dateKind, sameKind, settled, noRun, isSecondsElapsed}
+use Rattle.formats.specs.Kinds.{bodyKind, isPoint, partZeros, isSecondsLetter, isSecondsToken, piecesFrom, runItem, tokenItems, pieceItems, plainItems, dateItems, bodyItems, lastFill}
+use Rattle.formats.specs.Where.{implies}
+use Rattle.formats.specs.WellFormed.{isSeconds, partsFrom, partsFollow}
+use Rattle.formats.proofs.FormedBools.{implies-in, implies-out}
+use Rattle.formats.proofs.FormedItems.{parts-lastFill, parts-settled}
+use Rattle.formats.proofs.FormedPieces.{point-case, zeros-point}
+
+-- the items may stand behind any item; behind seconds where b says that they may start with a part of a second
+abbrev Follow : Bool → List Item → Type 0
+Follow b is = (c : Bool) → T (implies b c) → T (partsFrom c is)
+
+literals-follow : (us : List ℕ) (is : List Item) (c : Bool) → Follow false is → T (partsFrom c (map item.literal us ++ is))
+unfolding partsFrom isSeconds
+literals-follow [] is c f = f c tt
+literals-follow (u ∷ us) is c f = literals-follow us is false f
+
+run-follows : (l : Letter) (n : ℕ) (is : List Item) (c : Bool) → Follow (isSecondsLetter l) is → T (partsFrom c (runItem l n ∷ is))
+unfolding partsFrom isSeconds isSecondsLetter runItem
+run-follows letterY n is c f = f false tt
+run-follows letterM n is c f = f false tt
+run-follows letterD n is c f = f false tt
+run-follows letterH n is c f = f false tt
+run-follows letterS n is c f = f true tt
+
+point-follows : (d : Bool) (is : List Item) (c : Bool) → Follow false is → T (partsFrom c (cond d (item.literal 46) item.point ∷ is))
+unfolding partsFrom isSeconds
+point-follows true is c f = f false tt
+point-follows false is c f = f false tt
+
+comma-follows : (d : Bool) (is : List Item) (c : Bool) → Follow false is → T (partsFrom c (cond d (item.literal 44 ∷ []) [] ++ is))
+unfolding partsFrom isSeconds
+comma-follows true is c f = f false tt
+comma-follows false is c f = f c tt
+
+-- the items of a token hold no part of a second, and end with seconds where the token is seconds
+token-follows : (d : Bool) (t : Token) (is : List Item) (c : Bool) → Follow (isSecondsToken t) is → T (partsFrom c (tokenItems d t ++ is))
+unfolding partsFrom isSeconds isSecondsToken tokenItems
+token-follows d (token.literal us) is c f = literals-follow us is c f
+token-follows d (token.bare u) is c f = f false tt
+token-follows d (token.blank u) is c f = f false tt
+token-follows d (token.fill u) is c f = f false tt
+token-follows d (token.place p) is c f = f false tt
+token-follows d token.point is c f = point-follows d is c f
+token-follows d token.comma is c f = comma-follows d is c f
+token-follows d token.percent is c f = f false tt
+token-follows d token.at is c f = f false tt
+token-follows d token.semicolon is c f = f c tt
+token-follows d token.general is c f = f false tt
+token-follows d (token.half h) is c f = f false tt
+token-follows d (token.run l n) is c f = run-follows l n is c f
+token-follows d (token.elapsed e n) is c f = f (isSecondsElapsed e) (implies-in (isSecondsElapsed e) (isSecondsElapsed e) true-T)
+token-follows d (token.colour n) is c f = f c tt
+token-follows d (token.condition w) is c f = f c tt
+
+plain-follow : (ts : List Token) (c : Bool) → T (partsFrom c (plainItems ts))
+unfolding plainItems partsFrom
+plain-follow [] c = tt
+plain-follow (t ∷ ts) c = token-follows false t (plainItems ts) c (λ c₁ h. plain-follow ts c₁)
+
+point-ends : (t : Token) → isPoint t ≡ true → isSecondsToken t ≡ false
+unfolding isSecondsToken
+point-ends t e = point-case (λ (t : Token). isSecondsToken t ≡ false) refl t e
+
+-- the walk over the pieces: where it stands behind seconds, so do its items
+date-follow : (b : Bool) (skip : ℕ) (ts : List Token) (c : Bool) → T (implies b c) → T (partsFrom c (dateItems (piecesFrom b skip ts)))
+unfolding piecesFrom dateItems pieceItems partsFrom isSeconds
+date-follow b skip [] c h = tt
+date-follow b (suc skip) (t ∷ ts) c h = date-follow false skip ts c tt
+date-follow b zero (t ∷ ts) c h =
+    by-cases (eqb (partZeros b t ts) 0)
+    (λ e.
+    rw e
+    (token-follows true t (dateItems (piecesFrom (isSecondsToken t) (partZeros b t ts) ts)) c
+    (λ d g. date-follow (isSecondsToken t) (partZeros b t ts) ts d g)))
+    (λ e.
+    let p : T (b && isPoint t) = true-T (zeros-point b t ts e) in
+    let q : isPoint t ≡ true = T-true (isPoint t) (and-right b (isPoint t) p) in
+    let r : T (implies (isSecondsToken t) false) = rw (point-ends t q) tt in
+    rw (e, T-true c (implies-out b c h (and-left b (isPoint t) p))) (date-follow (isSecondsToken t) (partZeros b t ts) ts false r))
+
+body-follows : (ts : List Token) → T (partsFrom false (bodyItems ts))
+unfolding bodyItems
+body-follows ts =
+    cond-both (λ (is : List Item). T (partsFrom false is)) (sameKind (bodyKind ts) dateKind)
+    (date-follow false 0 ts false tt) (plain-follow ts false)
+
+pub parts-follow : (ts : List Token) → T (partsFollow (settled (lastFill (bodyItems ts))))
+unfolding partsFollow settled
+parts-follow ts = rw (parts-settled false noRun (lastFill (bodyItems ts))) (parts-lastFill false (bodyItems ts) (body-follows ts))
