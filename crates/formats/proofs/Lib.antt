@@ -11,3 +11,8 @@ pub mod FormedGrouping
 pub mod FormedLengths
 pub mod FormedCondition
 pub mod Formed
+pub mod FigureUnits
+pub mod FigureItems
+pub mod GeneralFigures
+pub mod Chosen
+pub mod Shown

@@ -9,3 +9,4 @@ pub mod Choice
 pub mod Minus
 pub mod Text
 pub mod Reading
+pub mod Figures

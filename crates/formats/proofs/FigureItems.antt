@@ -1,0 +1,239 @@
+-- The figures of a section's items, read back, are the rounded number.
+-- Assumes nothing.
+use mathlib.Core.Path.{_≡_, refl, sym, ap, _∙_}
+use Prim.Native.Nat.{ℕ, zero, suc, _+_, _-_, _*_, _/_, _%_, _^_, _≤_, _<_}
+use native.Mathlib.Nat.{div-eq-of-lt}
+use native.Mathlib.Omega.{arith}
+use mathlib.Core.Bool.{true, false, true≢false}
+use mathlib.Core.List.{List, [], _∷_, _++_, append-assoc}
+use borrow.Author.Tests.{eqb-true, ltb-true, lt-ltb, eq-eqb, ne-eqb}
+use lib.Dec.{eqb, ltb}
+use Rattle.lists.specs.Lists.{any, count}
+use Rattle.lists.proofs.Bools.{by-cases}
+use Rattle.lists.proofs.Counts.{any-count}
+use Rattle.figures.specs.Digits.{digit}
+use Rattle.figures.proofs.Digits.{digit-small, mod-next}
+use Rattle.formats.specs.Tokens.{Place}
+use Rattle.formats.specs.Items.{Item, literal, blank, fill, place, point, percent, general, at, year, month, day, hour, minute, second, part, elapsed, half, isPlace, isPoint, integerPlaces, decimalPlaces}
+use Rattle.formats.specs.Text.{Context, figureUnits, extraUnits, placeUnits, pointUnits, itemUnits, digitAfter}
+use Rattle.formats.specs.Figures.{itemFigures, figuresShown, decimalsRead, integerRead, unitsRead}
+use Rattle.formats.proofs.FigureUnits.{decimal-step, figure-read, extra-read, decimal-units, idle-nought}
+
+-- an item is a place, the point, or neither
+item-case : (P : Item → Type 0) → ((p : Place) → P (place p)) → P point
+    → ((i : Item) → isPlace i ≡ false → isPoint i ≡ false → P i) → (i : Item) → P i
+item-case P f g h (place p) = f p
+item-case P f g h point = g
+item-case P f g h (literal u) = h (literal u) refl refl
+item-case P f g h (blank u) = h (blank u) refl refl
+item-case P f g h (fill u) = h (fill u) refl refl
+item-case P f g h percent = h percent refl refl
+item-case P f g h general = h general refl refl
+item-case P f g h at = h at refl refl
+item-case P f g h (year n) = h (year n) refl refl
+item-case P f g h (month n) = h (month n) refl refl
+item-case P f g h (day n) = h (day n) refl refl
+item-case P f g h (hour n) = h (hour n) refl refl
+item-case P f g h (minute n) = h (minute n) refl refl
+item-case P f g h (second n) = h (second n) refl refl
+item-case P f g h (part n) = h (part n) refl refl
+item-case P f g h (elapsed e n) = h (elapsed e n) refl refl
+item-case P f g h (half a) = h (half a) refl refl
+
+-- a number without a digit below a place has none below the next lower one
+lower : (n q : ℕ) → n % 10 ^ suc q ≡ 0 → n % 10 ^ q ≡ 0
+lower n q e = omega (arith, mod-next n q)
+
+lower-next : (n q : ℕ) → n % 10 ^ suc q ≡ 0 → n % 10 ^ suc (q - 1) ≡ 0
+lower-next n zero e = e
+lower-next n (suc q) e =
+    let f : suc (suc q - 1) ≡ suc q = omega arith in
+    rw f (lower n (suc q) e)
+
+module _ (c : Context) where
+  -- a place that is not the first integer place
+  place-later : (p : Place) (q : ℕ) → (0 < c .integerPlaces → suc q < 15 + c .integerPlaces)
+      → placeUnits c p q ≡ figureUnits (c .figures) (c .grouped) p q
+  unfolding placeUnits
+  place-later p q h =
+      by-cases (ltb 0 (c .integerPlaces))
+      (λ e.
+      let less = h (ltb-true 0 (c .integerPlaces) e) in
+      rw (e, ne-eqb (suc q) (15 + c .integerPlaces) (λ f. omega arith)))
+      (λ e. rw e)
+
+  place-first : (p : Place) (q : ℕ) → 0 < c .integerPlaces → suc q ≡ 15 + c .integerPlaces
+      → placeUnits c p q ≡ extraUnits (c .figures) (c .grouped) (suc q) (39 - q) ++ figureUnits (c .figures) (c .grouped) p q
+  unfolding placeUnits
+  place-first p q h e = rw (lt-ltb 0 (c .integerPlaces) h, eq-eqb (suc q) (15 + c .integerPlaces) e)
+
+  -- places below the last digit of the number show noughts
+  abbrev Nought : List Item → Type 0
+  Nought is = (q v k : ℕ) → q < 15 → any isPoint is ≡ false → c .figures % 10 ^ suc q ≡ 0 → decimalsRead v k (figuresShown c q is) ≡ v
+
+  nought-place : (p : Place) (is : List Item) → Nought is → Nought (place p ∷ is)
+  unfolding figuresShown itemFigures itemUnits digitAfter any
+  nought-place p is rest q v k small noPoint none =
+      rw (place-later p q (λ h. omega arith), decimal-units (c .figures) (c .grouped) p q small, none)
+      (idle-nought v p (figuresShown c (q - 1) is) (λ j. rest (q - 1) v j (omega arith) noPoint (lower-next (c .figures) q none)) k)
+
+  decimals-nought : (is : List Item) → Nought is
+  unfolding decimalsRead figuresShown itemFigures itemUnits digitAfter any
+  decimals-nought [] = λ q v k small noPoint none. refl
+  decimals-nought (i ∷ is) =
+      item-case (λ (j : Item). Nought (j ∷ is))
+      (λ p. nought-place p is (decimals-nought is))
+      (λ q v k small noPoint none. absurd (true≢false noPoint))
+      (λ j notPlace notPoint. rw (notPlace, notPoint) (decimals-nought is))
+      i
+
+  -- v and the k lowest digits make up the number; the r lowest of these have no place and are noughts
+  abbrev Decimals : List Item → Type 0
+  Decimals is = (k r v : ℕ) → k ≤ 15 → any isPoint is ≡ false → k ≡ count isPlace is + r → c .figures % 10 ^ r ≡ 0
+      → v + c .figures % 10 ^ k ≡ c .figures → decimalsRead v k (figuresShown c (k - 1) is) ≡ c .figures
+
+  decimals-digit : (p : Place) (is : List Item) → Decimals is → (q r v : ℕ) → q < 15 → any isPoint is ≡ false
+      → q ≡ count isPlace is + r → c .figures % 10 ^ r ≡ 0 → v + c .figures % 10 ^ suc q ≡ c .figures
+      → decimalsRead v (suc q) (figureUnits (c .figures) (c .grouped) p q ++ figuresShown c (q - 1) is) ≡ c .figures
+  decimals-digit p is rest q r v small noPoint places none e =
+      let n : ℕ = c .figures in
+      rw (decimal-units n (c .grouped) p q small)
+      (by-cases (eqb (n % 10 ^ suc q) 0)
+      (λ f.
+      let zeros : n % 10 ^ suc q ≡ 0 = eqb-true (n % 10 ^ suc q) 0 f in
+      rw f
+      (idle-nought v p (figuresShown c (q - 1) is)
+      (λ j. decimals-nought is (q - 1) v j (omega arith) noPoint (lower-next n q zeros)) (suc q)
+      ∙ omega arith))
+      (λ f.
+      rw f
+      (decimal-step v (digit n q) q (figuresShown c (q - 1) is) (digit-small n q)
+      ∙ rest q r (v + digit n q * 10 ^ q) (omega arith) noPoint places none (omega (arith, mod-next n q)))))
+
+  decimals-place : (p : Place) (is : List Item) → Decimals is → Decimals (place p ∷ is)
+  unfolding figuresShown itemFigures itemUnits digitAfter any count
+  decimals-place p is rest zero r v small noPoint places none e = absurd (omega arith)
+  decimals-place p is rest (suc q) r v small noPoint places none e =
+      let f : suc q - 1 ≡ q = omega arith in
+      rw (f, place-later p q (λ h. omega arith))
+      (decimals-digit p is rest q r v small noPoint (omega arith) none e)
+
+  decimals-read : (is : List Item) → Decimals is
+  unfolding decimalsRead figuresShown itemFigures itemUnits digitAfter any count
+  decimals-read [] = λ k r v small noPoint places none e.
+      let f : k ≡ r = omega arith in
+      let g : c .figures % 10 ^ k ≡ 0 = rw f none in
+      omega arith
+  decimals-read (i ∷ is) =
+      item-case (λ (j : Item). Decimals (j ∷ is))
+      (λ p. decimals-place p is (decimals-read is))
+      (λ k r v small noPoint places none e. absurd (true≢false noPoint))
+      (λ j notPlace notPoint. rw (notPlace, notPoint) (decimals-read is))
+      i
+
+  -- what stands behind the point
+  behind-point : (is : List Item) → count isPoint is ≡ 0 → count isPlace is ≤ 15 → c .figures % 10 ^ (15 - count isPlace is) ≡ 0
+      → decimalsRead (c .figures / 10 ^ 15 * 10 ^ 15) 15 (figuresShown c 14 is) ≡ c .figures
+  behind-point is onePoint most none =
+      let n : ℕ = c .figures in
+      let noPoint : any isPoint is ≡ false = by-cases (any isPoint is) (λ e. absurd (omega (arith, any-count isPoint is e))) (λ e. e) in
+      decimals-read is 15 (15 - count isPlace is) (n / 10 ^ 15 * 10 ^ 15) (omega arith) noPoint (omega arith) none (omega arith)
+
+  -- behind the first integer place, where k integer places are left: the digits above theirs have been read
+  abbrev Later : List Item → Type 0
+  Later is = (k : ℕ) → k ≡ integerPlaces is → k < c .integerPlaces → count isPoint is ≤ 1 → decimalPlaces is ≤ 15
+      → c .figures % 10 ^ (15 - decimalPlaces is) ≡ 0
+      → integerRead (c .figures / 10 ^ (15 + k)) (figuresShown c (14 + k) is) ≡ c .figures
+
+  later-point : (is : List Item) → Later (point ∷ is)
+  unfolding integerRead figuresShown itemFigures itemUnits pointUnits digitAfter count integerPlaces decimalPlaces
+  later-point is k places before onePoint most none =
+      rw (places, ne-eqb (c .integerPlaces) 0 (λ e. omega arith)) (behind-point is (omega arith) most none)
+
+  later-place : (p : Place) (is : List Item) → Later is → Later (place p ∷ is)
+  unfolding figuresShown itemFigures itemUnits digitAfter count integerPlaces decimalPlaces
+  later-place p is rest zero places before onePoint most none = absurd (omega arith)
+  later-place p is rest (suc k) places before onePoint most none =
+      let n : ℕ = c .figures in
+      let q : ℕ = 15 + k in
+      let e : 14 + suc k ≡ q = omega arith in
+      let f : 15 + suc k ≡ suc q = omega arith in
+      let g : q - 1 ≡ 14 + k = omega arith in
+      rw (e, f, place-later p q (λ h. omega arith), g)
+      (figure-read n (c .grouped) p q (figuresShown c (14 + k) is) (omega arith)
+      ∙ rest k (omega arith) (omega arith) onePoint most none)
+
+  later-read : (is : List Item) → Later is
+  unfolding integerRead figuresShown itemFigures itemUnits digitAfter count integerPlaces decimalPlaces
+  later-read [] = λ k places before onePoint most none. rw places (omega arith)
+  later-read (i ∷ is) =
+      item-case (λ (j : Item). Later (j ∷ is))
+      (λ p. later-place p is (later-read is))
+      (later-point is)
+      (λ j notPlace notPoint. rw (notPlace, notPoint) (later-read is))
+      i
+
+  -- up to the first integer place, or to the point: nothing has been read
+  module _ (small : c .figures < 10 ^ 40) (most : c .integerPlaces ≤ 20) where
+    abbrev First : List Item → Type 0
+    First is = integerPlaces is ≡ c .integerPlaces → any isPlace is ≡ true → count isPoint is ≤ 1 → decimalPlaces is ≤ 15
+        → c .figures % 10 ^ (15 - decimalPlaces is) ≡ 0
+        → integerRead 0 (figuresShown c (14 + c .integerPlaces) is) ≡ c .figures
+
+    -- the digits beyond the places
+    beyond : (q : ℕ) (us : List ℕ) → 15 ≤ q → q ≤ 40
+        → integerRead 0 (extraUnits (c .figures) (c .grouped) q (40 - q) ++ us) ≡ integerRead (c .figures / 10 ^ q) us
+    beyond q us least bound =
+        let n : ℕ = c .figures in
+        let e : q + (40 - q) ≡ 40 = omega arith in
+        let f : n / 10 ^ (q + (40 - q)) ≡ 0 = ap (λ (x : ℕ). n / 10 ^ x) e ∙ div-eq-of-lt {n = n} {m = 10 ^ 40} small in
+        ap (λ (v : ℕ). integerRead v (extraUnits n (c .grouped) q (40 - q) ++ us)) (sym f)
+        ∙ extra-read n (c .grouped) q (40 - q) us least
+
+    first-point : (is : List Item) → First (point ∷ is)
+    unfolding integerRead figuresShown itemFigures itemUnits pointUnits digitAfter count integerPlaces decimalPlaces
+    first-point is places some onePoint bound none =
+        let e : 14 + c .integerPlaces ≡ 14 = omega arith in
+        rw (eq-eqb (c .integerPlaces) 0 (sym places), e, append-assoc (extraUnits (c .figures) (c .grouped) 15 25) (46 ∷ []) (figuresShown c 14 is))
+        (beyond 15 (46 ∷ figuresShown c 14 is) (omega arith) (omega arith)
+        ∙ behind-point is (omega arith) bound none)
+
+    first-place : (p : Place) (is : List Item) → First (place p ∷ is)
+    unfolding figuresShown itemFigures itemUnits digitAfter count integerPlaces decimalPlaces
+    first-place p is places some onePoint bound none =
+        let n : ℕ = c .figures in
+        let k : ℕ = integerPlaces is in
+        let q : ℕ = 15 + k in
+        let e : 14 + c .integerPlaces ≡ q = omega arith in
+        let f : 39 - q ≡ 40 - suc q = omega arith in
+        let g : q - 1 ≡ 14 + k = omega arith in
+        let rest : List ℕ = figuresShown c (14 + k) is in
+        rw (
+          e,
+          place-first p q (omega arith) (omega arith),
+          f,
+          g,
+          append-assoc (extraUnits n (c .grouped) (suc q) (40 - suc q)) (figureUnits n (c .grouped) p q) rest,
+        )
+        (beyond (suc q) (figureUnits n (c .grouped) p q ++ rest) (omega arith) (omega arith)
+        ∙ figure-read n (c .grouped) p q rest (omega arith)
+        ∙ later-read is k refl (omega arith) onePoint bound none)
+
+    first-read : (is : List Item) → First is
+    unfolding integerRead figuresShown itemFigures itemUnits digitAfter any count integerPlaces decimalPlaces
+    first-read [] = λ places some onePoint bound none. absurd (true≢false (sym some))
+    first-read (i ∷ is) =
+        item-case (λ (j : Item). First (j ∷ is))
+        (λ p. first-place p is)
+        (first-point is)
+        (λ j notPlace notPoint. rw (notPlace, notPoint) (first-read is))
+        i
+
+-- the figures that a number's items show, read, are that number, a count of 10^-15
+pub figures-read : (c : Context) (is : List Item) → c .figures < 10 ^ 40 → c .integerPlaces ≡ integerPlaces is
+    → integerPlaces is ≤ 20 → decimalPlaces is ≤ 15 → count isPoint is ≤ 1 → any isPlace is ≡ true
+    → c .figures % 10 ^ (15 - decimalPlaces is) ≡ 0 → unitsRead (figuresShown c (14 + integerPlaces is) is) ≡ c .figures
+unfolding unitsRead
+figures-read c is small places integers decimals onePoint some none =
+    ap (λ (k : ℕ). integerRead 0 (figuresShown c (14 + k) is)) (sym places)
+    ∙ first-read c small (omega arith) is (sym places) some onePoint decimals none
