@@ -16,3 +16,6 @@ pub mod FigureItems
 pub mod GeneralFigures
 pub mod Chosen
 pub mod Shown
+pub mod Lexing
+pub mod First
+pub mod Accepted

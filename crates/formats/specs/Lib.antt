@@ -10,3 +10,4 @@ pub mod Minus
 pub mod Text
 pub mod Reading
 pub mod Figures
+pub mod Starts

@@ -7,3 +7,5 @@ pub mod Made
 pub mod BackEntries
 pub mod BackHead
 pub mod Back
+pub mod WordRanges
+pub mod Promise

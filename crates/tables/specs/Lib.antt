@@ -3,3 +3,4 @@ pub mod Encode
 pub mod Decode
 pub mod Rules
 pub mod Calls
+pub mod Promise
