@@ -1,0 +1,1 @@
+// How the token buffer stands for tokens: the definitions stand in specs/.
