@@ -2,3 +2,7 @@ pub mod Year
 pub mod Date
 pub mod Clock
 pub mod Names
+pub mod Found
+pub mod Made
+pub mod NameTable
+pub mod Tables

@@ -1,7 +1,7 @@
 -- "Names are the English ones."
 -- Assumes nothing.
 use Prim.Native.Nat.{ℕ, pred}
-use Prim.Native.Char.{Char, code}
+use Prim.Native.Char.{code}
 use Prim.Native.String.{String, [] as []ˢ, _∷_ as _∷ˢ_}
 use mathlib.Core.List.{List, [], _∷_}
 use lib.ListN.{getD, take}

@@ -1,1 +1,299 @@
 // Days and times: the definitions stand in specs/, their laws in proofs/.
+mod tables;
+
+use values::Day;
+use values::Millisecond;
+ghost use mathlib.Core.Path.{_≡_};
+ghost use Prim.Native.Nat.{ℕ, suc, _+_, _^_, _≤_, _<_};
+ghost use lib.ListN.{getD, length};
+ghost use Rattle.calendar.specs.Year.{leap, firstDay, yearDayOf};
+ghost use Rattle.calendar.specs.Date.{monthDays, monthDayFrom, dateOf};
+ghost use Rattle.calendar.specs.Clock.{clockOf, twelveHour, afternoon, sinceDayZero, elapsedHours, elapsedMinutes, elapsedSeconds};
+ghost use Rattle.calendar.specs.Names.{monthName, weekdayName};
+ghost use Rattle.calendar.specs.Tables.{firstDays};
+ghost use Rattle.calendar.specs.NameTable.{nameAt};
+ghost use Rattle.calendar.specs.Made.{madeYearDay, madeMonthDay, madeDate, madeClock};
+
+// A year, as 1900 + years, and a day of it, the first being 1.
+pub struct YearDay {
+    pub years: u32,
+    pub day: u32,
+}
+
+// A year, as 1900 + years, and the number of its first day.
+struct YearStart {
+    years: u32,
+    first: u32,
+}
+
+// A month, January being 1, and a day of it.
+pub struct MonthDay {
+    pub month: u32,
+    pub day: u32,
+}
+
+// Weekday 1 is Sunday, 0 Saturday.
+pub struct Date {
+    pub year: u32,
+    pub month: u32,
+    pub day: u32,
+    pub weekday: u32,
+}
+
+pub struct Clock {
+    pub hour: u32,
+    pub minute: u32,
+    pub second: u32,
+    pub thousandth: u32,
+}
+
+// The table: its rule is computed once over it, and carried to each year by law.
+fn first_days() -> [u32; 401]
+    ensures { λ r. ⌜ r ≡ firstDays ⌝ }
+{
+    tables::FIRST_DAYS
+}
+
+// The year of a day of the table's years, 1900 to 2300. Of these years fewer than 366 are common, so the day's year is the one
+// that leap years alone would give, or the next. The table is taken once: each use of the constant makes it anew.
+fn year_within(day: u32) -> YearStart
+    requires { ⌜ (1 ≤ day) × (day < 146464) ⌝ }
+    ensures { λ r. ⌜ (r .years ≤ 400) × (r .first ≡ firstDay (r .years)) × (r .first ≤ day) × (day < firstDay (suc (r .years))) ⌝ }
+{
+    let firsts = first_days();
+    let k = (day - 1) / 366;
+    let first = firsts[k as usize];
+    if k == 400 {
+        return YearStart {
+            years: k,
+            first: first,
+        };
+    }
+    let next = firsts[k as usize + 1];
+    if day < next {
+        return YearStart {
+            years: k,
+            first: first,
+        };
+    }
+    YearStart {
+        years: k + 1,
+        first: next,
+    }
+}
+
+// The year of a day number: from 1901 on the years repeat every 146,097 days, and the table has the first such cycle.
+pub fn year_day_of(d: Day) -> YearDay
+    ensures { λ r. ⌜ r ≡ madeYearDay (yearDayOf (d .0)) ⌝ }
+{
+    let day = d.0;
+    if day < 367 {
+        return YearDay { years: 0, day: day };
+    }
+    let cycles = (day - 367) / 146097;
+    let rest = (day - 367) % 146097 + 367;
+    let start = year_within(rest);
+    YearDay {
+        years: start.years + 400 * cycles,
+        day: rest - start.first + 1,
+    }
+}
+
+// The year 1900 + years has a 29 February.
+fn is_leap(years: u32) -> bool
+    requires { ⌜ 1900 + years < 2 ^ 32 ⌝ }
+    ensures { λ r. ⌜ r ≡ leap years ⌝ }
+{
+    if years == 0 {
+        return true;
+    }
+    let y = 1900 + years;
+    if y % 400 == 0 {
+        return true;
+    }
+    if y % 4 == 0 {
+        return y % 100 != 0;
+    }
+    false
+}
+
+// The days of the month at a place, January being 0, of any year of this length.
+fn month_days(long: bool, i: usize) -> u32
+    requires { ⌜ i < 12 ⌝ }
+    ensures { λ r. ⌜ ((k : ℕ) → long ≡ leap k → r ≡ getD (monthDays k) i 0) ⌝ }
+{
+    if long {
+        return tables::LEAP_MONTHS[i];
+    }
+    tables::COMMON_MONTHS[i]
+}
+
+// The month of the n-th day of the year 1900 + years, and the day of it.
+fn month_day_of(years: u32, n: u32) -> MonthDay
+    requires { ⌜ 1900 + years < 2 ^ 32 ⌝ }
+    ensures { λ r. ⌜ r ≡ madeMonthDay (monthDayFrom 1 (monthDays years) n) ⌝ }
+{
+    let long = is_leap(years);
+    let mut rest = n;
+    let mut i: usize = 0;
+    while i < 12 {
+        let days = month_days(long, i);
+        if rest <= days {
+            return MonthDay {
+                month: i as u32 + 1,
+                day: rest,
+            };
+        }
+        rest -= days;
+        i += 1;
+    }
+    MonthDay {
+        month: 13,
+        day: rest,
+    }
+}
+
+// The date of a day number. "Weekday is day mod 7, 1 for Sunday, 0 for Saturday."
+pub fn date_of(d: Day) -> Date
+    ensures { λ r. ⌜ r ≡ madeDate (dateOf (d .0)) ⌝ }
+{
+    let weekday = d.0 % 7;
+    let y = year_day_of(d);
+    let m = month_day_of(y.years, y.day);
+    Date {
+        year: 1900 + y.years,
+        month: m.month,
+        day: m.day,
+        weekday: weekday,
+    }
+}
+
+// "Times are cut, never rounded."
+pub fn clock_of(m: Millisecond) -> Clock
+    ensures { λ r. ⌜ r ≡ madeClock (clockOf (m .0)) ⌝ }
+{
+    let ms = m.0;
+    Clock {
+        hour: ms / 3600000,
+        minute: ms / 60000 % 60,
+        second: ms / 1000 % 60,
+        thousandth: ms % 1000,
+    }
+}
+
+// The hour on "a 12-hour clock (12, 1 to 11)".
+pub fn twelve_hour(hour: u32) -> u32
+    ensures { λ r. ⌜ r ≡ twelveHour hour ⌝ }
+{
+    let h = hour % 12;
+    if h == 0 {
+        return 12;
+    }
+    h
+}
+
+pub fn is_afternoon(hour: u32) -> bool
+    ensures { λ r. ⌜ r ≡ afternoon hour ⌝ }
+{
+    12 <= hour
+}
+
+// The milliseconds since the start of day 0.
+fn since_day_zero(d: Day, m: Millisecond) -> u64
+    ensures { λ r. ⌜ r ≡ sinceDayZero (d .0) (m .0) ⌝ }
+{
+    d.0 as u64 * 86400000 + m.0 as u64
+}
+
+// "Elapsed tokens count all whole units since day 0".
+pub fn elapsed_hours(d: Day, m: Millisecond) -> u64
+    ensures { λ r. ⌜ r ≡ elapsedHours (sinceDayZero (d .0) (m .0)) ⌝ }
+{
+    since_day_zero(d, m) / 3600000
+}
+
+pub fn elapsed_minutes(d: Day, m: Millisecond) -> u64
+    ensures { λ r. ⌜ r ≡ elapsedMinutes (sinceDayZero (d .0) (m .0)) ⌝ }
+{
+    since_day_zero(d, m) / 60000
+}
+
+pub fn elapsed_seconds(d: Day, m: Millisecond) -> u64
+    ensures { λ r. ⌜ r ≡ elapsedSeconds (sinceDayZero (d .0) (m .0)) ⌝ }
+{
+    since_day_zero(d, m) / 1000
+}
+
+// The place of a month's name in the table of names; 19, where no name stands, if there is no such month.
+fn month_place(month: u32) -> usize
+    ensures { λ r. ⌜ monthName month ≡ nameAt r ⌝ }
+{
+    if month == 0 {
+        return 0;
+    }
+    if 12 < month {
+        return 19;
+    }
+    month as usize - 1
+}
+
+// The same of a weekday's name.
+fn weekday_place(weekday: u32) -> usize
+    ensures { λ r. ⌜ weekdayName weekday ≡ nameAt r ⌝ }
+{
+    12 + weekday as usize
+}
+
+fn wide(byte: u8) -> u16
+    ensures { λ r. ⌜ r ≡ byte ⌝ }
+{
+    byte as u16
+}
+
+// The unit at place i of a name; 0 after its end.
+fn name_unit(place: usize, i: usize) -> u16
+    ensures { λ r. ⌜ r ≡ getD (nameAt place) i 0 ⌝ }
+{
+    if 18 < place {
+        return 0;
+    }
+    if 8 < i {
+        return 0;
+    }
+    wide(tables::NAMES[place * 9 + i])
+}
+
+fn name_length(place: usize) -> usize
+    ensures { λ r. ⌜ r ≡ length (nameAt place) ⌝ }
+{
+    if 18 < place {
+        return 0;
+    }
+    tables::NAME_LENGTHS[place]
+}
+
+// The unit at place i of a month's English name, January being month 1; 0 after its end.
+pub fn month_unit(month: u32, i: usize) -> u16
+    ensures { λ r. ⌜ r ≡ getD (monthName month) i 0 ⌝ }
+{
+    name_unit(month_place(month), i)
+}
+
+pub fn month_length(month: u32) -> usize
+    ensures { λ r. ⌜ r ≡ length (monthName month) ⌝ }
+{
+    name_length(month_place(month))
+}
+
+// The unit at place i of a weekday's English name, Sunday being weekday 1 and Saturday 0; 0 after its end.
+pub fn weekday_unit(weekday: u32, i: usize) -> u16
+    ensures { λ r. ⌜ r ≡ getD (weekdayName weekday) i 0 ⌝ }
+{
+    name_unit(weekday_place(weekday), i)
+}
+
+pub fn weekday_length(weekday: u32) -> usize
+    ensures { λ r. ⌜ r ≡ length (weekdayName weekday) ⌝ }
+{
+    name_length(weekday_place(weekday))
+}

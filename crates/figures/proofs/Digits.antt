@@ -3,7 +3,7 @@
 use mathlib.Core.Path.{_≡_, refl, sym, ap, ap₂, _∙_}
 use mathlib.Core.List.{List}
 use Prim.Native.Nat.{ℕ, zero, suc, _+_, _-_, _*_, _/_, _%_, _^_, _≤_, _<_}
-use native.Mathlib.Nat.{zero-div, zero-mul, mod-one, mul-assoc, mul-comm, mul-mod-left, mul-div-cancel, mod-eq-of-lt, pow-suc, suc-sub-suc, sub-zero, zero-add, add-zero, suc-add, add-suc}
+use native.Mathlib.Nat.{div-div-eq-div-mul, zero-div, zero-mul, mod-one, mul-assoc, mul-comm, mul-mod-left, mul-div-cancel, mod-eq-of-lt, pow-suc, suc-sub-suc, sub-zero, zero-add, add-zero, suc-add, add-suc}
 use native.Mathlib.Omega.{arith}
 use borrow.Author.Tests.{leb-true, leb-false}
 use lib.Pow.{pow-add}
@@ -12,10 +12,11 @@ use lib.Dec.{leb}
 use lib.ListN.{getD, length}
 use lib.Seq.{ext-getD}
 use Rattle.lists.proofs.Bools.{cond-case}
-use Rattle.figures.specs.Digits.{digit, values, figures, digitUnits, widthUpTo, width}
+use Rattle.figures.specs.Digits.{digit, figures, digitUnits, widthUpTo, width}
+use Rattle.lists.specs.Tables.{values}
 use Rattle.figures.specs.Reading.{digitsValue, unitsValue}
 use Rattle.figures.proofs.Tens.{ten-pos, ten-le, shift-one}
-use Rattle.figures.proofs.Table.{value-at, values-length}
+use Rattle.lists.proofs.Tables.{value-at, values-length}
 
 pub digit-small : (n k : ℕ) → digit n k < 10
 unfolding digit
@@ -170,3 +171,25 @@ module _ (n : ℕ) where
       let not-less : ¬ (v < w) = λ h. omega (arith, width-above small, ten-le v (w - 1) (omega arith), below (omega arith)) in
       let not-more : ¬ (w < v) = λ h. omega (arith, ten-le w (v - 1) (omega arith), width-below (omega arith)) in
       omega arith
+
+-- the search for it, in the loop's words: p is the power, taken from a table
+pub width-here : (n w p : ℕ) → 1 ≤ w → w ≤ 25 → p ≡ 10 ^ w → n < p → (1 < w → 10 ^ (w - 1) ≤ n) → w ≡ width n
+width-here n w p least most e above below = sym (width-unique n w least most (rw (← e) above) below)
+
+pub width-further : (n w p : ℕ) → p ≡ 10 ^ w → p ≤ n → 10 ^ (w + 1 - 1) ≤ n
+width-further n w p e h =
+    let f : w + 1 - 1 ≡ w = omega arith in
+    rw (f, ← e) h
+
+pub width-last : (n w : ℕ) → n < 2 ^ 64 → w ≤ 20 → 20 ≤ w → (1 < w → 10 ^ (w - 1) ≤ n) → 20 ≡ width n
+width-last n w small most least below =
+    let e : w - 1 ≡ 19 = omega arith in
+    sym (width-unique n 20 (omega arith) (omega arith) (omega arith) (λ h. rw e at (below (omega arith))))
+
+-- the digits above a place are those of the quotient
+pub quotient-quotient : (n i k : ℕ) → n / 10 ^ i / 10 ^ k ≡ n / 10 ^ (i + k)
+quotient-quotient n i k = div-div-eq-div-mul n (10 ^ i) (10 ^ k) ∙ ap (λ (x : ℕ). n / x) (sym (pow-add 10 i k))
+
+pub digit-shift : (n i k : ℕ) → digit (n / 10 ^ i) k ≡ digit n (i + k)
+unfolding digit
+digit-shift n i k = ap (λ (x : ℕ). x % 10) (quotient-quotient n i k)

@@ -1,4 +1,7 @@
 pub mod Tens
 pub mod Rounding
-pub mod Table
 pub mod Digits
+pub mod Sign
+pub mod Filling
+pub mod Places
+pub mod General

@@ -1,10 +1,17 @@
 -- Laws of the nearest quotient and of the rounded number.
 -- Assumes nothing.
-use mathlib.Core.Path.{_≡_, sym, ap, ap₂, _∙_}
+use mathlib.Core.Path.{refl, _≡_, sym, ap, ap₂, _∙_}
 use Prim.Native.Nat.{ℕ, suc, _+_, _-_, _*_, _/_, _%_, _^_, _≤_, _<_}
-use native.Mathlib.Nat.{div-eq-of-lt-le, div-add-mod', mod-lt, mul-le-mul-left, mul-le-mul-right, mul-lt-mul-of-pos-right, mul-left-comm, mul-right-comm, suc-mul, lt-of-lt-of-le, lt-of-le-of-lt, le-of-suc-le-suc, div-lt-iff-lt-mul, le-div-iff-mul-le, div-mul-le-self, lt-div-mul-add, mul-assoc, mul-comm, one-mul, add-mul, mul-mod-left, mul-div-mul-right, div-eq-of-lt}
+use native.Mathlib.Nat.{add-comm, div-eq-of-lt-le, div-add-mod', mod-lt, mul-le-mul-left, mul-le-mul-right, mul-lt-mul-of-pos-right, mul-left-comm, mul-right-comm, suc-mul, lt-of-lt-of-le, lt-of-le-of-lt, le-of-suc-le-suc, div-lt-iff-lt-mul, le-div-iff-mul-le, div-mul-le-self, lt-div-mul-add, mul-assoc, mul-comm, one-mul, add-mul, mul-mod-left, mul-div-mul-right, div-eq-of-lt}
 use native.Mathlib.Omega.{arith}
+use mathlib.Core.Bool.{true, _&&_}
+use lib.Dec.{ltb, leb, ltb→lt, leb→le}
 use lib.Pow.{pow-add}
+use Rattle.lists.proofs.Bools.{and-left, and-right, true-T}
+use mathlib.Core.List.{List}
+use borrow.Author.Tests.{lt-ltb, le-leb}
+use Rattle.figures.specs.Digits.{figures}
+use Rattle.figures.specs.Rounder.{roundable, roundedOf}
 use Rattle.figures.specs.Rounding.{Magnitude, scaled, nearest, rounded}
 use Rattle.figures.specs.Bounds.{Near}
 use Rattle.figures.specs.Powers.{powered}
@@ -101,6 +108,13 @@ powered-common m u v k d =
     (pow-add 10 v k)
     ∙ rounded-ratio (m * 10 ^ u) (10 ^ v) (10 ^ k) d (ten-pos k)
 
+-- only the net power of ten counts
+pub powered-net : (m u v w z d : ℕ) → u + z ≡ w + v → rounded (powered m u v) d ≡ rounded (powered m w z) d
+powered-net m u v w z d e =
+    sym (powered-common m u v z d)
+    ∙ ap₂ (λ (x y : ℕ). rounded (powered m x y) d) e (add-comm v z)
+    ∙ powered-common m w z v d
+
 -- fifteen digits at 10^z take forty places at most. (omega takes no number of more than 38 digits.)
 pub spread-small : (m z : ℕ) → m < 10 ^ 15 → z ≤ 25 → m * 10 ^ z < 10 ^ 40
 spread-small m z hm hz = lt-of-lt-of-le (mul-lt-mul-of-pos-right hm (ten-pos z)) (mul-le-mul-left (10 ^ 15) (ten-le z 25 hz))
@@ -193,3 +207,22 @@ module _ (m p k : ℕ) (e : p ≡ 10 ^ k) where
 
   pub remainder-fits : k ≤ 15 → 2 * (m % p) < 2 ^ 64
   remainder-fits h = omega (arith, mod-lt m power-pos, ten-le k 15 h)
+
+-- what the rounder takes
+pub roundable-in : (m up down d : ℕ) → roundable m up down d ≡ true → (m < 10 ^ 15) × (up ≤ 10) × (down ≤ 30) × (d ≤ 15)
+unfolding roundable
+roundable-in m up down d e =
+    let t = true-T e in
+    let u = and-left (ltb m (10 ^ 15) && leb up 10 && leb down 30) (leb d 15) t in
+    let v = and-left (ltb m (10 ^ 15) && leb up 10) (leb down 30) u in (
+      ltb→lt m (10 ^ 15) (and-left (ltb m (10 ^ 15)) (leb up 10) v),
+      leb→le up 10 (and-right (ltb m (10 ^ 15)) (leb up 10) v),
+      leb→le down 30 (and-right (ltb m (10 ^ 15) && leb up 10) (leb down 30) u),
+      leb→le d 15 (and-right (ltb m (10 ^ 15) && leb up 10 && leb down 30) (leb d 15) t),
+    )
+
+-- what the rounder answers where it takes it
+pub rounded-fits : (l : List ℕ) (m up down d : ℕ) → m < 10 ^ 15 → up ≤ 10 → down ≤ 30 → d ≤ 15
+    → roundedOf l m up down d ≡ record { fits = true; digits = figures (rounded (powered m up down) d) }
+unfolding roundedOf roundable
+rounded-fits l m up down d hm hu hv hd = rw (lt-ltb m (10 ^ 15) hm, le-leb up 10 hu, le-leb down 30 hv, le-leb d 15 hd) refl

@@ -4,15 +4,11 @@ use Prim.Native.Nat.{ℕ, zero, suc, _+_, _/_, _%_, _^_, max}
 use mathlib.Core.Bool.{cond}
 use mathlib.Core.List.{List, [], _∷_}
 use lib.Dec.{leb}
+use Rattle.lists.specs.Tables.{values}
 
 -- the digit of n at 10^k
 unfoldable pub digit : ℕ → ℕ → ℕ
 digit n k = n / 10 ^ k % 10
-
--- a rule's value at k and at the n - 1 places after it
-abbrev pub values : (ℕ → ℕ) → ℕ → ℕ → List ℕ
-values g k zero = []
-values g k (suc n) = g k ∷ values g (suc k) n
 
 -- "The rounded number is forty digits by value, 25 before the point and 15 after": the digits of a count of 10^-15,
 -- that of 10^-15 first, so that a digit's place in the list is its power of ten and 15

@@ -1,5 +1,4 @@
--- "General: n integer digits (at least 1); round to 10 - n decimals, or none from n = 10 on;
--- drop trailing zeros of the decimals and then a bare point."
+-- "General: n integer digits (at least 1); round to 10 - n decimals, or none from n = 10 on; drop trailing zeros [..]."
 -- Assumes nothing.
 use Prim.Native.Nat.{ℕ, zero, suc, _-_, _/_, _^_}
 use mathlib.Core.Bool.{Bool, cond, _&&_}

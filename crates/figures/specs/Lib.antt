@@ -4,3 +4,6 @@ pub mod General
 pub mod Bounds
 pub mod Powers
 pub mod Reading
+pub mod Sign
+pub mod Rounder
+pub mod Places

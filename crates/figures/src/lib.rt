@@ -1,1 +1,290 @@
-// The rounded number and its digits: the definitions stand in specs/, their laws in proofs/.
+// The sign at the door, the rounder, the rounded number read place by place, and General.
+ghost use mathlib.Core.Path.{_≡_};
+ghost use Prim.Native.Nat.{ℕ, _+_, _-_, _*_, _/_, _%_, _^_, _≤_, _<_};
+ghost use lib.Dec.{leb, ltb, eqb};
+ghost use lib.IntN.{natAbs};
+ghost use lib.ListN.{take};
+ghost use Rattle.figures.specs.Digits.{figures, digitUnits, width};
+ghost use Rattle.figures.specs.Rounding.{nearest, rounded};
+ghost use Rattle.figures.specs.Powers.{powered};
+ghost use Rattle.figures.specs.General.{generalDecimals, generalTooWide, withoutEndZeros};
+ghost use Rattle.figures.specs.Sign.{takenOf};
+ghost use Rattle.figures.specs.Rounder.{roundable, roundedOf, generalOf};
+ghost use Rattle.figures.specs.Places.{placesUsed, lowestPlace};
+use values::Number;
+
+// A number in range, its sign apart.
+pub struct Signed {
+    pub negative: bool,
+    pub magnitude: u64,
+    pub scale: u32,
+}
+
+pub enum Taken {
+    In(Signed),
+    OutOfRange,
+}
+
+// Whether a coefficient has at most fifteen digits.
+fn is_coefficient(c: i64) -> bool
+    ensures { λ r. ⌜ r ≡ ltb (natAbs c) (10 ^ 15) ⌝ }
+{
+    if c < 0 {
+        -1000000000000000 < c
+    } else {
+        c < 1000000000000000
+    }
+}
+
+// The distance from 0. The negation of fifteen digits is in range.
+fn magnitude(c: i64) -> u64
+    requires { ⌜ natAbs c < 10 ^ 15 ⌝ }
+    ensures { λ r. ⌜ r ≡ natAbs c ⌝ }
+{
+    if c < 0 { (-c) as u64 } else { c as u64 }
+}
+
+// The number without its sign, where it is in range; behind this door nothing is signed.
+pub fn take_number(x: Number) -> Taken
+    ensures { λ r. ⌜ r ≡ takenOf x ⌝ }
+{
+    let c = x.coefficient;
+    let scale = x.scale;
+    if is_coefficient(c) {
+        if scale <= 15 {
+            let negative = c < 0;
+            let magnitude = magnitude(c);
+            return Taken::In(Signed {
+                negative,
+                magnitude,
+                scale,
+            });
+        }
+    }
+    Taken::OutOfRange
+}
+
+const POWERS: [u64; 20] = [
+    1,
+    10,
+    100,
+    1000,
+    10000,
+    100000,
+    1000000,
+    10000000,
+    100000000,
+    1000000000,
+    10000000000,
+    100000000000,
+    1000000000000,
+    10000000000000,
+    100000000000000,
+    1000000000000000,
+    10000000000000000,
+    100000000000000000,
+    1000000000000000000,
+    10000000000000000000,
+];
+
+// 10 to the k.
+fn power(k: u32) -> u64
+    requires { ⌜ k < 20 ⌝ }
+    ensures { λ r. ⌜ r ≡ 10 ^ k ⌝ }
+{
+    POWERS[k as usize]
+}
+
+// m / 10^k to the nearest whole number, halves up.
+fn divided(m: u64, k: u32) -> u64
+    requires { ⌜ (15 < k → m < 10 ^ 15) ⌝ }
+    ensures { λ r. ⌜ r ≡ nearest m (10 ^ k) ⌝ }
+{
+    if 15 < k {
+        return 0;
+    }
+    let p = power(k);
+    let q = m / p;
+    if p <= 2 * (m % p) {
+        return q + 1;
+    }
+    q
+}
+
+// Forty zeros, whatever the digits were.
+fn cleared(digits: [u8; 40]) -> [u8; 40]
+    ensures { λ r. ⌜ r ≡ figures 0 ⌝ }
+{
+    let mut zeros = digits;
+    let mut k: usize = 0;
+    while k < 40 {
+        zeros[k] = 0;
+        k += 1;
+    }
+    zeros
+}
+
+// The digits of m times 10^z, put into forty zeros.
+fn spread(zeros: [u8; 40], m: u64, z: u32) -> [u8; 40]
+    requires { ⌜ (zeros ≡ figures 0) × (m * 10 ^ z < 10 ^ 40) ⌝ }
+    ensures { λ r. ⌜ r ≡ figures (m * 10 ^ z) ⌝ }
+{
+    let mut digits = zeros;
+    let mut rest = m;
+    let mut k = z as usize;
+    while 0 < rest {
+        digits[k] = (rest % 10) as u8;
+        rest = rest / 10;
+        k += 1;
+    }
+    digits
+}
+
+// The digits of m times 10^up / 10^down, rounded, put into forty zeros: one quotient where digits go, none where none goes.
+fn rounded_digits(zeros: [u8; 40], m: u64, up: u32, down: u32, decimals: u32) -> [u8; 40]
+    requires { ⌜ (zeros ≡ figures 0) × (m < 10 ^ 15) × (up ≤ 10) × (down ≤ 30) × (decimals ≤ 15) ⌝ }
+    ensures { λ r. ⌜ r ≡ figures (rounded (powered m up down) decimals) ⌝ }
+{
+    let kept = up + decimals;
+    if kept < down {
+        return spread(zeros, divided(m, down - kept), 15 - decimals);
+    }
+    spread(zeros, m, up + 15 - down)
+}
+
+// Whether the rounder takes it: forty places and 64 bits are then enough.
+fn is_roundable(m: u64, up: u32, down: u32, decimals: u32) -> bool
+    ensures { λ r. ⌜ r ≡ roundable m up down decimals ⌝ }
+{
+    if 1000000000000000 <= m {
+        return false;
+    }
+    if 10 < up {
+        return false;
+    }
+    if 30 < down {
+        return false;
+    }
+    decimals <= 15
+}
+
+pub struct Rounded {
+    pub fits: bool,
+    pub digits: [u8; 40],
+}
+
+// The rounder: the digits of m times 10^up / 10^down rounded to so many decimals, halves up, whatever the digits were;
+// where that is not taken, the digits as they were.
+pub fn round(digits: [u8; 40], m: u64, up: u32, down: u32, decimals: u32) -> Rounded
+    ensures { λ r. ⌜ r ≡ roundedOf digits m up down decimals ⌝ }
+{
+    if is_roundable(m, up, down, decimals) {
+        let zeros = cleared(digits);
+        return Rounded {
+            fits: true,
+            digits: rounded_digits(zeros, m, up, down, decimals),
+        };
+    }
+    Rounded {
+        fits: false,
+        digits,
+    }
+}
+
+// How many places there are up to the highest digit that is not 0; 0 where all are 0.
+// An integer zero at place q is insignificant where this is at most q.
+pub fn places_used(digits: [u8; 40]) -> usize
+    ensures list { λ r. ⌜ r ≡ placesUsed 40 digits ⌝ }
+    ensures number { λ r. ⌜ ((n : ℕ) → n < 10 ^ 40 → digits ≡ figures n → (q : ℕ) → leb r q ≡ eqb (n / 10 ^ q) 0) ⌝ }
+{
+    let mut k: usize = 40;
+    while 0 < k {
+        if digits[k - 1] != 0 {
+            return k;
+        }
+        k -= 1;
+    }
+    0
+}
+
+// The lowest place whose digit is not 0; 40 where all are 0.
+// A decimal zero at place q is insignificant where q is below this.
+pub fn lowest_place(digits: [u8; 40]) -> usize
+    ensures list { λ r. ⌜ r ≡ lowestPlace digits ⌝ }
+    ensures number { λ r. ⌜ ((n : ℕ) → digits ≡ figures n → (q : ℕ) → q < 40 → ltb q r ≡ eqb (n % 10 ^ (q + 1)) 0) ⌝ }
+{
+    let mut k: usize = 0;
+    while k < 40 {
+        if digits[k] != 0 {
+            return k;
+        }
+        k += 1;
+    }
+    40
+}
+
+// Whether every digit is 0.
+pub fn is_zero(digits: [u8; 40]) -> bool
+    ensures list { λ r. ⌜ r ≡ eqb (placesUsed 40 digits) 0 ⌝ }
+    ensures number { λ r. ⌜ ((n : ℕ) → n < 10 ^ 40 → digits ≡ figures n → r ≡ eqb n 0) ⌝ }
+{
+    places_used(digits) == 0
+}
+
+// m / 10^k without what is behind the point.
+fn whole(m: u64, k: u32) -> u64
+    ensures { λ r. ⌜ r ≡ m / 10 ^ k ⌝ }
+{
+    if 19 < k {
+        return 0;
+    }
+    m / power(k)
+}
+
+// How many digits n has, at least 1.
+fn width_of(n: u64) -> u32
+    ensures { λ r. ⌜ r ≡ width n ⌝ }
+{
+    let mut w: u32 = 1;
+    while w < 20 {
+        if n < power(w) {
+            return w;
+        }
+        w += 1;
+    }
+    20
+}
+
+// To how many decimals General rounds m / 10^scale.
+pub fn general_decimals(m: u64, scale: u32) -> u32
+    ensures { λ r. ⌜ r ≡ generalDecimals (powered m 0 scale) ⌝ }
+{
+    let n = width_of(whole(m, scale));
+    if n < 10 { 10 - n } else { 0 }
+}
+
+// Whether m / 10^scale, rounded to a whole number, reaches 10^11.
+pub fn general_too_wide(m: u64, scale: u32) -> bool
+    ensures { λ r. ⌜ r ≡ generalTooWide (powered m 0 scale) ⌝ }
+{
+    if 8 < scale {
+        return false;
+    }
+    100000000000 <= divided(m, scale)
+}
+
+// The digits of m / 10^scale as General rounds it; where it is not taken, the digits as they were.
+pub fn round_general(digits: [u8; 40], m: u64, scale: u32) -> Rounded
+    ensures { λ r. ⌜ r ≡ generalOf digits m scale ⌝ }
+{
+    round(digits, m, 0, scale, general_decimals(m, scale))
+}
+
+// How many of the fifteen decimals are left when the zeros at their end are dropped: those of place 14 and below.
+pub fn decimals_left(digits: [u8; 40]) -> usize
+    ensures list { λ r. ⌜ r ≡ 15 - lowestPlace digits ⌝ }
+    ensures number { λ r. ⌜ ((n : ℕ) → digits ≡ figures n → withoutEndZeros (digitUnits 15 n) ≡ take r (digitUnits 15 n)) ⌝ }
+{
+    let lowest = lowest_place(digits);
+    if lowest < 15 { 15 - lowest } else { 0 }
+}

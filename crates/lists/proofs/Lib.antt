@@ -1,3 +1,4 @@
 pub mod Bools
 pub mod Counts
 pub mod First
+pub mod Tables

@@ -1,14 +1,19 @@
--- A list of a rule's values has the rule at each place.
+-- Laws of constant tables. A table is the list of a rule's values: antt computes the list and compares, and the law carries the
+-- rule to each place.
 -- Assumes nothing.
 use mathlib.Core.Path.{_≡_, _∙_, sym, ap, refl, subst⁻¹}
 use mathlib.Core.Logic.{⊎-elim}
-use mathlib.Core.List.{List}
+use mathlib.Core.Bool.{Bool}
+use mathlib.Core.List.{List, [], _∷_}
 use Prim.Native.Nat.{ℕ, zero, suc, _+_, _<_}
 use native.Mathlib.Nat.{add-zero, zero-add, add-suc, suc-add, le-of-suc-le-suc, not-suc-le-zero, eq-or-lt-of-le}
 use native.Mathlib.Omega.{arith}
 use lib.ListN.{getD, set, length}
+use lib.Dec.{T}
 use lib.Seq.{getD-set-same, getD-set-other}
-use Rattle.figures.specs.Digits.{values}
+use Rattle.lists.specs.Lists.{every}
+use Rattle.lists.specs.Tables.{values}
+use Rattle.lists.proofs.Bools.{every-head, every-tail}
 
 from : (g : ℕ → ℕ) (n k i : ℕ) → i < n → getD (values g k n) i 0 ≡ g (k + i)
 from g zero k i h = absurd (not-suc-le-zero h)
@@ -30,3 +35,9 @@ fill-next f n l k v e h p q j lt b =
     (λ (s : j ≡ k). subst⁻¹ (λ (i : ℕ). getD (set l k v) i 0 ≡ f i) s (getD-set-same l k v 0 (omega arith) ∙ p))
     (λ (s : j < k). getD-set-other l k j v 0 (omega arith) ∙ q j s b)
     (eq-or-lt-of-le {n = j} {m = k} (omega arith))
+
+-- what each element of a list and the default pass, each reading of the list passes
+pub each-passes : {A : Type 0} (f : A → Bool) (xs : List A) (i : ℕ) (d : A) → T (every f xs) → T (f d) → T (f (getD xs i d))
+each-passes f [] i d t u = u
+each-passes f (x ∷ xs) zero d t u = every-head f x xs t
+each-passes f (x ∷ xs) (suc i) d t u = each-passes f xs i d (every-tail f x xs t) u

@@ -1,0 +1,44 @@
+-- `calendar::is_leap` meets its contract.
+-- Assumes nothing.
+use Prim.Native.Nat.{ℕ, _+_, _%_}
+use borrow.Author.Needs.{needs}
+use borrow.Author.Tests.{eq-eqb, ne-eqb}
+use Rattle.calendar.specs.Year.{gregorianLeap, leap}
+use Rattle.calendar.proofs.is_leap.Statement.{statement}
+use Rattle.calendar.proofs.is_leap.Tie as tie
+
+returns : tie.Need-returns
+unfolding leap
+returns c = rw (eq-eqb (c .before .args .years) 0 (c .if1 .taken))
+
+add-y : tie.Need-add-y
+add-y c = search needs
+
+returns-2 : tie.Need-returns-2
+unfolding gregorianLeap leap
+returns-2 c =
+    let k : ℕ = c .before .before .args .years in
+    rw (ne-eqb k 0 (c .before .if1 .left), eq-eqb ((1900 + k) % 400) 0 (c .if2 .taken))
+
+returns-3 : tie.Need-returns-3
+unfolding gregorianLeap leap
+returns-3 c =
+    let k : ℕ = c .before .before .before .args .years in
+    rw (
+      ne-eqb k 0 (c .before .before .if1 .left),
+      ne-eqb ((1900 + k) % 400) 0 (c .before .if2 .left),
+      eq-eqb ((1900 + k) % 4) 0 (c .if3 .taken),
+    )
+
+returns-4 : tie.Need-returns-4
+unfolding gregorianLeap leap
+returns-4 c =
+    let k : ℕ = c .before .before .before .args .years in
+    rw (
+      ne-eqb k 0 (c .before .before .if1 .left),
+      ne-eqb ((1900 + k) % 400) 0 (c .before .if2 .left),
+      ne-eqb ((1900 + k) % 4) 0 (c .if3 .left),
+    )
+
+pub is-leap-spec : {M : Type 1} → statement M
+is-leap-spec = tie.close (tie.spec returns add-y returns-2 returns-3 returns-4)

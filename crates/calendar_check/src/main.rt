@@ -1,0 +1,136 @@
+// Writes dates and clocks. The file stdout has what Python's datetime gives, and for days 0 to 60 what document 01 says.
+use libc::STDOUT_FILENO;
+use values::Day;
+use values::Millisecond;
+
+fn write_byte(byte: u8) {
+    let bytes = [byte];
+    io::write_all(STDOUT_FILENO, &bytes);
+}
+
+fn write_number(n: u64) {
+    io::print_decimal(STDOUT_FILENO, n);
+    write_byte(b' ');
+}
+
+fn write_weekday(weekday: u32) {
+    for i in 0..calendar::weekday_length(weekday) {
+        write_byte((calendar::weekday_unit(weekday, i) % 256) as u8);
+    }
+    write_byte(b' ');
+}
+
+fn write_month(month: u32) {
+    for i in 0..calendar::month_length(month) {
+        write_byte((calendar::month_unit(month, i) % 256) as u8);
+    }
+    write_byte(b'\n');
+}
+
+fn show_date(day: u32) {
+    let date = calendar::date_of(Day(day));
+    write_number(day as u64);
+    write_number(date.year as u64);
+    write_number(date.month as u64);
+    write_number(date.day as u64);
+    write_number(date.weekday as u64);
+    write_weekday(date.weekday);
+    write_month(date.month);
+}
+
+fn half_day(hour: u32) -> u8 {
+    if calendar::is_afternoon(hour) {
+        return b'P';
+    }
+    b'A'
+}
+
+fn show_clock(ms: u32) {
+    let clock = calendar::clock_of(Millisecond(ms));
+    write_number(ms as u64);
+    write_number(clock.hour as u64);
+    write_number(clock.minute as u64);
+    write_number(clock.second as u64);
+    write_number(clock.thousandth as u64);
+    write_number(calendar::twelve_hour(clock.hour) as u64);
+    write_byte(half_day(clock.hour));
+}
+
+fn show_time(day: u32, ms: u32) {
+    show_clock(ms);
+    write_byte(b' ');
+    write_number(calendar::elapsed_hours(Day(day), Millisecond(ms)));
+    write_number(calendar::elapsed_minutes(Day(day), Millisecond(ms)));
+    io::print_decimal(
+        STDOUT_FILENO,
+        calendar::elapsed_seconds(Day(day), Millisecond(ms)),
+    );
+    write_byte(b'\n');
+}
+
+fn spread_dates() {
+    for k in 0..48u32 {
+        show_date(k * 61637);
+    }
+}
+
+fn spread_times() {
+    for k in 0..10u32 {
+        show_time(k * 300000, k * 8639999);
+    }
+}
+
+fn ends_of_years() {
+    show_date(0);
+    show_date(1);
+    show_date(31);
+    show_date(32);
+    show_date(59);
+    show_date(60);
+    show_date(61);
+    show_date(366);
+    show_date(367);
+    show_date(425);
+    show_date(426);
+    show_date(1521);
+    show_date(1522);
+    show_date(28086);
+    show_date(36525);
+    show_date(36585);
+    show_date(36586);
+    show_date(73109);
+    show_date(73110);
+    show_date(146099);
+    show_date(146463);
+    show_date(146464);
+    show_date(182682);
+    show_date(292560);
+    show_date(292561);
+    show_date(2958465);
+    show_date(2958466);
+    show_date(4294967295);
+}
+
+fn ends_of_hours() {
+    show_time(0, 0);
+    show_time(0, 999);
+    show_time(0, 1000);
+    show_time(0, 59999);
+    show_time(0, 60000);
+    show_time(0, 3599999);
+    show_time(0, 3600000);
+    show_time(1, 43199999);
+    show_time(1, 43200000);
+    show_time(1, 46799999);
+    show_time(1, 46800000);
+    show_time(28086, 53760000);
+    show_time(60, 86399999);
+    show_time(2958465, 86399999);
+}
+
+fn main() {
+    ends_of_years();
+    spread_dates();
+    ends_of_hours();
+    spread_times();
+}

@@ -1,0 +1,39 @@
+-- `figures::divided` meets its contract.
+-- Assumes nothing.
+use native.Mathlib.Omega.{arith}
+use borrow.Author.Needs.{needs}
+use Rattle.figures.proofs.Tens.{ten-pos}
+use Rattle.figures.proofs.Rounding.{nearest-far, divided-up, divided-down, divided-fits, remainder-fits}
+use Rattle.figures.proofs.divided.Statement.{statement}
+use Rattle.figures.proofs.divided.Tie as tie
+
+returns : tie.Need-returns
+returns c = nearest-far (c .before .args .m) (c .before .args .k) (c .before .pre (c .if1 .taken)) (c .if1 .taken)
+
+power-requires : tie.Need-power-requires
+power-requires c κs = search needs
+
+div-q : tie.Need-div-q
+div-q c = omega (arith, ten-pos (c .before .before .args .k))
+
+rem-if2 : tie.Need-rem-if2
+rem-if2 c = omega (arith, ten-pos (c .before .before .args .k))
+
+mul-if2 : tie.Need-mul-if2
+mul-if2 c = record { fits = remainder-fits (c .before .before .args .m) (c .power .result) (c .before .before .args .k) (c .power .ensures) (omega arith) }
+
+add-result : tie.Need-add-result
+add-result c =
+    let a = c .before .before .before .args in
+    record { fits = divided-fits (a .m) (c .before .power .result) (a .k) (c .before .power .ensures) (omega arith) (omega arith) }
+
+returns-2 : tie.Need-returns-2
+returns-2 c = let a = c .before .before .before .args in divided-up (a .m) (c .before .power .result) (a .k) (c .before .power .ensures) (omega arith)
+
+returns-3 : tie.Need-returns-3
+returns-3 c = let a = c .before .before .before .args in divided-down (a .m) (c .before .power .result) (a .k) (c .before .power .ensures) (omega arith)
+
+pub divided-spec : {M : Type 1} → statement M
+divided-spec =
+    tie.close
+    (tie.spec returns power-requires div-q rem-if2 mul-if2 add-result returns-2 returns-3)

@@ -1,0 +1,60 @@
+-- `figures::lowest_place` meets its contract. The invariant: what is left of the places has the answer.
+-- Assumes nothing.
+use mathlib.Core.Path.{_≡_, refl, _∙_}
+use Prim.Native.Nat.{_-_, _≤_}
+use native.Mathlib.Omega.{arith}
+use Rattle.figures.specs.Places.{lowestFrom, lowestPlace}
+use Rattle.figures.proofs.Places.{lowest-here, lowest-further, lowest-end, lowest-number}
+use Rattle.figures.proofs.lowest_place.Statement.{statement}
+use Rattle.figures.proofs.lowest_place.Tie as tie
+
+abbrev Inv-loop : tie.InvT-loop
+Inv-loop digits k₀ k = (k ≤ 40) × (lowestFrom (40 - k) k digits ≡ lowestFrom 40 0 digits)
+
+abbrev μ-loop : tie.MeasureT-loop
+μ-loop digits k₀ k = 40 - k
+
+loop-holds : tie.Need-loop-holds Inv-loop μ-loop
+loop-holds c = (omega arith, refl)
+
+array-read-if1 : tie.Need-array-read-if1 Inv-loop μ-loop
+array-read-if1 c = omega arith
+
+returns : tie.Need-returns Inv-loop μ-loop
+unfolding lowestPlace
+returns c =
+    let l = c .before .before .loop in
+    let e = lowest-here (l .k) (c .before .before .before .args .t1) (c .before .loop-test .taken) (c .if1 .taken) ∙ l .inv .1 in
+    (e, lowest-number e)
+
+add-k : tie.Need-add-k Inv-loop μ-loop
+add-k c = omega arith
+
+loop-less : tie.Need-loop-less Inv-loop μ-loop
+loop-less c = omega arith
+
+loop-again : tie.Need-loop-again Inv-loop μ-loop
+loop-again c =
+    let l = c .before .before .loop in
+    (omega arith, lowest-further (l .k) (c .before .before .before .args .t1) (c .before .loop-test .taken) (c .if1 .left) ∙ l .inv .1)
+
+returns-2 : tie.Need-returns-2 Inv-loop μ-loop
+unfolding lowestPlace
+returns-2 c =
+    let l = c .before .loop in
+    let e = lowest-end (l .k) (c .before .before .args .t1) (l .inv .0) (c .loop-test .left) ∙ l .inv .1 in
+    (e, lowest-number e)
+
+pub lowest-place-spec : {M : Type 1} → statement M
+lowest-place-spec =
+    tie.close
+    (tie.spec
+    Inv-loop
+    μ-loop
+    loop-holds
+    array-read-if1
+    returns
+    add-k
+    loop-less
+    loop-again
+    returns-2)
