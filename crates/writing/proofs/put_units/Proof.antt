@@ -1,0 +1,95 @@
+use Prim.Native.Nat.{_+_, _-_, _≤_, _<_}
+use mathlib.Core.Path.{_≡_}
+use denote.Ref.{now}
+use native.Mathlib.Omega.{arith}
+use lib.ListN.{length, drop}
+use Rattle.writing.specs.Put.{Rest}
+use Rattle.writing.proofs.Laws.{rest-copy, rest-stop}
+use borrow.Author.Needs.{needs}
+use Rattle.writing.proofs.put_units.Statement.{statement}
+use Rattle.writing.proofs.put_units.Tie as tie
+use Rattle.writing.proofs.put_units.Reads as reads
+use Rattle.writing.proofs.put_units.Lts as lts
+use Rattle.writing.proofs.nearer.Reads as nearer-reads
+
+abbrev Inv-loop : tie.InvT-loop
+Inv-loop room₀ at text end stop o₀ j₀ room o j = Rest room₀ at text room o (drop j text) × (o ≡ at + j) × (j ≤ length text)
+
+abbrev μ-loop : tie.MeasureT-loop
+μ-loop room₀ at text end stop o₀ j₀ room o j = stop - o
+
+-- src/lib.rt:34:15
+add-end : tie.Need-add-end Inv-loop μ-loop
+add-end c = search needs
+
+-- src/lib.rt:35:9
+nearer-requires : tie.Need-nearer-requires Inv-loop μ-loop
+nearer-requires c κs = search needs
+
+-- src/lib.rt:38:5
+loop-holds : tie.Need-loop-holds Inv-loop μ-loop
+loop-holds c = search needs
+
+-- src/lib.rt:39:19
+mul-room : tie.Need-mul-room Inv-loop μ-loop
+mul-room c = search needs
+
+-- src/lib.rt:39:19
+shared-slice-read-room : tie.Need-shared-slice-read-room Inv-loop μ-loop
+shared-slice-read-room c = search needs
+
+-- src/lib.rt:39:9
+mul-room-2 : tie.Need-mul-room-2 Inv-loop μ-loop
+mul-room-2 c = search needs
+
+-- src/lib.rt:39:9
+slice-write-room : tie.Need-slice-write-room Inv-loop μ-loop
+slice-write-room c = search needs
+
+-- src/lib.rt:40:9
+add-o : tie.Need-add-o Inv-loop μ-loop
+add-o c = search needs
+
+-- src/lib.rt:41:9
+add-j : tie.Need-add-j Inv-loop μ-loop
+add-j c = search needs
+
+-- src/lib.rt:38:5
+loop-less : tie.Need-loop-less Inv-loop μ-loop
+loop-less c = search needs
+
+-- src/lib.rt:38:5
+loop-again : tie.Need-loop-again Inv-loop μ-loop
+loop-again c =
+    let l = c .before .before .loop in
+    let text = now (c .before .before .before .before .before .before .args .text) in
+    let h : l .j < length text = omega arith in
+    (rest-copy text (l .j) (l .inv .0) h, search needs, search needs)
+
+-- src/lib.rt:30:1
+same-length : tie.Need-same-length Inv-loop μ-loop
+same-length c = search needs
+
+-- src/lib.rt:30:1
+returns : tie.Need-returns Inv-loop μ-loop
+returns c = rest-stop (c .before .loop .inv .0) (c .loop-test .left) (c .before .before .nearer .ensures .2)
+
+pub put-units-spec : {M : Type 1} → statement M
+put-units-spec =
+    tie.close
+    (tie.spec
+    Inv-loop
+    μ-loop
+    add-end
+    nearer-requires
+    loop-holds
+    mul-room
+    shared-slice-read-room
+    mul-room-2
+    slice-write-room
+    add-o
+    add-j
+    loop-less
+    loop-again
+    same-length
+    returns)
