@@ -103,9 +103,19 @@ section-says a (some k) = refl
 
 tests-say : (code : List ℕ) → SayFrom 0 (tests code)
 unfolding kindVerdict whereVerdict limitVerdict
-tests-say code =
-    (tt, (length-says code, (token-says (lex code), (count-says (semicolons (placedOf (lex code))),
-    (section-says answer.Kind _, (section-says answer.Standing _, (section-says answer.Limit _, tt)))))))
+tests-say code = (
+  tt,
+  (
+    length-says code,
+    (
+      token-says (lex code),
+      (
+        count-says (semicolons (placedOf (lex code))),
+        (section-says answer.Kind _, (section-says answer.Standing _, (section-says answer.Limit _, tt))),
+      ),
+    ),
+  ),
+)
 
 or-fine : (v : Verdict) → orElse v fine ≡ v
 unfolding orElse
@@ -169,9 +179,9 @@ unfolding lengthVerdict
 length-bounds code e = by-cases (eqb (length code) 0 || ltb 254 (length code))
     (λ t. not-refused (sym (rw t at e)))
     (λ t. let (p, q) = or-false (eqb (length code) 0) (ltb 254 (length code)) t in
-        let some-unit = eqb-false (length code) 0 p in
-        let few = ltb-false 254 (length code) q in
-        (omega arith, omega arith))
+    let some-unit = eqb-false (length code) 0 p in
+    let few = ltb-false 254 (length code) q in
+    (omega arith, omega arith))
 
 pub length-refused : (code : List ℕ) (k : ℕ) → verdict code ≡ refused answer.CodeLength k
     → (k ≡ 0) × ((length code ≡ 0) ⊎ (254 < length code))
@@ -181,8 +191,8 @@ length-refused code k e =
     by-cases (eqb (length code) 0)
     (λ t. let q : refused answer.CodeLength 0 ≡ refused answer.CodeLength k = rw t at r in (cc, inl (eqb-true (length code) 0 t)))
     (λ t. by-cases (ltb 254 (length code))
-        (λ u. let q : refused answer.CodeLength 0 ≡ refused answer.CodeLength k = rw (t, u) at r in (cc, inr (ltb-true 254 (length code) u)))
-        (λ u. not-refused (rw (t, u) at r)))
+    (λ u. let q : refused answer.CodeLength 0 ≡ refused answer.CodeLength k = rw (t, u) at r in (cc, inr (ltb-true 254 (length code) u)))
+    (λ u. not-refused (rw (t, u) at r)))
 
 -- ---- 2: the tokens
 
@@ -454,12 +464,12 @@ below-fourth : (places : List ℕ) (j k : ℕ) → ((i n : ℕ) → i < n → n 
 below-fourth places j k ascend e s h = by-cases (ltb (s .index) 3)
     (λ t. ltb-true (s .index) 3 t)
     (λ t. by-cases (ltb 3 (s .index))
-        (λ u. absurd (omega (arith, ascend 3 (s .index) (ltb-true 3 (s .index) u) (s .within), s .same)))
-        (λ u. let p = ltb-false (s .index) 3 t in
-            let q = ltb-false 3 (s .index) u in
-            let three : s .index ≡ 3 = omega arith in
-            let same : getD places 3 0 ≡ j = rw three at (s .same) in
-            absurd (omega arith)))
+    (λ u. absurd (omega (arith, ascend 3 (s .index) (ltb-true 3 (s .index) u) (s .within), s .same)))
+    (λ u. let p = ltb-false (s .index) 3 t in
+    let q = ltb-false 3 (s .index) u in
+    let three : s .index ≡ 3 = omega arith in
+    let same : getD places 3 0 ≡ j = rw three at (s .same) in
+    absurd (omega arith)))
 
 count-many : (places : List ℕ) (a : Answer) (k : ℕ) → countVerdict places ≡ refused a k → (3 < length places) × (getD places 3 0 ≡ k)
 unfolding countVerdict

@@ -66,8 +66,8 @@ quoted-within : (us : List ℕ) → Within (length us) (quoted us)
 unfolding quoted
 quoted-within us = cond-case (Within (length us)) (eqb (before 34 us) 0 || eqb (before 34 us) (length us)) (λ e. tt)
     (λ e. let open-end = eqb-false (before 34 us) (length us) ((or-false (eqb (before 34 us) 0) _ e) .1) in
-        let most = before-most 34 us in
-        omega arith)
+    let most = before-most 34 us in
+    omega arith)
 
 marked-within : (f : ℕ → Token) (us : List ℕ) → Within (length us) (marked f us)
 unfolding marked
@@ -83,8 +83,8 @@ bracketed-within : (us : List ℕ) → Within (length us) (bracketed us)
 unfolding bracketed
 bracketed-within us = cond-case (Within (length us)) (eqb (before 93 us) (length us)) (λ e. tt)
     (λ e. let open-end = eqb-false (before 93 us) (length us) e in
-        let most = before-most 93 us in
-        closed-within (length us) (before 93 us) (insideOf (take (before 93 us) us)) (omega arith))
+    let most = before-most 93 us in
+    closed-within (length us) (before 93 us) (insideOf (take (before 93 us) us)) (omega arith))
 
 general-within : (u : ℕ) (us : List ℕ) → Within (length us) (generalWord (u ∷ us))
 unfolding generalWord units
@@ -96,7 +96,7 @@ unfolding halfDayWord units
 half-within u us = cond-case (Within (length us)) (startsWith (units "AM/PM") (u ∷ us))
     (λ e. omega (arith, word-most (units "AM/PM") (u ∷ us) e))
     (λ e. cond-case (Within (length us)) (startsWith (units "A/P") (u ∷ us))
-        (λ f. omega (arith, word-most (units "A/P") (u ∷ us) f)) (λ f. tt))
+    (λ f. omega (arith, word-most (units "A/P") (u ∷ us) f)) (λ f. tt))
 
 by-within : (f : First) (u : ℕ) (us : List ℕ) → Within (length us) (stepBy f u us)
 unfolding stepBy runStep

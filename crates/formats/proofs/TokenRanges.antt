@@ -78,7 +78,6 @@ module _ (P : Token → Type 0)
     (colours : (n : ℕ) → n ≤ 56 → P (colour n))
     (elapses : (e : Elapsed) (n : ℕ) → T (leb 1 n) → P (elapsed e n))
     (conditions : (w : Written) → T (writtenInRange w) → P (condition w)) where
-
   named-form : (n : ℕ) (names : List String) (us : List ℕ) → n + length names ≤ 57 → InForm P (namedFrom n names us)
   unfolding namedFrom
   named-form n [] us h = tt

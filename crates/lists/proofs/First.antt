@@ -52,20 +52,20 @@ module _ {A : Type 0} (f : ℕ → A → Bool) (d : A) where
   first-failing start [] k e = let z : _≡_ {A = ℕ} 0 1 = cc in absurd (omega arith)
   first-failing start (x ∷ xs) k e = by-cases (f start x)
       (λ t. let r = first-failing (suc start) xs k (rw t at e) in
-          record {
-            begun = omega arith;
-            within = omega arith;
-            fails = rw (behind x xs start k (r .begun)) (r .fails);
-            earlier = pass-cons x xs start k t (r .earlier);
-          })
+      record {
+        begun = omega arith;
+        within = omega arith;
+        fails = rw (behind x xs start k (r .begun)) (r .fails);
+        earlier = pass-cons x xs start k t (r .earlier);
+      })
       (λ t. let q : some start ≡ some k = rw t at e in
-          let s : k ≡ start = cc in
-          record {
-            begun = omega arith;
-            within = omega arith;
-            fails = rw (front x xs start k s, s) t;
-            earlier = λ j h l. absurd (omega arith);
-          })
+      let s : k ≡ start = cc in
+      record {
+        begun = omega arith;
+        within = omega arith;
+        fails = rw (front x xs start k s, s) t;
+        earlier = λ j h l. absurd (omega arith);
+      })
 
   -- where none is found all pass, and the other way round
   pub first-none : (start : ℕ) (xs : List A) → firstFailing f start xs ≡ none → PassBelow f d start xs (start + length xs)
@@ -93,8 +93,8 @@ module _ {A : Type 0} (f : ℕ → A → Bool) (d : A) where
           by-cases (ltb i k)
           (λ t. absurd (true≢false (sym (r .earlier i (s .begun) (ltb-true i k t)) ∙ s .fails)))
           (λ t. by-cases (ltb k i)
-              (λ u. absurd (true≢false (sym (s .earlier k (r .begun) (ltb-true k i u)) ∙ r .fails)))
-              (λ u. let p = ltb-false i k t in let q = ltb-false k i u in let w : i ≡ k = omega arith in ap some w))
+          (λ u. absurd (true≢false (sym (s .earlier k (r .begun) (ltb-true k i u)) ∙ r .fails)))
+          (λ u. let p = ltb-false i k t in let q = ltb-false k i u in let w : i ≡ k = omega arith in ap some w))
 
   -- the same of a list that begins at place 0
   pub fails-at : (xs : List A) (k : ℕ) → FirstFailing f d 0 xs k → f k (getD xs k d) ≡ false

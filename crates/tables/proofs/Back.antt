@@ -84,6 +84,7 @@ head-back n i firstHas r f g counted =
   where
     h : HeadFacts (r .head)
     h = head-facts (r .head) (f .head)
+
     c : ConditionBack (r .head) (sectionAt r .condition)
     c = condition-back (r .head) h (condition-facts (r .head) (f .condition))
 
@@ -94,7 +95,7 @@ row-back n i firstHas r t g counted =
     let f : RowFacts r = row-facts r t in
     let heads : headOf n i firstHas (sectionAt r) ≡ r .head = head-back n i firstHas r f g counted in
     let bodies : entriesOf (sectionAt r .items) ≡ r .entries =
-      entries-back (14 + integerPlaces (itemsAt (r .entries))) (r .entries) (f .entries) (f .powers) in
+    entries-back (14 + integerPlaces (itemsAt (r .entries))) (r .entries) (f .entries) (f .powers) in
     λ j. record { head = heads j; entries = bodies j }
 
 dividing : (r : Row) → T (dividingFits (sectionAt r))
@@ -112,7 +113,7 @@ section-formed r t =
     let f : RowFacts r = row-facts r t in
     let h : HeadFacts (r .head) = head-facts (r .head) (f .head) in
     let condition : T (conditionInRange (sectionAt r .condition)) =
-      condition-ranged (r .head) h (condition-facts (r .head) (f .condition)) in
+    condition-ranged (r .head) h (condition-facts (r .head) (f .condition)) in
     let ranged : T (every itemInRange (sectionAt r .items)) = items-ranged (r .entries) (f .entries) in
     let divides : T (dividingFits (sectionAt r)) = dividing r in
     search and-in depth 12
@@ -124,12 +125,14 @@ rows-back n i firstHas [] counted t g = refl
 rows-back n i firstHas (r ∷ rs) counted t g =
     let here : T (flagsFit n i firstHas r) = and-left (flagsFit n i firstHas r) (flagsFrom n (suc i) firstHas rs) g in
     let later : T (flagsFrom n (suc i) firstHas rs) = and-right (flagsFit n i firstHas r) (flagsFrom n (suc i) firstHas rs) g in
-    rw (row-back n i firstHas r (every-head rowFits r rs t) here (counted .0),
-      rows-back n (suc i) firstHas rs (counted .1) (every-tail rowFits r rs t) later)
+    rw (
+      row-back n i firstHas r (every-head rowFits r rs t) here (counted .0),
+      rows-back n (suc i) firstHas rs (counted .1) (every-tail rowFits r rs t) later,
+    )
 
 pub sections-formed : (rs : List Row) → T (every rowFits rs) → T (every sectionFormed (map sectionAt rs))
 unfolding every
 sections-formed [] t = tt
 sections-formed (r ∷ rs) t =
     every-cons sectionFormed (sectionAt r) (map sectionAt rs) (section-formed r (every-head rowFits r rs t))
-      (sections-formed rs (every-tail rowFits r rs t))
+    (sections-formed rs (every-tail rowFits r rs t))

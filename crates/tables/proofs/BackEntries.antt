@@ -55,6 +55,7 @@ tag-known e =
   where
     t : ℕ
     t = e .tag
+
     Known : Bool → Type 0
     Known b = T b → (1 ≤ t) × (t ≤ 21)
 
@@ -63,7 +64,7 @@ pub by-tag : (P : Entry → Type 0) → Span (λ t. (a : ℕ) → T (entryInRang
     → (e : Entry) → T (entryInRange e) → P e
 by-tag P ps e r =
     span-at (λ t. (a : ℕ) → T (entryInRange (entry t a)) → P (entry t a)) 1 21 (e .tag) ps
-      (tag-known e r .0) (omega (arith, tag-known e r)) (e .argument) r
+    (tag-known e r .0) (omega (arith, tag-known e r)) (e .argument) r
 
 half-back : (a : ℕ) → T (between 1 2 a) → halfWord (halfAt a) ≡ a
 unfolding halfAt halfWord
@@ -78,14 +79,67 @@ powerFits q e = implies (isPlace (itemAt e)) (eqb (e .argument) (suc q))
 pub entry-back : (q : ℕ) (e : Entry) → T (entryInRange e) → T (powerFits q e) → entryOf q (itemAt e) ≡ e
 unfolding entryInRange itemAt entryOf placeTag elapsedTag
 entry-back q =
-    by-tag (λ e. T (powerFits q e) → entryOf q (itemAt e) ≡ e)
-    ((λ a r f. refl), ((λ a r f. refl), ((λ a r f. refl),
-    ((λ a r f. rw (eqb→eq a (suc q) f)), ((λ a r f. rw (eqb→eq a (suc q) f)), ((λ a r f. rw (eqb→eq a (suc q) f)),
-    ((λ a r f. rw (eqb→eq a 0 r)), ((λ a r f. rw (eqb→eq a 0 r)), ((λ a r f. rw (eqb→eq a 0 r)), ((λ a r f. rw (eqb→eq a 0 r)),
-    ((λ a r f. refl), ((λ a r f. refl), ((λ a r f. refl),
-    ((λ a r f. refl), ((λ a r f. refl), ((λ a r f. refl), ((λ a r f. refl),
-    ((λ a r f. refl), ((λ a r f. refl), ((λ a r f. refl),
-    ((λ a r f. rw (half-back a r)), tt)))))))))))))))))))))
+    by-tag (λ e. T (powerFits q e) → entryOf q (itemAt e) ≡ e) (
+      (λ a r f. refl),
+      (
+        (λ a r f. refl),
+        (
+          (λ a r f. refl),
+          (
+            (λ a r f. rw (eqb→eq a (suc q) f)),
+            (
+              (λ a r f. rw (eqb→eq a (suc q) f)),
+              (
+                (λ a r f. rw (eqb→eq a (suc q) f)),
+                (
+                  (λ a r f. rw (eqb→eq a 0 r)),
+                  (
+                    (λ a r f. rw (eqb→eq a 0 r)),
+                    (
+                      (λ a r f. rw (eqb→eq a 0 r)),
+                      (
+                        (λ a r f. rw (eqb→eq a 0 r)),
+                        (
+                          (λ a r f. refl),
+                          (
+                            (λ a r f. refl),
+                            (
+                              (λ a r f. refl),
+                              (
+                                (λ a r f. refl),
+                                (
+                                  (λ a r f. refl),
+                                  (
+                                    (λ a r f. refl),
+                                    (
+                                      (λ a r f. refl),
+                                      (
+                                        (λ a r f. refl),
+                                        (
+                                          (λ a r f. refl),
+                                          (
+                                            (λ a r f. refl),
+                                            ((λ a r f. rw (half-back a r)), tt),
+                                          ),
+                                        ),
+                                      ),
+                                    ),
+                                  ),
+                                ),
+                              ),
+                            ),
+                          ),
+                        ),
+                      ),
+                    ),
+                  ),
+                ),
+              ),
+            ),
+          ),
+        ),
+      ),
+    )
 
 pub entries-back : (q : ℕ) (es : List Entry) → T (every entryInRange es) → T (powersFrom q es) → entriesFrom q (itemsAt es) ≡ es
 unfolding powersFrom entriesFrom itemsAt
@@ -93,27 +147,82 @@ entries-back q [] r f = refl
 entries-back q (e ∷ es) r f =
     let here : T (powerFits q e) = and-left (powerFits q e) (powersFrom (digitAfter q (itemAt e)) es) f in
     let later : T (powersFrom (digitAfter q (itemAt e)) es) = and-right (powerFits q e) (powersFrom (digitAfter q (itemAt e)) es) f in
-    rw (entry-back q e (every-head entryInRange e es r) here,
-      entries-back (digitAfter q (itemAt e)) es (every-tail entryInRange e es r) later)
+    rw (
+      entry-back q e (every-head entryInRange e es r) here,
+      entries-back (digitAfter q (itemAt e)) es (every-tail entryInRange e es r) later,
+    )
 
 pub item-ranged : (e : Entry) → T (entryInRange e) → T (itemInRange (itemAt e))
 unfolding entryInRange itemAt itemInRange
 item-ranged =
-    by-tag (λ e. T (itemInRange (itemAt e)))
-    ((λ a r. r), ((λ a r. r), ((λ a r. r),
-    ((λ a r. tt), ((λ a r. tt), ((λ a r. tt),
-    ((λ a r. tt), ((λ a r. tt), ((λ a r. tt), ((λ a r. tt),
-    ((λ a r. r), ((λ a r. r), ((λ a r. r),
-    ((λ a r. r), ((λ a r. r), ((λ a r. r), ((λ a r. r),
-    ((λ a r. r), ((λ a r. r), ((λ a r. r),
-    ((λ a r. tt), tt)))))))))))))))))))))
+    by-tag (λ e. T (itemInRange (itemAt e))) (
+      (λ a r. r),
+      (
+        (λ a r. r),
+        (
+          (λ a r. r),
+          (
+            (λ a r. tt),
+            (
+              (λ a r. tt),
+              (
+                (λ a r. tt),
+                (
+                  (λ a r. tt),
+                  (
+                    (λ a r. tt),
+                    (
+                      (λ a r. tt),
+                      (
+                        (λ a r. tt),
+                        (
+                          (λ a r. r),
+                          (
+                            (λ a r. r),
+                            (
+                              (λ a r. r),
+                              (
+                                (λ a r. r),
+                                (
+                                  (λ a r. r),
+                                  (
+                                    (λ a r. r),
+                                    (
+                                      (λ a r. r),
+                                      (
+                                        (λ a r. r),
+                                        (
+                                          (λ a r. r),
+                                          (
+                                            (λ a r. r),
+                                            ((λ a r. tt), tt),
+                                          ),
+                                        ),
+                                      ),
+                                    ),
+                                  ),
+                                ),
+                              ),
+                            ),
+                          ),
+                        ),
+                      ),
+                    ),
+                  ),
+                ),
+              ),
+            ),
+          ),
+        ),
+      ),
+    )
 
 pub items-ranged : (es : List Entry) → T (every entryInRange es) → T (every itemInRange (itemsAt es))
 unfolding itemsAt every
 items-ranged [] r = tt
 items-ranged (e ∷ es) r =
     every-cons itemInRange (itemAt e) (itemsAt es) (item-ranged e (every-head entryInRange e es r))
-      (items-ranged es (every-tail entryInRange e es r))
+    (items-ranged es (every-tail entryInRange e es r))
 
 pub items-length : (es : List Entry) → length (itemsAt es) ≡ length es
 unfolding itemsAt

@@ -51,13 +51,16 @@ condition-facts h t = record { missing = missing; unsigned = unsigned }
   where
     zeros : Bool
     zeros = eqb (h .negative) 0 && eqb (wholeAt h) 0 && eqb (millionthsAt h) 0
+
     noNumber : Bool
     noNumber = eqb (wholeAt h) 0 && eqb (millionthsAt h) 0
+
     missing : h .operator ≡ 0 → (h .negative ≡ 0) × (wholeAt h ≡ 0) × (millionthsAt h ≡ 0)
     missing e =
         let rule : T (implies (eqb (h .operator) 0) zeros) = search and-left in
         let all : T zeros = implied (eqb (h .operator) 0) zeros rule (rw e tt) in
         search (and-left, and-right, eqb→eq)
+
     unsigned : wholeAt h ≡ 0 → millionthsAt h ≡ 0 → h .negative ≡ 0
     unsigned w m =
         let rule : T (implies noNumber (eqb (h .negative) 0)) = search and-right in
@@ -93,12 +96,12 @@ unfolding conditionAt operatorWord negativeWord wholePart millionthsPart
 condition-back h f c =
     cond-case (ConditionBack h) (eqb (h .operator) 0)
     (λ e. let z : h .operator ≡ 0 = eqb-true (h .operator) 0 e in
-      record {
-        operator = sym z;
-        negative = sym (c .missing z .0);
-        whole = sym (c .missing z .1);
-        millionths = sym (c .missing z .2);
-      })
+    record {
+      operator = sym z;
+      negative = sym (c .missing z .0);
+      whole = sym (c .missing z .1);
+      millionths = sym (c .missing z .2);
+    })
     (λ e. record {
       operator = comparison-back (h .operator) (positive (eqb-false (h .operator) 0 e)) (f .operator);
       negative = bit-back (h .negative) (f .negative);
@@ -108,8 +111,10 @@ condition-back h f c =
   where
     positive : (h .operator ≡ 0 → ⊥) → 1 ≤ h .operator
     positive apart = omega arith
+
     whole-back : (w m : ℕ) → m ≤ 999999 → (w * 10 ^ 6 + m) / 10 ^ 6 ≡ w
     whole-back w m most = omega arith
+
     millionths-back : (w m : ℕ) → m ≤ 999999 → (w * 10 ^ 6 + m) % 10 ^ 6 ≡ m
     millionths-back w m most = omega arith
 
@@ -118,17 +123,19 @@ unfolding conditionAt conditionInRange
 condition-ranged h f c =
     cond-case (λ k. T (conditionInRange k)) (eqb (h .operator) 0) (λ _. tt)
     (λ _.
-      let bound : T (ltb number (10 ^ 15)) =
-        lt→ltb number (10 ^ 15) (below (wholeAt h) (millionthsAt h) (f .wholeMost) (f .millionthsMost)) in
-      let sign : T (implies (eqb (h .negative) 1) (ltb 0 number)) =
-        implies-in (eqb (h .negative) 1) (ltb 0 number)
-          (λ e. lt→ltb 0 number (positive (wholeAt h) (millionthsAt h) (h .negative) (c .unsigned) (eqb-true (h .negative) 1 e))) in
-      search and-in)
+    let bound : T (ltb number (10 ^ 15)) =
+    lt→ltb number (10 ^ 15) (below (wholeAt h) (millionthsAt h) (f .wholeMost) (f .millionthsMost)) in
+    let sign : T (implies (eqb (h .negative) 1) (ltb 0 number)) =
+    implies-in (eqb (h .negative) 1) (ltb 0 number)
+    (λ e. lt→ltb 0 number (positive (wholeAt h) (millionthsAt h) (h .negative) (c .unsigned) (eqb-true (h .negative) 1 e))) in
+    search and-in)
   where
     number : ℕ
     number = wholeAt h * 10 ^ 6 + millionthsAt h
+
     below : (w m : ℕ) → w ≤ 999999999 → m ≤ 999999 → w * 10 ^ 6 + m < 10 ^ 15
     below w m wholeMost millionthsMost = omega arith
+
     positive : (w m n : ℕ) → (w ≡ 0 → m ≡ 0 → n ≡ 0) → n ≡ 1 → 0 < w * 10 ^ 6 + m
     positive w m n unsigned e =
         by-cases (eqb (w * 10 ^ 6 + m) 0)
@@ -137,6 +144,7 @@ condition-ranged h f c =
       where
         none : w * 10 ^ 6 + m ≡ 0 → ⊥
         none z = omega (arith, unsigned (omega arith) (omega arith))
+
         some : (w * 10 ^ 6 + m ≡ 0 → ⊥) → 0 < w * 10 ^ 6 + m
         some z = omega arith
 

@@ -110,9 +110,10 @@ table-that-passes ws t = record { formed = passing-formed ws t; encoded = encode
 
 -- words pass exactly when they are the table of well-formed sections
 pub passes-exactly : (ws : List ℕ) → T (passes ws) ↔ ((ss : List Section) × T (wellFormed ss) × (encode ss ≡ ws))
-passes-exactly ws =
-    ((λ t. (decode ws, passing-formed ws t, encode-decode ws t)),
-    (λ h. rw (← (h .2)) (encoding-passes (h .0) (h .1))))
+passes-exactly ws = (
+  (λ t. (decode ws, passing-formed ws t, encode-decode ws t)),
+  (λ h. rw (← (h .2)) (encoding-passes (h .0) (h .1))),
+)
 
 -- every word of a table that passes has 16 bits
 pub words-small : (ws : List ℕ) → T (passes ws) → T (every isUnit ws)

@@ -38,15 +38,67 @@ two-or-four a t = either (eqb a 2) (eqb a 4) (λ u. word a (omega (arith, eqb→
 argument-word : (e : Entry) → T (entryInRange e) → T (isUnit (e .argument))
 unfolding entryInRange
 argument-word =
-    by-tag (λ (e : Entry). T (isUnit (e .argument)))
-    ((λ a r. r), ((λ a r. r), ((λ a r. r),
-    ((λ a r. small 1 35 a (omega arith) r), ((λ a r. small 1 35 a (omega arith) r), ((λ a r. small 1 35 a (omega arith) r),
-    ((λ a r. nought a r), ((λ a r. nought a r), ((λ a r. nought a r), ((λ a r. nought a r),
-    ((λ a r. two-or-four a r), ((λ a r. small 1 5 a (omega arith) r), ((λ a r. small 1 4 a (omega arith) r),
-    ((λ a r. small 1 2 a (omega arith) r), ((λ a r. small 1 2 a (omega arith) r), ((λ a r. small 1 2 a (omega arith) r),
-    ((λ a r. small 1 3 a (omega arith) r),
-    ((λ a r. small 1 9 a (omega arith) r), ((λ a r. small 1 9 a (omega arith) r), ((λ a r. small 1 9 a (omega arith) r),
-    ((λ a r. small 1 2 a (omega arith) r), tt)))))))))))))))))))))
+    by-tag (λ (e : Entry). T (isUnit (e .argument))) (
+      (λ a r. r),
+      (
+        (λ a r. r),
+        (
+          (λ a r. r),
+          (
+            (λ a r. small 1 35 a (omega arith) r),
+            (
+              (λ a r. small 1 35 a (omega arith) r),
+              (
+                (λ a r. small 1 35 a (omega arith) r),
+                (
+                  (λ a r. nought a r),
+                  (
+                    (λ a r. nought a r),
+                    (
+                      (λ a r. nought a r),
+                      (
+                        (λ a r. nought a r),
+                        (
+                          (λ a r. two-or-four a r),
+                          (
+                            (λ a r. small 1 5 a (omega arith) r),
+                            (
+                              (λ a r. small 1 4 a (omega arith) r),
+                              (
+                                (λ a r. small 1 2 a (omega arith) r),
+                                (
+                                  (λ a r. small 1 2 a (omega arith) r),
+                                  (
+                                    (λ a r. small 1 2 a (omega arith) r),
+                                    (
+                                      (λ a r. small 1 3 a (omega arith) r),
+                                      (
+                                        (λ a r. small 1 9 a (omega arith) r),
+                                        (
+                                          (λ a r. small 1 9 a (omega arith) r),
+                                          (
+                                            (λ a r. small 1 9 a (omega arith) r),
+                                            ((λ a r. small 1 2 a (omega arith) r), tt),
+                                          ),
+                                        ),
+                                      ),
+                                    ),
+                                  ),
+                                ),
+                              ),
+                            ),
+                          ),
+                        ),
+                      ),
+                    ),
+                  ),
+                ),
+              ),
+            ),
+          ),
+        ),
+      ),
+    )
 
 entries-are-words : (es : List Entry) (ws : List ℕ) → T (every entryInRange es) → T (every isUnit ws) → T (every isUnit (entriesWords es ws))
 unfolding entriesWords

@@ -1,9 +1,9 @@
--- Laws of numerals in the order in which their digits are found, the last one first.
+-- Laws of digits stored the last one first, of the width of a number, and of numerals.
 -- Assumes nothing.
 use mathlib.Core.Path.{_≡_, refl, sym, ap, ap₂, _∙_}
 use mathlib.Core.List.{List, [], _∷_, _++_}
-use native.Mathlib.Numerals.{add-one}
 use Prim.Native.Nat.{ℕ, zero, suc, _+_, _-_, _/_, _%_, _*_, _^_, _<_, _≤_, max}
+use native.Mathlib.Numerals.{add-one}
 use native.Mathlib.Nat.{div-div-eq-div-mul, pow-suc, mul-comm, max-eq-left, max-eq-right, max-le}
 use native.Mathlib.Omega.{arith}
 use native.Mathlib.Decide.{decLt}
@@ -13,7 +13,7 @@ use Rattle.figures.specs.Digits.{digit, digitUnits, width, numeral}
 use Rattle.figures.proofs.Tens.{ten-le}
 use Rattle.figures.proofs.Digits.{digitUnits-length, width-most, width-unique}
 use Rattle.writing.specs.Put.{Put}
-use Rattle.writing.proofs.Laws.{sets-last, sets-out, put-size}
+use Rattle.writing.proofs.Laws.{sets-last, put-out, put-size}
 
 -- a digit one place higher is a digit of the tenth
 pub digit-tenth : (n k : ℕ) → digit n (suc k) ≡ digit (n / 10) k
@@ -78,8 +78,7 @@ peeled-done {l} {m} {at} {count} {n} {o} {rest} x h =
 
 -- digits at or past the room's end
 pub digits-out : (l : List ℕ) (at count n : ℕ) → length l ≤ at → Put l at (digitUnits count n) (at + count) l
-digits-out l at count n h =
-    record { next = ap (λ (k : ℕ). at + k) (sym (digitUnits-length count n)); room = sym (sets-out l at (digitUnits count n) h) }
+digits-out l at count n h = rw (digitUnits-length count n) at (put-out l at (digitUnits count n) h)
 
 -- the two digits of a number below 100
 pub digits-two : (n : ℕ) → n < 100 → digitUnits 2 n ≡ ((48 + n / 10) ∷ []) ++ ((48 + n % 10) ∷ [])
