@@ -172,20 +172,6 @@ module _ (n : ℕ) where
       let not-more : ¬ (w < v) = λ h. omega (arith, ten-le w (v - 1) (omega arith), width-below (omega arith)) in
       omega arith
 
--- the search for it, in the loop's words: p is the power, taken from a table
-pub width-here : (n w p : ℕ) → 1 ≤ w → w ≤ 25 → p ≡ 10 ^ w → n < p → (1 < w → 10 ^ (w - 1) ≤ n) → w ≡ width n
-width-here n w p least most e above below = sym (width-unique n w least most (rw (← e) above) below)
-
-pub width-further : (n w p : ℕ) → p ≡ 10 ^ w → p ≤ n → 10 ^ (w + 1 - 1) ≤ n
-width-further n w p e h =
-    let f : w + 1 - 1 ≡ w = omega arith in
-    rw (f, ← e) h
-
-pub width-last : (n w : ℕ) → n < 2 ^ 64 → w ≤ 20 → 20 ≤ w → (1 < w → 10 ^ (w - 1) ≤ n) → 20 ≡ width n
-width-last n w small most least below =
-    let e : w - 1 ≡ 19 = omega arith in
-    sym (width-unique n 20 (omega arith) (omega arith) (omega arith) (λ h. rw e at (below (omega arith))))
-
 -- the digits above a place are those of the quotient
 pub quotient-quotient : (n i k : ℕ) → n / 10 ^ i / 10 ^ k ≡ n / 10 ^ (i + k)
 quotient-quotient n i k = div-div-eq-div-mul n (10 ^ i) (10 ^ k) ∙ ap (λ (x : ℕ). n / x) (sym (pow-add 10 i k))

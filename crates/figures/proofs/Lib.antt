@@ -5,3 +5,4 @@ pub mod Sign
 pub mod Filling
 pub mod Places
 pub mod General
+pub mod Widths

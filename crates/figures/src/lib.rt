@@ -241,18 +241,20 @@ fn whole(m: u64, k: u32) -> u64
     m / power(k)
 }
 
-// How many digits n has, at least 1.
-fn width_of(n: u64) -> u32
+// How many digits n has when it is written out. (No table: a constant array would be built anew at each reading.)
+pub fn width_of(n: u64) -> u32
     ensures { λ r. ⌜ r ≡ width n ⌝ }
 {
-    let mut w: u32 = 1;
-    while w < 20 {
-        if n < power(w) {
-            return w;
+    let mut w = 1;
+    let mut p = 10;
+    while p <= n {
+        if w == 19 {
+            return 20;
         }
         w += 1;
+        p *= 10;
     }
-    20
+    w
 }
 
 // To how many decimals General rounds m / 10^scale.

@@ -71,22 +71,6 @@ pub fn put_digits(room: &mut [u16], at: usize, count: u32, n: u64) -> usize
     end
 }
 
-// How many digits n has when it is written out. (No table: a constant array would be built anew at each reading.)
-pub fn width_of(n: u64) -> u32
-    ensures { λ r. ⌜ r ≡ width n ⌝ }
-{
-    let mut w = 1;
-    let mut p = 10;
-    while p <= n {
-        if w == 19 {
-            return 20;
-        }
-        w += 1;
-        p *= 10;
-    }
-    w
-}
-
 // Puts a number below 100 at `at`, in two digits.
 fn put_two(room: &mut [u16], at: usize, n: u64) -> usize
     requires { ⌜ (at < 2 ^ 62) × (n < 100) ⌝ }
@@ -101,7 +85,7 @@ fn put_wide(room: &mut [u16], at: usize, least: u32, n: u64) -> usize
     requires { ⌜ at < 2 ^ 62 ⌝ }
     ensures { λ r. ⌜ Put (now (room .entry)) at (numeral least n) r (now (room .exit)) ⌝ }
 {
-    let w = width_of(n);
+    let w = figures::width_of(n);
     if w < least {
         return put_digits(room, at, least, n);
     }

@@ -1,54 +1,42 @@
--- `figures::width_of` meets its contract. The invariant: n has w digits or more.
+-- `figures::width_of` meets its contract.
 -- Assumes nothing.
-use Prim.Native.Nat.{_-_, _^_, _≤_, _<_}
+use Prim.Native.Nat.{_-_}
 use native.Mathlib.Omega.{arith}
-use Rattle.figures.proofs.Digits.{width-here, width-further, width-last}
+use Rattle.figures.proofs.Widths.{Wider, wider-start, wider-fits, wider-next, wider-done, wider-most}
+use borrow.Author.Needs.{needs}
 use Rattle.figures.proofs.width_of.Statement.{statement}
 use Rattle.figures.proofs.width_of.Tie as tie
+use Rattle.figures.proofs.width_of.Reads as reads
+use Rattle.figures.proofs.width_of.Lts as lts
 
 abbrev Inv-loop : tie.InvT-loop
-Inv-loop n w₀ w = (1 ≤ w) × (w ≤ 20) × (1 < w → 10 ^ (w - 1) ≤ n)
+Inv-loop n w₀ p₀ w p = Wider n w p
 
 abbrev μ-loop : tie.MeasureT-loop
-μ-loop n w₀ w = 20 - w
+μ-loop n w₀ p₀ w p = 19 - w
 
 loop-holds : tie.Need-loop-holds Inv-loop μ-loop
-loop-holds c = (omega arith, omega arith, λ h. absurd (omega arith))
-
-power-requires : tie.Need-power-requires Inv-loop μ-loop
-power-requires c κs = omega arith
+loop-holds c = wider-start _
 
 returns : tie.Need-returns Inv-loop μ-loop
-returns c =
-    let l = c .before .before .before .loop in
-    width-here (c .before .before .before .before .args .n) (l .w) (c .before .power .result) (l .inv .0) (omega arith) (c .before .power .ensures) (c .if1 .taken) (l .inv .2)
+returns c = wider-most (c .before .before .loop .inv) (search needs) (c .if1 .taken) (c .before .loop-test .taken)
 
 add-w : tie.Need-add-w Inv-loop μ-loop
-add-w c = omega arith
+add-w c = search needs
+
+mul-p : tie.Need-mul-p Inv-loop μ-loop
+mul-p c = omega (arith, wider-fits (c .before .before .loop .inv) (c .if1 .left))
 
 loop-less : tie.Need-loop-less Inv-loop μ-loop
-loop-less c = omega arith
+loop-less c = search needs
 
 loop-again : tie.Need-loop-again Inv-loop μ-loop
-loop-again c =
-    let l = c .before .before .before .loop in
-    (omega arith, omega arith, λ h. width-further (c .before .before .before .before .args .n) (l .w) (c .before .power .result) (c .before .power .ensures) (c .if1 .left))
+loop-again c = wider-next (c .before .before .loop .inv) (c .if1 .left) (c .before .loop-test .taken)
 
 returns-2 : tie.Need-returns-2 Inv-loop μ-loop
-returns-2 c =
-    let l = c .before .loop in
-    width-last (c .before .before .args .n) (l .w) (omega arith) (l .inv .1) (c .loop-test .left) (l .inv .2)
+returns-2 c = wider-done (c .before .loop .inv) (c .loop-test .left)
 
 pub width-of-spec : {M : Type 1} → statement M
 width-of-spec =
     tie.close
-    (tie.spec
-    Inv-loop
-    μ-loop
-    loop-holds
-    power-requires
-    returns
-    add-w
-    loop-less
-    loop-again
-    returns-2)
+    (tie.spec Inv-loop μ-loop loop-holds returns add-w mul-p loop-less loop-again returns-2)

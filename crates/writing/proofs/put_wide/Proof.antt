@@ -5,7 +5,6 @@ use Rattle.writing.proofs.put_wide.Tie as tie
 use Rattle.writing.proofs.put_wide.Reads as reads
 use Rattle.writing.proofs.put_wide.Lts as lts
 use Rattle.writing.proofs.put_digits.Reads as put-digits-reads
-use Rattle.writing.proofs.width_of.Reads as width-of-reads
 
 -- src/lib.rt:133:9
 width-of-requires : tie.Need-width-of-requires
