@@ -1,11 +1,11 @@
 -- Tokens as numbers: a form, an argument and the place of the first unit, read against the code.
 -- Assumes nothing.
 use Prim.Native.Nat.{ℕ, suc}
-use mathlib.Core.Bool.{Bool, true, false}
+use mathlib.Core.Bool.{false}
 use mathlib.Core.List.{List, [], _∷_}
 use mathlib.Core.Option.{Option, none, some}
 use lib.ListN.{take, drop, getD}
-use Rattle.formats.specs.Tokens.{Place, zeroPlace, hashPlace, spacePlace, letterY, letterM, letterD, letterH, letterS, hours, minutes, seconds, short, long, equal, Written, Token, literal, bare, blank, fill, place, point, comma, percent, at, semicolon, general, half, run, elapsed, colour, condition, conditionInside, Placed}
+use Rattle.formats.specs.Tokens.{zeroPlace, hashPlace, spacePlace, letterY, letterM, letterD, letterH, letterS, hours, minutes, seconds, short, long, equal, Written, Token, literal, bare, blank, fill, place, point, comma, percent, at, semicolon, general, half, run, elapsed, colour, condition, conditionInside, Placed}
 use Rattle.formats.specs.Kinds.{conditionIn}
 use Rattle.formats.specs.Accept.{tokensOf}
 
@@ -22,14 +22,18 @@ writtenIn (some t) = conditionIn t
 unfoldable pub conditionOf : List ℕ → Token
 conditionOf us = condition (writtenOr (writtenIn (conditionInside us)))
 
--- the token of a form and its argument a, where the units us stand behind its first one: a row for each form from 0 on, then the conditions
-unfoldable pub markToken : ℕ → ℕ → List ℕ → Token
-markToken form a us =
-    getD (literal (take a us) ∷ bare a ∷ blank a ∷ fill a
+-- the tokens by their forms from 0 on, with the argument a, where the units us stand behind the first one
+unfoldable pub markRows : ℕ → List ℕ → List Token
+markRows a us =
+    literal (take a us) ∷ bare a ∷ blank a ∷ fill a
     ∷ place zeroPlace ∷ place hashPlace ∷ place spacePlace ∷ point ∷ comma ∷ percent ∷ at ∷ semicolon
     ∷ general ∷ half short ∷ half long
     ∷ run letterY a ∷ run letterM a ∷ run letterD a ∷ run letterH a ∷ run letterS a
-    ∷ elapsed hours a ∷ elapsed minutes a ∷ elapsed seconds a ∷ colour a ∷ []) form (conditionOf (take a us))
+    ∷ elapsed hours a ∷ elapsed minutes a ∷ elapsed seconds a ∷ colour a ∷ []
+
+-- the token of a form: its row, and a condition for 24 and every other number
+unfoldable pub markToken : ℕ → ℕ → List ℕ → Token
+markToken form a us = getD (markRows a us) form (conditionOf (take a us))
 
 -- the same of a code, where the token's first unit stands at the place start
 unfoldable pub tokenAt : List ℕ → ℕ → ℕ → ℕ → Token

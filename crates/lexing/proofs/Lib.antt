@@ -1,0 +1,6 @@
+pub mod Scanning
+pub mod Reading
+pub mod Bracketing
+pub mod Classing
+pub mod Filling
+pub mod Semicolons

@@ -1,0 +1,144 @@
+-- Laws of the semicolons of a buffer: they are those of its tokens, and what the loops over them keep.
+-- Assumes nothing.
+use Prim.Native.Nat.{ℕ, zero, suc, _+_, _-_, _*_, _≤_, _<_}
+use mathlib.Core.Path.{_≡_, refl, sym, ap, _∙_}
+use mathlib.Core.Bool.{true, false}
+use mathlib.Core.List.{List, [], _∷_, _++_}
+use native.Mathlib.Omega.{arith}
+use borrow.Author.Tests.{eq-eqb, ne-eqb}
+use lib.Dec.{eqb, eqb·zero-suc, eqb·suc-zero, eqb·suc-suc}
+use lib.ListN.{length, take, drop, getD, replicate, drop-of-length-le, List·getD-map}
+use lib.Seq.{drop-cons, getD-take, length-take-le}
+use Rattle.lists.proofs.Bools.{by-cases}
+use Rattle.formats.specs.Tokens.{lex}
+use Rattle.formats.specs.Kinds.{isSemicolon}
+use Rattle.formats.specs.Accept.{placedOf, semicolons}
+use Rattle.lexing.specs.declared.buffer.Filled.the-variants.{All}
+use Rattle.marks.specs.Marks.{conditionOf, markToken, markRows, tokenAt, placedIn}
+use Rattle.lexing.specs.Buffer.{lexMeant, semicolonsIn}
+use Rattle.lexing.proofs.Filling.{placed-all}
+
+-- ---- the form of a semicolon
+all-false : (m k : ℕ) → getD (replicate m false) k false ≡ false
+all-false zero k = refl
+all-false (suc m) zero = refl
+all-false (suc m) (suc k) = all-false m k
+
+-- a row of tests of which the one at n holds
+one-true : (n m k : ℕ) → getD (replicate n false ++ true ∷ replicate m false) k false ≡ eqb k n
+one-true zero m zero = refl
+one-true zero m (suc k) = all-false m k ∙ sym (eqb·suc-zero k)
+one-true (suc n) m zero = sym (eqb·zero-suc n)
+one-true (suc n) m (suc k) = one-true n m k ∙ sym (eqb·suc-suc k n)
+
+pub mark-semicolon : (f a : ℕ) (us : List ℕ) → isSemicolon (markToken f a us) ≡ eqb f 11
+unfolding markToken markRows conditionOf
+mark-semicolon f a us = sym (List·getD-map isSemicolon (markRows a us) f (conditionOf (take a us))) ∙ one-true 11 12 f
+
+pub semicolons-in : (code words : List ℕ) → semicolons (placedIn code words) ≡ semicolonsIn words
+unfolding semicolons placedIn semicolonsIn tokenAt
+semicolons-in code [] = refl
+semicolons-in code (f ∷ []) = refl
+semicolons-in code (f ∷ a ∷ []) = refl
+semicolons-in code (f ∷ a ∷ s ∷ ws) =
+    by-cases (eqb f 11)
+    (λ e. rw (mark-semicolon f a (drop (suc s) code), e) (ap (λ (ks : List ℕ). s ∷ ks) (semicolons-in code ws)))
+    (λ e. rw (mark-semicolon f a (drop (suc s) code), e) (semicolons-in code ws))
+
+-- the semicolons of a code, from a buffer that holds all its tokens
+pub semicolons-all : (code words : List ℕ) (n : ℕ) → lexMeant code words (All n) ≡ lex code → semicolonsIn (take (3 * n) words) ≡ semicolons (placedOf (lex code))
+semicolons-all code words n e = sym (semicolons-in code (take (3 * n) words)) ∙ ap semicolons (placed-all code words n e)
+
+-- ---- at token i of the n
+module _ (words : List ℕ) (n i : ℕ) (fits : 3 * n ≤ length words) where
+  semi-end : n ≤ i → semicolonsIn (drop (3 * i) (take (3 * n) words)) ≡ []
+  unfolding semicolonsIn
+  semi-end h =
+      let size = length-take-le (3 * n) words fits in
+      rw (drop-of-length-le (take (3 * n) words) {i = 3 * i} (omega arith))
+
+  module _ (less : i < n) where
+    word-at : (j : ℕ) → j < 3 * n → drop j (take (3 * n) words) ≡ getD words j 0 ∷ drop (suc j) (take (3 * n) words)
+    word-at j h =
+        let size = length-take-le (3 * n) words fits in
+        rw (← getD-take (3 * n) words j 0 h) (drop-cons (take (3 * n) words) j 0 (omega arith))
+
+    front : drop (3 * i) (take (3 * n) words)
+        ≡ getD words (3 * i) 0 ∷ getD words (3 * i + 1) 0 ∷ getD words (3 * i + 2) 0 ∷ drop (3 * (i + 1)) (take (3 * n) words)
+    front =
+        let next : (j k : ℕ) → j < 3 * n → k ≡ suc j → drop j (take (3 * n) words) ≡ getD words j 0 ∷ drop k (take (3 * n) words)
+        = λ j k h e. rw e (word-at j h) in
+        next (3 * i) (3 * i + 1) (omega arith) (omega arith)
+        ∙ ap (λ (ws : List ℕ). getD words (3 * i) 0 ∷ ws)
+        (next (3 * i + 1) (3 * i + 2) (omega arith) (omega arith)
+        ∙ ap (λ (ws : List ℕ). getD words (3 * i + 1) 0 ∷ ws) (next (3 * i + 2) (3 * (i + 1)) (omega arith) (omega arith)))
+
+    semi-hit : getD words (3 * i) 0 ≡ 11
+        → semicolonsIn (drop (3 * i) (take (3 * n) words)) ≡ getD words (3 * i + 2) 0 ∷ semicolonsIn (drop (3 * (i + 1)) (take (3 * n) words))
+    unfolding semicolonsIn
+    semi-hit e = rw (front, eq-eqb (getD words (3 * i) 0) 11 e)
+
+    semi-miss : (getD words (3 * i) 0 ≡ 11 → ⊥)
+        → semicolonsIn (drop (3 * i) (take (3 * n) words)) ≡ semicolonsIn (drop (3 * (i + 1)) (take (3 * n) words))
+    unfolding semicolonsIn
+    semi-miss e = rw (front, ne-eqb (getD words (3 * i) 0) 11 e)
+
+-- ---- the loops
+-- what counting keeps: those counted, and those from token i on
+pub record Counting (words : List ℕ) (n count i : ℕ) : Type 0 where
+  pub fits : 3 * n ≤ length words
+  pub inside : i ≤ n
+  pub few : count ≤ i
+  pub same : length (semicolonsIn (take (3 * n) words)) ≡ count + length (semicolonsIn (drop (3 * i) (take (3 * n) words)))
+
+pub counting-start : (words : List ℕ) (n : ℕ) → 3 * n ≤ length words → Counting words n 0 0
+counting-start words n h = record { fits = h; inside = omega arith; few = omega arith; same = omega arith }
+
+module _ (words : List ℕ) (n count i : ℕ) (inv : Counting words n count i) where
+  pub counting-hit : i < n → getD words (3 * i) 0 ≡ 11 → Counting words n (count + 1) (i + 1)
+  counting-hit h e =
+      let hit = ap length (semi-hit words n i (inv .fits) h e) in
+      record { fits = inv .fits; inside = omega arith; few = omega arith; same = omega (arith, inv .same) }
+
+  pub counting-miss : i < n → (getD words (3 * i) 0 ≡ 11 → ⊥) → Counting words n count (i + 1)
+  counting-miss h e = record {
+    fits = inv .fits;
+    inside = omega arith;
+    few = omega arith;
+    same = inv .same ∙ ap (λ (ks : List ℕ). count + length ks) (semi-miss words n i (inv .fits) h e);
+  }
+
+  pub counting-end : n ≤ i → count ≡ length (semicolonsIn (take (3 * n) words))
+  counting-end h = let none = ap length (semi-end words n i (inv .fits) h) in omega (arith, inv .same)
+
+-- what looking for semicolon k keeps: it is `left` semicolons ahead of token i
+pub record Seeking (words : List ℕ) (n k left i : ℕ) : Type 0 where
+  pub fits : 3 * n ≤ length words
+  pub inside : i ≤ n
+  pub same : getD (semicolonsIn (take (3 * n) words)) k 0 ≡ getD (semicolonsIn (drop (3 * i) (take (3 * n) words))) left 0
+
+pub seeking-start : (words : List ℕ) (n k : ℕ) → 3 * n ≤ length words → Seeking words n k k 0
+seeking-start words n k h = record { fits = h; inside = omega arith; same = refl }
+
+behind-first : (x : ℕ) (xs : List ℕ) (left : ℕ) → (left ≡ 0 → ⊥) → getD (x ∷ xs) left 0 ≡ getD xs (left - 1) 0
+behind-first x xs zero z = absurd (z refl)
+behind-first x xs (suc left) z = ap (λ (j : ℕ). getD xs j 0) (omega arith)
+
+module _ (words : List ℕ) (n k left i : ℕ) (inv : Seeking words n k left i) where
+  pub seeking-found : i < n → getD words (3 * i) 0 ≡ 11 → left ≡ 0 → getD words (3 * i + 2) 0 ≡ getD (semicolonsIn (take (3 * n) words)) k 0
+  seeking-found h e z = sym (inv .same ∙ rw (semi-hit words n i (inv .fits) h e, z))
+
+  pub seeking-hit : i < n → getD words (3 * i) 0 ≡ 11 → (left ≡ 0 → ⊥) → Seeking words n k (left - 1) (i + 1)
+  seeking-hit h e z =
+      let rest : List ℕ = semicolonsIn (drop (3 * (i + 1)) (take (3 * n) words)) in
+      record { fits = inv .fits; inside = omega arith; same = inv .same ∙ rw (semi-hit words n i (inv .fits) h e) (behind-first (getD words (3 * i + 2) 0) rest left z) }
+
+  pub seeking-miss : i < n → (getD words (3 * i) 0 ≡ 11 → ⊥) → Seeking words n k left (i + 1)
+  seeking-miss h e = record {
+    fits = inv .fits;
+    inside = omega arith;
+    same = inv .same ∙ ap (λ (ks : List ℕ). getD ks left 0) (semi-miss words n i (inv .fits) h e);
+  }
+
+  pub seeking-end : n ≤ i → 0 ≡ getD (semicolonsIn (take (3 * n) words)) k 0
+  seeking-end h = sym (inv .same ∙ rw (semi-end words n i (inv .fits) h))

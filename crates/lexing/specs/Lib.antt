@@ -1,0 +1,5 @@
+pub mod Scan
+pub mod Marks
+pub mod Brackets
+pub mod Classes
+pub mod Buffer
