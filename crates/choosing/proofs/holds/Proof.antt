@@ -1,0 +1,60 @@
+-- `choosing::holds` meets its contract.
+-- Assumes nothing.
+use mathlib.Core.Path.{ap}
+use mathlib.Core.Bool.{not}
+use borrow.Author.Tests.{ne-eqb}
+use Rattle.tables.specs.Decode.{comparisonAt}
+use Rattle.choosing.specs.Comparing.{holdsFor}
+use borrow.Author.Needs.{needs}
+use Rattle.choosing.proofs.holds.Statement.{statement}
+use Rattle.choosing.proofs.holds.Tie as tie
+
+is-less-requires : tie.Need-is-less-requires
+is-less-requires c κs = search needs
+
+is-equal-requires : tie.Need-is-equal-requires
+is-equal-requires c κs = search needs
+
+is-greater-requires : tie.Need-is-greater-requires
+is-greater-requires c κs = search needs
+
+returns : tie.Need-returns
+unfolding holdsFor comparisonAt
+returns c = rw (c .match .keys1) (c .before .before .is-equal .ensures)
+
+returns-2 : tie.Need-returns-2
+unfolding holdsFor comparisonAt
+returns-2 c = rw (c .match .keys2) (c .before .before .before .is-less .ensures)
+
+returns-3 : tie.Need-returns-3
+unfolding holdsFor comparisonAt
+returns-3 c = rw (c .match .keys3) (c .before .is-greater .ensures)
+
+returns-4 : tie.Need-returns-4
+unfolding holdsFor comparisonAt
+returns-4 c = rw (c .match .keys4) (ap not (c .before .is-greater .ensures))
+
+returns-5 : tie.Need-returns-5
+unfolding holdsFor comparisonAt
+returns-5 c = rw (c .match .keys5) (ap not (c .before .before .before .is-less .ensures))
+
+returns-6 : tie.Need-returns-6
+unfolding holdsFor comparisonAt
+returns-6 c =
+    let r = c .match .rest in
+    simp (ne-eqb _ _ (r .0 .0 .0 .0 .1), ne-eqb _ _ (r .0 .0 .0 .1), ne-eqb _ _ (r .0 .0 .1), ne-eqb _ _ (r .0 .1), ne-eqb _ _ (r .1))
+    (ap not (c .before .before .is-equal .ensures))
+
+pub holds-spec : {M : Type 1} → statement M
+holds-spec =
+    tie.close
+    (tie.spec
+    is-less-requires
+    is-equal-requires
+    is-greater-requires
+    returns
+    returns-2
+    returns-3
+    returns-4
+    returns-5
+    returns-6)

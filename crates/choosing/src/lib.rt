@@ -1,0 +1,400 @@
+// The section of a table that a number, an instant or a text goes to, read off the table's words.
+ghost use mathlib.Core.Path.{_≡_};
+ghost use Prim.Native.Nat.{_+_, _^_, _≤_, _<_};
+ghost use mathlib.Core.Bool.{true};
+ghost use lib.Dec.{T};
+ghost use lib.ListN.{getD};
+ghost use Rattle.choosing.specs.Comparing.{orderOf, partsOrder, fraction, millionthsSize, reversed, signedOrder, isLess, isGreater, isEqual, holdsFor};
+ghost use Rattle.choosing.specs.Seeking.{exactOf, foundOf, textFoundOf, sectionIn, wordIn, isCounted, takes};
+ghost use Rattle.formats.specs.Items.{Section};
+ghost use Rattle.formats.specs.Where.{hasCondition, isText};
+ghost use Rattle.formats.specs.Choice.{lessThan, zeroExact, counted, fallback, conditionHolds, reasonHolds, choose, chooseText};
+ghost use Rattle.formats.specs.Minus.{firstHasCondition, exceptionA};
+ghost use Rattle.tables.specs.Decode.{comparisonAt, twoWords, decode};
+ghost use Rattle.tables.specs.Rules.{passes};
+
+// How one number stands to another.
+pub enum Order {
+    Less,
+    Equal,
+    Greater,
+}
+
+// A number or an instant, exactly: above / 10^scale, or above / 86,400,000 of a day. The sign stands apart.
+pub struct Sought {
+    pub negative: bool,
+    pub instant: bool,
+    pub above: u64,
+    pub scale: u32,
+}
+
+// The place of a section, and whether its own condition took the value.
+pub enum Found {
+    At(u16, bool),
+    Nothing,
+}
+
+// The place of the section that a text goes to.
+pub enum TextFound {
+    At(u16),
+    Itself,
+}
+
+const POWERS: [u64; 16] = [
+    1,
+    10,
+    100,
+    1000,
+    10000,
+    100000,
+    1000000,
+    10000000,
+    100000000,
+    1000000000,
+    10000000000,
+    100000000000,
+    1000000000000,
+    10000000000000,
+    100000000000000,
+    1000000000000000,
+];
+
+// 10 to the k.
+fn power(k: u32) -> u64
+    requires { ⌜ k ≤ 15 ⌝ }
+    ensures { λ r. ⌜ r ≡ 10 ^ k ⌝ }
+{
+    POWERS[k as usize]
+}
+
+// By the whole parts, and by the rests where these are the same.
+fn compare_parts(whole: u64, rest: u64, limit: u64, over: u64) -> Order
+    ensures { λ r. ⌜ r ≡ partsOrder whole rest limit over ⌝ }
+{
+    if whole < limit {
+        return Order::Less;
+    }
+    if limit < whole {
+        return Order::Greater;
+    }
+    if rest < over {
+        return Order::Less;
+    }
+    if over < rest {
+        return Order::Greater;
+    }
+    Order::Equal
+}
+
+// above / 10^scale against a whole number and millionths. The rests are brought to the finer of their denominators, so that
+// none passes 10^15.
+fn compare_number(above: u64, scale: u32, whole: u32, millionths: u32) -> Order
+    requires { ⌜ (scale ≤ 15) × (millionths ≤ 999999) ⌝ }
+    ensures { λ r. ⌜ r ≡ orderOf (fraction above (10 ^ scale)) (millionthsSize whole millionths) ⌝ }
+{
+    let p = power(scale);
+    let rest = above % p;
+    if scale <= 6 {
+        return compare_parts(
+            above / p,
+            rest * power(6 - scale),
+            whole as u64,
+            millionths as u64,
+        );
+    }
+    compare_parts(
+        above / p,
+        rest,
+        whole as u64,
+        millionths as u64 * power(scale - 6),
+    )
+}
+
+// above / 86,400,000 against a whole number and millionths.
+fn compare_instant(above: u64, whole: u32, millionths: u32) -> Order
+    requires { ⌜ millionths ≤ 999999 ⌝ }
+    ensures { λ r. ⌜ r ≡ orderOf (fraction above 86400000) (millionthsSize whole millionths) ⌝ }
+{
+    let rest = above % 86400000 * 1000000;
+    compare_parts(
+        above / 86400000,
+        rest,
+        whole as u64,
+        millionths as u64 * 86400000,
+    )
+}
+
+// The magnitude of what is sought against a whole number and millionths.
+fn compare(v: Sought, whole: u32, millionths: u32) -> Order
+    requires { ⌜ (v .scale ≤ 15) × (millionths ≤ 999999) ⌝ }
+    ensures { λ r. ⌜ r ≡ orderOf (exactOf v .size) (millionthsSize whole millionths) ⌝ }
+{
+    if v.instant {
+        return compare_instant(v.above, whole, millionths);
+    }
+    compare_number(v.above, v.scale, whole, millionths)
+}
+
+fn reversed(order: Order) -> Order
+    ensures { λ r. ⌜ r ≡ reversed order ⌝ }
+{
+    match order {
+        Order::Less => Order::Greater,
+        Order::Equal => Order::Equal,
+        Order::Greater => Order::Less,
+    }
+}
+
+// How two numbers stand by their signs, and by how their magnitudes stand.
+fn signed(negative: bool, other: bool, order: Order) -> Order
+    ensures { λ r. ⌜ r ≡ signedOrder negative other order ⌝ }
+{
+    if negative {
+        if other {
+            return reversed(order);
+        }
+        return Order::Less;
+    }
+    if other {
+        return Order::Greater;
+    }
+    order
+}
+
+fn is_less(order: Order) -> bool
+    ensures { λ r. ⌜ r ≡ isLess order ⌝ }
+{
+    match order {
+        Order::Less => true,
+        Order::Equal => false,
+        Order::Greater => false,
+    }
+}
+
+fn is_greater(order: Order) -> bool
+    ensures { λ r. ⌜ r ≡ isGreater order ⌝ }
+{
+    match order {
+        Order::Less => false,
+        Order::Equal => false,
+        Order::Greater => true,
+    }
+}
+
+fn is_equal(order: Order) -> bool
+    ensures { λ r. ⌜ r ≡ isEqual order ⌝ }
+{
+    match order {
+        Order::Less => false,
+        Order::Equal => true,
+        Order::Greater => false,
+    }
+}
+
+// Whether the comparison of an operator word holds: 1 to 6 are `= < > <= >= <>`.
+fn holds(operator: u16, order: Order) -> bool
+    ensures { λ r. ⌜ r ≡ holdsFor (comparisonAt operator) order ⌝ }
+{
+    let less = is_less(order);
+    let equal = is_equal(order);
+    let greater = is_greater(order);
+    match operator {
+        1 => equal,
+        2 => less,
+        3 => greater,
+        4 => !greater,
+        5 => !less,
+        _ => !equal,
+    }
+}
+
+// How many sections there are.
+pub fn section_count(table: &[u16]) -> usize
+    requires { ⌜ T (passes (now table)) ⌝ }
+    ensures { λ r. ⌜ r ≡ getD (now (table .entry)) 0 0 ⌝ }
+{
+    table[0] as usize
+}
+
+// Word k of the head of section i.
+pub fn word(table: &[u16], i: usize, k: usize) -> u16
+    requires { ⌜ T (passes (now table)) × (i < getD (now table) 0 0) × (k < 12) ⌝ }
+    ensures { λ r. ⌜ r ≡ wordIn (now (table .entry)) i k ⌝ }
+{
+    table[1 + 12 * i + k]
+}
+
+// The number in words k and k + 1 of the head of section i.
+fn number_in(table: &[u16], i: usize, k: usize) -> u32
+    requires { ⌜ T (passes (now table)) × (i < getD (now table) 0 0) × (k < 11) ⌝ }
+    ensures { λ r. ⌜ r ≡ twoWords (wordIn (now (table .entry)) i k) (wordIn (now (table .entry)) i (k + 1)) ⌝ }
+{
+    let low = word(table, i, k);
+    let high = word(table, i, k + 1);
+    low as u32 + 65536 * high as u32
+}
+
+// Whether section i is a text section.
+fn is_text(table: &[u16], i: usize) -> bool
+    requires { ⌜ T (passes (now table)) × (i < getD (now table) 0 0) ⌝ }
+    ensures { λ r. ⌜ r ≡ isText (sectionIn (now (table .entry)) i) ⌝ }
+{
+    word(table, i, 0) == 3
+}
+
+// Whether section i has a condition.
+fn has_condition(table: &[u16], i: usize) -> bool
+    requires { ⌜ T (passes (now table)) × (i < getD (now table) 0 0) ⌝ }
+    ensures { λ r. ⌜ r ≡ hasCondition (sectionIn (now (table .entry)) i) ⌝ }
+{
+    word(table, i, 2) != 0
+}
+
+// Whether the condition of section i, which has one, holds.
+fn condition_holds(table: &[u16], i: usize, v: Sought) -> bool
+    requires { ⌜ T (passes (now table)) × (i < getD (now table) 0 0) × (hasCondition (sectionIn (now table) i) ≡ true) × (v .scale ≤ 15) ⌝ }
+    ensures { λ r. ⌜ r ≡ conditionHolds (sectionIn (now (table .entry)) i .condition) (exactOf v) ⌝ }
+{
+    let whole = number_in(table, i, 4);
+    let millionths = number_in(table, i, 6);
+    let order = compare(v, whole, millionths);
+    let negative = word(table, i, 3) == 1;
+    holds(word(table, i, 2), signed(v.negative, negative, order))
+}
+
+// Whether the number is above 0.
+fn is_positive(v: Sought) -> bool
+    ensures { λ r. ⌜ r ≡ lessThan zeroExact (exactOf v) ⌝ }
+{
+    if v.negative {
+        return false;
+    }
+    0 < v.above
+}
+
+// Whether section i of N, which has no condition, takes the value.
+fn fallback_holds(n: u16, i: usize, v: Sought) -> bool
+    ensures { λ r. ⌜ ((s : Section) → r ≡ reasonHolds (fallback n i) s (exactOf v)) ⌝ }
+{
+    if n == 1 {
+        return true;
+    }
+    if n == 2 {
+        if i == 0 {
+            return !v.negative;
+        }
+        return true;
+    }
+    if i == 0 {
+        return is_positive(v);
+    }
+    if i == 1 {
+        return v.negative;
+    }
+    true
+}
+
+// Whether section i is neither text nor fourth.
+fn is_counted(table: &[u16], i: usize) -> bool
+    requires { ⌜ T (passes (now table)) × (i < getD (now table) 0 0) ⌝ }
+    ensures { λ r. ⌜ r ≡ isCounted i (sectionIn (now (table .entry)) i) ⌝ }
+{
+    if i == 3 {
+        return false;
+    }
+    !is_text(table, i)
+}
+
+// Whether section i takes the value, where N sections count.
+fn takes(table: &[u16], n: u16, i: usize, v: Sought) -> bool
+    requires { ⌜ T (passes (now table)) × (i < getD (now table) 0 0) × (v .scale ≤ 15) ⌝ }
+    ensures { λ r. ⌜ r ≡ takes n i (sectionIn (now (table .entry)) i) (exactOf v) ⌝ }
+{
+    if !is_counted(table, i) {
+        return false;
+    }
+    if has_condition(table, i) {
+        return condition_holds(table, i, v);
+    }
+    fallback_holds(n, i, v)
+}
+
+// N: how many sections are neither text nor fourth.
+pub fn counted(table: &[u16]) -> u16
+    requires { ⌜ T (passes (now table)) ⌝ }
+    ensures { λ r. ⌜ r ≡ counted (decode (now (table .entry))) ⌝ }
+{
+    let sections = section_count(table);
+    let mut n: u16 = 0;
+    let mut i: usize = 0;
+    while i < sections {
+        if is_counted(table, i) {
+            n += 1;
+            i += 1;
+        } else {
+            i += 1;
+        }
+    }
+    n
+}
+
+// The section of a number or an instant, and whether by its own condition.
+pub fn choose(table: &[u16], v: Sought) -> Found
+    requires { ⌜ T (passes (now table)) × (v .scale ≤ 15) ⌝ }
+    ensures { λ r. ⌜ r ≡ foundOf (choose (decode (now (table .entry))) (exactOf v)) ⌝ }
+{
+    let n = counted(table);
+    if n == 0 {
+        return Found::At(0, false);
+    }
+    let sections = section_count(table);
+    let mut i: usize = 0;
+    while i < sections {
+        if takes(table, n, i, v) {
+            return Found::At(i as u16, has_condition(table, i));
+        }
+        i += 1;
+    }
+    Found::Nothing
+}
+
+// The section of a text.
+pub fn choose_text(table: &[u16]) -> TextFound
+    requires { ⌜ T (passes (now table)) ⌝ }
+    ensures { λ r. ⌜ r ≡ textFoundOf (chooseText (decode (now (table .entry)))) ⌝ }
+{
+    let sections = section_count(table);
+    if sections == 4 {
+        return TextFound::At(3);
+    }
+    let mut i: usize = 0;
+    while i < sections {
+        if is_text(table, i) {
+            return TextFound::At(i as u16);
+        }
+        i += 1;
+    }
+    TextFound::Itself
+}
+
+// Exception (a) of the added minus, for section i, taken by its own condition or without.
+pub fn no_minus(table: &[u16], i: u16, own: bool) -> bool
+    requires { ⌜ T (passes (now table)) ⌝ }
+    ensures { λ r. ⌜ r ≡ exceptionA (counted (decode (now (table .entry)))) i own (firstHasCondition (decode (now (table .entry)))) ⌝ }
+{
+    if i != 1 {
+        return false;
+    }
+    if own {
+        return false;
+    }
+    let n = counted(table);
+    if n == 3 {
+        return true;
+    }
+    if n == 2 {
+        let first = has_condition(table, 0);
+        return !first;
+    }
+    false
+}
