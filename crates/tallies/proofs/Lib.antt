@@ -1,0 +1,7 @@
+pub mod Lists
+pub mod Steps
+pub mod Powers
+pub mod Fold
+pub mod Loop
+pub mod Told
+pub mod Parts

@@ -1,0 +1,18 @@
+-- `tallies::integers_with` meets its contract.
+-- Assumes nothing.
+use borrow.Author.Tests.{eq-eqb, ne-eqb}
+use borrow.Author.Needs.{needs}
+use Rattle.tallies.proofs.integers_with.Statement.{statement}
+use Rattle.tallies.proofs.integers_with.Tie as tie
+
+add-result : tie.Need-add-result
+add-result c = search needs
+
+returns : tie.Need-returns
+returns c = rw (eq-eqb _ _ (c .if1 .taken))
+
+returns-2 : tie.Need-returns-2
+returns-2 c = rw (ne-eqb _ _ (c .if1 .left))
+
+pub integers-with-spec : {M : Type 1} → statement M
+integers-with-spec = tie.close (tie.spec add-result returns returns-2)

@@ -1,0 +1,27 @@
+-- `tallies::minute` meets its contract.
+-- Assumes nothing.
+use Rattle.formats.specs.Items.{meansMinutes, noRun}
+use Rattle.tallies.specs.Walk.{runAt}
+use Rattle.tallies.proofs.Steps.{computed, minute-stays}
+use borrow.Author.Needs.{needs}
+use Rattle.tallies.proofs.minute.Statement.{statement}
+use Rattle.tallies.proofs.minute.Tie as tie
+
+means-minutes-requires : tie.Need-means-minutes-requires
+means-minutes-requires c κs = search needs
+
+is-between-requires : tie.Need-is-between-requires
+is-between-requires c κs = search needs
+
+dated-requires : tie.Need-dated-requires
+dated-requires c κs = search needs
+
+returns : tie.Need-returns
+unfolding computed
+returns c =
+    let a = c .before .before .before .before .args in
+    rw (c .before .dated .ensures, c .before .before .is-between .ensures, c .before .before .before .means-minutes .ensures, minute-stays (meansMinutes (runAt (a .w .earlier)) noRun) (a .a))
+
+pub minute-spec : {M : Type 1} → statement M
+minute-spec =
+    tie.close (tie.spec means-minutes-requires is-between-requires dated-requires returns)

@@ -1,0 +1,129 @@
+-- What one pass over the item words of a section tells, and the rules for a section as tests on it.
+-- Assumes nothing.
+use Prim.Native.Nat.{ℕ, zero, suc, _+_, _/_}
+use mathlib.Core.Bool.{Bool, true, false, cond, not, _&&_, _||_}
+use mathlib.Core.List.{List, [], _∷_}
+use lib.ListN.{length}
+use lib.Dec.{leb, ltb, eqb}
+use Rattle.lists.specs.Lists.{every, any, count}
+use Rattle.formats.specs.Tokens.{Elapsed, hours, minutes, seconds}
+use Rattle.formats.specs.Items.{Item, literal, blank, fill, place, point, percent, general, at, year, month, day, hour, minute, second, part, elapsed, half, dateKind, textKind, sameKind, itemMakes, itemBelongs, isFill, isPoint, isPercent, isGeneral, isHour, isMinute, isSecond, isElapsed, isHalf, integerPlaces, decimalPlaces}
+use Rattle.formats.specs.Limits.{elapsedShort}
+use Rattle.formats.specs.WellFormed.{partsFollow, isSettled}
+use Rattle.tables.specs.Words.{Entry, entriesAt}
+use Rattle.tables.specs.Decode.{itemsAt}
+use Rattle.tables.specs.Rules.{entryInRange, powersRunDown}
+use Rattle.tallies.specs.declared.Tally.{Tally}
+
+-- the entries that stand in a section's item words, two words each
+unfoldable pub entriesIn : List ℕ → List Entry
+entriesIn words = entriesAt (length words / 2) words
+
+abbrev pub makesText : Item → Bool
+makesText i = sameKind textKind (itemMakes i)
+
+abbrev pub makesDate : Item → Bool
+makesDate i = sameKind dateKind (itemMakes i)
+
+abbrev pub belongsDate : Item → Bool
+belongsDate i = sameKind (itemBelongs i) dateKind
+
+-- an elapsed item of hours, of minutes or of seconds, by its number
+abbrev pub elapsedIndex : Elapsed → ℕ
+elapsedIndex hours = 0
+elapsedIndex minutes = 1
+elapsedIndex seconds = 2
+
+unfoldable pub isElapsedOf : Elapsed → Item → Bool
+isElapsedOf d (elapsed e n) = eqb (elapsedIndex d) (elapsedIndex e)
+isElapsedOf d (literal u) = false
+isElapsedOf d (blank u) = false
+isElapsedOf d (fill u) = false
+isElapsedOf d (place p) = false
+isElapsedOf d point = false
+isElapsedOf d percent = false
+isElapsedOf d general = false
+isElapsedOf d at = false
+isElapsedOf d (year n) = false
+isElapsedOf d (month n) = false
+isElapsedOf d (day n) = false
+isElapsedOf d (hour n) = false
+isElapsedOf d (minute n) = false
+isElapsedOf d (second n) = false
+isElapsedOf d (part n) = false
+isElapsedOf d (half h) = false
+
+-- the tests of a section's items that look at their order, their arguments or their powers
+unfoldable pub soundEntries : List Entry → Bool
+soundEntries es =
+    let is = itemsAt es in
+    partsFollow is && (isSettled is && (powersRunDown es && every entryInRange es))
+
+unfoldable pub tallyOf : List Entry → Tally
+tallyOf es =
+    let is = itemsAt es in
+    record {
+      integers = integerPlaces is;
+      decimals = decimalPlaces is;
+      points = count isPoint is;
+      percents = count isPercent is;
+      generals = count isGeneral is;
+      fills = count isFill is;
+      elapsed = count isElapsed is;
+      texts = any makesText is;
+      dating = any makesDate is;
+      dates = any belongsDate is;
+      hours = any isHour is;
+      minutes = any isMinute is;
+      seconds = any isSecond is;
+      «elapsed_hours» = any (isElapsedOf hours) is;
+      «elapsed_minutes» = any (isElapsedOf minutes) is;
+      «elapsed_seconds» = any (isElapsedOf seconds) is;
+      halves = any isHalf is;
+      short = every elapsedShort is;
+      sound = soundEntries es;
+    }
+
+-- ---- the tests on a tally
+-- a place makes a number section; a point and a percent belong to one
+abbrev pub hasPlaces : Tally → Bool
+hasPlaces t = ltb 0 (t .integers) || ltb 0 (t .decimals)
+
+abbrev pub hasNumberItems : Tally → Bool
+hasNumberItems t = hasPlaces t || (ltb 0 (t .points) || ltb 0 (t .percents))
+
+abbrev pub kindTold : Tally → ℕ
+kindTold t = cond (t .texts) 3 (cond (ltb 0 (t .generals)) 1 (cond (t .dating) 4 (cond (hasPlaces t) 2 0)))
+
+-- no item belongs to another kind
+abbrev pub allowedTold : Tally → Bool
+allowedTold t =
+    cond (t .texts) (not (ltb 0 (t .generals)) && (not (t .dates) && not (hasNumberItems t)))
+    (cond (ltb 0 (t .generals)) (not (t .dates) && not (hasNumberItems t))
+    (cond (t .dating) (not (hasNumberItems t))
+    (cond (hasPlaces t) (not (t .dates)) (not (t .dates) && not (hasNumberItems t)))))
+
+-- no elapsed item beside its plain equivalent
+abbrev pub noPlainTold : Tally → Bool
+noPlainTold t =
+    not (t .«elapsed_hours» && t .hours)
+    && (not (t .«elapsed_minutes» && t .minutes) && not (t .«elapsed_seconds» && t .seconds))
+
+abbrev pub itemsFitTold : Tally → Bool
+itemsFitTold t =
+    allowedTold t
+    && (leb (t .generals) 1 && (leb (t .points) 1 && (leb (t .elapsed) 1 && noPlainTold t)))
+
+abbrev pub oneFillTold : Tally → Bool
+oneFillTold t = leb (t .fills) 1
+
+abbrev pub withinTold : Tally → ℕ → Bool
+withinTold t thousands =
+    leb (t .integers) 20
+    && (leb (t .decimals) 15 && (leb (t .percents) 5 && (leb thousands 5 && t .short)))
+
+abbrev pub groupingTold : Tally → Bool → Bool
+groupingTold t grouped = not grouped || leb 2 (t .integers)
+
+abbrev pub decimalsTold : Tally → ℕ
+decimalsTold t = cond (eqb (kindTold t) 2) (t .decimals) 0
