@@ -1,0 +1,215 @@
+-- What a body's tokens say of it: one pass gives the facts.
+-- Assumes nothing.
+use Prim.Native.Nat.{ℕ, suc, _+_, _-_, _≤_, _<_}
+use mathlib.Core.Path.{_≡_, refl, sym, ap, _∙_}
+use mathlib.Core.Bool.{Bool, true, false, cond, not, _&&_, _||_}
+use mathlib.Core.List.{List, [], _∷_, map}
+use native.Mathlib.Omega.{arith}
+use lib.Dec.{leb, ltb, eqb}
+use borrow.Author.Tests.{le-leb, lt-leb, le-ltb, ne-eqb}
+use lib.ListN.{length, drop, getD}
+use Rattle.lists.specs.Lists.{every, any, count}
+use Rattle.formats.specs.Tokens.{Token}
+use Rattle.formats.specs.Items.{Kind, textKind, generalKind, dateKind, numberKind, literalKind, sameKind, kindFrom}
+use Rattle.formats.specs.Kinds.{isPlace, isPoint, isSolidus, startsWithPlace, solidusFrom, solidusFits, noBracket, tokenMakes, bodyKind}
+use Rattle.marks.specs.Marks.{markToken, conditionOf, tokenAt, tokensIn}
+use Rattle.bodies.specs.declared.facts.Seen.{Seen}
+use Rattle.bodies.specs.Forms.{one, placeForm, rankOf, rankForm, isFillToken}
+use Rattle.bodies.specs.Bodies.{integerPlaceTokens, factsOf, seeForm, see, seeAll, nothingSeen, seenFacts}
+use Rattle.bodies.proofs.Forms.{upFrom, by-form}
+use Rattle.bodies.proofs.Words.{tokens-first, tokens-end}
+
+-- what a token says, by its form and argument
+see-form : (s : Seen) (f a : ℕ) (us : List ℕ) → see s (markToken f a us) ≡ seeForm s f a
+unfolding upFrom conditionOf tokenMakes isSolidus noBracket
+see-form s f a us = by-form (see s) (λ (n : ℕ). seeForm s n a) a us refl
+    (λ n h. rw (ne-eqb n 10 (omega arith), ne-eqb n 12 (omega arith), ne-eqb n 7 (omega arith), ne-eqb n 3 (omega arith), ne-eqb n 1 (omega arith), lt-leb n 22 (omega arith), lt-leb n 6 (omega arith), le-leb 15 n (omega arith), le-leb 4 n (omega arith), le-ltb n 23 (omega arith))) f
+
+-- ---- the kind
+-- a kind in front of others: the higher rank is the rank of all
+rank-cons : (k : Kind) (ks : List Kind) → rankOf (kindFrom (k ∷ ks)) ≡ rankOf k + (rankOf (kindFrom ks) - rankOf k)
+unfolding kindFrom any
+rank-cons k ks = go k (any (sameKind textKind) ks) (any (sameKind generalKind) ks) (any (sameKind dateKind) ks) (any (sameKind numberKind) ks)
+  where
+    go : (k : Kind) (a b c d : Bool)
+        → rankOf (cond (cond (sameKind textKind k) true a) textKind
+        (cond (cond (sameKind generalKind k) true b) generalKind
+        (cond (cond (sameKind dateKind k) true c) dateKind
+        (cond (cond (sameKind numberKind k) true d) numberKind literalKind))))
+        ≡ rankOf k + (rankOf (cond a textKind (cond b generalKind (cond c dateKind (cond d numberKind literalKind)))) - rankOf k)
+    go textKind true b c d = refl
+    go textKind false true c d = refl
+    go textKind false false true d = refl
+    go textKind false false false true = refl
+    go textKind false false false false = refl
+    go generalKind true b c d = refl
+    go generalKind false true c d = refl
+    go generalKind false false true d = refl
+    go generalKind false false false true = refl
+    go generalKind false false false false = refl
+    go dateKind true b c d = refl
+    go dateKind false true c d = refl
+    go dateKind false false true d = refl
+    go dateKind false false false true = refl
+    go dateKind false false false false = refl
+    go numberKind true b c d = refl
+    go numberKind false true c d = refl
+    go numberKind false false true d = refl
+    go numberKind false false false true = refl
+    go numberKind false false false false = refl
+    go literalKind true b c d = refl
+    go literalKind false true c d = refl
+    go literalKind false false true d = refl
+    go literalKind false false false true = refl
+    go literalKind false false false false = refl
+
+higher-higher : (a b c : ℕ) → a + (b - a) + (c - (a + (b - a))) ≡ a + (b + (c - b) - a)
+higher-higher a b c = omega arith
+
+rank-seen : (s : Seen) (ts : List Token) → (seeAll s ts) .rank ≡ s .rank + (rankOf (bodyKind ts) - s .rank)
+unfolding seeAll bodyKind kindFrom any
+rank-seen s [] = omega arith
+rank-seen s (t ∷ ts) =
+    rank-seen (see s t) ts
+    ∙ higher-higher (s .rank) (rankOf (tokenMakes t)) (rankOf (bodyKind ts))
+    ∙ ap (λ (n : ℕ). s .rank + (n - s .rank)) (sym (rank-cons (tokenMakes t) (map tokenMakes ts)))
+
+rank-date : (k : Kind) → sameKind k dateKind ≡ eqb (rankOf k) 2
+rank-date literalKind = refl
+rank-date numberKind = refl
+rank-date dateKind = refl
+rank-date generalKind = refl
+rank-date textKind = refl
+
+rank-number : (k : Kind) → sameKind k numberKind ≡ eqb (rankOf k) 1
+rank-number literalKind = refl
+rank-number numberKind = refl
+rank-number dateKind = refl
+rank-number generalKind = refl
+rank-number textKind = refl
+
+-- ---- the other facts
+and-cond : (a b c : Bool) → (a && b) && c ≡ a && cond b c false
+and-cond true true c = refl
+and-cond true false c = refl
+and-cond false b c = refl
+
+plain-seen : (s : Seen) (ts : List Token) → (seeAll s ts) .plain ≡ (s .plain && every noBracket ts)
+unfolding seeAll every
+plain-seen s [] = go (s .plain)
+  where
+    go : (b : Bool) → b ≡ (b && true)
+    go true = refl
+    go false = refl
+plain-seen s (t ∷ ts) = plain-seen (see s t) ts ∙ and-cond (s .plain) (noBracket t) (every noBracket ts)
+
+one-more : (b : Bool) (n m k : ℕ) → m ≡ one b + n + k → m ≡ n + cond b (suc k) k
+one-more true n m k e = omega arith
+one-more false n m k e = omega arith
+
+fills-seen : (s : Seen) (ts : List Token) → (seeAll s ts) .fills ≡ s .fills + count isFillToken ts
+unfolding seeAll count
+fills-seen s [] = omega arith
+fills-seen s (t ∷ ts) = one-more (isFillToken t) (s .fills) _ (count isFillToken ts) (fills-seen (see s t) ts)
+
+places-more : (b p q : Bool) (n m k : ℕ) → m ≡ one (q && not (b || p)) + n + cond (b || p) 0 k → m ≡ n + cond b 0 (cond p 0 (cond q (suc k) k))
+places-more true p true n m k e = omega arith
+places-more true p false n m k e = omega arith
+places-more false true true n m k e = omega arith
+places-more false true false n m k e = omega arith
+places-more false false true n m k e = omega arith
+places-more false false false n m k e = omega arith
+
+places-seen : (s : Seen) (ts : List Token) → (seeAll s ts) .places ≡ s .places + cond (s .point) 0 (integerPlaceTokens ts)
+unfolding seeAll integerPlaceTokens
+places-seen s [] = go (s .point) (s .places)
+  where
+    go : (b : Bool) (n : ℕ) → n ≡ n + cond b 0 0
+    go true n = omega arith
+    go false n = omega arith
+places-seen s (t ∷ ts) = places-more (s .point) (isPoint t) (isPlace t) (s .places) _ (integerPlaceTokens ts) (places-seen (see s t) ts)
+
+-- a solidus behind a place is told by the token behind it
+solidus-seen : (s : Seen) (ts : List Token)
+    → (seeAll s ts) .solidus ≡ ((s .solidus && not (s .divided && startsWithPlace ts)) && solidusFrom (s .behind) ts)
+unfolding seeAll startsWithPlace solidusFrom
+solidus-seen s [] = go (s .solidus) (s .divided)
+  where
+    go : (a b : Bool) → a ≡ ((a && not (b && false)) && true)
+    go true true = refl
+    go true false = refl
+    go false b = refl
+solidus-seen s (t ∷ ts) =
+    solidus-seen (see s t) ts ∙ go (s .solidus && not (s .divided && isPlace t)) (s .behind) (isSolidus t) (startsWithPlace ts) (solidusFrom (isPlace t) ts)
+  where
+    go : (a x y z w : Bool) → ((a && not ((x && y) && z)) && w) ≡ (a && cond (x && y && z) false w)
+    go true true true true w = refl
+    go true true true false w = refl
+    go true true false z w = refl
+    go true false y z w = refl
+    go false x y z w = refl
+
+-- one pass gives the facts
+pub facts-seen : (ts : List Token) → seenFacts (seeAll nothingSeen ts) ≡ factsOf ts
+unfolding factsOf nothingSeen solidusFits
+facts-seen ts =
+    let s = nothingSeen in
+    let rank : (seeAll s ts) .rank ≡ rankOf (bodyKind ts) = rank-seen s ts ∙ omega arith in
+    let places : (seeAll s ts) .places ≡ integerPlaceTokens ts = places-seen s ts ∙ omega arith in
+    let fills : (seeAll s ts) .fills ≡ count isFillToken ts = fills-seen s ts ∙ omega arith in
+    rw (rank, places, fills, plain-seen s ts, solidus-seen s ts, ← (rank-date (bodyKind ts)), ← (rank-number (bodyKind ts)))
+
+-- ---- the pass
+pub seen-made : (s : Seen) (f a rank₀ rank fills places : ℕ) (place point plain between solidus whole slash divided : Bool)
+    → place ≡ (leb 4 f && leb f 6) → point ≡ (s .point || eqb f 7) → rank₀ ≡ rankForm f → rank ≡ s .rank + (rank₀ - s .rank)
+    → plain ≡ (s .plain && ltb f 23) → between ≡ (s .divided && place) → solidus ≡ (s .solidus && not between)
+    → fills ≡ one (eqb f 3) + s .fills → whole ≡ (place && not point) → places ≡ one whole + s .places
+    → slash ≡ (eqb f 1 && eqb a 47) → divided ≡ (s .behind && slash)
+    → _≡_ {A = Seen} (record { rank = rank; plain = plain; solidus = solidus; fills = fills; places = places; point = point; behind = place; divided = divided }) (seeForm s f a)
+seen-made s f a rank₀ rank fills places place point plain between solidus whole slash divided e1 e2 e3 e4 e5 e6 e7 e8 e9 e10 e11 e12 =
+    rw (e4, e3, e5, e7, e6, e8, e10, e9, e2, e12, e11, e1)
+
+-- what the loop of `facts_of` keeps
+pub record Seeing (ws : List ℕ) (i : ℕ) (s : Seen) : Type 0 where
+  pub small : length ws ≤ 762
+  pub inside : i ≤ length ws
+  pub fills : s .fills ≤ i
+  pub places : s .places ≤ i
+  pub same : (code : List ℕ) → seeAll nothingSeen (tokensIn code ws) ≡ seeAll s (tokensIn code (drop i ws))
+
+abbrev start : Seen
+start = record { rank = 0; plain = true; solidus = true; fills = 0; places = 0; point = false; behind = false; divided = false }
+
+pub seeing-start : (ws : List ℕ) → length ws ≤ 762 → Seeing ws 0 start
+unfolding nothingSeen
+seeing-start ws h = record { small = h; inside = omega arith; fills = omega arith; places = omega arith; same = λ code. refl }
+
+one-most : (b : Bool) → one b ≤ 1
+one-most true = omega arith
+one-most false = omega arith
+
+module _ (ws : List ℕ) (i : ℕ) (s : Seen) (inv : Seeing ws i s) where
+  pub seeing-end : length ws ≤ i + 2 → (code : List ℕ) → seenFacts s ≡ factsOf (tokensIn code ws)
+  unfolding seeAll
+  seeing-end h code = ap seenFacts (sym (rw (tokens-end code ws i h) at (inv .same code))) ∙ facts-seen (tokensIn code ws)
+
+  pub seeing-step : i + 2 < length ws → (s′ : Seen) → s′ ≡ seeForm s (getD ws i 0) (getD ws (i + 1) 0) → Seeing ws (i + 3) s′
+  unfolding seeAll tokenAt
+  seeing-step h s′ e =
+      let f = getD ws i 0 in
+      let a = getD ws (i + 1) 0 in
+      let fills : s′ .fills ≡ one (eqb f 3) + s .fills = ap (λ (x : Seen). x .fills) e in
+      let places : s′ .places ≡ one (placeForm f && not (s .point || eqb f 7)) + s .places = ap (λ (x : Seen). x .places) e in
+      let p = one-most (eqb f 3) in
+      let q = one-most (placeForm f && not (s .point || eqb f 7)) in
+      let k = inv .fills in
+      let l = inv .places in
+      record {
+        small = inv .small;
+        inside = omega arith;
+        fills = omega arith;
+        places = omega arith;
+        same = λ code.
+            inv .same code ∙ ap (seeAll s) (tokens-first code ws i h)
+            ∙ ap (λ (x : Seen). seeAll x (tokensIn code (drop (i + 3) ws))) (see-form s f a (drop (suc (getD ws (i + 2) 0)) code) ∙ sym e);
+      }

@@ -1,0 +1,10 @@
+pub mod Forms
+pub mod Tests
+pub mod Words
+pub mod Endings
+pub mod Headings
+pub mod Comparing
+pub mod Numbers
+pub mod Inside
+pub mod Uses
+pub mod Bodies

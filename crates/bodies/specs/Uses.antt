@@ -1,0 +1,65 @@
+-- The uses of a body's commas, token by token: those whose use is known are counted, the others are held.
+-- Assumes nothing.
+use Prim.Native.Nat.{ℕ, _+_}
+use mathlib.Core.Bool.{Bool, true, false, cond, _||_}
+use mathlib.Core.List.{List, [], _∷_}
+use lib.Dec.{ltb, eqb}
+use Rattle.lists.specs.Lists.{any, count}
+use Rattle.formats.specs.Tokens.{Token}
+use Rattle.formats.specs.Kinds.{isPlace, isPoint, isComma, isGrouping, isDividing, isMisplaced, commaUses}
+use Rattle.bodies.specs.declared.commas.Commas.{Commas}
+use Rattle.bodies.specs.declared.commas.Scan.{Scan}
+use Rattle.bodies.specs.Forms.{placeForm}
+
+unfoldable pub commasOf : List Token → Commas
+commasOf ts =
+    record {
+      misplaced = any isMisplaced (commaUses ts);
+      grouped = any isGrouping (commaUses ts);
+      thousands = count isDividing (commaUses ts);
+    }
+
+-- how many commas were met
+abbrev pub met : Scan → ℕ
+met s = s .held + s .misplaced + s .grouping + s .dividing
+
+-- a comma behind the point or a place is held
+abbrev pub atComma : Scan → Scan
+atComma s =
+    cond (s .point || s .place)
+    (record { point = s .point; place = s .place; held = s .held + 1; misplaced = s .misplaced; grouping = s .grouping; dividing = s .dividing })
+    (record { point = s .point; place = s .place; held = s .held; misplaced = s .misplaced + 1; grouping = s .grouping; dividing = s .dividing })
+
+-- the commas held before the point divide
+abbrev pub atPoint : Scan → Scan
+atPoint s =
+    cond (s .point) s
+    (record { point = true; place = s .place; held = 0; misplaced = s .misplaced; grouping = s .grouping; dividing = s .dividing + s .held })
+
+-- the commas held before a place are misplaced behind the point, and group before it
+abbrev pub atPlace : Scan → Scan
+atPlace s =
+    cond (s .point)
+    (record { point = s .point; place = true; held = 0; misplaced = s .misplaced + s .held; grouping = s .grouping; dividing = s .dividing })
+    (record { point = s .point; place = true; held = 0; misplaced = s .misplaced; grouping = s .grouping + s .held; dividing = s .dividing })
+
+abbrev pub scanned : Scan → Bool → Bool → Bool → Scan
+scanned s comma point place = cond comma (atComma s) (cond point (atPoint s) (cond place (atPlace s) s))
+
+-- one token more, by its form
+abbrev pub scanForm : Scan → ℕ → Scan
+scanForm s f = scanned s (eqb f 8) (eqb f 7) (placeForm f)
+
+abbrev pub scanToken : Scan → Token → Scan
+scanToken s t = scanned s (isComma t) (isPoint t) (isPlace t)
+
+unfoldable pub scanAll : Scan → List Token → Scan
+scanAll s [] = s
+scanAll s (t ∷ ts) = scanAll (scanToken s t) ts
+
+unfoldable pub nothingScanned : Scan
+nothingScanned = record { point = false; place = false; held = 0; misplaced = 0; grouping = 0; dividing = 0 }
+
+-- at the end the commas held divide
+abbrev pub scanCommas : Scan → Commas
+scanCommas s = record { misplaced = ltb 0 (s .misplaced); grouped = ltb 0 (s .grouping); thousands = s .dividing + s .held }

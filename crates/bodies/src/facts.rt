@@ -1,0 +1,117 @@
+// The facts of a body, in one pass over its tokens.
+use super::bools::between;
+use super::bools::both;
+use super::bools::either;
+ghost use mathlib.Core.Path.{_≡_};
+ghost use mathlib.Core.List.{List};
+ghost use Prim.Native.Nat.{ℕ, _+_, _-_, _≤_};
+ghost use lib.ListN.{length};
+ghost use Rattle.marks.specs.Marks.{tokensIn};
+ghost use Rattle.bodies.specs.Forms.{one, rankForm};
+ghost use Rattle.bodies.specs.Bodies.{seeForm, factsOf};
+
+// What a body's tokens say of it: whether it is a date or a number, whether it holds no colour and no condition, whether no solidus
+// stands between two places, how many fills it holds, and how many places before its first point.
+pub struct Facts {
+    pub date: bool,
+    pub number: bool,
+    pub plain: bool,
+    pub solidus: bool,
+    pub fills: u16,
+    pub places: u16,
+}
+
+// What the tokens passed have said; the rank is that of their kind. The token just before is a place (`behind`), or a solidus
+// behind a place (`divided`).
+pub struct Seen {
+    pub rank: u16,
+    pub plain: bool,
+    pub solidus: bool,
+    pub fills: u16,
+    pub places: u16,
+    pub point: bool,
+    pub behind: bool,
+    pub divided: bool,
+}
+
+// The rank of the kind that a token of the form makes of its body.
+fn rank_of(form: u16) -> u16
+    ensures { λ r. ⌜ r ≡ rankForm form ⌝ }
+{
+    if form == 10 {
+        return 4;
+    }
+    if form == 12 {
+        return 3;
+    }
+    if between(form, 15, 22) {
+        return 2;
+    }
+    if between(form, 4, 6) {
+        return 1;
+    }
+    0
+}
+
+fn higher(a: u16, b: u16) -> u16
+    ensures { λ r. ⌜ r ≡ a + (b - a) ⌝ }
+{
+    if a < b { b } else { a }
+}
+
+// n, and one more where it counts.
+fn counted(n: u16, counts: bool) -> u16
+    requires { ⌜ n ≤ 762 ⌝ }
+    ensures { λ r. ⌜ r ≡ one counts + n ⌝ }
+{
+    if counts { n + 1 } else { n }
+}
+
+// What the tokens say with one more.
+fn see(s: Seen, form: u16, argument: u16) -> Seen
+    requires { ⌜ (s .fills ≤ 762) × (s .places ≤ 762) ⌝ }
+    ensures { λ r. ⌜ r ≡ seeForm s form argument ⌝ }
+{
+    let place = between(form, 4, 6);
+    let point = either(s.point, form == 7);
+    Seen {
+        rank: higher(s.rank, rank_of(form)),
+        plain: both(s.plain, form < 23),
+        solidus: both(s.solidus, !both(s.divided, place)),
+        fills: counted(s.fills, form == 3),
+        places: counted(s.places, both(place, !point)),
+        point,
+        behind: place,
+        divided: both(s.behind, both(form == 1, argument == 47)),
+    }
+}
+
+// The facts of a body.
+pub fn facts_of(body: &[u16]) -> Facts
+    requires { ⌜ length (now body) ≤ 762 ⌝ }
+    ensures { λ r. ⌜ ((code : List ℕ) → r ≡ factsOf (tokensIn code (now (body .entry)))) ⌝ }
+{
+    let mut s = Seen {
+        rank: 0,
+        plain: true,
+        solidus: true,
+        fills: 0,
+        places: 0,
+        point: false,
+        behind: false,
+        divided: false,
+    };
+    let mut i: usize = 0;
+    while i + 2 < body.len() {
+        s = see(s, body[i], body[i + 1]);
+        i += 3;
+    }
+    Facts {
+        date: s.rank == 2,
+        number: s.rank == 1,
+        plain: s.plain,
+        solidus: s.solidus,
+        fills: s.fills,
+        places: s.places,
+    }
+}
