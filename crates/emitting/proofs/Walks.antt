@@ -1,0 +1,237 @@
+-- One walk over a body's tokens gives its items, and each turn of it the words of one token.
+-- Assumes nothing.
+use Prim.Native.Nat.{ℕ, zero, suc, _+_, _≤_}
+use native.Mathlib.Omega.{arith}
+use native.Mathlib.Nat.{min-le-right}
+use mathlib.Core.Path.{_≡_, refl, sym, _∙_, ap}
+use mathlib.Core.Bool.{Bool, true, false, cond, _&&_, true≢false}
+use mathlib.Core.List.{List, [], _∷_, _++_}
+use lib.Dec.{ltb, eqb}
+use borrow.Author.Tests.{eqb-true, lt-ltb, le-ltb}
+use Rattle.lists.specs.Lists.{any, count}
+use Rattle.lists.proofs.Bools.{by-cases}
+use Rattle.lists.proofs.Counts.{count-append, any-count, none-count}
+use Rattle.formats.specs.Tokens as token
+use Rattle.formats.specs.Tokens.{Token}
+use Rattle.formats.specs.Items.{Item, literal, fill, part, dateKind, sameKind, isFill, noRun, meansMinutes, runOf, nearer, settledItem, settledFrom}
+use Rattle.formats.specs.Kinds.{formOf, isPoint, isZero, isSecondsToken, leadingZeros, partZeros, piecesFrom, pieceItems, plainItems, dateItems, bodyKind, bodyItems, runItem, tokenItems, lastFill}
+use Rattle.formats.specs.Text.{digitAfter}
+use Rattle.marks.specs.Marks.{markRows, markToken}
+use Rattle.tables.specs.Words.{entriesWords}
+use Rattle.tables.specs.Encode.{entryOf, entriesFrom}
+use Rattle.emitting.specs.Emit.{isFillToken, emittedFrom, runIf, itemsWords, tokenWords, pieceOf, formSeconds, formHours, formDigit, formFills}
+use Rattle.emitting.proofs.Joined.{runAfter, digitsAfter, items-append, words-first, words-run, fill-goes, fill-stays}
+use Rattle.emitting.proofs.Forms.{literals-fill, tells, behind}
+
+none-any : {A : Type 0} (g : A → Bool) (xs : List A) → count g xs ≡ 0 → any g xs ≡ false
+none-any g xs h = by-cases (any g xs) (λ e. absurd (omega (arith, any-count g xs e))) (λ e. e)
+
+-- the first token's items, or the part of a second that it starts
+emitted-first : (date b : Bool) (t : Token) (ts : List Token) (n : ℕ) → n ≡ partZeros (date && b) t ts
+    → emittedFrom date b 0 (t ∷ ts) ≡ cond (eqb n 0) (tokenItems date t ++ emittedFrom date (isSecondsToken t) n ts) (part n ∷ emittedFrom date (isSecondsToken t) n ts)
+unfolding emittedFrom
+emitted-first date b t ts n e = rw e
+
+date-emitted : (b : Bool) (k : ℕ) (ts : List Token) → dateItems (piecesFrom b k ts) ≡ emittedFrom true b k ts
+unfolding piecesFrom emittedFrom dateItems pieceItems
+date-emitted b k [] = refl
+date-emitted b (suc k) (t ∷ ts) = date-emitted false k ts
+date-emitted b zero (t ∷ ts) =
+    let r = date-emitted (isSecondsToken t) (partZeros b t ts) ts in
+    by-cases (eqb (partZeros b t ts) 0) (λ e. rw (e, r)) (λ e. rw (e, r))
+
+plain-emitted : (b : Bool) (ts : List Token) → plainItems ts ≡ emittedFrom false b 0 ts
+unfolding emittedFrom plainItems partZeros
+plain-emitted b [] = refl
+plain-emitted b (t ∷ ts) = rw (plain-emitted (isSecondsToken t) ts)
+
+pub body-emitted : (date : Bool) (ts : List Token) → date ≡ sameKind (bodyKind ts) dateKind → bodyItems ts ≡ emittedFrom date false 0 ts
+unfolding bodyItems
+body-emitted true ts e = rw (← e) (date-emitted false 0 ts)
+body-emitted false ts e = rw (← e) (plain-emitted false ts)
+
+-- the fills among a token's items
+pub token-fills : (date : Bool) (t : Token) → count isFill (tokenItems date t) ≡ cond (isFillToken t) 1 0
+unfolding tokenItems count runItem
+token-fills date (token.literal us) = literals-fill us
+token-fills date (token.bare u) = refl
+token-fills date (token.blank u) = refl
+token-fills date (token.fill u) = refl
+token-fills date (token.place p) = refl
+token-fills true token.point = refl
+token-fills false token.point = refl
+token-fills true token.comma = refl
+token-fills false token.comma = refl
+token-fills date token.percent = refl
+token-fills date token.at = refl
+token-fills date token.semicolon = refl
+token-fills date token.general = refl
+token-fills date (token.half h) = refl
+token-fills date (token.run token.letterY n) = refl
+token-fills date (token.run token.letterM n) = refl
+token-fills date (token.run token.letterD n) = refl
+token-fills date (token.run token.letterH n) = refl
+token-fills date (token.run token.letterS n) = refl
+token-fills date (token.elapsed e n) = refl
+token-fills date (token.colour n) = refl
+token-fills date (token.condition w) = refl
+
+-- a zero is a place
+zero-form : (t : Token) → isZero t ≡ true → formOf t ≡ 4
+unfolding isZero
+zero-form (token.place p) e = refl
+zero-form (token.literal us) e = absurd (true≢false (sym e))
+zero-form (token.bare u) e = absurd (true≢false (sym e))
+zero-form (token.blank u) e = absurd (true≢false (sym e))
+zero-form (token.fill u) e = absurd (true≢false (sym e))
+zero-form token.point e = absurd (true≢false (sym e))
+zero-form token.comma e = absurd (true≢false (sym e))
+zero-form token.percent e = absurd (true≢false (sym e))
+zero-form token.at e = absurd (true≢false (sym e))
+zero-form token.semicolon e = absurd (true≢false (sym e))
+zero-form token.general e = absurd (true≢false (sym e))
+zero-form (token.half h) e = absurd (true≢false (sym e))
+zero-form (token.run l n) e = absurd (true≢false (sym e))
+zero-form (token.elapsed s n) e = absurd (true≢false (sym e))
+zero-form (token.colour n) e = absurd (true≢false (sym e))
+zero-form (token.condition w) e = absurd (true≢false (sym e))
+
+-- a part of a second starts with a point and takes no more zeros than there are
+part-point : (b : Bool) (t : Token) (ts : List Token) → eqb (partZeros b t ts) 0 ≡ false → isPoint t ≡ true
+unfolding partZeros
+part-point true t ts e = by-cases (isPoint t) (λ h. h) (λ h. absurd (true≢false (rw h at e)))
+part-point false t ts e = absurd (true≢false e)
+
+part-few : (b : Bool) (t : Token) (ts : List Token) → partZeros b t ts ≤ leadingZeros ts
+unfolding partZeros
+part-few b t ts = by-cases (b && isPoint t) (λ h. rw h (omega (arith, min-le-right 3 (leadingZeros ts)))) (λ h. rw h (omega arith))
+
+-- the fills among the items are those among the tokens: what a part of a second takes with it are zeros
+pub fills-emitted : (date b : Bool) (k : ℕ) (ts : List Token) → k ≤ leadingZeros ts → count isFill (emittedFrom date b k ts) ≡ count isFillToken ts
+unfolding emittedFrom count leadingZeros
+fills-emitted date b k [] h = refl
+fills-emitted date b (suc k) (t ∷ ts) h =
+    by-cases (isZero t)
+    (λ z. let m : suc k ≤ suc (leadingZeros ts) = rw z at h in
+    rw (zero-form t z) (fills-emitted date false k ts (omega arith)))
+    (λ z. let m : suc k ≤ 0 = rw z at h in absurd (omega arith))
+fills-emitted date b zero (t ∷ ts) h =
+    let n = partZeros (date && b) t ts in
+    let r : count isFill (emittedFrom date (isSecondsToken t) n ts) ≡ count isFillToken ts
+    = fills-emitted date (isSecondsToken t) n ts (part-few (date && b) t ts) in
+    by-cases (eqb n 0)
+    (λ e. rw e (count-append isFill (tokenItems date t) (emittedFrom date (isSecondsToken t) n ts) ∙ rw (token-fills date t, r)
+    (by-cases (isFillToken t) (λ l. rw l (omega arith)) (λ l. rw l (omega arith)))))
+    (λ e. rw (e, eqb-true (formOf t) 5 (part-point (date && b) t ts e)) r)
+
+-- the words that are left behind a run of hours or not
+abbrev pub Words : Bool → Bool → ℕ → Bool → ℕ → List Token → List ℕ
+Words date b k hours q ts = itemsWords (runIf hours) q (lastFill (emittedFrom date b k ts))
+
+run-if : (hours : Bool) → meansMinutes (runIf hours) noRun ≡ hours
+unfolding runIf meansMinutes
+run-if true = refl
+run-if false = refl
+
+-- from the run and the digit that a token's items leave to those that its form tells
+told-words : (f : ℕ) (date hours : Bool) (q a : ℕ) (us : List ℕ) (is : List Item)
+    → itemsWords (runAfter (runIf hours) (tokenItems date (markToken f a us))) (digitsAfter q (tokenItems date (markToken f a us))) is
+    ≡ itemsWords (runIf (formHours f hours)) (formDigit f q) is
+told-words f date hours q a us is =
+    let l = behind f date (runIf hours) q a us in
+    let m : meansMinutes (runAfter (runIf hours) (tokenItems date (markToken f a us))) noRun ≡ meansMinutes (runIf (formHours f hours)) noRun
+    = l .minutes ∙ ap (formHours f) (run-if hours) ∙ sym (run-if (formHours f hours)) in
+    rw (l .digit) (words-run _ (runIf (formHours f hours)) (formDigit f q) is m)
+
+module _ (f : ℕ) (date b hours : Bool) (q a : ℕ) (us : List ℕ) (ts : List Token) where
+  abbrev t : Token
+  t = markToken f a us
+
+  abbrev later : ℕ → List Item
+  later n = emittedFrom date (formSeconds f) n ts
+
+  first : (n : ℕ) → n ≡ partZeros (date && b) t ts → emittedFrom date b 0 (t ∷ ts) ≡ cond (eqb n 0) (tokenItems date t ++ later n) (part n ∷ later n)
+  first n e = rw (← (tells f a us .seconds)) (emitted-first date b t ts n e)
+
+  part-form : (n : ℕ) → n ≡ partZeros (date && b) t ts → eqb n 0 ≡ false → f ≡ 7
+  part-form n e z = eqb-true f 7 (sym (tells f a us .point) ∙ part-point (date && b) t ts (ap (λ m. eqb m 0) (sym e) ∙ z))
+
+  part-kept : (n : ℕ) → n ≡ partZeros (date && b) t ts → eqb n 0 ≡ false → (formHours f hours ≡ hours) × (formDigit f q ≡ q)
+  unfolding formHours formDigit
+  part-kept n e z = (ap (λ g. formHours g hours) (part-form n e z), ap (λ g. formDigit g q) (part-form n e z))
+
+  fill-kept : f ≡ 3 → (formHours f hours ≡ hours) × (formDigit f q ≡ q)
+  unfolding formHours formDigit
+  fill-kept l = (ap (λ g. formHours g hours) l, ap (λ g. formDigit g q) l)
+
+  fill-items : f ≡ 3 → tokenItems date t ≡ fill a ∷ []
+  unfolding markToken markRows tokenItems
+  fill-items l = ap (λ g. tokenItems date (markToken g a us)) l
+
+  no-fill : eqb f 3 ≡ false → any isFill (tokenItems date t) ≡ false
+  no-fill l = none-any isFill (tokenItems date t) (token-fills date t ∙ rw (tells f a us .fill, l))
+
+  -- the fills that follow a token
+  pub fills-step : (fills n : ℕ) → n ≡ partZeros (date && b) t ts → fills ≡ count isFill (emittedFrom date b 0 (t ∷ ts)) → formFills f fills ≡ count isFill (later n)
+  unfolding formFills count
+  fills-step fills n e h =
+      let c = rw (first n e) at h in
+      by-cases (eqb n 0)
+      (λ z. let s : fills ≡ cond (eqb f 3) 1 0 + count isFill (later n)
+      = (rw z at c) ∙ count-append isFill (tokenItems date t) (later n) ∙ rw (token-fills date t, tells f a us .fill) in
+      by-cases (eqb f 3) (λ l. let s' : fills ≡ 1 + count isFill (later n) = rw l at s in rw l (omega arith))
+      (λ l. let s' : fills ≡ 0 + count isFill (later n) = rw l at s in rw l (omega arith)))
+      (λ z. let s : fills ≡ count isFill (later n) = rw z at c in
+      let l : eqb f 3 ≡ false = ap (λ g. eqb g 3) (part-form n e z) in
+      rw l s)
+
+  -- a token with its items, a fill that goes, and a part of a second
+  words-plain : 0 ≡ partZeros (date && b) t ts → eqb f 3 ≡ false
+      → Words date b 0 hours q (t ∷ ts) ≡ tokenWords date hours q t ++ Words date (formSeconds f) 0 (formHours f hours) (formDigit f q) ts
+  unfolding tokenWords
+  words-plain e l =
+      let none : any isFill (tokenItems date t) ≡ false = no-fill l in
+      rw (first 0 e, words-first (runIf hours) q (tokenItems date t) (later 0) none, told-words f date hours q a us (lastFill (later 0)))
+
+  words-goes : 0 ≡ partZeros (date && b) t ts → f ≡ 3 → any isFill (later 0) ≡ true
+      → Words date b 0 hours q (t ∷ ts) ≡ Words date (formSeconds f) 0 (formHours f hours) (formDigit f q) ts
+  words-goes e l h = rw (first 0 e, fill-items l, fill-goes a (later 0) h, fill-kept l .0, fill-kept l .1)
+
+  words-stays : 0 ≡ partZeros (date && b) t ts → f ≡ 3 → any isFill (later 0) ≡ false
+      → Words date b 0 hours q (t ∷ ts) ≡ tokenWords date hours q t ++ Words date (formSeconds f) 0 (formHours f hours) (formDigit f q) ts
+  unfolding tokenWords
+  words-stays e l h =
+      rw (first 0 e, ← (told-words f date hours q a us (lastFill (later 0))), fill-items l, fill-stays a (later 0) h)
+      (items-append (runIf hours) q (fill a ∷ []) (lastFill (later 0)))
+
+  words-part : (n : ℕ) → n ≡ partZeros (date && b) t ts → eqb n 0 ≡ false
+      → Words date b 0 hours q (t ∷ ts) ≡ (17 ∷ n ∷ []) ++ Words date (formSeconds f) n (formHours f hours) (formDigit f q) ts
+  unfolding itemsWords entriesWords entriesFrom entryOf settledFrom settledItem nearer runOf digitAfter runAfter digitsAfter any
+  words-part n e z =
+      let s : Words date b 0 hours q (t ∷ ts) ≡ itemsWords (runIf hours) q (lastFill (part n ∷ later n)) = rw (first n e, z) in
+      s ∙ words-first (runIf hours) q (part n ∷ []) (later n) refl ∙ rw (part-kept n e z .0, part-kept n e z .1)
+
+  -- whether a later fill stands among the items, by the fills that follow with this one
+  fill-later : (fills : ℕ) → 0 ≡ partZeros (date && b) t ts → f ≡ 3 → fills ≡ count isFill (emittedFrom date b 0 (t ∷ ts))
+      → any isFill (later 0) ≡ ltb 1 fills
+  unfolding count
+  fill-later fills e l h =
+      let s : fills ≡ suc (count isFill (later 0)) = h ∙ rw (first 0 e, fill-items l) in
+      by-cases (any isFill (later 0))
+      (λ y. y ∙ sym (lt-ltb 1 fills (omega (arith, any-count isFill (later 0) y))))
+      (λ y. y ∙ sym (le-ltb 1 fills (omega (arith, none-count isFill (later 0) y))))
+
+  -- a token's words, and those that are left behind it
+  pub words-step : (fills n : ℕ) → n ≡ partZeros (date && b) t ts → fills ≡ count isFill (emittedFrom date b 0 (t ∷ ts))
+      → Words date b 0 hours q (t ∷ ts) ≡ pieceOf date hours q fills n t ++ Words date (formSeconds f) n (formHours f hours) (formDigit f q) ts
+  words-step fills n e h =
+      by-cases (eqb n 0)
+      (λ z. let m : n ≡ 0 = eqb-true n 0 z in
+      let p : 0 ≡ partZeros (date && b) t ts = sym m ∙ e in
+      rw (m, tells f a us .fill)
+      (by-cases (eqb f 3)
+      (λ l. let g = eqb-true f 3 l in
+      rw (l, ← (fill-later fills p g h))
+      (by-cases (any isFill (later 0)) (λ y. rw y (words-goes p g y)) (λ y. rw y (words-stays p g y))))
+      (λ l. rw l (words-plain p l))))
+      (λ z. rw z (words-part n e z))

@@ -1,0 +1,17 @@
+-- `emitting::point_of` meets its contract.
+-- Assumes nothing.
+use Rattle.emitting.proofs.point_of.Statement.{statement}
+use Rattle.emitting.proofs.point_of.Tie as tie
+use Rattle.emitting.proofs.point_of.Reads as reads
+use Rattle.emitting.proofs.point_of.Lts as lts
+
+-- src/lib.rt:80:9
+returns : tie.Need-returns
+returns c = rw (c .if1 .taken)
+
+-- src/lib.rt:76:1
+returns-2 : tie.Need-returns-2
+returns-2 c = rw (c .if1 .left)
+
+pub point-of-spec : {M : Type 1} → statement M
+point-of-spec = tie.close (tie.spec returns returns-2)

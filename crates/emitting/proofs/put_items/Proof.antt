@@ -1,0 +1,82 @@
+-- `emitting::put_items` meets its contract.
+-- Assumes nothing.
+use Prim.Native.Nat.{_-_, _<_, _^_}
+use denote.Ref.{now}
+use native.Mathlib.Omega.{arith}
+use lib.ListN.{length}
+use Rattle.emitting.proofs.Going.{Going, going-start, going-step, going-end}
+use borrow.Author.Needs.{needs}
+use Rattle.emitting.proofs.put_items.Statement.{statement}
+use Rattle.emitting.proofs.put_items.Tie as tie
+use Rattle.emitting.proofs.put_items.Reads as reads
+use Rattle.emitting.proofs.put_items.Lts as lts
+use Rattle.emitting.proofs.put_token.Reads as put-token-reads
+
+abbrev Inv-loop : tie.InvT-loop
+Inv-loop code body date fills integers room₀ at w₀ i₀ room w i = Going date code body room₀ at room w i
+
+abbrev μ-loop : tie.MeasureT-loop
+μ-loop code body date fills integers room₀ at w₀ i₀ room w i = length body - i
+
+-- src/lib.rt:318:16
+add-t10 : tie.Need-add-t10 Inv-loop μ-loop
+add-t10 c = search needs
+
+-- src/lib.rt:322:5
+loop-holds : tie.Need-loop-holds Inv-loop μ-loop
+loop-holds c =
+    let s = c .before .before .before in
+    let a = s .args in
+    going-start (a .date) (now (a .code)) (now (a .body)) _ _ (a .fills) (a .integers) (s .pre .0 .3) (s .pre .1 .0) (s .pre .1 .1 .0) (s .pre .1 .1 .1)
+
+-- src/lib.rt:322:11
+add-loop : tie.Need-add-loop Inv-loop μ-loop
+add-loop c = search needs
+
+-- src/lib.rt:323:9
+put-token-requires : tie.Need-put-token-requires Inv-loop μ-loop
+put-token-requires c κs =
+    let t = c .before in
+    let l = t .before .loop in
+    let s = t .before .before .before .before .before in
+    let n : l .w .at < 2 ^ 60 = omega (arith, l .inv .near, s .pre .0 .0, s .pre .0 .2) in
+    let d : l .w .digit < 2 ^ 15 = omega (arith, l .inv .digit) in
+    ((n, d, s .pre .0 .1, s .pre .0 .2, t .loop-test .taken), l .inv .fills)
+
+-- src/lib.rt:324:9
+add-i : tie.Need-add-i Inv-loop μ-loop
+add-i c = search needs
+
+-- src/lib.rt:322:5
+loop-less : tie.Need-loop-less Inv-loop μ-loop
+loop-less c = search needs
+
+-- src/lib.rt:322:5
+loop-again : tie.Need-loop-again Inv-loop μ-loop
+loop-again c =
+    let t = c .before .before .before .before in
+    going-step _ _ _ _ _ _ _ _ _ _ (t .loop-test .taken) (t .before .loop .inv) (c .before .before .put-token .ensures)
+
+-- src/lib.rt:306:1
+same-length : tie.Need-same-length Inv-loop μ-loop
+same-length c = search needs
+
+-- src/lib.rt:306:1
+returns : tie.Need-returns Inv-loop μ-loop
+returns c = going-end _ _ _ _ _ _ _ _ (c .loop-test .left) (c .before .loop .inv)
+
+pub put-items-spec : {M : Type 1} → statement M
+put-items-spec =
+    tie.close
+    (tie.spec
+    Inv-loop
+    μ-loop
+    add-t10
+    loop-holds
+    add-loop
+    put-token-requires
+    add-i
+    loop-less
+    loop-again
+    same-length
+    returns)

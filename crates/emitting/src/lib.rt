@@ -1,0 +1,339 @@
+// Writes the words of a section's items into a lent room, token by token.
+use writing::put_unit;
+ghost use mathlib.Core.Path.{_≡_};
+ghost use mathlib.Core.Bool.{true, false, cond, _&&_};
+ghost use mathlib.Core.List.{[], _∷_};
+ghost use Prim.Native.Nat.{_+_, _≤_, _<_, _^_, min};
+ghost use lib.ListN.{length, take, drop};
+ghost use lib.Dec.{leb, ltb, eqb};
+ghost use Rattle.lists.specs.Lists.{count};
+ghost use Rattle.formats.specs.Items.{dateKind, sameKind, integerPlaces};
+ghost use Rattle.formats.specs.Kinds.{bodyKind, bodyItems, leadingZeros};
+ghost use Rattle.marks.specs.Marks.{tokenAt, tokensIn};
+ghost use Rattle.writing.specs.Put.{Put};
+ghost use Rattle.emitting.specs.Emit.{isFillToken, bodyWords, formWords, literalWords, madeWords, formSeconds, formHours, formDigit, formFills, pieceOf, walkAfter, walkPast, fillsLeft, Emitted};
+
+// An item's tag and its argument. The tag 0 stands for no item.
+struct Made(u16, u16);
+
+// What the tokens that were passed leave behind: the place of the next word; whether the last one is s, ss or an elapsed s; how
+// many of the next ones belong to a part of a second; whether the nearest run is hours; the power of the next digit and 15; and
+// how many fills follow.
+struct Walk {
+    at: usize,
+    behind: bool,
+    skip: u16,
+    hours: bool,
+    digit: u16,
+    fills: u16,
+}
+
+// Puts an item's words at `at`.
+fn put_entry(room: &mut [u16], at: usize, tag: u16, argument: u16) -> usize
+    requires { ⌜ at < 2 ^ 62 ⌝ }
+    ensures { λ r. ⌜ Put (now (room .entry)) at (tag ∷ argument ∷ []) r (now (room .exit)) ⌝ }
+{
+    let a = put_unit(room, at, tag);
+    put_unit(room, a, argument)
+}
+
+// The same, where there is an item.
+fn put_made(room: &mut [u16], at: usize, m: Made) -> usize
+    requires { ⌜ at < 2 ^ 62 ⌝ }
+    ensures { λ r. ⌜ Put (now (room .entry)) at (madeWords m) r (now (room .exit)) ⌝ }
+{
+    if m.0 == 0 {
+        return at;
+    }
+    put_entry(room, at, m.0, m.1)
+}
+
+// Puts the literals of `count` units from the place `from` of the code on, or of as many as there are.
+fn put_literals(room: &mut [u16], at: usize, code: &[u16], from: usize, count: u16) -> usize
+    requires { ⌜ (at < 2 ^ 61) × (length (now code) ≤ 254) ⌝ }
+    ensures { λ r. ⌜ Put (now (room .entry)) at (literalWords (take count (drop from (now (code .entry))))) r (now (room .exit)) ⌝ }
+{
+    let mut o = at;
+    let mut i = from;
+    let mut more = count;
+    while 0 < more {
+        if code.len() <= i {
+            return o;
+        }
+        o = put_entry(room, o, 1, code[i]);
+        i += 1;
+        more -= 1;
+    }
+    o
+}
+
+// A point: of a date it is a literal.
+fn point_of(date: bool) -> Made
+    ensures { λ r. ⌜ madeWords r ≡ cond date (1 ∷ 46 ∷ []) (7 ∷ 0 ∷ []) ⌝ }
+{
+    if date {
+        return Made(1, 46);
+    }
+    Made(7, 0)
+}
+
+// A comma: of a date it is a literal, else it makes no item.
+fn comma_of(date: bool) -> Made
+    ensures { λ r. ⌜ madeWords r ≡ cond date (1 ∷ 44 ∷ []) [] ⌝ }
+{
+    if date {
+        return Made(1, 44);
+    }
+    Made(0, 0)
+}
+
+// A run of m: minutes behind hours, where it is of 1 or 2.
+fn month_of(hours: bool, count: u16) -> Made
+    ensures { λ r. ⌜ madeWords r ≡ cond (hours && leb count 2) (15 ∷ count ∷ []) (12 ∷ count ∷ []) ⌝ }
+{
+    if hours {
+        if count <= 2 {
+            return Made(15, count);
+        }
+    }
+    Made(12, count)
+}
+
+// The item of a token that is no quoted literal and no part of a second.
+fn item_of(form: u16, argument: u16, date: bool, hours: bool, digit: u16) -> Made
+    requires { ⌜ digit < 2 ^ 15 ⌝ }
+    ensures { λ r. ⌜ madeWords r ≡ formWords date hours digit argument form ⌝ }
+{
+    match form {
+        1 => Made(1, argument),
+        2 => Made(2, argument),
+        3 => Made(3, argument),
+        4 => Made(4, digit + 1),
+        5 => Made(5, digit + 1),
+        6 => Made(6, digit + 1),
+        7 => point_of(date),
+        8 => comma_of(date),
+        9 => Made(8, 0),
+        10 => Made(10, 0),
+        12 => Made(9, 0),
+        13 => Made(21, 1),
+        14 => Made(21, 2),
+        15 => Made(11, argument),
+        16 => month_of(hours, argument),
+        17 => Made(13, argument),
+        18 => Made(14, argument),
+        19 => Made(16, argument),
+        20 => Made(18, argument),
+        21 => Made(19, argument),
+        22 => Made(20, argument),
+        _ => Made(0, 0),
+    }
+}
+
+// Whether a token is s, ss or an elapsed s.
+fn seconds_at(form: u16) -> bool
+    ensures { λ r. ⌜ r ≡ formSeconds form ⌝ }
+{
+    if form == 19 {
+        return true;
+    }
+    form == 22
+}
+
+// Whether the nearest run behind a token is hours.
+fn hours_after(form: u16, hours: bool) -> bool
+    ensures { λ r. ⌜ r ≡ formHours form hours ⌝ }
+{
+    if form < 15 {
+        return hours;
+    }
+    if 22 < form {
+        return hours;
+    }
+    if form == 18 {
+        return true;
+    }
+    form == 20
+}
+
+// The power of the next digit behind a token, and 15. It stays at 0 behind the fifteenth decimal place, as the table's definition
+// has it; such a section is refused elsewhere.
+fn digit_after(form: u16, digit: u16) -> u16
+    ensures { λ r. ⌜ r ≡ formDigit form digit ⌝ }
+{
+    if form < 4 {
+        return digit;
+    }
+    if 6 < form {
+        return digit;
+    }
+    if digit == 0 {
+        return 0;
+    }
+    digit - 1
+}
+
+// How many fills follow behind a token.
+fn fills_after(form: u16, fills: u16) -> u16
+    ensures { λ r. ⌜ r ≡ formFills form fills ⌝ }
+{
+    if form == 3 {
+        if fills == 0 {
+            return 0;
+        }
+        return fills - 1;
+    }
+    fills
+}
+
+// A token is a fill, and another one follows: only the last one of a section is kept.
+fn fill_goes(form: u16, fills: u16) -> bool
+    ensures { λ r. ⌜ r ≡ (eqb form 3 && ltb 1 fills) ⌝ }
+{
+    if form == 3 {
+        return 1 < fills;
+    }
+    false
+}
+
+// How many zeros follow from the place i of the body on, up to three.
+fn zeros_from(body: &[u16], i: usize) -> u16
+    requires { ⌜ (length (now body) ≤ 762) × (i ≤ 800) ⌝ }
+    ensures { λ r. ⌜ r ≡ min 3 (leadingZeros (tokensIn [] (drop i (now (body .entry))))) ⌝ }
+{
+    let mut n = 0;
+    let mut j = i;
+    while n < 3 {
+        if body.len() <= j + 2 {
+            return n;
+        }
+        if body[j] != 4 {
+            return n;
+        }
+        n += 1;
+        j += 3;
+    }
+    n
+}
+
+// The zeros of the part of a second that a token starts, 0 where it starts none: a point of a date behind s, ss or an elapsed s,
+// and the tokens from the place i of the body on.
+fn part_zeros(body: &[u16], i: usize, form: u16, date: bool, behind: bool) -> u16
+    requires { ⌜ (length (now body) ≤ 762) × (i ≤ 800) ⌝ }
+    ensures { λ r. ⌜ r ≡ cond (date && behind && eqb form 7) (min 3 (leadingZeros (tokensIn [] (drop i (now (body .entry)))))) 0 ⌝ }
+{
+    if !date {
+        return 0;
+    }
+    if !behind {
+        return 0;
+    }
+    if form != 7 {
+        return 0;
+    }
+    zeros_from(body, i)
+}
+
+// Puts the words of a token; where n is not 0, those of the part of a second with n zeros that it starts.
+fn put_form(
+    room: &mut [u16],
+    w: Walk,
+    code: &[u16],
+    form: u16,
+    argument: u16,
+    start: u16,
+    date: bool,
+    n: u16,
+) -> usize
+    requires { ⌜ (w .at < 2 ^ 60) × (w .digit < 2 ^ 15) × (length (now code) ≤ 254) ⌝ }
+    ensures put { λ r. ⌜ Put (now (room .entry)) (w .at) (pieceOf date (w .hours) (w .digit) (w .fills) n (tokenAt (now (code .entry)) form argument start)) r (now (room .exit)) ⌝ }
+    ensures near { λ r. ⌜ r ≤ w .at + 510 ⌝ }
+{
+    if 0 < n {
+        return put_entry(room, w.at, 17, n);
+    }
+    if form == 0 {
+        return put_literals(room, w.at, code, start as usize + 1, argument);
+    }
+    if fill_goes(form, w.fills) {
+        return w.at;
+    }
+    put_made(room, w.at, item_of(form, argument, date, w.hours, w.digit))
+}
+
+// The walk behind a token whose words end at the place `at`, where the next n tokens belong to its part of a second.
+fn walked(w: Walk, form: u16, n: u16, at: usize) -> Walk
+    ensures { λ r. ⌜ r ≡ walkAfter w form n at ⌝ }
+{
+    Walk {
+        at: at,
+        behind: seconds_at(form),
+        skip: n,
+        hours: hours_after(form, w.hours),
+        digit: digit_after(form, w.digit),
+        fills: fills_after(form, w.fills),
+    }
+}
+
+// The walk behind a token that belongs to a part of a second.
+fn passed(w: Walk) -> Walk
+    requires { ⌜ 0 < w .skip ⌝ }
+    ensures { λ r. ⌜ r ≡ walkPast w ⌝ }
+{
+    Walk {
+        at: w.at,
+        behind: false,
+        skip: w.skip - 1,
+        hours: w.hours,
+        digit: w.digit,
+        fills: w.fills,
+    }
+}
+
+// Goes over the token at the place i of the body, and puts its words.
+fn put_token(room: &mut [u16], w: Walk, code: &[u16], body: &[u16], i: usize, date: bool) -> Walk
+    requires { ⌜ (w .at < 2 ^ 60) × (w .digit < 2 ^ 15) × (length (now code) ≤ 254) × (length (now body) ≤ 762) × (i + 2 < length (now body)) ⌝ }
+    requires { ⌜ w .fills ≡ fillsLeft date w (tokensIn (now code) (drop i (now body))) ⌝ }
+    ensures { λ r. ⌜ Emitted date (tokensIn (now (code .entry)) (drop i (now (body .entry)))) (tokensIn (now (code .entry)) (drop (i + 3) (now (body .entry)))) (now (room .entry)) w r (now (room .exit)) ⌝ }
+{
+    if 0 < w.skip {
+        return passed(w);
+    }
+    let form = body[i];
+    let n = part_zeros(body, i + 3, form, date, w.behind);
+    let at = put_form(room, w, code, form, body[i + 1], body[i + 2], date, n);
+    walked(w, form, n, at)
+}
+
+// Puts the words of the items of a section's body at `at`. The body's tokens stand three words each; `date` says whether it is a
+// date's, `fills` how many fills it has, and `integers` how many integer places. Words past the room's end are counted, not put.
+pub fn put_items(
+    code: &[u16],
+    body: &[u16],
+    date: bool,
+    fills: u16,
+    integers: u16,
+    room: &mut [u16],
+    at: usize,
+) -> usize
+    requires { ⌜ (at < 2 ^ 59) × (length (now code) ≤ 254) × (length (now body) ≤ 762) × (integers ≤ 254) ⌝ }
+    requires { ⌜ date ≡ sameKind (bodyKind (tokensIn (now code) (now body))) dateKind ⌝ }
+    requires { ⌜ fills ≡ count isFillToken (tokensIn (now code) (now body)) ⌝ }
+    requires { ⌜ integers ≡ integerPlaces (bodyItems (tokensIn (now code) (now body))) ⌝ }
+    ensures { λ r. ⌜ Put (now (room .entry)) at (bodyWords (tokensIn (now (code .entry)) (now (body .entry)))) r (now (room .exit)) ⌝ }
+{
+    let mut w = Walk {
+        at: at,
+        behind: false,
+        skip: 0,
+        hours: false,
+        digit: 14 + integers,
+        fills: fills,
+    };
+    let mut i = 0;
+    while i + 2 < body.len() {
+        w = put_token(room, w, code, body, i, date);
+        i += 3;
+    }
+    w.at
+}
