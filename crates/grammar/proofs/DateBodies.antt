@@ -1,0 +1,296 @@
+-- Level 2, date bodies: they fit their kind and keep the limits exactly when NFDateTime derives them.
+-- Assumes nothing.
+use Prim.Native.Nat.{ℕ, suc, _≤_}
+use native.Mathlib.Omega.{arith}
+use mathlib.Core.Path.{_≡_, refl, sym, ap, _∙_}
+use mathlib.Core.Bool.{Bool, true, false, not, _&&_, and-false}
+use mathlib.Core.List.{List, [], _∷_, _++_}
+use mathlib.Core.Option.{Option}
+use borrow.Author.Tests.{not-true}
+use Rattle.lists.specs.Lists.{every, any, count}
+use Rattle.lists.proofs.Bools.{by-cases}
+use Rattle.formats.specs.Tokens.{Token, literal, blank, fill, place, point, half, run, elapsed, letterY, letterM, letterD, letterH, letterS, Elapsed, hours, minutes, seconds}
+use Rattle.formats.specs.Items as item
+use Rattle.formats.specs.Items.{Item, textKind, generalKind, dateKind, sameKind, itemAllowed, sortOf, isFill, isElapsed, Run, noRun, runOf, nearer, firstRun, settledItem, settledFrom, settled, isSecondsElapsed}
+use Rattle.formats.specs.Kinds.{isPlace, isPoint, noBracket, tokenMakes, bodyKind, isSolidus, startsWithPlace, solidusFrom, solidusFits, commasFit, isSecondsLetter, isSecondsToken, runItem, tokenItems, piecesFrom, dateItems, bodyItems, lastFill}
+use Rattle.formats.specs.Limits.{elapsedShort}
+use Rattle.grammar.specs.Bodies.{free-string, free-repeat, free-space, free-bare, Behind, behindOther, NFAbsTimeToken, NFPartAbsHour, NFPartAbsSecond, NFPartAbsMinute, NFDateTimeToken, NFPartYear, NFPartMonth, NFPartMonth-long, NFPartDay, NFPartHour, NFPartMinute, NFPartSecond, absolute, NFPartSubSecond, tenths, hundredths, thousandths, Between, between-free, between-AMPM, between-comma, between-point, DateTimeRest, rest-end, rest-token, rest-sub-second, rest-between, DateTimeFrom, from-token, from-between, isAbsolute, NFDateTime}
+use Rattle.grammar.proofs.Tests.{no, and-parts, every-parts, every-in}
+use Rattle.grammar.proofs.Kept.{sorts, count-kept, allowed-kept, foreign, no-integers, no-decimals, dropped-fill}
+use Rattle.grammar.proofs.Facts.{kept, Fitting}
+use Rattle.grammar.proofs.Plain.{inBody, has, kind-date, kind-has}
+use Rattle.grammar.proofs.PlainBodies.{body-tokens, body-brackets, NoSemicolon}
+use Rattle.grammar.proofs.DateItems.{dateItem, date-allowed, date-short, date-every, dates-apart, Counting, counting}
+use Rattle.grammar.proofs.Dates.{direct, direct-past, Dated, Dating, dating-run, dating-elapsed, dating, whole-items, between-items, sub-items, rest-start, rest-of, rest-dated}
+
+-- ---- the first date token
+
+-- a token that is no date token makes no date
+between-has : {t : Token} (ts : List Token) → Between t → has dateKind (t ∷ ts) ≡ has dateKind ts
+unfolding any tokenMakes
+between-has ts (between-free (free-string us)) = refl
+between-has ts (between-free (free-repeat u)) = refl
+between-has ts (between-free (free-space u)) = refl
+between-has ts (between-free (free-bare u)) = refl
+between-has ts (between-AMPM h) = refl
+between-has ts between-comma = refl
+between-has ts between-point = refl
+
+dating-has : {t : Token} (ts : List Token) → Dating t → has dateKind (t ∷ ts) ≡ true
+unfolding any tokenMakes
+dating-has ts (dating-run l n) = refl
+dating-has ts (dating-elapsed x n) = refl
+
+from-rest : {abs : Option Elapsed} {ts : List Token} → DateTimeRest abs behindOther ts → has dateKind ts ≡ true → DateTimeFrom abs ts
+unfolding any
+from-rest rest-end h = no h
+from-rest (rest-token x d) h = from-token x d
+from-rest (rest-between {ts = ts} x d) h = from-between x (from-rest d (rw (between-has ts x) at h))
+
+to-rest : {abs : Option Elapsed} {ts : List Token} → DateTimeFrom abs ts → DateTimeRest abs behindOther ts
+to-rest (from-token x d) = rest-token x d
+to-rest (from-between x d) = rest-between x (to-rest d)
+
+from-has : {abs : Option Elapsed} {ts : List Token} → DateTimeFrom abs ts → has dateKind ts ≡ true
+from-has (from-token {ts = ts} x d) = dating-has ts (dating x)
+from-has (from-between {ts = ts} x d) = between-has ts x ∙ from-has d
+
+-- ---- the tokens of a date
+
+-- a token of a date's body makes it neither text nor General
+abbrev dateToken : Token → Bool
+dateToken t = inBody t && (not (sameKind textKind (tokenMakes t)) && not (sameKind generalKind (tokenMakes t)))
+
+dating-token : {t : Token} → Dating t → dateToken t ≡ true
+unfolding tokenMakes noBracket
+dating-token (dating-run l n) = refl
+dating-token (dating-elapsed x n) = refl
+
+between-token : {t : Token} → Between t → dateToken t ≡ true
+unfolding tokenMakes noBracket
+between-token (between-free (free-string us)) = refl
+between-token (between-free (free-repeat u)) = refl
+between-token (between-free (free-space u)) = refl
+between-token (between-free (free-bare u)) = refl
+between-token (between-AMPM h) = refl
+between-token between-comma = refl
+between-token between-point = refl
+
+sub-tokens : {ts us : List Token} → NFPartSubSecond ts us → every dateToken us ≡ true → every dateToken ts ≡ true
+unfolding every tokenMakes noBracket
+sub-tokens tenths e = e
+sub-tokens hundredths e = e
+sub-tokens thousandths e = e
+
+rest-tokens : {abs : Option Elapsed} {b : Behind} {ts : List Token} → DateTimeRest abs b ts → every dateToken ts ≡ true
+unfolding every
+rest-tokens rest-end = refl
+rest-tokens (rest-token {t = t} {ts = ts} x d) = every-in dateToken t ts (dating-token (dating x)) (rest-tokens d)
+rest-tokens (rest-sub-second s d) = sub-tokens s (rest-tokens d)
+rest-tokens (rest-between {t = t} {ts = ts} x d) = every-in dateToken t ts (between-token x) (rest-tokens d)
+
+tokens-body : (ts : List Token) → every dateToken ts ≡ true → every inBody ts ≡ true
+unfolding every
+tokens-body [] e = refl
+tokens-body (t ∷ ts) e =
+    let (a, b) = every-parts dateToken t ts e in
+    every-in inBody t ts ((and-parts (inBody t) _ a) .0) (tokens-body ts b)
+
+tokens-text : (ts : List Token) → every dateToken ts ≡ true → has textKind ts ≡ false
+unfolding any
+tokens-text [] e = refl
+tokens-text (t ∷ ts) e =
+    let (a, b) = every-parts dateToken t ts e in
+    let (c, d) = and-parts (inBody t) (not (sameKind textKind (tokenMakes t)) && not (sameKind generalKind (tokenMakes t))) a in
+    let (f, g) = and-parts (not (sameKind textKind (tokenMakes t))) (not (sameKind generalKind (tokenMakes t))) d in
+    rw (not-true (sameKind textKind (tokenMakes t)) f) (tokens-text ts b)
+
+tokens-general : (ts : List Token) → every dateToken ts ≡ true → has generalKind ts ≡ false
+unfolding any
+tokens-general [] e = refl
+tokens-general (t ∷ ts) e =
+    let (a, b) = every-parts dateToken t ts e in
+    let (c, d) = and-parts (inBody t) (not (sameKind textKind (tokenMakes t)) && not (sameKind generalKind (tokenMakes t))) a in
+    let (f, g) = and-parts (not (sameKind textKind (tokenMakes t))) (not (sameKind generalKind (tokenMakes t))) d in
+    rw (not-true (sameKind generalKind (tokenMakes t)) g) (tokens-general ts b)
+
+-- no solidus stands before a place
+rest-solidus : {abs : Option Elapsed} {b : Behind} {ts : List Token} → DateTimeRest abs b ts → (d : Bool) → solidusFrom d ts ≡ true
+unfolding solidusFrom isSolidus startsWithPlace
+rest-solidus rest-end e = refl
+rest-solidus (rest-token {t = t} x d) e = rw (rest-start d, and-false (e && isSolidus t)) (rest-solidus d (isPlace t))
+rest-solidus (rest-sub-second tenths d) e = rw (and-false e) (rest-solidus d true)
+rest-solidus (rest-sub-second hundredths d) e = rw (and-false e) (rest-solidus d true)
+rest-solidus (rest-sub-second thousandths d) e = rw (and-false e) (rest-solidus d true)
+rest-solidus (rest-between {t = t} x d) e = rw (rest-start d, and-false (e && isSolidus t)) (rest-solidus d (isPlace t))
+
+-- ---- elapsed items and absolute tokens
+
+between-elapsed : {t : Token} (is : List Item) (ts : List Token) → Between t
+    → (count isElapsed (tokenItems true t ++ is) ≡ count isElapsed is) × (count isAbsolute (t ∷ ts) ≡ count isAbsolute ts)
+unfolding count tokenItems
+between-elapsed is ts (between-free (free-string [])) = (refl, refl)
+between-elapsed is ts (between-free (free-string (u ∷ us))) = ((between-elapsed is ts (between-free (free-string us))) .0, refl)
+between-elapsed is ts (between-free (free-repeat u)) = (refl, refl)
+between-elapsed is ts (between-free (free-space u)) = (refl, refl)
+between-elapsed is ts (between-free (free-bare u)) = (refl, refl)
+between-elapsed is ts (between-AMPM h) = (refl, refl)
+between-elapsed is ts between-comma = (refl, refl)
+between-elapsed is ts between-point = (refl, refl)
+
+-- the items of the tokens left, and how many of them are elapsed
+abbrev Alike : Behind → List Token → Type 0
+Alike b ts = count isElapsed (dateItems (piecesFrom (direct b) 0 ts)) ≡ count isAbsolute ts
+
+absolute-elapsed : {x : Elapsed} {t : Token} {c : Behind} (abs : Option Elapsed) (d : Bool) (ts : List Token) → NFAbsTimeToken x t c → Alike c ts
+    → count isElapsed (dateItems (piecesFrom d 0 (t ∷ ts))) ≡ count isAbsolute (t ∷ ts)
+unfolding count tokenItems isSecondsToken isSecondsElapsed
+absolute-elapsed abs d ts (NFPartAbsHour {n = n} h) e = rw (whole-items abs d (elapsed hours n) ts refl) (ap suc e)
+absolute-elapsed abs d ts (NFPartAbsSecond {n = n} h) e = rw (whole-items abs d (elapsed seconds n) ts refl) (ap suc e)
+absolute-elapsed abs d ts (NFPartAbsMinute {n = n} h) e = rw (whole-items abs d (elapsed minutes n) ts refl) (ap suc e)
+
+token-elapsed : {abs : Option Elapsed} {b c : Behind} {t : Token} (ts : List Token) → NFDateTimeToken abs b t c → Alike c ts → Alike b (t ∷ ts)
+unfolding count tokenItems runItem isSecondsToken isSecondsLetter
+token-elapsed {abs} {b} ts (NFPartYear {n = n}) e = rw (whole-items abs (direct b) (run letterY n) ts refl) e
+token-elapsed {abs} {b} ts (NFPartMonth {n = n} h) e = rw (whole-items abs (direct b) (run letterM n) ts refl) e
+token-elapsed {abs} {b} ts (NFPartMonth-long {n = n} h) e = rw (whole-items abs (direct b) (run letterM n) ts refl) e
+token-elapsed {abs} {b} ts (NFPartDay {n = n}) e = rw (whole-items abs (direct b) (run letterD n) ts refl) e
+token-elapsed {abs} {b} ts (NFPartHour {n = n} h) e = rw (whole-items abs (direct b) (run letterH n) ts refl) e
+token-elapsed {abs} ts (NFPartMinute {n = n} h k) e = rw (whole-items abs false (run letterM n) ts refl) e
+token-elapsed {abs} {b} ts (NFPartSecond {n = n} h) e = rw (whole-items abs (direct b) (run letterS n) ts refl) e
+token-elapsed {abs} {b} ts (absolute h x) e = absolute-elapsed abs (direct b) ts x e
+
+sub-absolute : {ts us : List Token} → NFPartSubSecond ts us → count isAbsolute ts ≡ count isAbsolute us
+unfolding count
+sub-absolute tenths = refl
+sub-absolute hundredths = refl
+sub-absolute thousandths = refl
+
+part-elapsed : (n : ℕ) (is : List Item) → count isElapsed (item.part n ∷ is) ≡ count isElapsed is
+unfolding count
+part-elapsed n is = refl
+
+rest-elapsed : {abs : Option Elapsed} {b : Behind} {ts : List Token} → DateTimeRest abs b ts → Alike b ts
+unfolding count piecesFrom dateItems
+rest-elapsed rest-end = refl
+rest-elapsed (rest-token {ts = ts} x d) = token-elapsed ts x (rest-elapsed d)
+rest-elapsed {abs} (rest-sub-second {us = us} s d) =
+    let (n, e) = sub-items abs (rest-start d) s in
+    rw e (part-elapsed n (dateItems (piecesFrom false 0 us)) ∙ rest-elapsed d ∙ sym (sub-absolute s))
+rest-elapsed {abs} {b} (rest-between {ts = ts} x d) =
+    let (e, f) = between-elapsed (dateItems (piecesFrom false 0 ts)) ts x in
+    rw (between-items abs b ts (rest-start d) x) (e ∙ (rw (direct-past b) at (rest-elapsed d)) ∙ sym f)
+
+-- ---- fills left out change no date
+
+fill-case : (P : Item → Type 0) → ((u : ℕ) → P (item.fill u)) → (i : Item) → sortOf i ≡ 2 → P i
+fill-case P f (item.fill u) e = f u
+fill-case P f (item.literal u) e = absurd (omega arith)
+fill-case P f (item.blank u) e = absurd (omega arith)
+fill-case P f (item.place p) e = absurd (omega arith)
+fill-case P f item.point e = absurd (omega arith)
+fill-case P f item.percent e = absurd (omega arith)
+fill-case P f item.general e = absurd (omega arith)
+fill-case P f item.at e = absurd (omega arith)
+fill-case P f (item.year n) e = absurd (omega arith)
+fill-case P f (item.month n) e = absurd (omega arith)
+fill-case P f (item.day n) e = absurd (omega arith)
+fill-case P f (item.hour n) e = absurd (omega arith)
+fill-case P f (item.minute n) e = absurd (omega arith)
+fill-case P f (item.second n) e = absurd (omega arith)
+fill-case P f (item.part n) e = absurd (omega arith)
+fill-case P f (item.elapsed x n) e = absurd (omega arith)
+fill-case P f (item.half h) e = absurd (omega arith)
+
+fill-run : (i : Item) → sortOf i ≡ 2 → runOf i ≡ noRun
+unfolding runOf
+fill-run i e = fill-case (λ (i : Item). runOf i ≡ noRun) (λ u. refl) i e
+
+first-fill : (is : List Item) → firstRun (lastFill is) ≡ firstRun is
+unfolding firstRun lastFill nearer
+first-fill [] = refl
+first-fill (i ∷ is) =
+    by-cases (isFill i && any isFill is)
+    (λ h. rw (h, fill-run i (dropped-fill i is h)) (first-fill is))
+    (λ h. rw (h, first-fill is))
+
+fill-dated : (abs : Option Elapsed) (r : Run) (is : List Item) (i : Item) → sortOf i ≡ 2
+    → every (dateItem abs) (settledFrom r (i ∷ is)) ≡ every (dateItem abs) (settledFrom r is)
+unfolding every settledFrom settledItem dateItem runOf nearer
+fill-dated abs r is i e =
+    fill-case (λ (i : Item). every (dateItem abs) (settledFrom r (i ∷ is)) ≡ every (dateItem abs) (settledFrom r is)) (λ u. refl) i e
+
+kept-front : (abs : Option Elapsed) (r : Run) (i : Item) (is : List Item)
+    → every (dateItem abs) (settledFrom (nearer (runOf i) r) (lastFill is)) ≡ every (dateItem abs) (settledFrom (nearer (runOf i) r) is)
+    → every (dateItem abs) (settledFrom r (i ∷ lastFill is)) ≡ every (dateItem abs) (settledFrom r (i ∷ is))
+unfolding every settledFrom
+kept-front abs r i is e = rw (first-fill is, e)
+
+dated-fill : (abs : Option Elapsed) (r : Run) (is : List Item) → every (dateItem abs) (settledFrom r (lastFill is)) ≡ every (dateItem abs) (settledFrom r is)
+unfolding lastFill
+dated-fill abs r [] = refl
+dated-fill abs r (i ∷ is) =
+    by-cases (isFill i && any isFill is)
+    (λ h. rw h (dated-fill abs r is ∙ sym (fill-dated abs r is i (dropped-fill i is h))))
+    (λ h. rw h (kept-front abs r i is (dated-fill abs (nearer (runOf i) r) is)))
+
+-- ---- NFDateTime
+
+pub date-tokens : (ts : List Token) → NFDateTime ts → every inBody ts ≡ true
+date-tokens ts d = tokens-body ts (rest-tokens (to-rest (d .tokens)))
+
+date-body : (ts : List Token) → bodyKind ts ≡ dateKind → bodyItems ts ≡ dateItems (piecesFrom false 0 ts)
+unfolding bodyItems
+date-body ts h = rw h
+
+-- with the unit that is counted, the tokens are derived
+date-of : (ts : List Token) → NoSemicolon ts → bodyKind ts ≡ dateKind → Fitting ts → Counting (kept ts) → NFDateTime ts
+unfolding settled
+date-of ts s h f c =
+    let items = date-body ts h in
+    let dated : Dated (c .abs) noRun (dateItems (piecesFrom false 0 ts)) = rw items at (sym (dated-fill (c .abs) noRun (bodyItems ts)) ∙ c .each) in
+    let rest : DateTimeRest (c .abs) behindOther ts = rest-of (c .abs) ts (body-tokens ts s (f .brackets)) behindOther noRun 0 (λ n k. refl) refl dated in
+    let few : count isElapsed (bodyItems ts) ≤ 1 = rw (count-kept 15 refl refl (bodyItems ts)) at (f .elapseds) in
+    record {
+      abs = c .abs;
+      tokens = from-rest rest (kind-has dateKind refl ts h);
+      absolute-once = rw (items, rest-elapsed rest) at few;
+    }
+
+pub derive-date : (ts : List Token) → NoSemicolon ts → bodyKind ts ≡ dateKind → Fitting ts → NFDateTime ts
+derive-date ts s h f =
+    let a : every (itemAllowed dateKind) (kept ts) ≡ true = allowed-kept dateKind (bodyItems ts) ∙ (rw h at (f .allowed)) in
+    date-of ts s h f (counting (kept ts) a (f .short) (f .elapseds) (f .apart))
+
+pub date-fits : (ts : List Token) → NFDateTime ts → (bodyKind ts ≡ dateKind) × Fitting ts
+unfolding commasFit solidusFits settled sorts
+date-fits ts d =
+    let rest = to-rest (d .tokens) in
+    let tokens = rest-tokens rest in
+    let h = kind-date ts (tokens-text ts tokens) (tokens-general ts tokens) (from-has (d .tokens)) in
+    let items = date-body ts h in
+    let dated : every (dateItem (d .abs)) (kept ts) ≡ true = rw items (dated-fill (d .abs) noRun (dateItems (piecesFrom false 0 ts)) ∙ rest-dated (d .abs) rest noRun refl) in
+    let a : every (itemAllowed dateKind) (bodyItems ts) ≡ true
+    = sym (allowed-kept dateKind (bodyItems ts)) ∙ date-every (d .abs) (itemAllowed dateKind) (date-allowed (d .abs)) (kept ts) dated in
+    let places : count item.isPlace (bodyItems ts) ≡ 0 = foreign dateKind 3 refl (bodyItems ts) a in
+    let points : count item.isPoint (bodyItems ts) ≡ 0 = foreign dateKind 4 refl (bodyItems ts) a in
+    let percents : count item.isPercent (bodyItems ts) ≡ 0 = foreign dateKind 5 refl (bodyItems ts) a in
+    let generals : count item.isGeneral (bodyItems ts) ≡ 0 = foreign dateKind 6 refl (bodyItems ts) a in
+    let once : count isElapsed (bodyItems ts) ≤ 1 = rw (items, rest-elapsed rest) (d .absolute-once) in (
+      h,
+      record {
+        brackets = body-brackets ts (tokens-body ts tokens);
+        commas = rw h;
+        solidus = rest-solidus rest false;
+        allowed = rw h a;
+        generals = omega arith;
+        points = omega arith;
+        elapseds = rw (count-kept 15 refl refl (bodyItems ts)) once;
+        apart = dates-apart (d .abs) (kept ts) dated;
+        wholes = omega (arith, no-integers (bodyItems ts) places);
+        decimals = omega (arith, no-decimals (bodyItems ts) places);
+        percents = omega arith;
+        divisions = rw h (omega arith);
+        short = date-every (d .abs) elapsedShort (date-short (d .abs)) (kept ts) dated;
+      },
+    )

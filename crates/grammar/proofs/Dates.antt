@@ -1,0 +1,413 @@
+-- Level 2, dates: the items of a date's tokens count one elapsed unit, or none, exactly when DateTimeRest derives the tokens.
+-- Assumes nothing.
+use Prim.Native.Nat.{ℕ, zero, suc, _≤_, min}
+use native.Mathlib.Omega.{arith}
+use mathlib.Core.Path.{_≡_, refl, sym, ap, subst, _∙_}
+use mathlib.Core.Bool.{Bool, true, false, cond, not, _&&_, true≢false, and-false}
+use mathlib.Core.List.{List, [], _∷_, _++_, map}
+use mathlib.Core.Logic.{_≢_}
+use mathlib.Core.Option.{Option, none, some}
+use lib.ListN.{drop}
+use lib.Seq.{drop-nil}
+use lib.Dec.{leb, eqb}
+use borrow.Author.Tests.{eqb-true, eqb-false, leb-true, leb-false, le-leb, lt-leb}
+use Rattle.lists.specs.Lists.{every}
+use Rattle.lists.proofs.Bools.{by-cases}
+use Rattle.formats.specs.Tokens.{Token, literal, bare, blank, fill, place, point, comma, percent, at, semicolon, general, half, run, elapsed, colour, condition, zeroPlace, hashPlace, spacePlace, Letter, letterY, letterM, letterD, letterH, letterS, Elapsed, hours, minutes, seconds}
+use Rattle.formats.specs.Items as item
+use Rattle.formats.specs.Items.{Item, Run, hourRun, secondRun, otherRun, noRun, runOf, runOfElapsed, nearer, firstRun, meansMinutes, monthOrMinute, settledItem, settledFrom, isSecondsElapsed}
+use Rattle.formats.specs.Kinds.{isPoint, isPlace, startsWithPlace, noBracket, whole, isSecondsLetter, isSecondsToken, isZeroIn, isZero, leadingZeros, partZeros, piecesFrom, runItem, tokenItems, pieceItems, dateItems}
+use Rattle.grammar.specs.Bodies.{free-string, free-repeat, free-space, free-bare, Behind, behindSeconds, behindHours, behindOther, past, NFAbsTimeToken, NFPartAbsHour, NFPartAbsSecond, NFPartAbsMinute, NFDateTimeToken, NFPartYear, NFPartMonth, NFPartMonth-long, NFPartDay, NFPartHour, NFPartMinute, NFPartSecond, absolute, NFPartSubSecond, tenths, hundredths, thousandths, Between, between-free, between-AMPM, between-comma, between-point, DateTimeRest, rest-end, rest-token, rest-sub-second, rest-between}
+use Rattle.grammar.proofs.Tests.{no, and-parts, every-parts}
+use Rattle.grammar.proofs.Plain.{inBody}
+use Rattle.grammar.proofs.DateItems.{counts, counts-some, some-counts, dateItem}
+
+-- ---- what stands before, as the tests see it
+
+abbrev pub direct : Behind → Bool
+direct behindSeconds = true
+direct behindHours = false
+direct behindOther = false
+
+abbrev behindHour : Behind → Bool
+behindHour behindSeconds = false
+behindHour behindHours = true
+behindHour behindOther = false
+
+abbrev isHourRun : Run → Bool
+isHourRun hourRun = true
+isHourRun secondRun = false
+isHourRun otherRun = false
+isHourRun noRun = false
+
+pub direct-past : (b : Behind) → direct (past b) ≡ false
+direct-past behindSeconds = refl
+direct-past behindHours = refl
+direct-past behindOther = refl
+
+hour-past : (b : Behind) → behindHour (past b) ≡ behindHour b
+hour-past behindSeconds = refl
+hour-past behindHours = refl
+hour-past behindOther = refl
+
+means-hour : (r s : Run) → meansMinutes r s ≡ isHourRun r
+unfolding meansMinutes
+means-hour hourRun s = refl
+means-hour secondRun s = refl
+means-hour otherRun s = refl
+means-hour noRun s = refl
+
+-- ---- the pieces of a date
+
+pieces-whole : (d : Bool) (t : Token) (ts : List Token) → isPoint t ≡ false → piecesFrom d 0 (t ∷ ts) ≡ whole t ∷ piecesFrom (isSecondsToken t) 0 ts
+unfolding piecesFrom partZeros
+pieces-whole d t ts e = rw (e, and-false d)
+
+-- a point that no zeros follow, or that stands elsewhere than behind seconds
+plain-point : (d : Bool) (ts : List Token) → (d ≡ true → leadingZeros ts ≡ 0) → dateItems (piecesFrom d 0 (point ∷ ts)) ≡ tokenItems true point ++ dateItems (piecesFrom false 0 ts)
+unfolding piecesFrom partZeros isSecondsToken dateItems pieceItems
+plain-point true ts z = rw (z refl)
+plain-point false ts z = refl
+
+module _ (abs : Option Elapsed) where
+  -- the items that follow, behind a run r, are a date's that counts abs
+  abbrev pub Dated : Run → List Item → Type 0
+  Dated r is = every (dateItem abs) (settledFrom r is) ≡ true
+
+  -- a literal in front, or another item that is no run
+  literals-dated : (r : Run) (us : List ℕ) (is : List Item) → every (dateItem abs) (settledFrom r (map item.literal us ++ is)) ≡ every (dateItem abs) (settledFrom r is)
+  unfolding every settledFrom settledItem dateItem runOf nearer
+  literals-dated r [] is = refl
+  literals-dated r (u ∷ us) is = literals-dated r us is
+
+  between-dated : {t : Token} (r : Run) (is : List Item) → Between t → every (dateItem abs) (settledFrom r (tokenItems true t ++ is)) ≡ every (dateItem abs) (settledFrom r is)
+  unfolding every settledFrom settledItem dateItem runOf nearer tokenItems
+  between-dated r is (between-free (free-string us)) = literals-dated r us is
+  between-dated r is (between-free (free-repeat u)) = refl
+  between-dated r is (between-free (free-space u)) = refl
+  between-dated r is (between-free (free-bare u)) = refl
+  between-dated r is (between-AMPM h) = refl
+  between-dated r is between-comma = refl
+  between-dated r is between-point = refl
+
+  -- ---- from the tests to the grammar
+
+  -- what is asked of the tokens left, some of them skipped
+  abbrev From : List Token → Type 0
+  From ts = (b : Behind) (r : Run) (skip : ℕ) → ((n : ℕ) → skip ≡ suc n → direct b ≡ false) → isHourRun r ≡ behindHour b
+      → Dated r (dateItems (piecesFrom (direct b) skip ts)) → DateTimeRest abs b (drop skip ts)
+
+  from-between : {t : Token} (ts : List Token) (b : Behind) (r : Run) → isHourRun r ≡ behindHour b → Between t
+      → Dated r (tokenItems true t ++ dateItems (piecesFrom false 0 ts)) → From ts → DateTimeRest abs b (t ∷ ts)
+  from-between ts b r h x e f =
+      rest-between x
+      (f (past b) r 0 (λ n k. direct-past b) (h ∙ sym (hour-past b))
+      (rw (direct-past b) (sym (between-dated r (dateItems (piecesFrom false 0 ts)) x) ∙ e)))
+
+  -- a token that is a whole piece, and no point
+  pub whole-items : (d : Bool) (t : Token) (ts : List Token) → isPoint t ≡ false → dateItems (piecesFrom d 0 (t ∷ ts)) ≡ tokenItems true t ++ dateItems (piecesFrom (isSecondsToken t) 0 ts)
+  unfolding dateItems pieceItems
+  whole-items d t ts e = rw (pieces-whole d t ts e)
+
+  -- zeros behind the point of a part of a second
+  zero-token : (t : Token) → isZero t ≡ true → t ≡ place zeroPlace
+  unfolding isZero isZeroIn
+  zero-token (place zeroPlace) e = refl
+  zero-token (place hashPlace) e = no e
+  zero-token (place spacePlace) e = no e
+  zero-token (literal us) e = no e
+  zero-token (bare u) e = no e
+  zero-token (blank u) e = no e
+  zero-token (fill u) e = no e
+  zero-token point e = no e
+  zero-token comma e = no e
+  zero-token percent e = no e
+  zero-token at e = no e
+  zero-token semicolon e = no e
+  zero-token general e = no e
+  zero-token (half h) e = no e
+  zero-token (run l n) e = no e
+  zero-token (elapsed x n) e = no e
+  zero-token (colour n) e = no e
+  zero-token (condition w) e = no e
+
+  zero-first : (t : Token) (ts : List Token) (n : ℕ) → suc n ≤ leadingZeros (t ∷ ts) → (t ≡ place zeroPlace) × (n ≤ leadingZeros ts)
+  unfolding leadingZeros
+  zero-first t ts n h =
+      by-cases (isZero t)
+      (λ e. let k : suc n ≤ suc (leadingZeros ts) = rw e at h in (zero-token t e, omega arith))
+      (λ e. let k : suc n ≤ 0 = rw e at h in absurd (omega arith))
+
+  one-zero : (ts : List Token) → 1 ≤ leadingZeros ts → ts ≡ place zeroPlace ∷ drop 1 ts
+  unfolding leadingZeros
+  one-zero [] h = absurd (omega arith)
+  one-zero (t ∷ ts) h = ap (λ (s : Token). s ∷ ts) ((zero-first t ts 0 h) .0)
+
+  two-zeros : (ts : List Token) → 2 ≤ leadingZeros ts → ts ≡ place zeroPlace ∷ place zeroPlace ∷ drop 2 ts
+  unfolding leadingZeros
+  two-zeros [] h = absurd (omega arith)
+  two-zeros (t ∷ ts) h =
+      let (z, k) = zero-first t ts 1 h in
+      ap (λ (s : Token). s ∷ ts) z ∙ ap (_∷_ (place zeroPlace)) (one-zero ts k)
+
+  three-zeros : (ts : List Token) → 3 ≤ leadingZeros ts → ts ≡ place zeroPlace ∷ place zeroPlace ∷ place zeroPlace ∷ drop 3 ts
+  unfolding leadingZeros
+  three-zeros [] h = absurd (omega arith)
+  three-zeros (t ∷ ts) h =
+      let (z, k) = zero-first t ts 2 h in
+      ap (λ (s : Token). s ∷ ts) z ∙ ap (_∷_ (place zeroPlace)) (two-zeros ts k)
+
+  sub-second : (n : ℕ) (ts : List Token) → n ≢ 0 → n ≤ 3 → n ≤ leadingZeros ts → NFPartSubSecond (point ∷ ts) (drop n ts)
+  sub-second zero ts h k l = absurd (h refl)
+  sub-second (suc zero) ts h k l = subst (λ (xs : List Token). NFPartSubSecond (point ∷ xs) (drop 1 ts)) (sym (one-zero ts l)) tenths
+  sub-second (suc (suc zero)) ts h k l = subst (λ (xs : List Token). NFPartSubSecond (point ∷ xs) (drop 2 ts)) (sym (two-zeros ts l)) hundredths
+  sub-second (suc (suc (suc zero))) ts h k l = subst (λ (xs : List Token). NFPartSubSecond (point ∷ xs) (drop 3 ts)) (sym (three-zeros ts l)) thousandths
+  sub-second (suc (suc (suc (suc n)))) ts h k l = absurd (omega arith)
+
+  part-dated : (r : Run) (n : ℕ) (is : List Item) → Dated r (item.part n ∷ is) → Dated r is
+  unfolding every settledFrom settledItem dateItem runOf nearer
+  part-dated r n is e = e
+
+  -- the point behind seconds: with zeros behind it a part of a second, else a literal
+  point-from : (ts : List Token) (r : Run) → isHourRun r ≡ false → Dated r (dateItems (piecesFrom true 0 (point ∷ ts))) → From ts
+      → DateTimeRest abs behindSeconds (point ∷ ts)
+  unfolding piecesFrom partZeros dateItems pieceItems isSecondsToken
+  point-from ts r h e f =
+      let n = min 3 (leadingZeros ts) in
+      by-cases (eqb n 0)
+      (λ z.
+      let none-there : n ≡ 0 = eqb-true n 0 z in
+      from-between ts behindSeconds r h between-point (rw none-there at e) f)
+      (λ z. rest-sub-second (sub-second n ts (eqb-false n 0 z) (omega arith) (omega arith)) (f behindOther r n (λ k l. refl) h (part-dated r n (dateItems (piecesFrom false n ts)) (rw z at e))))
+
+  not-counted : (x : Elapsed) → not (counts abs x) ≡ true → abs ≢ some x
+  not-counted x e h = no (sym (ap not (ap (λ (a : Option Elapsed). counts a x) h ∙ some-counts x)) ∙ e)
+
+  -- a run of m
+  other-than-hours : (b : Behind) → behindHour b ≡ false → b ≢ behindHours
+  other-than-hours b h e = no (sym h ∙ ap behindHour e)
+
+  is-minute : (n : ℕ) → leb n 2 ≡ true → dateItem abs (cond (true && leb n 2) (item.minute n) (item.month n)) ≡ true → not (counts abs minutes) ≡ true
+  unfolding dateItem
+  is-minute n k e = rw k at e
+
+  month-from : (n : ℕ) (ts : List Token) (b : Behind) (r : Run) → isHourRun r ≡ behindHour b → Dated r (item.month n ∷ dateItems (piecesFrom false 0 ts)) → From ts
+      → DateTimeRest abs b (run letterM n ∷ ts)
+  unfolding settledFrom settledItem runOf nearer monthOrMinute
+  month-from n ts behindSeconds r h e f =
+      rest-token (NFPartMonth (other-than-hours behindSeconds refl)) (f behindOther otherRun 0 (λ n k. refl) refl ((every-parts (dateItem abs) _ _ e) .1))
+  month-from n ts behindOther r h e f =
+      rest-token (NFPartMonth (other-than-hours behindOther refl)) (f behindOther otherRun 0 (λ n k. refl) refl ((every-parts (dateItem abs) _ _ e) .1))
+  month-from n ts behindHours r h e f =
+      let (e₁, e₂) = every-parts (dateItem abs) _ _ e in
+      let rest : DateTimeRest abs behindOther ts = f behindOther otherRun 0 (λ n k. refl) refl e₂ in
+      by-cases (leb n 2)
+      (λ k. rest-token (NFPartMinute (leb-true n 2 k) (not-counted minutes (is-minute n k (rw (means-hour r (firstRun (dateItems (piecesFrom false 0 ts))), h) at e₁)))) rest)
+      (λ k. let l = leb-false n 2 k in rest-token (NFPartMonth-long (omega arith)) rest)
+
+  -- a run or an elapsed token
+  hour-from : (n : ℕ) (ts : List Token) (b : Behind) (r : Run) → Dated r (item.hour n ∷ dateItems (piecesFrom false 0 ts)) → From ts → DateTimeRest abs b (run letterH n ∷ ts)
+  unfolding settledFrom settledItem runOf nearer dateItem
+  hour-from n ts b r e f =
+      let (e₁, e₂) = every-parts (dateItem abs) _ _ e in
+      rest-token (NFPartHour (not-counted hours e₁)) (f behindHours hourRun 0 (λ n k. refl) refl e₂)
+
+  second-from : (n : ℕ) (ts : List Token) (b : Behind) (r : Run) → Dated r (item.second n ∷ dateItems (piecesFrom true 0 ts)) → From ts → DateTimeRest abs b (run letterS n ∷ ts)
+  unfolding settledFrom settledItem runOf nearer dateItem
+  second-from n ts b r e f =
+      let (e₁, e₂) = every-parts (dateItem abs) _ _ e in
+      rest-token (NFPartSecond (not-counted seconds e₁)) (f behindSeconds secondRun 0 zero-only refl e₂)
+    where
+      zero-only : (n : ℕ) → 0 ≡ suc n → direct behindSeconds ≡ false
+      zero-only n k = absurd (omega arith)
+
+  elapsed-from : (x : Elapsed) (n : ℕ) (ts : List Token) (b : Behind) (r : Run) → Dated r (item.elapsed x n ∷ dateItems (piecesFrom (isSecondsElapsed x) 0 ts)) → From ts
+      → DateTimeRest abs b (elapsed x n ∷ ts)
+  unfolding settledFrom settledItem runOf runOfElapsed nearer dateItem isSecondsElapsed
+  elapsed-from hours n ts b r e f =
+      let (e₁, e₂) = every-parts (dateItem abs) _ _ e in
+      let (c, l) = and-parts (counts abs hours) (leb n 9) e₁ in
+      rest-token (absolute (counts-some abs hours c) (NFPartAbsHour (leb-true n 9 l))) (f behindHours hourRun 0 (λ n k. refl) refl e₂)
+  elapsed-from minutes n ts b r e f =
+      let (e₁, e₂) = every-parts (dateItem abs) _ _ e in
+      let (c, l) = and-parts (counts abs minutes) (leb n 9) e₁ in
+      rest-token (absolute (counts-some abs minutes c) (NFPartAbsMinute (leb-true n 9 l))) (f behindOther otherRun 0 (λ n k. refl) refl e₂)
+  elapsed-from seconds n ts b r e f =
+      let (e₁, e₂) = every-parts (dateItem abs) _ _ e in
+      let (c, l) = and-parts (counts abs seconds) (leb n 9) e₁ in
+      rest-token (absolute (counts-some abs seconds c) (NFPartAbsSecond (leb-true n 9 l))) (f behindSeconds secondRun 0 zero-only refl e₂)
+    where
+      zero-only : (n : ℕ) → 0 ≡ suc n → direct behindSeconds ≡ false
+      zero-only n k = absurd (omega arith)
+
+  plain-run-from : (t : Token) (i : Item) (ts : List Token) (b : Behind) (r : Run) → NFDateTimeToken abs b t behindOther
+      → ((is : List Item) → Dated r (i ∷ is) → Dated otherRun is) → Dated r (i ∷ dateItems (piecesFrom false 0 ts)) → From ts → DateTimeRest abs b (t ∷ ts)
+  plain-run-from t i ts b r x g e f = rest-token x (f behindOther otherRun 0 (λ n k. refl) refl (g (dateItems (piecesFrom false 0 ts)) e))
+
+  token-from : (t : Token) (ts : List Token) (b : Behind) (r : Run) → isHourRun r ≡ behindHour b → inBody t ≡ true
+      → Dated r (dateItems (piecesFrom (direct b) 0 (t ∷ ts))) → From ts → DateTimeRest abs b (t ∷ ts)
+  unfolding tokenItems runItem isSecondsToken isSecondsLetter noBracket every settledFrom settledItem dateItem runOf nearer
+  token-from (literal us) ts b r h i e f = from-between ts b r h (between-free (free-string us)) (rw (whole-items (direct b) (literal us) ts refl) at e) f
+  token-from (bare u) ts b r h i e f = from-between ts b r h (between-free (free-bare u)) (rw (whole-items (direct b) (bare u) ts refl) at e) f
+  token-from (blank u) ts b r h i e f = from-between ts b r h (between-free (free-space u)) (rw (whole-items (direct b) (blank u) ts refl) at e) f
+  token-from (fill u) ts b r h i e f = from-between ts b r h (between-free (free-repeat u)) (rw (whole-items (direct b) (fill u) ts refl) at e) f
+  token-from (place q) ts b r h i e f = no (rw (whole-items (direct b) (place q) ts refl) at e)
+  token-from point ts behindSeconds r h i e f = point-from ts r h e f
+  token-from point ts behindHours r h i e f = from-between ts behindHours r h between-point (rw (plain-point false ts (λ t. no t)) at e) f
+  token-from point ts behindOther r h i e f = from-between ts behindOther r h between-point (rw (plain-point false ts (λ t. no t)) at e) f
+  token-from comma ts b r h i e f = from-between ts b r h between-comma (rw (whole-items (direct b) comma ts refl) at e) f
+  token-from percent ts b r h i e f = no (rw (whole-items (direct b) percent ts refl) at e)
+  token-from at ts b r h i e f = no (rw (whole-items (direct b) at ts refl) at e)
+  token-from semicolon ts b r h i e f = no i
+  token-from general ts b r h i e f = no (rw (whole-items (direct b) general ts refl) at e)
+  token-from (half x) ts b r h i e f = from-between ts b r h (between-AMPM x) (rw (whole-items (direct b) (half x) ts refl) at e) f
+  token-from (run letterY n) ts b r h i e f = plain-run-from (run letterY n) (item.year n) ts b r NFPartYear (λ is d. d) (rw (whole-items (direct b) (run letterY n) ts refl) at e) f
+  token-from (run letterM n) ts b r h i e f = month-from n ts b r h (rw (whole-items (direct b) (run letterM n) ts refl) at e) f
+  token-from (run letterD n) ts b r h i e f = plain-run-from (run letterD n) (item.day n) ts b r NFPartDay (λ is d. d) (rw (whole-items (direct b) (run letterD n) ts refl) at e) f
+  token-from (run letterH n) ts b r h i e f = hour-from n ts b r (rw (whole-items (direct b) (run letterH n) ts refl) at e) f
+  token-from (run letterS n) ts b r h i e f = second-from n ts b r (rw (whole-items (direct b) (run letterS n) ts refl) at e) f
+  token-from (elapsed x n) ts b r h i e f = elapsed-from x n ts b r (rw (whole-items (direct b) (elapsed x n) ts refl) at e) f
+  token-from (colour n) ts b r h i e f = no i
+  token-from (condition w) ts b r h i e f = no i
+
+  pub rest-of : (ts : List Token) → every inBody ts ≡ true → From ts
+  unfolding piecesFrom
+  rest-of [] i b r skip c h e = rw (drop-nil {A = Token} skip) rest-end
+  rest-of (t ∷ ts) i b r (suc skip) c h e =
+      let d : direct b ≡ false = c skip refl in
+      rest-of ts ((every-parts inBody t ts i) .1) b r skip (λ n k. d) h (rw d e)
+  rest-of (t ∷ ts) i b r zero c h e =
+      let (i₁, i₂) = every-parts inBody t ts i in
+      token-from t ts b r h i₁ e (rest-of ts i₂)
+
+-- ---- from the grammar to the tests
+
+-- a date token is a run or an elapsed token
+pub data Dating : Token → Type 0 where
+  dating-run : (l : Letter) (n : ℕ) → Dating (run l n)
+  dating-elapsed : (x : Elapsed) (n : ℕ) → Dating (elapsed x n)
+
+pub dating : {abs : Option Elapsed} {b c : Behind} {t : Token} → NFDateTimeToken abs b t c → Dating t
+dating (NFPartYear {n = n}) = dating-run letterY n
+dating (NFPartMonth {n = n} h) = dating-run letterM n
+dating (NFPartMonth-long {n = n} h) = dating-run letterM n
+dating (NFPartDay {n = n}) = dating-run letterD n
+dating (NFPartHour {n = n} h) = dating-run letterH n
+dating (NFPartMinute {n = n} h k) = dating-run letterM n
+dating (NFPartSecond {n = n} h) = dating-run letterS n
+dating (absolute e (NFPartAbsHour {n = n} h)) = dating-elapsed hours n
+dating (absolute e (NFPartAbsSecond {n = n} h)) = dating-elapsed seconds n
+dating (absolute e (NFPartAbsMinute {n = n} h)) = dating-elapsed minutes n
+
+dating-place : {t : Token} → Dating t → isPlace t ≡ false
+dating-place (dating-run l n) = refl
+dating-place (dating-elapsed x n) = refl
+
+between-place : {t : Token} → Between t → isPlace t ≡ false
+between-place (between-free (free-string us)) = refl
+between-place (between-free (free-repeat u)) = refl
+between-place (between-free (free-space u)) = refl
+between-place (between-free (free-bare u)) = refl
+between-place (between-AMPM h) = refl
+between-place between-comma = refl
+between-place between-point = refl
+
+-- what DateTimeRest derives does not start with a place
+pub rest-start : {abs : Option Elapsed} {b : Behind} {ts : List Token} → DateTimeRest abs b ts → startsWithPlace ts ≡ false
+unfolding startsWithPlace
+rest-start rest-end = refl
+rest-start (rest-token x d) = dating-place (dating x)
+rest-start (rest-sub-second tenths d) = refl
+rest-start (rest-sub-second hundredths d) = refl
+rest-start (rest-sub-second thousandths d) = refl
+rest-start (rest-between x d) = between-place x
+
+no-zeros : (ts : List Token) → startsWithPlace ts ≡ false → leadingZeros ts ≡ 0
+unfolding startsWithPlace leadingZeros
+no-zeros [] e = refl
+no-zeros (t ∷ ts) e =
+    by-cases (isZero t)
+    (λ h. absurd (true≢false (rw (zero-token none t h) at e)))
+    (λ h. rw h)
+
+module _ (abs : Option Elapsed) where
+  counted-not : (x : Elapsed) → abs ≢ some x → not (counts abs x) ≡ true
+  counted-not x h = by-cases (counts abs x) (λ e. absurd (h (counts-some abs x e))) (λ e. rw e)
+
+  not-hours : (b : Behind) → b ≢ behindHours → behindHour b ≡ false
+  not-hours behindSeconds h = refl
+  not-hours behindHours h = absurd (h refl)
+  not-hours behindOther h = refl
+
+  -- what follows a date token is a date's
+  abbrev Follows : Behind → List Token → Type 0
+  Follows c ts = (r : Run) → isHourRun r ≡ behindHour c → Dated abs r (dateItems (piecesFrom (direct c) 0 ts))
+
+  absolute-dated : {x : Elapsed} {t : Token} {c : Behind} (d : Bool) (r : Run) (ts : List Token) → abs ≡ some x → NFAbsTimeToken x t c → Follows c ts
+      → Dated abs r (dateItems (piecesFrom d 0 (t ∷ ts)))
+  unfolding every settledFrom settledItem runOf runOfElapsed nearer dateItem tokenItems isSecondsToken isSecondsElapsed
+  absolute-dated d r ts e (NFPartAbsHour {n = n} h) f =
+      rw (whole-items abs d (elapsed hours n) ts refl, e, le-leb n 9 h) (rw e at (f hourRun refl))
+  absolute-dated d r ts e (NFPartAbsSecond {n = n} h) f =
+      rw (whole-items abs d (elapsed seconds n) ts refl, e, le-leb n 9 h) (rw e at (f secondRun refl))
+  absolute-dated d r ts e (NFPartAbsMinute {n = n} h) f =
+      rw (whole-items abs d (elapsed minutes n) ts refl, e, le-leb n 9 h) (rw e at (f otherRun refl))
+
+  -- a run of m that means a month
+  month-dated : (r : Run) (n : ℕ) (is : List Item) → (isHourRun r && leb n 2) ≡ false → Dated abs otherRun is → Dated abs r (item.month n ∷ is)
+  unfolding every settledFrom settledItem runOf nearer dateItem monthOrMinute
+  month-dated r n is h e = rw (means-hour r (firstRun is), h) e
+
+  token-dated : {b c : Behind} {t : Token} (r : Run) (ts : List Token) → isHourRun r ≡ behindHour b → NFDateTimeToken abs b t c → Follows c ts
+      → Dated abs r (dateItems (piecesFrom (direct b) 0 (t ∷ ts)))
+  unfolding every settledFrom settledItem runOf nearer dateItem tokenItems runItem isSecondsToken isSecondsLetter monthOrMinute
+  token-dated {b} r ts h (NFPartYear {n = n}) f = rw (whole-items abs (direct b) (run letterY n) ts refl) (f otherRun refl)
+  token-dated {b} r ts h (NFPartMonth {n = n} k) f =
+      rw (whole-items abs (direct b) (run letterM n) ts refl)
+      (month-dated r n (dateItems (piecesFrom false 0 ts)) (rw (h, not-hours b k)) (f otherRun refl))
+  token-dated {b} r ts h (NFPartMonth-long {n = n} k) f =
+      rw (whole-items abs (direct b) (run letterM n) ts refl)
+      (month-dated r n (dateItems (piecesFrom false 0 ts)) (rw (lt-leb n 2 k, and-false (isHourRun r))) (f otherRun refl))
+  token-dated {b} r ts h (NFPartDay {n = n}) f = rw (whole-items abs (direct b) (run letterD n) ts refl) (f otherRun refl)
+  token-dated {b} r ts h (NFPartHour {n = n} k) f =
+      rw (whole-items abs (direct b) (run letterH n) ts refl, counted-not hours k) (f hourRun refl)
+  token-dated r ts h (NFPartMinute {n = n} k l) f =
+      rw (whole-items abs false (run letterM n) ts refl, means-hour r (firstRun (dateItems (piecesFrom false 0 ts))), h, le-leb n 2 k, counted-not minutes l)
+      (f otherRun refl)
+  token-dated {b} r ts h (NFPartSecond {n = n} k) f =
+      rw (whole-items abs (direct b) (run letterS n) ts refl, counted-not seconds k) (f secondRun refl)
+  token-dated {b} r ts h (absolute e x) f = absolute-dated (direct b) r ts e x f
+
+  pub between-items : {t : Token} (b : Behind) (ts : List Token) → startsWithPlace ts ≡ false → Between t
+      → dateItems (piecesFrom (direct b) 0 (t ∷ ts)) ≡ tokenItems true t ++ dateItems (piecesFrom false 0 ts)
+  unfolding isSecondsToken
+  between-items b ts s (between-free (free-string us)) = whole-items abs (direct b) (literal us) ts refl
+  between-items b ts s (between-free (free-repeat u)) = whole-items abs (direct b) (fill u) ts refl
+  between-items b ts s (between-free (free-space u)) = whole-items abs (direct b) (blank u) ts refl
+  between-items b ts s (between-free (free-bare u)) = whole-items abs (direct b) (bare u) ts refl
+  between-items b ts s (between-AMPM h) = whole-items abs (direct b) (half h) ts refl
+  between-items b ts s between-comma = whole-items abs (direct b) comma ts refl
+  between-items b ts s between-point = plain-point (direct b) ts (λ t. no-zeros ts s)
+
+  -- the items of a part of a second
+  pub sub-items : {ts us : List Token} → startsWithPlace us ≡ false → NFPartSubSecond ts us
+      → (n : ℕ) × (dateItems (piecesFrom true 0 ts) ≡ item.part n ∷ dateItems (piecesFrom false 0 us))
+  unfolding piecesFrom partZeros leadingZeros isZero isZeroIn dateItems pieceItems isSecondsToken
+  sub-items s (tenths {ts = us}) = (1, rw (no-zeros us s))
+  sub-items s (hundredths {ts = us}) = (2, rw (no-zeros us s))
+  sub-items s (thousandths {ts = us}) = (3, rw (no-zeros us s))
+
+  dated-part : (r : Run) (n : ℕ) (is : List Item) → Dated abs r is → Dated abs r (item.part n ∷ is)
+  unfolding every settledFrom settledItem dateItem runOf nearer
+  dated-part r n is e = e
+
+  pub rest-dated : {b : Behind} {ts : List Token} → DateTimeRest abs b ts → (r : Run) → isHourRun r ≡ behindHour b → Dated abs r (dateItems (piecesFrom (direct b) 0 ts))
+  unfolding piecesFrom dateItems settledFrom every
+  rest-dated rest-end r h = refl
+  rest-dated (rest-token {ts = ts} x d) r h = token-dated r ts h x (rest-dated d)
+  rest-dated (rest-sub-second {us = us} s d) r h =
+      let (n, e) = sub-items (rest-start d) s in
+      rw e (dated-part r n (dateItems (piecesFrom false 0 us)) (rest-dated d r h))
+  rest-dated {b} (rest-between {ts = ts} x d) r h =
+      rw (between-items b ts (rest-start d) x)
+      (between-dated abs r (dateItems (piecesFrom false 0 ts)) x ∙ (rw (direct-past b) at (rest-dated d r (h ∙ sym (hour-past b)))))

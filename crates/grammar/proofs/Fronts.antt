@@ -1,0 +1,372 @@
+-- Level 1, from the grammar to lexing: a token that units spell is the token that lexing reads at their front.
+-- Assumes nothing.
+use Prim.Native.Nat.{ℕ, zero, suc, _+_, _-_, _*_, _≤_}
+use native.Mathlib.Omega.{arith}
+use mathlib.Core.Path.{_≡_, refl, sym, ap, _∙_}
+use mathlib.Core.Bool.{Bool, true, false, not, and-false}
+use mathlib.Core.List.{List, [], _∷_, _++_, map, append-nil}
+use mathlib.Core.Logic.{_≢_}
+use mathlib.Core.Option.{none, some}
+use Prim.Native.String.{String}
+use lib.ListN.{length, take, drop, replicate, length-append, length-replicate}
+use lib.Seq.{take-at, drop-at, drop-append-add, take-length, drop-length}
+use lib.Dec.{T, eqb}
+use borrow.Author.Tests.{ne-eqb, eq-eqb, le-leb}
+use Rattle.lists.specs.Lists.{every, any, isEmpty, All}
+use Rattle.lists.proofs.Bools.{cond-left, cond-right}
+use Rattle.calendar.specs.Names.{units}
+use Rattle.formats.specs.Tokens.{Token, literal, bare, run, elapsed, colour, condition, Letter, letterY, letterM, letterD, letterH, letterS, Elapsed, hours, minutes, seconds, Comparison, equal, less, greater, atMost, atLeast, unequal, Step, read, broken, before, leading, startsWith, same, quoted, marked, generalWord, halfDayWord, runAllowed, runStep, isDigit, digitOf, numberFrom, colourNames, namedFrom, noLeadingZero, colourDigits, numbered, elapsedInside, decimalsOf, wholeOf, signedOf, conditionInside, firstForm, insideOf, closed, bracketed, letter, firstRows, firstIn, bareLiterals, stepBy, stepAt}
+use Rattle.grammar.specs.Units.{Ended, WholeRun, Bracketed, ASCII-DIGIT, NFPartCompOper, oper-less, oper-at-most, oper-unequal, oper-equal, oper-greater, oper-at-least, NFPartIntNum, int-num, NFPartCondNum, cond-num-whole, cond-num-point, cond-num-minus, digit, NFPart1To56, one-digit, two-digits, fifty, fifties, INTL-COLOR, black, blue, cyan, green, magenta, red, white, yellow, BareLiteral, dollar, hyphen, plus, solidus, left-parenthesis, right-parenthesis, colon, exclamation, circumflex, ampersand, apostrophe, tilde, left-curly, right-curly, less-than, greater-than, equals, space, Spells, NFPartYear-2, NFPartYear-4, NFPartMonth, NFPartDay, NFPartHour, NFPartAbsHour, NFPartMinute, NFPartAbsMinute, NFPartSecond, NFPartAbsSecond, NFPartCond, NFPartColor-name, NFPartColor-number, NFPartNumToken1-number-sign, NFPartNumToken1-question-mark, NFPartNumToken1-zero, ASCII-PERCENT-SIGN, ASCII-COMMERCIAL-AT, ASCII-SEMICOLON, LITERAL-CHAR, LITERAL-CHAR-REPEAT, LITERAL-STRING, LITERAL-CHAR-SPACE, INTL-CHAR-DECIMAL-SEP, INTL-CHAR-NUMGRP-SEP, bare-literal, INTL-NUMFMT-GENERAL, INTL-AMPM-long, INTL-AMPM-short}
+
+-- the step from the first of the units
+abbrev pub stepOf : List ℕ → Step
+stepOf [] = broken
+stepOf (u ∷ us) = stepAt u us
+
+-- lexing reads t at the front of us and leaves vs
+pub record Front (t : Token) (us vs : List ℕ) : Type 0 where
+  pub more : ℕ
+  pub step : stepOf us ≡ read t more
+  pub left : drop (suc more) us ≡ vs
+
+-- ---- units in front of others
+
+leading-all : (f : ℕ → Bool) (ws vs : List ℕ) → All (λ (w : ℕ). f w ≡ true) ws → leading f vs ≡ 0 → leading f (ws ++ vs) ≡ length ws
+unfolding leading
+leading-all f [] vs a e = e
+leading-all f (w ∷ ws) vs a e = rw (a .0) (ap suc (leading-all f ws vs (a .1) e))
+
+all-same : (u n : ℕ) → All (λ (w : ℕ). eqb u w ≡ true) (replicate n u)
+all-same u zero = tt
+all-same u (suc n) = (eq-eqb u u refl, all-same u n)
+
+leading-other : (u : ℕ) (vs : List ℕ) → Ended u vs → leading (eqb u) vs ≡ 0
+unfolding leading
+leading-other u [] h = refl
+leading-other u (v ∷ vs) h = rw (ne-eqb u v (λ e. h (sym e)))
+
+-- the first q behind units without one
+before-all : (q : ℕ) (ws vs : List ℕ) → All (λ (w : ℕ). w ≢ q) ws → before q (ws ++ q ∷ vs) ≡ length ws
+unfolding before
+before-all q [] vs a = rw (eq-eqb q q refl)
+before-all q (w ∷ ws) vs a = rw (ne-eqb w q (a .0)) (ap suc (before-all q ws vs (a .1)))
+
+-- what is left behind ws and one more
+past : (q : ℕ) (ws vs : List ℕ) → drop (suc (length ws)) (ws ++ q ∷ vs) ≡ vs
+past q ws vs =
+    let e : suc (length ws) ≡ length ws + 1 = omega arith in
+    rw e (drop-append-add ws (q ∷ vs) 1)
+
+not-whole : (q : ℕ) (ws vs : List ℕ) → eqb (length ws) (length (ws ++ q ∷ vs)) ≡ false
+not-whole q ws vs = ne-eqb (length ws) (length (ws ++ q ∷ vs)) (λ e. omega (arith, length-append ws (q ∷ vs)))
+
+-- ---- runs
+
+run-front : (l : Letter) (u n : ℕ) (us vs : List ℕ) → firstIn firstRows u ≡ letter l → 1 ≤ n → runAllowed l n ≡ true
+    → WholeRun u n us vs → Front (run l n) us vs
+unfolding stepAt stepBy runStep
+run-front l u zero us vs e h a r = absurd (omega arith)
+run-front l u (suc m) us vs e h a r =
+    let n : leading (eqb u) (replicate m u ++ vs) ≡ m
+    = leading-all (eqb u) (replicate m u) vs (all-same u m) (leading-other u vs (r .ends)) ∙ length-replicate m u in
+    record {
+      more = m;
+      step = rw (r .stands, e, n, a);
+      left = rw (r .stands) (drop-at (replicate m u) vs m (length-replicate m u));
+    }
+
+-- ---- brackets
+
+bracket-front : (t : Token) (ws us vs : List ℕ) → All (λ (w : ℕ). w ≢ 93) ws → insideOf ws ≡ some t → Bracketed ws us vs → Front t us vs
+unfolding stepAt stepBy firstIn firstRows bracketed closed
+bracket-front t ws us vs a i e =
+    record {
+      more = suc (length ws);
+      step = rw (e, before-all 93 ws vs a, not-whole 93 ws vs, take-at ws (93 ∷ vs) (length ws) refl, i);
+      left = rw e (past 93 ws vs);
+    }
+
+-- no name in front of these units
+none-named : (n : ℕ) (names : List String) (us : List ℕ) → T (every (λ (name : String). not (startsWith (units name) us)) names) → namedFrom n names us ≡ none
+unfolding every namedFrom same
+none-named n [] us t = refl
+none-named n (name ∷ names) us t =
+    let a : T (not (startsWith (units name) us)) = cond-left (not (startsWith (units name) us)) _ t in
+    let b : startsWith (units name) us ≡ false = not-so (startsWith (units name) us) a in
+    rw (b, and-false (eqb (length (units name)) (length us))) (none-named (suc n) names us (cond-right (not (startsWith (units name) us)) _ t))
+  where
+    not-so : (b : Bool) → T (not b) → b ≡ false
+    not-so true t = absurd t
+    not-so false t = refl
+
+named-inside : (n : ℕ) (ws : List ℕ) → INTL-COLOR n ws → insideOf ws ≡ some (colour n)
+unfolding insideOf firstForm namedFrom colourNames same startsWith units
+named-inside n ws black = refl
+named-inside n ws blue = refl
+named-inside n ws cyan = refl
+named-inside n ws green = refl
+named-inside n ws magenta = refl
+named-inside n ws red = refl
+named-inside n ws white = refl
+named-inside n ws yellow = refl
+
+named-open : (n : ℕ) (ws : List ℕ) → INTL-COLOR n ws → T (every (λ (w : ℕ). not (eqb w 93)) ws)
+unfolding every units
+named-open n ws black = tt
+named-open n ws blue = tt
+named-open n ws cyan = tt
+named-open n ws green = tt
+named-open n ws magenta = tt
+named-open n ws red = tt
+named-open n ws white = tt
+named-open n ws yellow = tt
+
+-- ---- no closing bracket inside a bracket
+
+abbrev Open : List ℕ → Type 0
+Open ws = All (λ (w : ℕ). w ≢ 93) ws
+
+open-append : (ws vs : List ℕ) → Open ws → Open vs → Open (ws ++ vs)
+open-append [] vs a b = b
+open-append (w ∷ ws) vs a b = (a .0, open-append ws vs (a .1) b)
+
+open-from : (ws : List ℕ) → T (every (λ (w : ℕ). not (eqb w 93)) ws) → Open ws
+unfolding every
+open-from [] t = tt
+open-from (w ∷ ws) t = ((λ e. absurd (rw (eq-eqb w 93 e) at (cond-left (not (eqb w 93)) _ t))), open-from ws (cond-right (not (eqb w 93)) _ t))
+
+open-digits : (ws : List ℕ) → All ASCII-DIGIT ws → Open ws
+open-digits [] a = tt
+open-digits (w ∷ ws) a = ((λ e. let h = a .0 .1 in omega arith), open-digits ws (a .1))
+
+open-same : (u n : ℕ) → u ≢ 93 → Open (replicate n u)
+open-same u zero h = tt
+open-same u (suc n) h = (h, open-same u n h)
+
+-- ---- digits
+
+digit-true : (u : ℕ) → ASCII-DIGIT u → isDigit u ≡ true
+unfolding isDigit
+digit-true u d = rw (le-leb 48 u (d .0), le-leb u 57 (d .1))
+
+digits-true : (ws : List ℕ) → All ASCII-DIGIT ws → All (λ (w : ℕ). isDigit w ≡ true) ws
+digits-true [] a = tt
+digits-true (w ∷ ws) a = (digit-true w (a .0), digits-true ws (a .1))
+
+every-true : (f : ℕ → Bool) (ws : List ℕ) → All (λ (w : ℕ). f w ≡ true) ws → every f ws ≡ true
+unfolding every
+every-true f [] a = refl
+every-true f (w ∷ ws) a = rw (a .0) (every-true f ws (a .1))
+
+-- ---- numbered colours
+
+one-number : (u : ℕ) → 49 ≤ u → u ≤ 57 → colourDigits (u ∷ []) ≡ some (colour (digit u))
+unfolding colourDigits noLeadingZero every numberFrom digitOf
+one-number u a b =
+    let e : 10 * 0 + (u - 48) ≡ u - 48 = omega arith in
+    rw (ne-eqb u 48 (λ h. omega arith), digit-true u (omega arith, b), e, le-leb (u - 48) 56 (omega arith))
+
+two-number : (u v : ℕ) → 49 ≤ u → u ≤ 57 → ASCII-DIGIT v → 10 * digit u + digit v ≤ 56 → colourDigits (u ∷ v ∷ []) ≡ some (colour (10 * digit u + digit v))
+unfolding colourDigits noLeadingZero every numberFrom digitOf
+two-number u v a b d h =
+    let e : 10 * (10 * 0 + (u - 48)) + (v - 48) ≡ 10 * (u - 48) + (v - 48) = omega arith in
+    rw (ne-eqb u 48 (λ h. omega arith), digit-true u (omega arith, b), digit-true v d, e, le-leb (10 * (u - 48) + (v - 48)) 56 h)
+
+number-digits : (n : ℕ) (ws : List ℕ) → NFPart1To56 n ws → colourDigits ws ≡ some (colour n)
+number-digits n ws (one-digit u d) = one-number u (d .0) (d .1)
+number-digits n ws (two-digits u v d e) =
+    let a = d .0 in let b = d .1 in let c = e .0 in let f = e .1 in
+    two-number u v a (omega arith) e (omega arith)
+number-digits n ws fifty = two-number 53 48 (omega arith) (omega arith) (omega arith, omega arith) (omega arith)
+number-digits n ws (fifties v d) =
+    let a = d .0 in let b = d .1 in
+    two-number 53 v (omega arith) (omega arith) (omega arith, omega arith) (omega arith)
+
+number-open : (n : ℕ) (ws : List ℕ) → NFPart1To56 n ws → Open ws
+number-open n ws (one-digit u d) = let a = d .1 in ((λ e. omega arith), tt)
+number-open n ws (two-digits u v d e) = let a = d .1 in let b = e .1 in ((λ e. omega arith), ((λ e. omega arith), tt))
+number-open n ws fifty = ((λ e. omega arith), ((λ e. omega arith), tt))
+number-open n ws (fifties v d) = let b = d .1 in ((λ e. omega arith), ((λ e. omega arith), tt))
+
+number-inside : (n : ℕ) (ws : List ℕ) → NFPart1To56 n ws → insideOf (units "Color" ++ ws) ≡ some (colour n)
+unfolding insideOf firstForm numbered startsWith units every colourNames
+number-inside n ws d = rw (none-named 1 colourNames (units "Color" ++ ws) tt, number-digits n ws d)
+
+-- ---- elapsed runs
+
+hours-inside : (n : ℕ) → insideOf (replicate (suc n) 104) ≡ some (elapsed hours (suc n))
+unfolding insideOf firstForm numbered startsWith units elapsedInside isEmpty every colourNames
+hours-inside n =
+    rw (none-named 1 colourNames (replicate (suc n) 104) tt, every-true (eqb 104) (replicate n 104) (all-same 104 n), length-replicate {A = ℕ} n 104)
+
+minutes-inside : (n : ℕ) → insideOf (replicate (suc n) 109) ≡ some (elapsed minutes (suc n))
+unfolding insideOf firstForm numbered startsWith units elapsedInside isEmpty every colourNames
+minutes-inside n =
+    rw (none-named 1 colourNames (replicate (suc n) 109) tt, every-true (eqb 109) (replicate n 109) (all-same 109 n), length-replicate {A = ℕ} n 109)
+
+seconds-inside : (n : ℕ) → insideOf (replicate (suc n) 115) ≡ some (elapsed seconds (suc n))
+unfolding insideOf firstForm numbered startsWith units elapsedInside isEmpty every colourNames
+seconds-inside n =
+    rw (none-named 1 colourNames (replicate (suc n) 115) tt, every-true (eqb 115) (replicate n 115) (all-same 115 n), length-replicate {A = ℕ} n 115)
+
+-- ---- conditions
+
+abbrev pub conditionToken : Comparison → Bool → List ℕ → List ℕ → Token
+conditionToken c negative ws ds = condition (record { comparison = c; negative = negative; whole = map digit ws; decimals = map digit ds })
+
+int-digits : (ws : List ℕ) → NFPartIntNum ws → All ASCII-DIGIT ws
+int-digits ws (int-num u us a) = a
+
+digits-empty : (ws : List ℕ) → NFPartIntNum ws → isEmpty ws ≡ false
+unfolding isEmpty
+digits-empty ws (int-num u us a) = refl
+
+digits-some : (ws : List ℕ) → NFPartIntNum ws → eqb (length ws) 0 ≡ false
+digits-some ws (int-num u us a) = ne-eqb (suc (length us)) 0 (λ e. omega arith)
+
+whole-inside : (c : Comparison) (negative : Bool) (ws : List ℕ) → NFPartIntNum ws → wholeOf c negative ws ≡ some (conditionToken c negative ws [])
+unfolding wholeOf decimalsOf digitOf leading
+whole-inside c negative ws d =
+    let n : leading isDigit ws ≡ length ws
+    = ap (leading isDigit) (sym (append-nil ws)) ∙ leading-all isDigit ws [] (digits-true ws (int-digits ws d)) refl in
+    let t : take (length ws) ws ≡ ws = take-length ws in
+    let e : drop (length ws) ws ≡ [] = drop-length ws in
+    rw (n, digits-some ws d, t, e)
+
+point-inside : (c : Comparison) (negative : Bool) (ws ds : List ℕ) → NFPartIntNum ws → NFPartIntNum ds → wholeOf c negative (ws ++ 46 ∷ ds) ≡ some (conditionToken c negative ws ds)
+unfolding wholeOf decimalsOf digitOf leading isDigit
+point-inside c negative ws ds d e =
+    let n : leading isDigit (ws ++ 46 ∷ ds) ≡ length ws = leading-all isDigit ws (46 ∷ ds) (digits-true ws (int-digits ws d)) refl in
+    rw (n, digits-some ws d, take-at ws (46 ∷ ds) (length ws) refl, drop-at ws (46 ∷ ds) (length ws) refl, digits-empty ds e, every-true isDigit ds (digits-true ds (int-digits ds e)))
+
+-- a condition's number starts with a minus or a digit
+no-minus : (ws vs : List ℕ) → NFPartIntNum ws → startsWith (units "-") (ws ++ vs) ≡ false
+unfolding startsWith units
+no-minus ws vs (int-num u us a) = let b = a .0 .0 in rw (ne-eqb 45 u (λ e. omega arith))
+
+num-head : (w : ℕ) → 58 ≤ w → (ws vs : List ℕ) → NFPartIntNum ws → startsWith (w ∷ []) (ws ++ vs) ≡ false
+unfolding startsWith
+num-head w h ws vs (int-num u us a) = let b = a .0 .1 in rw (ne-eqb w u (λ e. omega arith))
+
+cond-head : (w : ℕ) → 58 ≤ w → {negative : Bool} {ws ds us : List ℕ} → NFPartCondNum negative ws ds us → startsWith (w ∷ []) us ≡ false
+unfolding startsWith
+cond-head w h (cond-num-whole {ws = ws} d) = rw (← (append-nil ws)) (num-head w h ws [] d)
+cond-head w h (cond-num-point {ws = ws} {ds = ds} us d e p) = rw p (num-head w h ws (46 ∷ ds) d)
+cond-head w h (cond-num-minus d) = rw (ne-eqb w 45 (λ e. omega arith))
+
+signed-inside : (c : Comparison) {negative : Bool} {ws ds us : List ℕ} → NFPartCondNum negative ws ds us → signedOf c us ≡ some (conditionToken c negative ws ds)
+unfolding signedOf startsWith units
+signed-inside c (cond-num-whole {ws = ws} d) =
+    let m : startsWith (units "-") ws ≡ false = rw (append-nil ws) at (no-minus ws [] d) in
+    rw m (whole-inside c false ws d)
+signed-inside c (cond-num-point {ws = ws} {ds = ds} us d e p) = rw (p, no-minus ws (46 ∷ ds) d) (point-inside c false ws ds d e)
+signed-inside c (cond-num-minus d) = minus-inside c d
+  where
+    minus-inside : (c : Comparison) {ws ds us : List ℕ} → NFPartCondNum false ws ds us → wholeOf c true us ≡ some (conditionToken c true ws ds)
+    minus-inside c (cond-num-whole {ws = ws} d) = whole-inside c true ws d
+    minus-inside c (cond-num-point {ws = ws} {ds = ds} us d e p) = rw p (point-inside c true ws ds d e)
+
+condition-inside : {c : Comparison} {negative : Bool} {os ws ds us : List ℕ} → NFPartCompOper c os → NFPartCondNum negative ws ds us
+    → insideOf (os ++ us) ≡ some (conditionToken c negative ws ds)
+unfolding insideOf firstForm numbered startsWith units elapsedInside isEmpty every colourNames conditionInside
+condition-inside {us = us} oper-less d =
+    rw (none-named 1 colourNames (60 ∷ us) tt, cond-head 61 (omega arith) d, cond-head 62 (omega arith) d) (signed-inside less d)
+condition-inside {us = us} oper-at-most d = rw (none-named 1 colourNames (60 ∷ 61 ∷ us) tt) (signed-inside atMost d)
+condition-inside {us = us} oper-unequal d = rw (none-named 1 colourNames (60 ∷ 62 ∷ us) tt) (signed-inside unequal d)
+condition-inside {us = us} oper-equal d = rw (none-named 1 colourNames (61 ∷ us) tt) (signed-inside equal d)
+condition-inside {us = us} oper-greater d =
+    rw (none-named 1 colourNames (62 ∷ us) tt, cond-head 61 (omega arith) d) (signed-inside greater d)
+condition-inside {us = us} oper-at-least d = rw (none-named 1 colourNames (62 ∷ 61 ∷ us) tt) (signed-inside atLeast d)
+
+oper-open : {c : Comparison} {os : List ℕ} → NFPartCompOper c os → Open os
+oper-open oper-less = ((λ e. omega arith), tt)
+oper-open oper-at-most = ((λ e. omega arith), ((λ e. omega arith), tt))
+oper-open oper-unequal = ((λ e. omega arith), ((λ e. omega arith), tt))
+oper-open oper-equal = ((λ e. omega arith), tt)
+oper-open oper-greater = ((λ e. omega arith), tt)
+oper-open oper-at-least = ((λ e. omega arith), ((λ e. omega arith), tt))
+
+cond-open : {negative : Bool} {ws ds us : List ℕ} → NFPartCondNum negative ws ds us → Open us
+cond-open (cond-num-whole {ws = ws} d) = open-digits ws (int-digits ws d)
+cond-open (cond-num-point {ws = ws} {ds = ds} us d e p) =
+    rw p (open-append ws (46 ∷ ds) (open-digits ws (int-digits ws d)) ((λ e. omega arith), open-digits ds (int-digits ds e)))
+cond-open (cond-num-minus d) = ((λ e. omega arith), cond-open d)
+
+-- ---- each form of token
+
+elapsed-front : (e : Elapsed) (u n : ℕ) (us vs : List ℕ) → u ≢ 93 → ((m : ℕ) → insideOf (replicate (suc m) u) ≡ some (elapsed e (suc m))) → 1 ≤ n
+    → Bracketed (replicate n u) us vs → Front (elapsed e n) us vs
+elapsed-front e u zero us vs h i l b = absurd (omega arith)
+elapsed-front e u (suc m) us vs h i l b = bracket-front (elapsed e (suc m)) (replicate (suc m) u) us vs (open-same u (suc m) h) (i m) b
+
+string-front : (u : ℕ) (ws us vs : List ℕ) → All (λ (w : ℕ). w ≢ 34) (u ∷ ws) → us ≡ 34 ∷ ((u ∷ ws) ++ 34 ∷ vs) → Front (literal (u ∷ ws)) us vs
+unfolding stepAt stepBy firstIn firstRows quoted
+string-front u ws us vs a e =
+    record {
+      more = suc (suc (length ws));
+      step = rw (
+        e,
+        before-all 34 (u ∷ ws) vs a,
+        ne-eqb (suc (length ws)) 0 (λ e. omega arith),
+        not-whole 34 (u ∷ ws) vs,
+        take-at (u ∷ ws) (34 ∷ vs) (suc (length ws)) refl,
+      );
+      left = rw e (past 34 (u ∷ ws) vs);
+    }
+
+bare-step : {u : ℕ} (us : List ℕ) → BareLiteral u → stepAt u us ≡ read (bare u) 0
+unfolding stepAt stepBy firstIn firstRows any bareLiterals units
+bare-step us dollar = refl
+bare-step us hyphen = refl
+bare-step us plus = refl
+bare-step us solidus = refl
+bare-step us left-parenthesis = refl
+bare-step us right-parenthesis = refl
+bare-step us colon = refl
+bare-step us exclamation = refl
+bare-step us circumflex = refl
+bare-step us ampersand = refl
+bare-step us apostrophe = refl
+bare-step us tilde = refl
+bare-step us left-curly = refl
+bare-step us right-curly = refl
+bare-step us less-than = refl
+bare-step us greater-than = refl
+bare-step us equals = refl
+bare-step us space = refl
+
+pub spells-front : {t : Token} {us vs : List ℕ} → Spells t us vs → Front t us vs
+unfolding stepAt stepBy firstIn firstRows marked generalWord halfDayWord startsWith units runAllowed every
+spells-front {us = us} {vs = vs} (NFPartYear-2 r) = run-front letterY 121 2 us vs refl (omega arith) refl r
+spells-front {us = us} {vs = vs} (NFPartYear-4 r) = run-front letterY 121 4 us vs refl (omega arith) refl r
+spells-front {us = us} {vs = vs} (NFPartMonth {n = n} h k r) = run-front letterM 109 n us vs refl h (rw (le-leb 1 n h, le-leb n 5 k)) r
+spells-front {us = us} {vs = vs} (NFPartDay {n = n} h k r) = run-front letterD 100 n us vs refl h (rw (le-leb 1 n h, le-leb n 4 k)) r
+spells-front {us = us} {vs = vs} (NFPartHour {n = n} h k r) = run-front letterH 104 n us vs refl h (rw (le-leb 1 n h, le-leb n 2 k)) r
+spells-front {us = us} {vs = vs} (NFPartAbsHour {n = n} h b) = elapsed-front hours 104 n us vs (λ e. omega arith) hours-inside h b
+spells-front {us = us} {vs = vs} (NFPartMinute {n = n} h k r) = run-front letterM 109 n us vs refl h (rw (le-leb 1 n h, le-leb n 5 (omega arith))) r
+spells-front {us = us} {vs = vs} (NFPartAbsMinute {n = n} h b) = elapsed-front minutes 109 n us vs (λ e. omega arith) minutes-inside h b
+spells-front {us = us} {vs = vs} (NFPartSecond {n = n} h k r) = run-front letterS 115 n us vs refl h (rw (le-leb 1 n h, le-leb n 2 k)) r
+spells-front {us = us} {vs = vs} (NFPartAbsSecond {n = n} h b) = elapsed-front seconds 115 n us vs (λ e. omega arith) seconds-inside h b
+spells-front {us = us} {vs = vs} (NFPartCond {os = os} {ns = ns} o d b) =
+    bracket-front _ (os ++ ns) us vs (open-append os ns (oper-open o) (cond-open d)) (condition-inside o d) b
+spells-front {us = us} {vs = vs} (NFPartColor-name {n = n} {ws = ws} d b) =
+    bracket-front (colour n) ws us vs (open-from ws (named-open n ws d)) (named-inside n ws d) b
+spells-front {us = us} {vs = vs} (NFPartColor-number {n = n} {ws = ws} d b) =
+    bracket-front (colour n) (units "Color" ++ ws) us vs
+    (open-append (units "Color") ws (open-from (units "Color") tt) (number-open n ws d)) (number-inside n ws d) b
+spells-front NFPartNumToken1-number-sign = record { more = 0; step = refl; left = refl }
+spells-front NFPartNumToken1-question-mark = record { more = 0; step = refl; left = refl }
+spells-front NFPartNumToken1-zero = record { more = 0; step = refl; left = refl }
+spells-front ASCII-PERCENT-SIGN = record { more = 0; step = refl; left = refl }
+spells-front ASCII-COMMERCIAL-AT = record { more = 0; step = refl; left = refl }
+spells-front ASCII-SEMICOLON = record { more = 0; step = refl; left = refl }
+spells-front LITERAL-CHAR = record { more = 1; step = refl; left = refl }
+spells-front LITERAL-CHAR-REPEAT = record { more = 1; step = refl; left = refl }
+spells-front {us = us} {vs = vs} (LITERAL-STRING {u = u} {ws = ws} a e) = string-front u ws us vs a e
+spells-front LITERAL-CHAR-SPACE = record { more = 1; step = refl; left = refl }
+spells-front INTL-CHAR-DECIMAL-SEP = record { more = 0; step = refl; left = refl }
+spells-front INTL-CHAR-NUMGRP-SEP = record { more = 0; step = refl; left = refl }
+spells-front {vs = vs} (bare-literal b) = record { more = 0; step = bare-step vs b; left = refl }
+spells-front (INTL-NUMFMT-GENERAL e) = record { more = 6; step = rw e; left = rw e }
+spells-front (INTL-AMPM-long e) = record { more = 4; step = rw e; left = rw e }
+spells-front (INTL-AMPM-short e) = record { more = 2; step = rw e; left = rw e }

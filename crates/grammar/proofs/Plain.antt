@@ -1,0 +1,182 @@
+-- Level 2, the bodies that are no dates: what each token of a body is, by the body's kind.
+-- Assumes nothing.
+use Prim.Native.Nat.{ℕ}
+use mathlib.Core.Path.{_≡_, refl, sym, _∙_}
+use mathlib.Core.Bool.{Bool, true, false, not, _&&_, true≢false}
+use mathlib.Core.List.{List, [], _∷_, map}
+use Rattle.lists.specs.Lists.{every, any}
+use Rattle.lists.proofs.Bools.{by-cases}
+use Rattle.lists.proofs.Counts.{every-both}
+use Rattle.formats.specs.Tokens.{Token, literal, bare, blank, fill, place, point, comma, percent, at, semicolon, general, half, run, elapsed, colour, condition, Place, Letter, letterY, letterM, letterD, letterH, letterS}
+use Rattle.formats.specs.Items as item
+use Rattle.formats.specs.Items.{Kind, textKind, generalKind, dateKind, numberKind, literalKind, sameKind, itemBelongs, itemAllowed, kindFrom}
+use Rattle.formats.specs.Kinds.{isSemicolon, noBracket, tokenMakes, bodyKind, tokenItems, runItem, plainItems}
+use Rattle.grammar.specs.Bodies.{Free, free-string, free-repeat, free-space, free-bare}
+use Rattle.grammar.proofs.Tests.{no, and-parts, both, every-parts, every-in}
+
+-- a token of a body: no semicolon, no colour, no condition
+abbrev pub inBody : Token → Bool
+inBody t = not (isSemicolon t) && noBracket t
+
+-- what a token of a body of kind k is, where that kind is no date
+pub data View : Kind → Token → Type 0 where
+  v-free : {k : Kind} {t : Token} → Free t → View k t
+  v-comma : {k : Kind} → View k comma
+  v-place : {q : Place} → View numberKind (place q)
+  v-point : View numberKind point
+  v-percent : View numberKind percent
+  v-at : View textKind at
+  v-general : View generalKind general
+
+-- the same of each token of a body
+pub data Views (k : Kind) : List Token → Type 0 where
+  v-end : Views k []
+  v-next : {t : Token} {ts : List Token} → View k t → Views k ts → Views k (t ∷ ts)
+
+run-allowed : (k : Kind) (l : Letter) (n : ℕ) → itemAllowed k (runItem l n) ≡ sameKind dateKind k
+unfolding itemAllowed itemBelongs runItem
+run-allowed k letterY n = refl
+run-allowed k letterM n = refl
+run-allowed k letterD n = refl
+run-allowed k letterH n = refl
+run-allowed k letterS n = refl
+
+abbrev allowed : Kind → Token → Bool
+allowed k t = every (itemAllowed k) (tokenItems false t)
+
+view : (k : Kind) (t : Token) → sameKind dateKind k ≡ false → inBody t ≡ true → allowed k t ≡ true → View k t
+unfolding every itemAllowed itemBelongs tokenItems noBracket
+view k (literal us) d b a = v-free (free-string us)
+view k (bare u) d b a = v-free (free-bare u)
+view k (blank u) d b a = v-free (free-space u)
+view k (fill u) d b a = v-free (free-repeat u)
+view numberKind (place q) d b a = v-place
+view textKind (place q) d b a = no a
+view generalKind (place q) d b a = no a
+view dateKind (place q) d b a = no a
+view literalKind (place q) d b a = no a
+view numberKind point d b a = v-point
+view textKind point d b a = no a
+view generalKind point d b a = no a
+view dateKind point d b a = no a
+view literalKind point d b a = no a
+view k comma d b a = v-comma
+view numberKind percent d b a = v-percent
+view textKind percent d b a = no a
+view generalKind percent d b a = no a
+view dateKind percent d b a = no a
+view literalKind percent d b a = no a
+view textKind at d b a = v-at
+view numberKind at d b a = no a
+view generalKind at d b a = no a
+view dateKind at d b a = no a
+view literalKind at d b a = no a
+view k semicolon d b a = no b
+view generalKind general d b a = v-general
+view textKind general d b a = no a
+view numberKind general d b a = no a
+view dateKind general d b a = no a
+view literalKind general d b a = no a
+view k (half h) d b a = no (rw d at a)
+view k (run l n) d b a = no (rw (run-allowed k l n, d) at a)
+view k (elapsed e n) d b a = no (rw d at a)
+view k (colour n) d b a = no b
+view k (condition w) d b a = no b
+
+pub all-views : (k : Kind) → sameKind dateKind k ≡ false → (ts : List Token) → every inBody ts ≡ true → every (itemAllowed k) (plainItems ts) ≡ true → Views k ts
+unfolding plainItems
+all-views k d [] b a = v-end
+all-views k d (t ∷ ts) b a =
+    let (b₁, b₂) = every-parts inBody t ts b in
+    let (a₁, a₂) = and-parts (allowed k t) (every (itemAllowed k) (plainItems ts)) (sym (every-both (itemAllowed k) (tokenItems false t) (plainItems ts)) ∙ a) in
+    v-next (view k t d b₁ a₁) (all-views k d ts b₂ a₂)
+
+-- and the other way round
+literals-allowed : (k : Kind) (us : List ℕ) → every (itemAllowed k) (map item.literal us) ≡ true
+unfolding every itemAllowed itemBelongs
+literals-allowed k [] = refl
+literals-allowed k (u ∷ us) = literals-allowed k us
+
+view-allowed : (k : Kind) (t : Token) → View k t → (inBody t ≡ true) × (allowed k t ≡ true)
+unfolding every itemAllowed itemBelongs tokenItems noBracket
+view-allowed k t (v-free (free-string us)) = (refl, literals-allowed k us)
+view-allowed k t (v-free (free-repeat u)) = (refl, refl)
+view-allowed k t (v-free (free-space u)) = (refl, refl)
+view-allowed k t (v-free (free-bare u)) = (refl, refl)
+view-allowed k t v-comma = (refl, refl)
+view-allowed k t v-place = (refl, refl)
+view-allowed k t v-point = (refl, refl)
+view-allowed k t v-percent = (refl, refl)
+view-allowed k t v-at = (refl, refl)
+view-allowed k t v-general = (refl, refl)
+
+pub views-body : {k : Kind} {ts : List Token} → Views k ts → every inBody ts ≡ true
+unfolding every
+views-body v-end = refl
+views-body {k} (v-next {t = t} {ts = ts} v vs) = every-in inBody t ts ((view-allowed k t v) .0) (views-body vs)
+
+pub views-allowed : {k : Kind} {ts : List Token} → Views k ts → every (itemAllowed k) (plainItems ts) ≡ true
+unfolding every plainItems
+views-allowed v-end = refl
+views-allowed {k} (v-next {t = t} {ts = ts} v vs) =
+    every-both (itemAllowed k) (tokenItems false t) (plainItems ts)
+    ∙ both (allowed k t) (every (itemAllowed k) (plainItems ts)) ((view-allowed k t v) .1) (views-allowed vs)
+
+-- ---- kinds
+
+-- a token of the body makes it of kind k
+abbrev pub has : Kind → List Token → Bool
+has k ts = any (sameKind k) (map tokenMakes ts)
+
+pub free-has : (k : Kind) → sameKind k literalKind ≡ false → {t : Token} (ts : List Token) → Free t → has k (t ∷ ts) ≡ has k ts
+unfolding any tokenMakes
+free-has k e ts (free-string us) = rw e
+free-has k e ts (free-repeat u) = rw e
+free-has k e ts (free-space u) = rw e
+free-has k e ts (free-bare u) = rw e
+
+-- no token of a body makes another kind
+pub views-has : {k : Kind} {ts : List Token} → Views k ts → (j : Kind) → sameKind j literalKind ≡ false → sameKind j k ≡ false → has j ts ≡ false
+unfolding any tokenMakes
+views-has v-end j e f = refl
+views-has (v-next {ts = ts} (v-free g) vs) j e f = free-has j e ts g ∙ views-has vs j e f
+views-has (v-next v-comma vs) j e f = rw e (views-has vs j e f)
+views-has (v-next v-place vs) j e f = rw f (views-has vs j e f)
+views-has (v-next v-point vs) j e f = rw e (views-has vs j e f)
+views-has (v-next v-percent vs) j e f = rw e (views-has vs j e f)
+views-has (v-next v-at vs) j e f = rw f (views-has vs j e f)
+views-has (v-next v-general vs) j e f = rw f (views-has vs j e f)
+
+pub kind-text : (ts : List Token) → has textKind ts ≡ true → bodyKind ts ≡ textKind
+unfolding bodyKind kindFrom
+kind-text ts a = rw a
+
+pub kind-general : (ts : List Token) → has textKind ts ≡ false → has generalKind ts ≡ true → bodyKind ts ≡ generalKind
+unfolding bodyKind kindFrom
+kind-general ts a b = rw (a, b)
+
+pub kind-date : (ts : List Token) → has textKind ts ≡ false → has generalKind ts ≡ false → has dateKind ts ≡ true → bodyKind ts ≡ dateKind
+unfolding bodyKind kindFrom
+kind-date ts a b c = rw (a, b, c)
+
+pub kind-number : (ts : List Token) → has textKind ts ≡ false → has generalKind ts ≡ false → has dateKind ts ≡ false → has numberKind ts ≡ true → bodyKind ts ≡ numberKind
+unfolding bodyKind kindFrom
+kind-number ts a b c d = rw (a, b, c, d)
+
+pub kind-literal : (ts : List Token) → has textKind ts ≡ false → has generalKind ts ≡ false → has dateKind ts ≡ false → has numberKind ts ≡ false → bodyKind ts ≡ literalKind
+unfolding bodyKind kindFrom
+kind-literal ts a b c d = rw (a, b, c, d)
+
+-- a body of a kind other than literal has a token that makes it so
+pub kind-has : (k : Kind) → sameKind k literalKind ≡ false → (ts : List Token) → bodyKind ts ≡ k → has k ts ≡ true
+unfolding bodyKind kindFrom
+kind-has k e ts h =
+    by-cases (has textKind ts) (λ a. found textKind (rw a at h) a) (λ a.
+    by-cases (has generalKind ts) (λ b. found generalKind (rw (a, b) at h) b) (λ b.
+    by-cases (has dateKind ts) (λ c. found dateKind (rw (a, b, c) at h) c) (λ c.
+    by-cases (has numberKind ts) (λ d. found numberKind (rw (a, b, c, d) at h) d) (λ d.
+    let last : literalKind ≡ k = rw (a, b, c, d) at h in
+    absurd (true≢false (rw (← last) at e))))))
+  where
+    found : (j : Kind) → j ≡ k → has j ts ≡ true → has k ts ≡ true
+    found j f g = rw f at g

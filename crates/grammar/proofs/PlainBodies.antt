@@ -1,0 +1,260 @@
+-- Level 2, text, General and literal bodies: they fit their kind exactly when NFText, NFGeneral or Literals derives them.
+-- Assumes nothing.
+use Prim.Native.Nat.{ℕ, suc, _≤_}
+use native.Mathlib.Omega.{arith}
+use mathlib.Core.Path.{_≡_, refl, ap, _∙_}
+use mathlib.Core.Bool.{true, false, not, true≢false}
+use mathlib.Core.List.{List, [], _∷_, _++_}
+use borrow.Author.Tests.{not-true}
+use lib.Dec.{eqb}
+use Rattle.lists.specs.Lists.{every, any, count}
+use Rattle.formats.specs.Tokens.{Token}
+use Rattle.formats.specs.Items as item
+use Rattle.formats.specs.Items.{Item, Kind, textKind, generalKind, dateKind, numberKind, literalKind, sameKind, sortOf, isGeneral, isPlace, isPercent, isPoint, isElapsed}
+use Rattle.formats.specs.Kinds.{isSemicolon, noBracket, bodyKind, tokenMakes, isMisplaced, commaUse, commaUsesFrom, commaUses, commasFit, solidusFrom, solidusFits, tokenItems, plainItems, bodyItems}
+use Rattle.grammar.specs.Bodies.{Free, free-string, free-repeat, free-space, free-bare, Literals, literals-end, literals-free, NFGeneral, general-word, general-free, TextRest, text-end, text-more, text-literal, NFText, text-at, text-free}
+use Rattle.grammar.proofs.Tests.{no, and-parts, both, every-parts, every-in}
+use Rattle.grammar.proofs.Quiet.{free-quiet, quiet-commas, quiet-solidus}
+use Rattle.grammar.proofs.Kept.{sorts, count-kept, foreign, short-none, plain-none, no-integers, no-decimals}
+use Rattle.grammar.proofs.Facts.{kept, Fitting}
+use Rattle.grammar.proofs.Plain.{inBody, v-free, v-comma, v-place, v-point, v-percent, v-at, v-general, Views, v-end, v-next, all-views, views-body, views-allowed, has, free-has, views-has, kind-text, kind-general, kind-literal, kind-has}
+
+-- ---- literals
+
+-- items of these sorts come of no literal
+pub free-count : (k : ℕ) → eqb 0 k ≡ false → eqb 1 k ≡ false → eqb 2 k ≡ false → {t : Token} (is : List Item) → Free t
+    → count (λ (i : Item). eqb (sortOf i) k) (tokenItems false t ++ is) ≡ count (λ (i : Item). eqb (sortOf i) k) is
+unfolding count tokenItems
+free-count k a b c is (free-string []) = refl
+free-count k a b c is (free-string (u ∷ us)) = rw a (free-count k a b c is (free-string us))
+free-count k a b c is (free-repeat u) = rw c
+free-count k a b c is (free-space u) = rw b
+free-count k a b c is (free-bare u) = rw a
+
+-- ---- what fitting says of such a body, and what makes it fit
+
+pub body-tokens : (ts : List Token) → every (λ (t : Token). not (isSemicolon t)) ts ≡ true → every noBracket ts ≡ true → every inBody ts ≡ true
+unfolding every
+body-tokens [] s b = refl
+body-tokens (t ∷ ts) s b =
+    let (s₁, s₂) = every-parts (λ (t : Token). not (isSemicolon t)) t ts s in
+    let (b₁, b₂) = every-parts noBracket t ts b in
+    every-in inBody t ts (both (not (isSemicolon t)) (noBracket t) s₁ b₁) (body-tokens ts s₂ b₂)
+
+pub body-brackets : (ts : List Token) → every inBody ts ≡ true → every noBracket ts ≡ true
+unfolding every
+body-brackets [] b = refl
+body-brackets (t ∷ ts) b =
+    let (b₁, b₂) = every-parts inBody t ts b in
+    every-in noBracket t ts ((and-parts (not (isSemicolon t)) (noBracket t) b₁) .1) (body-brackets ts b₂)
+
+pub body-plain : (ts : List Token) → every inBody ts ≡ true → every (λ (t : Token). not (isSemicolon t)) ts ≡ true
+unfolding every
+body-plain [] b = refl
+body-plain (t ∷ ts) b =
+    let (b₁, b₂) = every-parts inBody t ts b in
+    every-in (λ (t : Token). not (isSemicolon t)) t ts ((and-parts (not (isSemicolon t)) (noBracket t) b₁) .0) (body-plain ts b₂)
+
+pub plain-body : (ts : List Token) (k : Kind) → bodyKind ts ≡ k → sameKind k dateKind ≡ false → bodyItems ts ≡ plainItems ts
+unfolding bodyItems
+plain-body ts k h d = rw (h, d)
+
+pub record PlainFacts (k : Kind) (ts : List Token) : Type 0 where
+  pub views : Views k ts
+  pub placed : any isMisplaced (commaUsesFrom false false ts) ≡ false
+
+pub plain-facts : (ts : List Token) (k : Kind) → bodyKind ts ≡ k → sameKind dateKind k ≡ false → sameKind k dateKind ≡ false
+    → every (λ (t : Token). not (isSemicolon t)) ts ≡ true → Fitting ts → PlainFacts k ts
+unfolding commasFit commaUses
+plain-facts ts k h d d′ s f =
+    record {
+      views = all-views k d ts (body-tokens ts s (f .brackets)) (rw (plain-body ts k h d′, h) at (f .allowed));
+      placed = not-true (any isMisplaced (commaUsesFrom false false ts)) (rw (h, d′) at (f .commas));
+    }
+
+-- no place, so no solidus between two
+bare-solidus : {k : Kind} {ts : List Token} → Views k ts → sameKind k numberKind ≡ false → solidusFrom false ts ≡ true
+unfolding solidusFrom
+bare-solidus v-end n = refl
+bare-solidus (v-next {ts = ts} (v-free g) vs) n = quiet-solidus ts (free-quiet g) ∙ bare-solidus vs n
+bare-solidus (v-next v-comma vs) n = bare-solidus vs n
+bare-solidus (v-next v-place vs) n = absurd (true≢false n)
+bare-solidus (v-next v-point vs) n = bare-solidus vs n
+bare-solidus (v-next v-percent vs) n = bare-solidus vs n
+bare-solidus (v-next v-at vs) n = bare-solidus vs n
+bare-solidus (v-next v-general vs) n = bare-solidus vs n
+
+-- a body of literals, and of `@` or General, fits where it has no comma and General at most once
+quiet-fitting : (ts : List Token) (k : Kind) → bodyKind ts ≡ k → sameKind k dateKind ≡ false → sameKind k numberKind ≡ false
+    → sorts k 3 ≡ false → sorts k 4 ≡ false → sorts k 5 ≡ false → sorts k 15 ≡ false
+    → Views k ts → commaUsesFrom false false ts ≡ [] → count isGeneral (plainItems ts) ≤ 1 → Fitting ts
+unfolding commasFit commaUses solidusFits any
+quiet-fitting ts k h d n s₃ s₄ s₅ s₁₅ vs c g =
+    let a : every (item.itemAllowed k) (bodyItems ts) ≡ true = rw (plain-body ts k h d) (views-allowed vs) in
+    let places : count isPlace (bodyItems ts) ≡ 0 = foreign k 3 s₃ (bodyItems ts) a in
+    let points : count isPoint (bodyItems ts) ≡ 0 = foreign k 4 s₄ (bodyItems ts) a in
+    let percents : count isPercent (bodyItems ts) ≡ 0 = foreign k 5 s₅ (bodyItems ts) a in
+    let elapseds : count isElapsed (kept ts) ≡ 0 = count-kept 15 refl refl (bodyItems ts) ∙ foreign k 15 s₁₅ (bodyItems ts) a in
+    record {
+      brackets = body-brackets ts (views-body vs);
+      commas = rw (h, d, c);
+      solidus = bare-solidus vs n;
+      allowed = rw h a;
+      generals = rw (plain-body ts k h d) g;
+      points = omega arith;
+      elapseds = omega arith;
+      apart = plain-none (kept ts) elapseds;
+      wholes = omega (arith, no-integers (bodyItems ts) places);
+      decimals = omega (arith, no-decimals (bodyItems ts) places);
+      percents = omega arith;
+      divisions = rw (h, n) (omega arith);
+      short = short-none (kept ts) elapseds;
+    }
+
+-- ---- Literals
+
+literals-of : {ts : List Token} → Views literalKind ts → any isMisplaced (commaUsesFrom false false ts) ≡ false → Literals ts
+unfolding commaUsesFrom commaUse any
+literals-of v-end c = literals-end
+literals-of (v-next {ts = ts} (v-free g) vs) c = literals-free g (literals-of vs (rw (quiet-commas ts (free-quiet g) false false) at c))
+literals-of (v-next v-comma vs) c = absurd (true≢false c)
+
+pub literals-views : {k : Kind} {ts : List Token} → Literals ts → Views k ts
+literals-views literals-end = v-end
+literals-views (literals-free g d) = v-next (v-free g) (literals-views d)
+
+literals-commas : {ts : List Token} → Literals ts → commaUsesFrom false false ts ≡ []
+unfolding commaUsesFrom
+literals-commas literals-end = refl
+literals-commas (literals-free {ts = ts} g d) = quiet-commas ts (free-quiet g) false false ∙ literals-commas d
+
+literals-kind : (ts : List Token) → Literals ts → bodyKind ts ≡ literalKind
+literals-kind ts d =
+    let vs : Views literalKind ts = literals-views d in
+    kind-literal ts (views-has vs textKind refl refl) (views-has vs generalKind refl refl) (views-has vs dateKind refl refl) (views-has vs numberKind refl refl)
+
+literals-general : {ts : List Token} → Literals ts → count isGeneral (plainItems ts) ≡ 0
+unfolding count plainItems
+literals-general literals-end = refl
+literals-general (literals-free {ts = ts} g d) = free-count 6 refl refl refl (plainItems ts) g ∙ literals-general d
+
+-- no semicolon: a section is a code's part between semicolons
+abbrev pub NoSemicolon : List Token → Type 0
+NoSemicolon ts = every (λ (t : Token). not (isSemicolon t)) ts ≡ true
+
+pub derive-literals : (ts : List Token) → NoSemicolon ts → bodyKind ts ≡ literalKind → Fitting ts → Literals ts
+derive-literals ts s h f = let p = plain-facts ts literalKind h refl refl s f in literals-of (p .views) (p .placed)
+
+pub literals-fit : (ts : List Token) → Literals ts → (bodyKind ts ≡ literalKind) × Fitting ts
+unfolding sorts
+literals-fit ts d =
+    let h = literals-kind ts d in
+    let g = literals-general d in
+    (h, quiet-fitting ts literalKind h refl refl refl refl refl refl (literals-views d) (literals-commas d) (omega arith))
+
+-- ---- NFGeneral
+
+general-rest : {ts : List Token} → Views generalKind ts → any isMisplaced (commaUsesFrom false false ts) ≡ false → count isGeneral (plainItems ts) ≡ 0 → Literals ts
+unfolding commaUsesFrom commaUse any count plainItems tokenItems
+general-rest v-end c n = literals-end
+general-rest (v-next {ts = ts} (v-free g) vs) c n =
+    literals-free g (general-rest vs (rw (quiet-commas ts (free-quiet g) false false) at c) (rw (free-count 6 refl refl refl (plainItems ts) g) at n))
+general-rest (v-next v-comma vs) c n = absurd (true≢false c)
+general-rest (v-next v-general vs) c n = absurd (omega arith)
+
+general-of : {ts : List Token} → Views generalKind ts → any isMisplaced (commaUsesFrom false false ts) ≡ false → count isGeneral (plainItems ts) ≤ 1
+    → has generalKind ts ≡ true → NFGeneral ts
+unfolding commaUsesFrom commaUse any count plainItems tokenItems
+general-of v-end c n h = no h
+general-of (v-next {ts = ts} (v-free g) vs) c n h =
+    general-free g
+    (general-of vs (rw (quiet-commas ts (free-quiet g) false false) at c) (rw (free-count 6 refl refl refl (plainItems ts) g) at n) (rw (free-has generalKind refl ts g) at h))
+general-of (v-next v-comma vs) c n h = absurd (true≢false c)
+general-of (v-next v-general vs) c n h = general-word (general-rest vs c (omega arith))
+
+pub general-views : {ts : List Token} → NFGeneral ts → Views generalKind ts
+general-views (general-word d) = v-next v-general (literals-views d)
+general-views (general-free g d) = v-next (v-free g) (general-views d)
+
+general-commas : {ts : List Token} → NFGeneral ts → commaUsesFrom false false ts ≡ []
+unfolding commaUsesFrom
+general-commas (general-word d) = literals-commas d
+general-commas (general-free {ts = ts} g d) = quiet-commas ts (free-quiet g) false false ∙ general-commas d
+
+general-has : {ts : List Token} → NFGeneral ts → has generalKind ts ≡ true
+unfolding any tokenMakes
+general-has (general-word d) = refl
+general-has (general-free {ts = ts} g d) = free-has generalKind refl ts g ∙ general-has d
+
+general-once : {ts : List Token} → NFGeneral ts → count isGeneral (plainItems ts) ≡ 1
+unfolding count plainItems tokenItems
+general-once (general-word d) = ap suc (literals-general d)
+general-once (general-free {ts = ts} g d) = free-count 6 refl refl refl (plainItems ts) g ∙ general-once d
+
+pub derive-general : (ts : List Token) → NoSemicolon ts → bodyKind ts ≡ generalKind → Fitting ts → NFGeneral ts
+derive-general ts s h f =
+    let p = plain-facts ts generalKind h refl refl s f in
+    general-of (p .views) (p .placed) (rw (plain-body ts generalKind h refl) at (f .generals)) (kind-has generalKind refl ts h)
+
+pub general-fits : (ts : List Token) → NFGeneral ts → (bodyKind ts ≡ generalKind) × Fitting ts
+unfolding sorts
+general-fits ts d =
+    let vs = general-views d in
+    let h = kind-general ts (views-has vs textKind refl refl) (general-has d) in
+    let g = general-once d in
+    (h, quiet-fitting ts generalKind h refl refl refl refl refl refl vs (general-commas d) (omega arith))
+
+-- ---- NFText
+
+rest-views : {ts : List Token} → TextRest ts → Views textKind ts
+rest-views text-end = v-end
+rest-views (text-more d) = v-next v-at (rest-views d)
+rest-views (text-literal g d) = v-next (v-free g) (rest-views d)
+
+pub text-views : {ts : List Token} → NFText ts → Views textKind ts
+text-views (text-at d) = v-next v-at (rest-views d)
+text-views (text-free g d) = v-next (v-free g) (text-views d)
+
+rest-commas : {ts : List Token} → TextRest ts → commaUsesFrom false false ts ≡ []
+unfolding commaUsesFrom
+rest-commas text-end = refl
+rest-commas (text-more d) = rest-commas d
+rest-commas (text-literal {ts = ts} g d) = quiet-commas ts (free-quiet g) false false ∙ rest-commas d
+
+text-commas : {ts : List Token} → NFText ts → commaUsesFrom false false ts ≡ []
+unfolding commaUsesFrom
+text-commas (text-at d) = rest-commas d
+text-commas (text-free {ts = ts} g d) = quiet-commas ts (free-quiet g) false false ∙ text-commas d
+
+text-has : {ts : List Token} → NFText ts → has textKind ts ≡ true
+unfolding any tokenMakes
+text-has (text-at d) = refl
+text-has (text-free {ts = ts} g d) = free-has textKind refl ts g ∙ text-has d
+
+text-rest : {ts : List Token} → Views textKind ts → any isMisplaced (commaUsesFrom false false ts) ≡ false → TextRest ts
+unfolding commaUsesFrom commaUse any
+text-rest v-end c = text-end
+text-rest (v-next {ts = ts} (v-free g) vs) c = text-literal g (text-rest vs (rw (quiet-commas ts (free-quiet g) false false) at c))
+text-rest (v-next v-comma vs) c = absurd (true≢false c)
+text-rest (v-next v-at vs) c = text-more (text-rest vs c)
+
+text-of : {ts : List Token} → Views textKind ts → any isMisplaced (commaUsesFrom false false ts) ≡ false → has textKind ts ≡ true → NFText ts
+unfolding commaUsesFrom commaUse any
+text-of v-end c h = no h
+text-of (v-next {ts = ts} (v-free g) vs) c h =
+    text-free g (text-of vs (rw (quiet-commas ts (free-quiet g) false false) at c) (rw (free-has textKind refl ts g) at h))
+text-of (v-next v-comma vs) c h = absurd (true≢false c)
+text-of (v-next v-at vs) c h = text-at (text-rest vs c)
+
+pub derive-text : (ts : List Token) → NoSemicolon ts → bodyKind ts ≡ textKind → Fitting ts → NFText ts
+derive-text ts s h f =
+    let p = plain-facts ts textKind h refl refl s f in
+    text-of (p .views) (p .placed) (kind-has textKind refl ts h)
+
+pub text-fits : (ts : List Token) → NFText ts → (bodyKind ts ≡ textKind) × Fitting ts
+unfolding sorts
+text-fits ts d =
+    let vs = text-views d in
+    let h = kind-text ts (text-has d) in
+    let g = foreign textKind 6 refl (plainItems ts) (views-allowed vs) in
+    (h, quiet-fitting ts textKind h refl refl refl refl refl refl vs (text-commas d) (omega arith))

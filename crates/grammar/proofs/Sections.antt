@@ -1,0 +1,443 @@
+-- Level 2, sections: a section passes the tests for its place exactly when the rule for that place derives it.
+-- Assumes nothing.
+use Prim.Native.Nat.{ℕ, suc, _≤_}
+use native.Mathlib.Omega.{arith}
+use mathlib.Core.Path.{_≡_, refl, sym, _∙_}
+use mathlib.Core.Bool.{Bool, true, false, cond, not, _&&_, _||_}
+use mathlib.Core.List.{List, [], _∷_}
+use mathlib.Core.Option.{Option, none, some}
+use lib.ListN.{length}
+use lib.Dec.{leb, ltb, eqb}
+use borrow.Author.Tests.{leb-true, le-leb, eqb-true, not-true}
+use Rattle.lists.specs.Lists.{every, isSome}
+use Rattle.formats.specs.Tokens.{Token, literal, bare, blank, fill, place, point, comma, percent, at, semicolon, general, half, run, elapsed, colour, condition, Written}
+use Rattle.formats.specs.Items.{Kind, textKind, generalKind, dateKind, numberKind, literalKind, sameKind}
+use Rattle.formats.specs.Kinds.{isColour, isCondition, noBracket, Parts, colourIn, conditionIn, afterColour, partsOf, bodyKind, conditionOf, sectionOf, fits}
+use Rattle.formats.specs.Where.{implies, standsAt}
+use Rattle.formats.specs.Limits.{sectionWithin, writtenWithin, withinLimits}
+use Rattle.formats.proofs.Formed.{kind-of-section}
+use Rattle.grammar.specs.Bodies.{Literals, NFGeneral, NFNumber, NFDateTime, NFText}
+use Rattle.grammar.specs.Codes as codes
+use Rattle.grammar.specs.Codes.{OptColor, no-color, color, NFPartCond, OptCond, no-cond, some-cond, NFAny, any-number, any-text, any-date, any-general, any-literal, NFAnyNoText, no-text-number, no-text-date, no-text-general, no-text-literal, NFAnyNoCond, no-cond-number, no-cond-text, no-cond-date, no-cond-general, no-cond-literal, NFAnyNoTextNoCond, neither-number, neither-date, neither-general, neither-literal, Fourth, fourth-text, fourth-general, fourth-literal}
+use Rattle.grammar.proofs.Tests.{no, and-parts, every-parts}
+use Rattle.grammar.proofs.Facts.{Fitting, fitting, fits-fitting, within-fitting}
+use Rattle.grammar.proofs.Plain.{views-body}
+use Rattle.grammar.proofs.PlainBodies.{body-plain, NoSemicolon, literals-views, general-views, text-views, derive-literals, literals-fit, derive-general, general-fits, derive-text, text-fits}
+use Rattle.grammar.proofs.Numbers.{num-views}
+use Rattle.grammar.proofs.NumberBodies.{derive-number, number-fits}
+use Rattle.grammar.proofs.DateBodies.{date-tokens, derive-date, date-fits}
+
+-- ---- bodies
+
+-- the rule for a body of each kind
+abbrev pub Body : Kind → List Token → Type 0
+Body textKind ts = NFText ts
+Body generalKind ts = NFGeneral ts
+Body dateKind ts = NFDateTime ts
+Body numberKind ts = NFNumber ts
+Body literalKind ts = Literals ts
+
+derive-body : (k : Kind) (ts : List Token) → NoSemicolon ts → bodyKind ts ≡ k → Fitting ts → Body k ts
+derive-body textKind = derive-text
+derive-body generalKind = derive-general
+derive-body dateKind = derive-date
+derive-body numberKind = derive-number
+derive-body literalKind = derive-literals
+
+body-fits : (k : Kind) (ts : List Token) → Body k ts → (bodyKind ts ≡ k) × Fitting ts
+body-fits textKind = text-fits
+body-fits generalKind = general-fits
+body-fits dateKind = date-fits
+body-fits numberKind = number-fits
+body-fits literalKind = literals-fit
+
+-- ---- heads
+
+-- a colour of 1 to 56: every colour that units spell is above 0
+abbrev pub colourShown : Token → Bool
+colourShown t = cond (isColour t) (leb 1 (colourIn t)) true
+
+data Colored : ℕ → List Token → List Token → Type 0 where
+  uncolored : {ts : List Token} → Colored 0 ts ts
+  colored : {n : ℕ} {ts : List Token} → 1 ≤ n → Colored n (colour n ∷ ts) ts
+
+data Conditioned : Option Written → List Token → List Token → Type 0 where
+  unconditioned : {ts : List Token} → Conditioned none ts ts
+  conditioned : {w : Written} {ts : List Token} → Conditioned (some w) (condition w ∷ ts) ts
+
+-- a section and its parts
+data Headed (s : List Token) : Parts → Type 0 where
+  headed : {c : ℕ} {o : Option Written} {us vs : List Token} → Colored c s us → Conditioned o us vs
+      → Headed s (record { colour = c; condition = o; body = vs })
+
+after-headed : {s : List Token} (c : ℕ) (ts : List Token) → Colored c s ts → Headed s (afterColour c ts)
+unfolding afterColour conditionIn
+after-headed c [] h = headed h unconditioned
+after-headed c (condition w ∷ ts) h = headed h conditioned
+after-headed c (literal us ∷ ts) h = headed h unconditioned
+after-headed c (bare u ∷ ts) h = headed h unconditioned
+after-headed c (blank u ∷ ts) h = headed h unconditioned
+after-headed c (fill u ∷ ts) h = headed h unconditioned
+after-headed c (place p ∷ ts) h = headed h unconditioned
+after-headed c (point ∷ ts) h = headed h unconditioned
+after-headed c (comma ∷ ts) h = headed h unconditioned
+after-headed c (percent ∷ ts) h = headed h unconditioned
+after-headed c (at ∷ ts) h = headed h unconditioned
+after-headed c (semicolon ∷ ts) h = headed h unconditioned
+after-headed c (general ∷ ts) h = headed h unconditioned
+after-headed c (half x ∷ ts) h = headed h unconditioned
+after-headed c (run l n ∷ ts) h = headed h unconditioned
+after-headed c (elapsed x n ∷ ts) h = headed h unconditioned
+after-headed c (colour n ∷ ts) h = headed h unconditioned
+
+parts-headed : (s : List Token) → every colourShown s ≡ true → Headed s (partsOf s)
+unfolding partsOf colourIn
+parts-headed [] e = after-headed 0 [] uncolored
+parts-headed (colour n ∷ ts) e =
+    after-headed n ts (colored (leb-true 1 n ((every-parts colourShown (colour n) ts e) .0)))
+parts-headed (literal us ∷ ts) e = after-headed 0 (literal us ∷ ts) uncolored
+parts-headed (bare u ∷ ts) e = after-headed 0 (bare u ∷ ts) uncolored
+parts-headed (blank u ∷ ts) e = after-headed 0 (blank u ∷ ts) uncolored
+parts-headed (fill u ∷ ts) e = after-headed 0 (fill u ∷ ts) uncolored
+parts-headed (place p ∷ ts) e = after-headed 0 (place p ∷ ts) uncolored
+parts-headed (point ∷ ts) e = after-headed 0 (point ∷ ts) uncolored
+parts-headed (comma ∷ ts) e = after-headed 0 (comma ∷ ts) uncolored
+parts-headed (percent ∷ ts) e = after-headed 0 (percent ∷ ts) uncolored
+parts-headed (at ∷ ts) e = after-headed 0 (at ∷ ts) uncolored
+parts-headed (semicolon ∷ ts) e = after-headed 0 (semicolon ∷ ts) uncolored
+parts-headed (general ∷ ts) e = after-headed 0 (general ∷ ts) uncolored
+parts-headed (half x ∷ ts) e = after-headed 0 (half x ∷ ts) uncolored
+parts-headed (run l n ∷ ts) e = after-headed 0 (run l n ∷ ts) uncolored
+parts-headed (elapsed x n ∷ ts) e = after-headed 0 (elapsed x n ∷ ts) uncolored
+parts-headed (condition w ∷ ts) e = after-headed 0 (condition w ∷ ts) uncolored
+
+headed-plain : {s : List Token} {p : Parts} → Headed s p → NoSemicolon s → NoSemicolon (p .body)
+unfolding every
+headed-plain (headed uncolored unconditioned) n = n
+headed-plain (headed uncolored conditioned) n = n
+headed-plain (headed (colored h) unconditioned) n = n
+headed-plain (headed (colored h) conditioned) n = n
+
+opt-color : {c : ℕ} {s us : List Token} → Colored c s us → OptColor s us
+opt-color uncolored = no-color
+opt-color (colored h) = color
+
+part-cond : {w : Written} {us vs : List Token} → Conditioned (some w) us vs → writtenWithin (some w) ≡ true → NFPartCond us vs
+unfolding writtenWithin
+part-cond {w} conditioned e =
+    let (a, b) = and-parts (leb (length (w .whole)) 9) (leb (length (w .decimals)) 6) e in
+    codes.cond (leb-true (length (w .whole)) 9 a) (leb-true (length (w .decimals)) 6 b)
+
+opt-cond : {o : Option Written} {us vs : List Token} → Conditioned o us vs → writtenWithin o ≡ true → OptCond us vs
+opt-cond unconditioned e = no-cond
+opt-cond conditioned e = some-cond (part-cond conditioned e)
+
+-- ---- where a section may stand, by its colour, its condition and its kind
+
+unfoldable standsBy : ℕ → ℕ → ℕ → Bool → Kind → Bool
+standsBy n i c d k =
+    implies (sameKind k textKind) (eqb (suc i) n)
+    && implies (eqb n 1 && d) (sameKind k generalKind)
+    && implies d (ltb i 2)
+    && implies (sameKind k textKind) (not d)
+    && implies (eqb i 3) (sameKind k textKind || sameKind k generalKind || sameKind k literalKind)
+    && implies (eqb i 3) (eqb c 0 && not d)
+
+some-condition : (o : Option Written) → isSome (conditionOf o) ≡ isSome o
+unfolding isSome conditionOf
+some-condition none = refl
+some-condition (some w) = refl
+
+stands-by : (n i : ℕ) (p : Parts) → standsAt n i (sectionOf p) ≡ standsBy n i (p .colour) (isSome (p .condition)) (bodyKind (p .body))
+unfolding standsAt standsBy sectionOf
+stands-by n i p = rw (kind-of-section p, some-condition (p .condition))
+
+-- ---- a section passes the tests
+
+pub record Passes (n i : ℕ) (s : List Token) : Type 0 where
+  pub plain : NoSemicolon s
+  pub fitted : fits (partsOf s) ≡ true
+  pub stands : standsAt n i (sectionOf (partsOf s)) ≡ true
+  pub within : withinLimits (partsOf s) ≡ true
+
+-- what a section that passes is, in its parts
+record Derived (n i : ℕ) (s : List Token) (p : Parts) : Type 0 where
+  heads : Headed s p
+  body : Body (bodyKind (p .body)) (p .body)
+  written : writtenWithin (p .condition) ≡ true
+  where-to : standsBy n i (p .colour) (isSome (p .condition)) (bodyKind (p .body)) ≡ true
+
+passes-derived : (n i : ℕ) (s : List Token) → every colourShown s ≡ true → Passes n i s → Derived n i s (partsOf s)
+unfolding withinLimits
+passes-derived n i s c p =
+    let (w, l) = and-parts (writtenWithin ((partsOf s) .condition)) (sectionWithin (sectionOf (partsOf s))) (p .within) in
+    let h = parts-headed s c in
+    record {
+      heads = h;
+      body = derive-body (bodyKind ((partsOf s) .body)) ((partsOf s) .body) (headed-plain h (p .plain)) refl (fitting (partsOf s) (p .fitted) l);
+      written = w;
+      where-to = sym (stands-by n i (partsOf s)) ∙ p .stands;
+    }
+
+-- "only the first two" have a condition
+late-condition : {P : Type 0} (n i c : ℕ) (k : Kind) → ltb i 2 ≡ false → standsBy n i c true k ≡ true → P
+unfolding standsBy
+late-condition n i c k l e =
+    let a = implies (sameKind k textKind) (eqb (suc i) n) in
+    let b = implies (eqb n 1 && true) (sameKind k generalKind) in
+    let d = implies (sameKind k textKind) (not true) in
+    let f = implies (eqb i 3) (sameKind k textKind || sameKind k generalKind || sameKind k literalKind) in
+    let g = implies (eqb i 3) (eqb c 0 && not true) in
+    let e₅ = (and-parts (a && b && ltb i 2 && d && f) g e) .0 in
+    let e₄ = (and-parts (a && b && ltb i 2 && d) f e₅) .0 in
+    let e₃ = (and-parts (a && b && ltb i 2) d e₄) .0 in
+    no (sym l ∙ (and-parts (a && b) (ltb i 2) e₃) .1)
+
+any-of : {s : List Token} {p : Parts} (k : Kind) → Headed s p → Body k (p .body) → writtenWithin (p .condition) ≡ true
+    → standsBy 2 1 (p .colour) (isSome (p .condition)) k ≡ true → NFAny s
+unfolding standsBy isSome
+any-of numberKind (headed c d) b w e = any-number (opt-color c) (opt-cond d w) b
+any-of textKind (headed c unconditioned) b w e = any-text (opt-color c) b
+any-of textKind (headed c conditioned) b w e = no e
+any-of dateKind (headed c d) b w e = any-date (opt-color c) (opt-cond d w) b
+any-of generalKind (headed c d) b w e = any-general (opt-color c) (opt-cond d w) b
+any-of literalKind (headed c d) b w e = any-literal (opt-color c) (opt-cond d w) b
+
+no-text-of : {s : List Token} {p : Parts} (n i : ℕ) → eqb (suc i) n ≡ false → (k : Kind) → Headed s p → Body k (p .body) → writtenWithin (p .condition) ≡ true
+    → standsBy n i (p .colour) (isSome (p .condition)) k ≡ true → NFAnyNoText s
+unfolding standsBy
+no-text-of n i l numberKind (headed c d) b w e = no-text-number (opt-color c) (opt-cond d w) b
+no-text-of n i l textKind (headed c d) b w e = no (rw l at e)
+no-text-of n i l dateKind (headed c d) b w e = no-text-date (opt-color c) (opt-cond d w) b
+no-text-of n i l generalKind (headed c d) b w e = no-text-general (opt-color c) (opt-cond d w) b
+no-text-of n i l literalKind (headed c d) b w e = no-text-literal (opt-color c) (opt-cond d w) b
+
+-- a body without a condition
+uncond-of : {s us : List Token} (k : Kind) → OptColor s us → Body k us → NFAnyNoCond s
+uncond-of numberKind c b = no-cond-number c b
+uncond-of textKind c b = no-cond-text c b
+uncond-of dateKind c b = no-cond-date c b
+uncond-of generalKind c b = no-cond-general c b
+uncond-of literalKind c b = no-cond-literal c b
+
+third-of : {s : List Token} {p : Parts} (k : Kind) → Headed s p → Body k (p .body) → standsBy 3 2 (p .colour) (isSome (p .condition)) k ≡ true → NFAnyNoCond s
+unfolding isSome
+third-of k (headed c unconditioned) b e = uncond-of k (opt-color c) b
+third-of k (headed {c = n} c conditioned) b e = late-condition 3 2 n k refl e
+
+neither-of : {s : List Token} {p : Parts} (k : Kind) → Headed s p → Body k (p .body) → standsBy 4 2 (p .colour) (isSome (p .condition)) k ≡ true → NFAnyNoTextNoCond s
+unfolding isSome standsBy
+neither-of k (headed {c = n} c conditioned) b e = late-condition 4 2 n k refl e
+neither-of numberKind (headed c unconditioned) b e = neither-number (opt-color c) b
+neither-of textKind (headed c unconditioned) b e = no e
+neither-of dateKind (headed c unconditioned) b e = neither-date (opt-color c) b
+neither-of generalKind (headed c unconditioned) b e = neither-general (opt-color c) b
+neither-of literalKind (headed c unconditioned) b e = neither-literal (opt-color c) b
+
+coloured-fourth : {P : Type 0} (c : ℕ) (d : Bool) (k : Kind) → 1 ≤ c → standsBy 4 3 c d k ≡ true → P
+unfolding standsBy
+coloured-fourth c d k h e =
+    let others =
+    implies (sameKind k textKind) (eqb 4 4) && implies (eqb 4 1 && d) (sameKind k generalKind) && implies d (ltb 3 2)
+    && implies (sameKind k textKind) (not d) && implies (eqb 3 3) (sameKind k textKind || sameKind k generalKind || sameKind k literalKind) in
+    let last : (eqb c 0 && not d) ≡ true = (and-parts others (implies (eqb 3 3) (eqb c 0 && not d)) e) .1 in
+    let none-there : c ≡ 0 = eqb-true c 0 ((and-parts (eqb c 0) (not d) last) .0) in
+    absurd (omega arith)
+
+fourth-of : {s : List Token} {p : Parts} (k : Kind) → Headed s p → Body k (p .body) → standsBy 4 3 (p .colour) (isSome (p .condition)) k ≡ true → Fourth s
+unfolding isSome standsBy
+fourth-of k (headed {c = n} {o = o} (colored h) d) b e = coloured-fourth n (isSome o) k h e
+fourth-of k (headed uncolored conditioned) b e = late-condition 4 3 0 k refl e
+fourth-of numberKind (headed uncolored unconditioned) b e = no e
+fourth-of textKind (headed uncolored unconditioned) b e = fourth-text b
+fourth-of dateKind (headed uncolored unconditioned) b e = no e
+fourth-of generalKind (headed uncolored unconditioned) b e = fourth-general b
+fourth-of literalKind (headed uncolored unconditioned) b e = fourth-literal b
+
+one-of : {s : List Token} {p : Parts} (k : Kind) → Headed s p → Body k (p .body) → writtenWithin (p .condition) ≡ true
+    → standsBy 1 0 (p .colour) (isSome (p .condition)) k ≡ true → codes.All s
+unfolding isSome standsBy
+one-of k (headed c unconditioned) b w e = codes.all-one (uncond-of k (opt-color c) b)
+one-of numberKind (headed c conditioned) b w e = no e
+one-of textKind (headed c conditioned) b w e = no e
+one-of dateKind (headed c conditioned) b w e = no e
+one-of generalKind (headed c conditioned) b w e = codes.all-condition (opt-color c) (part-cond conditioned w) b
+one-of literalKind (headed c conditioned) b w e = no e
+
+-- the same from the tests
+module _ {s : List Token} (shown : every colourShown s ≡ true) where
+  pub derive-any : Passes 2 1 s → NFAny s
+  derive-any p = let d = passes-derived 2 1 s shown p in any-of (bodyKind ((partsOf s) .body)) (d .heads) (d .body) (d .written) (d .where-to)
+
+  pub derive-no-text : (n i : ℕ) → eqb (suc i) n ≡ false → Passes n i s → NFAnyNoText s
+  derive-no-text n i l p =
+      let d = passes-derived n i s shown p in no-text-of n i l (bodyKind ((partsOf s) .body)) (d .heads) (d .body) (d .written) (d .where-to)
+
+  pub derive-third : Passes 3 2 s → NFAnyNoCond s
+  derive-third p = let d = passes-derived 3 2 s shown p in third-of (bodyKind ((partsOf s) .body)) (d .heads) (d .body) (d .where-to)
+
+  pub derive-neither : Passes 4 2 s → NFAnyNoTextNoCond s
+  derive-neither p = let d = passes-derived 4 2 s shown p in neither-of (bodyKind ((partsOf s) .body)) (d .heads) (d .body) (d .where-to)
+
+  pub derive-fourth : Passes 4 3 s → Fourth s
+  derive-fourth p = let d = passes-derived 4 3 s shown p in fourth-of (bodyKind ((partsOf s) .body)) (d .heads) (d .body) (d .where-to)
+
+  pub derive-one : Passes 1 0 s → codes.All s
+  derive-one p = let d = passes-derived 1 0 s shown p in one-of (bodyKind ((partsOf s) .body)) (d .heads) (d .body) (d .written) (d .where-to)
+
+-- ---- from the rules to the tests
+
+body-tokens : (k : Kind) (ts : List Token) → Body k ts → NoSemicolon ts
+body-tokens textKind ts d = body-plain ts (views-body (text-views d))
+body-tokens generalKind ts d = body-plain ts (views-body (general-views d))
+body-tokens dateKind ts d = body-plain ts (date-tokens ts d)
+body-tokens numberKind ts d = body-plain ts (views-body (num-views (d .num)))
+body-tokens literalKind ts d = body-plain ts (views-body (literals-views {k = literalKind} d))
+
+-- the parts of a section that begins with these heads
+record Parted (s vs : List Token) (c : ℕ) (o : Option Written) : Type 0 where
+  parts : partsOf s ≡ record { colour = c; condition = o; body = vs }
+  written : writtenWithin o ≡ true
+  plain : NoSemicolon vs → NoSemicolon s
+
+no-brackets : (t : Token) → noBracket t ≡ true → (isColour t ≡ false) × (isCondition t ≡ false)
+unfolding noBracket
+no-brackets t e =
+    let (a, b) = and-parts (not (isColour t)) (not (isCondition t)) e in
+    (not-true (isColour t) a, not-true (isCondition t) b)
+
+after-body : (c : ℕ) (vs : List Token) → every noBracket vs ≡ true → afterColour c vs ≡ record { colour = c; condition = none; body = vs }
+unfolding afterColour
+after-body c [] e = refl
+after-body c (t ∷ ts) e = rw ((no-brackets t ((every-parts noBracket t ts e) .0)) .1)
+
+parts-body : (vs : List Token) → every noBracket vs ≡ true → partsOf vs ≡ record { colour = 0; condition = none; body = vs }
+unfolding partsOf
+parts-body [] e = after-body 0 [] e
+parts-body (t ∷ ts) e = rw ((no-brackets t ((every-parts noBracket t ts e) .0)) .0) (after-body 0 (t ∷ ts) e)
+
+-- without a condition
+record Uncond (s us : List Token) : Type 0 where
+  shade : ℕ
+  parted : Parted s us shade none
+
+uncond : {s us : List Token} → OptColor s us → every noBracket us ≡ true → Uncond s us
+unfolding partsOf colourIn writtenWithin every
+uncond {us = us} no-color e = record { shade = 0; parted = record { parts = parts-body us e; written = refl; plain = λ n. n } }
+uncond {us = us} (color {n = n}) e = record { shade = n; parted = record { parts = after-body n us e; written = refl; plain = λ n. n } }
+
+-- with a condition
+record WithCond (s vs : List Token) : Type 0 where
+  shade : ℕ
+  test : Written
+  parted : Parted s vs shade (some test)
+
+written-within : (w : Written) → length (w .whole) ≤ 9 → length (w .decimals) ≤ 6 → writtenWithin (some w) ≡ true
+unfolding writtenWithin
+written-within w a b = rw (le-leb (length (w .whole)) 9 a, le-leb (length (w .decimals)) 6 b)
+
+with-cond : {s us vs : List Token} → OptColor s us → NFPartCond us vs → WithCond s vs
+unfolding partsOf afterColour colourIn conditionIn every
+with-cond no-color (codes.cond {w = w} a b) =
+    record { shade = 0; test = w; parted = record { parts = refl; written = written-within w a b; plain = λ n. n } }
+with-cond (color {n = n}) (codes.cond {w = w} a b) =
+    record { shade = n; test = w; parted = record { parts = refl; written = written-within w a b; plain = λ n. n } }
+
+passes : (n i : ℕ) (k : Kind) {s vs : List Token} {c : ℕ} {o : Option Written} → Parted s vs c o → Body k vs → standsBy n i c (isSome o) k ≡ true → Passes n i s
+unfolding withinLimits
+passes n i k {s} {vs} {c} {o} p b e =
+    let (h, f) = body-fits k vs b in
+    let q : Parts = record { colour = c; condition = o; body = vs } in
+    record {
+      plain = p .plain (body-tokens k vs b);
+      fitted = rw (p .parts) (fits-fitting q f);
+      stands = rw (p .parts) (stands-by n i q ∙ (rw h e));
+      within = rw (p .parts, p .written) (within-fitting q f);
+    }
+
+-- a section that may have a condition
+maybe-passes : (n i : ℕ) (k : Kind) {s us vs : List Token} → ((c : ℕ) (d : Bool) → standsBy n i c d k ≡ true) → OptColor s us → OptCond us vs → Body k vs → Passes n i s
+unfolding isSome
+maybe-passes n i k {us = us} f c no-cond b =
+    let u = uncond c (((body-fits k us b) .1) .brackets) in
+    passes n i k (u .parted) b (f (u .shade) false)
+maybe-passes n i k f c (some-cond d) b = let u = with-cond c d in passes n i k (u .parted) b (f (u .shade) true)
+
+-- one that has none
+uncond-passes : (n i : ℕ) (k : Kind) {s us : List Token} → ((c : ℕ) → standsBy n i c false k ≡ true) → OptColor s us → Body k us → Passes n i s
+unfolding isSome
+uncond-passes n i k {us = us} f c b =
+    let u = uncond c (((body-fits k us b) .1) .brackets) in
+    passes n i k (u .parted) b (f (u .shade))
+
+early-stands : (n i : ℕ) (k : Kind) → eqb n 1 ≡ false → ltb i 2 ≡ true → eqb i 3 ≡ false → sameKind k textKind ≡ false → (c : ℕ) (d : Bool) → standsBy n i c d k ≡ true
+unfolding standsBy
+early-stands n i k a b e f c true = rw (a, b, e, f)
+early-stands n i k a b e f c false = rw (a, e, f)
+
+pub any-passes : {s : List Token} → NFAny s → Passes 2 1 s
+unfolding standsBy
+any-passes (any-number c d b) = maybe-passes 2 1 numberKind (early-stands 2 1 numberKind refl refl refl refl) c d b
+any-passes (any-text c b) = uncond-passes 2 1 textKind (λ c. refl) c b
+any-passes (any-date c d b) = maybe-passes 2 1 dateKind (early-stands 2 1 dateKind refl refl refl refl) c d b
+any-passes (any-general c d b) = maybe-passes 2 1 generalKind (early-stands 2 1 generalKind refl refl refl refl) c d b
+any-passes (any-literal c d b) = maybe-passes 2 1 literalKind (early-stands 2 1 literalKind refl refl refl refl) c d b
+
+pub no-text-passes : (n i : ℕ) → eqb n 1 ≡ false → ltb i 2 ≡ true → eqb i 3 ≡ false → {s : List Token} → NFAnyNoText s → Passes n i s
+no-text-passes n i a b e (no-text-number c d x) = maybe-passes n i numberKind (early-stands n i numberKind a b e refl) c d x
+no-text-passes n i a b e (no-text-date c d x) = maybe-passes n i dateKind (early-stands n i dateKind a b e refl) c d x
+no-text-passes n i a b e (no-text-general c d x) = maybe-passes n i generalKind (early-stands n i generalKind a b e refl) c d x
+no-text-passes n i a b e (no-text-literal c d x) = maybe-passes n i literalKind (early-stands n i literalKind a b e refl) c d x
+
+-- the last section of one or three
+last-passes : (n i : ℕ) → ((k : Kind) (c : ℕ) → standsBy n i c false k ≡ true) → {s : List Token} → NFAnyNoCond s → Passes n i s
+last-passes n i f (no-cond-number c b) = uncond-passes n i numberKind (f numberKind) c b
+last-passes n i f (no-cond-text c b) = uncond-passes n i textKind (f textKind) c b
+last-passes n i f (no-cond-date c b) = uncond-passes n i dateKind (f dateKind) c b
+last-passes n i f (no-cond-general c b) = uncond-passes n i generalKind (f generalKind) c b
+last-passes n i f (no-cond-literal c b) = uncond-passes n i literalKind (f literalKind) c b
+
+single-stands : (k : Kind) (c : ℕ) → standsBy 1 0 c false k ≡ true
+unfolding standsBy
+single-stands textKind c = refl
+single-stands generalKind c = refl
+single-stands dateKind c = refl
+single-stands numberKind c = refl
+single-stands literalKind c = refl
+
+third-stands : (k : Kind) (c : ℕ) → standsBy 3 2 c false k ≡ true
+unfolding standsBy
+third-stands textKind c = refl
+third-stands generalKind c = refl
+third-stands dateKind c = refl
+third-stands numberKind c = refl
+third-stands literalKind c = refl
+
+pub single-passes : {s : List Token} → NFAnyNoCond s → Passes 1 0 s
+single-passes d = last-passes 1 0 single-stands d
+
+pub third-passes : {s : List Token} → NFAnyNoCond s → Passes 3 2 s
+third-passes d = last-passes 3 2 third-stands d
+
+pub neither-passes : {s : List Token} → NFAnyNoTextNoCond s → Passes 4 2 s
+unfolding standsBy
+neither-passes (neither-number c b) = uncond-passes 4 2 numberKind (λ c. refl) c b
+neither-passes (neither-date c b) = uncond-passes 4 2 dateKind (λ c. refl) c b
+neither-passes (neither-general c b) = uncond-passes 4 2 generalKind (λ c. refl) c b
+neither-passes (neither-literal c b) = uncond-passes 4 2 literalKind (λ c. refl) c b
+
+-- a section that is its body
+bare-passes : (n i : ℕ) (k : Kind) (s : List Token) → standsBy n i 0 false k ≡ true → Body k s → Passes n i s
+unfolding isSome writtenWithin
+bare-passes n i k s e b =
+    passes n i k {o = none} (record { parts = parts-body s (((body-fits k s b) .1) .brackets); written = refl; plain = λ n. n }) b e
+
+pub fourth-passes : {s : List Token} → Fourth s → Passes 4 3 s
+unfolding standsBy
+fourth-passes {s} (fourth-text b) = bare-passes 4 3 textKind s refl b
+fourth-passes {s} (fourth-general b) = bare-passes 4 3 generalKind s refl b
+fourth-passes {s} (fourth-literal b) = bare-passes 4 3 literalKind s refl b
+
+pub condition-passes : {s us vs : List Token} → OptColor s us → NFPartCond us vs → NFGeneral vs → Passes 1 0 s
+unfolding standsBy isSome
+condition-passes c d b = let u = with-cond c d in passes 1 0 generalKind (u .parted) b refl

@@ -1,0 +1,98 @@
+-- Level 2, bodies to codes: the rules NFAny, NFAnyNoText, NFAnyNoCond, NFAnyNoTextNoCond and All of 004, and what derives a code.
+-- Assumes nothing.
+use Prim.Native.Nat.{ℕ, _≤_}
+use mathlib.Core.List.{List, _∷_, _++_}
+use mathlib.Core.Path.{_≡_}
+use lib.ListN.{length}
+use Rattle.formats.specs.Tokens.{Token, semicolon, colour, condition, Written}
+use Rattle.grammar.specs.Units.{Spelled}
+use Rattle.grammar.specs.Bodies.{Literals, NFGeneral, NFNumber, NFDateTime, NFText}
+
+-- A constructor is a production; comments as in `Bodies`. A rule with two lists takes the front of the first and leaves the second.
+
+-- ---- heads
+
+-- 004: [NFPartColor], narrowed, "At most one colour, then at most one condition, then the body": no literal stands before it
+pub data OptColor : List Token → List Token → Type 0 where
+  no-color : {ts : List Token} → OptColor ts ts
+  color : {n : ℕ} {ts : List Token} → OptColor (colour n ∷ ts) ts
+
+-- 004: NFPartCond. Added, "Limits (6): [..] condition numbers of 9 digits before and 6 after the point".
+pub data NFPartCond : List Token → List Token → Type 0 where
+  cond : {w : Written} {ts : List Token} → length (w .whole) ≤ 9 → length (w .decimals) ≤ 6 → NFPartCond (condition w ∷ ts) ts
+
+-- 004: [NFPartCond], narrowed as the colour is
+pub data OptCond : List Token → List Token → Type 0 where
+  no-cond : {ts : List Token} → OptCond ts ts
+  some-cond : {ts us : List Token} → NFPartCond ts us → OptCond ts us
+
+-- ---- sections
+
+-- The four rules are 004's. In each, NFFraction is cut ("Not now: [..] fractions"), and [NFDateTime] [NFGeneral] [NFDateTime] is
+-- narrowed ("Not now: [..] date tokens beside General") to NFDateTime, NFGeneral or neither of them.
+
+-- NFAny = [NFPartColor] (([NFPartCond] NFNumber) / NFText / ([NFPartCond] NFFraction) / ([NFPartCond] [NFDateTime] [NFGeneral] [NFDateTime]))
+pub data NFAny : List Token → Type 0 where
+  any-number : {ts us vs : List Token} → OptColor ts us → OptCond us vs → NFNumber vs → NFAny ts
+  any-text : {ts us : List Token} → OptColor ts us → NFText us → NFAny ts
+  any-date : {ts us vs : List Token} → OptColor ts us → OptCond us vs → NFDateTime vs → NFAny ts
+  any-general : {ts us vs : List Token} → OptColor ts us → OptCond us vs → NFGeneral vs → NFAny ts
+  any-literal : {ts us vs : List Token} → OptColor ts us → OptCond us vs → Literals vs → NFAny ts
+
+-- NFAnyNoText = [NFPartColor] [NFPartCond] (NFNumber / NFFraction / ([NFDateTime] [NFGeneral] [NFDateTime]))
+pub data NFAnyNoText : List Token → Type 0 where
+  no-text-number : {ts us vs : List Token} → OptColor ts us → OptCond us vs → NFNumber vs → NFAnyNoText ts
+  no-text-date : {ts us vs : List Token} → OptColor ts us → OptCond us vs → NFDateTime vs → NFAnyNoText ts
+  no-text-general : {ts us vs : List Token} → OptColor ts us → OptCond us vs → NFGeneral vs → NFAnyNoText ts
+  no-text-literal : {ts us vs : List Token} → OptColor ts us → OptCond us vs → Literals vs → NFAnyNoText ts
+
+-- NFAnyNoCond = [NFPartColor] (NFNumber / NFText / NFFraction / ([NFDateTime] [NFGeneral] [NFDateTime]))
+pub data NFAnyNoCond : List Token → Type 0 where
+  no-cond-number : {ts us : List Token} → OptColor ts us → NFNumber us → NFAnyNoCond ts
+  no-cond-text : {ts us : List Token} → OptColor ts us → NFText us → NFAnyNoCond ts
+  no-cond-date : {ts us : List Token} → OptColor ts us → NFDateTime us → NFAnyNoCond ts
+  no-cond-general : {ts us : List Token} → OptColor ts us → NFGeneral us → NFAnyNoCond ts
+  no-cond-literal : {ts us : List Token} → OptColor ts us → Literals us → NFAnyNoCond ts
+
+-- NFAnyNoTextNoCond = [NFPartColor] (NFNumber / NFFraction / ([NFDateTime] [NFGeneral] [NFDateTime]))
+pub data NFAnyNoTextNoCond : List Token → Type 0 where
+  neither-number : {ts us : List Token} → OptColor ts us → NFNumber us → NFAnyNoTextNoCond ts
+  neither-date : {ts us : List Token} → OptColor ts us → NFDateTime us → NFAnyNoTextNoCond ts
+  neither-general : {ts us : List Token} → OptColor ts us → NFGeneral us → NFAnyNoTextNoCond ts
+  neither-literal : {ts us : List Token} → OptColor ts us → Literals us → NFAnyNoTextNoCond ts
+
+-- 004: [NFText / NFGeneral], the fourth section. 01 says the same, "The fourth is text, General or literal, without colour or
+-- condition".
+pub data Fourth : List Token → Type 0 where
+  fourth-text : {ts : List Token} → NFText ts → Fourth ts
+  fourth-general : {ts : List Token} → NFGeneral ts → Fourth ts
+  fourth-literal : {ts : List Token} → Literals ts → Fourth ts
+
+-- ---- codes
+
+-- 004: All, its five alternatives. 01 says the same, "Where: text only last. A single section with a condition must be General. With two
+-- sections either may have a condition, with three or four only the first two. A text section has no condition."
+pub data All : List Token → Type 0 where
+  -- [NFPartColor] NFPartCond NFGeneral
+  all-condition : {ts us vs : List Token} → OptColor ts us → NFPartCond us vs → NFGeneral vs → All ts
+  -- NFAnyNoCond
+  all-one : {ts : List Token} → NFAnyNoCond ts → All ts
+  -- NFAnyNoText ASCII-SEMICOLON NFAny
+  all-two : (s t : List Token) {ts : List Token} → NFAnyNoText s → NFAny t
+      → ts ≡ s ++ semicolon ∷ t → All ts
+  -- NFAnyNoText ASCII-SEMICOLON NFAnyNoText ASCII-SEMICOLON NFAnyNoCond
+  all-three : (s t u : List Token) {ts : List Token} → NFAnyNoText s → NFAnyNoText t → NFAnyNoCond u
+      → ts ≡ s ++ semicolon ∷ (t ++ semicolon ∷ u) → All ts
+  -- NFAnyNoText ASCII-SEMICOLON NFAnyNoText ASCII-SEMICOLON NFAnyNoTextNoCond ASCII-SEMICOLON [NFText / NFGeneral]
+  all-four : (s t u v : List Token) {ts : List Token} → NFAnyNoText s → NFAnyNoText t → NFAnyNoTextNoCond u → Fourth v
+      → ts ≡ s ++ semicolon ∷ (t ++ semicolon ∷ (u ++ semicolon ∷ v)) → All ts
+
+-- A code is derived: its units spell tokens, and All derives these.
+pub record Derives (code : List ℕ) : Type 0 where
+  -- added, 01's answer 1, "code length is 0 or above 254"
+  pub least : 1 ≤ length code
+  -- 004: "It must be less than 255 characters in length."
+  pub most : length code ≤ 254
+  pub tokens : List Token
+  pub spelled : Spelled code tokens
+  pub derived : All tokens
