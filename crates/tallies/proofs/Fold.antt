@@ -1,27 +1,26 @@
 -- What the pass has kept at its end, field by field: it is the tally.
 -- Assumes nothing.
-use Prim.Native.Nat.{ℕ, zero, suc, _+_, _-_, _≤_, _<_}
+use Prim.Native.Nat.{ℕ, suc, _+_}
 use native.Mathlib.Omega.{arith}
 use native.Mathlib.Nat.{zero-add}
 use mathlib.Core.Path.{_≡_, refl, sym, _∙_, ap}
-use mathlib.Core.Bool.{Bool, true, false, cond, not, _&&_, _||_, and-false, and-true, or-true, or-false}
+use mathlib.Core.Bool.{Bool, true, false, cond, _&&_, _||_, and-false, and-true, or-true, or-false}
 use mathlib.Core.List.{List, [], _∷_}
-use lib.Dec.{leb, ltb, eqb}
+use lib.Dec.{eqb}
 use borrow.Author.Tests.{eqb-true, ne-eqb}
 use Rattle.lists.specs.Lists.{every, any, count}
 use Rattle.lists.proofs.Bools.{by-cases}
 use Rattle.formats.specs.Tokens.{hours, minutes, seconds}
-use Rattle.formats.specs.Items.{Item, literal, blank, fill, place, point, percent, general, at, year, month, day, hour, minute, second, part, elapsed, half, isFill, isPlace, isPoint, isPercent, isGeneral, isHour, isMinute, isSecond, isPart, isElapsed, isHalf, sortOf, integerPlaces, decimalPlaces, Run, hourRun, secondRun, otherRun, noRun, runOf, nearer, firstRun, meansMinutes, monthOrMinute, settledItem}
+use Rattle.formats.specs.Items.{Item, literal, blank, fill, place, point, percent, general, at, year, month, day, hour, minute, second, part, elapsed, half, isFill, isPlace, isPoint, isPercent, isGeneral, isHour, isMinute, isSecond, isPart, isElapsed, isHalf, sortOf, integerPlaces, decimalPlaces, Run, hourRun, secondRun, otherRun, noRun, runOf, nearer, firstRun, meansMinutes, settledItem}
 use Rattle.formats.specs.Where.{implies}
 use Rattle.formats.specs.Limits.{elapsedShort}
 use Rattle.formats.specs.WellFormed.{isSeconds, partsFrom, partsFollow, settledTest, isSettled}
 use Rattle.tables.specs.Words.{Entry}
 use Rattle.tables.specs.Decode.{itemAt, itemsAt}
-use Rattle.tables.specs.Rules.{entryInRange, powersFrom, powersRunDown}
-use Rattle.tallies.specs.declared.Tally.{Tally}
+use Rattle.tables.specs.Rules.{entryInRange, powersRunDown}
 use Rattle.tallies.specs.declared.Walk.{Walk}
 use Rattle.tallies.specs.Tally.{makesText, makesDate, belongsDate, isElapsedOf, soundEntries, tallyOf}
-use Rattle.tallies.specs.Walk.{runAt, runAfter, settles, nextAfter, topAfter, powerTest, entrySound, more, integersWith, decimalsWith, seenAfter, stepOf, walkFrom, startOf, topTold, finishedOf}
+use Rattle.tallies.specs.Walk.{runAt, runAfter, settles, nextAfter, powerTest, entrySound, more, integersWith, decimalsWith, seenAfter, stepOf, walkFrom, startOf, topTold, finishedOf}
 use Rattle.tallies.proofs.Powers.{chainFrom, nextFrom, topFrom, chain-start}
 
 -- ---- counts and flags
@@ -60,7 +59,7 @@ module _ (f : Walk → Bool) (p : Item → Bool) (turn : (w : Walk) (e : Entry) 
   kept-all es z = kept startOf es ∙ rw z (and-true (every p (itemsAt es)))
 
 -- ---- the places before and behind the point
-point-no-place : (i : Item) → isPoint i ≡ true → isPlace i ≡ false
+pub point-no-place : (i : Item) → isPoint i ≡ true → isPlace i ≡ false
 point-no-place i h = rw (eqb-true (sortOf i) 4 h)
 
 positive : (n : ℕ) → eqb (n + 1) 0 ≡ false

@@ -1,11 +1,11 @@
 -- The loop over the words: what was kept, and the entries that are left.
 -- Assumes nothing.
-use Prim.Native.Nat.{ℕ, zero, suc, _+_, _-_, _*_, _/_, _≤_, _<_}
+use Prim.Native.Nat.{ℕ, suc, _+_, _-_, _*_, _/_, _≤_, _<_}
 use native.Mathlib.Omega.{arith}
 use native.Mathlib.Nat.{sub-zero}
-use mathlib.Core.Path.{_≡_, refl, sym, _∙_, ap}
+use mathlib.Core.Path.{_≡_, sym, _∙_, ap}
 use mathlib.Core.Bool.{Bool, true, false, cond, not}
-use mathlib.Core.List.{List, [], _∷_}
+use mathlib.Core.List.{List, _∷_}
 use lib.Dec.{eqb}
 use lib.ListN.{length, drop, getD}
 use lib.Seq.{getD-drop, drop-drop}
@@ -16,7 +16,7 @@ use Rattle.tables.specs.Decode.{itemAt}
 use Rattle.tallies.specs.declared.Tally.{Tally}
 use Rattle.tallies.specs.declared.Walk.{Walk}
 use Rattle.tallies.specs.Tally.{entriesIn, tallyOf}
-use Rattle.tallies.specs.Walk.{more, integersWith, decimalsWith, seenAfter, stepOf, walkFrom, nothingSeen, startOf, finishedOf, Few}
+use Rattle.tallies.specs.Walk.{more, seenAfter, stepOf, walkFrom, nothingSeen, startOf, finishedOf, Few}
 use Rattle.tallies.proofs.Fold.{finished-is}
 
 -- ---- no count passes the number of items

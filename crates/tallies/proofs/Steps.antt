@@ -1,18 +1,18 @@
 -- One step of the pass, computed at a known tag.
 -- Assumes nothing.
-use Prim.Native.Nat.{ℕ, zero, suc, _+_, _≤_, _<_}
-use mathlib.Core.Path.{_≡_, refl, sym, _∙_}
-use mathlib.Core.Bool.{Bool, true, false, cond, not, _&&_, _||_}
-use lib.Dec.{leb, ltb, eqb}
+use Prim.Native.Nat.{ℕ, zero, suc, _<_}
+use mathlib.Core.Path.{_≡_, refl}
+use mathlib.Core.Bool.{Bool, true, false, not, _&&_}
+use lib.Dec.{leb, eqb}
 use native.Mathlib.Omega.{arith}
 use borrow.Author.Tests.{eqb-true, ne-eqb, le-leb, lt-leb}
 use Rattle.values.specs.Ranges.{between}
 use Rattle.tables.specs.Encode.{entry}
-use Rattle.formats.specs.Items.{Item, month, minute, itemMakes, itemBelongs, runOf, runOfElapsed, Run, hourRun, secondRun, otherRun, noRun, meansMinutes, monthOrMinute, settledItem, sortOf, isSecondsElapsed}
+use Rattle.formats.specs.Items.{itemMakes, itemBelongs, runOf, runOfElapsed, noRun, meansMinutes, monthOrMinute, settledItem, sortOf, isSecondsElapsed}
 use Rattle.formats.specs.Limits.{elapsedShort}
 use Rattle.formats.specs.WellFormed.{isSeconds}
 use Rattle.tables.specs.Words.{Entry}
-use Rattle.tables.specs.Decode.{itemAt, halfAt}
+use Rattle.tables.specs.Decode.{itemAt}
 use Rattle.tables.specs.Rules.{entryInRange}
 use Rattle.tallies.specs.declared.Walk.{Walk}
 use Rattle.tallies.specs.Tally.{isElapsedOf}

@@ -1,25 +1,24 @@
 -- What the tests on a tally say of a section with these items.
 -- Assumes nothing.
-use Prim.Native.Nat.{ℕ, zero, suc, _+_}
+use Prim.Native.Nat.{_+_}
 use native.Mathlib.Omega.{arith}
 use mathlib.Core.Path.{_≡_, refl, sym, _∙_, ap}
-use mathlib.Core.Bool.{Bool, true, false, cond, not, _&&_, _||_, and-false, and-true, and-assoc}
-use mathlib.Core.List.{List, [], _∷_, map}
+use mathlib.Core.Bool.{Bool, true, false, cond, not, _&&_, _||_, and-false, and-true}
+use mathlib.Core.List.{List, [], _∷_}
 use lib.Dec.{T, leb, ltb, eqb}
-use borrow.Author.Tests.{eqb-true}
 use Rattle.lists.specs.Lists.{every, any, count}
 use Rattle.lists.proofs.Bools.{by-cases, and-left, and-right}
 use Rattle.lists.proofs.Counts.{any-map}
 use Rattle.formats.specs.Tokens.{Elapsed, hours, minutes, seconds}
-use Rattle.formats.specs.Items.{Item, literal, blank, fill, place, point, percent, general, at, year, month, day, hour, minute, second, part, elapsed, half, Section, Kind, textKind, generalKind, dateKind, numberKind, literalKind, kindIndex, sameKind, kindFrom, itemMakes, itemsKind, kindOf, itemBelongs, itemAllowed, sortOf, isFill, isPlace, isPoint, isPercent, isGeneral, isHour, isMinute, isSecond, isElapsed, isHalf, isPlain, noPlain, itemsFit, integerPlaces, decimalPlaces}
+use Rattle.formats.specs.Items.{Item, literal, blank, fill, place, point, percent, general, at, year, month, day, hour, minute, second, part, elapsed, half, Section, Kind, textKind, generalKind, dateKind, numberKind, literalKind, sameKind, kindFrom, itemMakes, itemsKind, kindOf, itemBelongs, itemAllowed, isPlace, isPoint, isPercent, isGeneral, isHour, isMinute, isSecond, isElapsed, isPlain, noPlain, itemsFit, integerPlaces, decimalPlaces}
 use Rattle.formats.specs.Limits.{elapsedShort, sectionWithin}
 use Rattle.formats.specs.WellFormed.{oneFill, partsFollow, isSettled, groupingFits}
 use Rattle.tables.specs.Words.{Entry}
 use Rattle.tables.specs.Encode.{kindWord, hasHalf, decimalsWord}
 use Rattle.tables.specs.Decode.{itemsAt}
 use Rattle.tables.specs.Rules.{entryInRange, powersRunDown}
-use Rattle.tallies.specs.declared.Tally.{Tally}
-use Rattle.tallies.specs.Tally.{makesText, makesDate, belongsDate, isElapsedOf, soundEntries, tallyOf, hasPlaces, hasNumberItems, kindTold, allowedTold, noPlainTold, itemsFitTold, oneFillTold, withinTold, groupingTold, decimalsTold}
+use Rattle.tallies.specs.Tally.{makesText, makesDate, belongsDate, isElapsedOf, soundEntries, tallyOf, hasPlaces, hasNumberItems, kindTold, allowedTold, itemsFitTold, oneFillTold, withinTold, groupingTold, decimalsTold}
+use Rattle.tallies.proofs.Fold.{point-no-place}
 use Rattle.tallies.proofs.Lists.{either-positive, any-same, every-same, any-either, every-and, every-not-beside, positive-count}
 
 -- ---- what each item makes of its section, and where it belongs
@@ -124,9 +123,6 @@ belongs-number (elapsed e n) = refl
 belongs-number (half h) = refl
 
 -- ---- the places
-point-no-place : (i : Item) → isPoint i ≡ true → isPlace i ≡ false
-point-no-place i h = rw (eqb-true (sortOf i) 4 h)
-
 places-counted : (is : List Item) → integerPlaces is + decimalPlaces is ≡ count isPlace is
 unfolding integerPlaces decimalPlaces count
 places-counted [] = refl

@@ -5,7 +5,7 @@ use Rattle.tallies.specs.Walk.{halfOf}
 use Rattle.lists.proofs.Bools.{by-cases}
 use lib.Dec.{eqb}
 use borrow.Author.Tests.{eqb-true, eqb-false}
-use mathlib.Core.Path.{sym, ap, _∙_}
+use mathlib.Core.Path.{ap, _∙_}
 use borrow.Author.Needs.{needs}
 use Rattle.tallies.proofs.step.Statement.{statement}
 use Rattle.tallies.proofs.step.Tie as tie

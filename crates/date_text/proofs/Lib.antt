@@ -1,0 +1,4 @@
+pub mod Letters
+pub mod Items
+pub mod Moments
+pub mod Lengths
