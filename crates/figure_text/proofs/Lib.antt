@@ -1,0 +1,4 @@
+pub mod Digits
+pub mod Extra
+pub mod General
+pub mod Passed

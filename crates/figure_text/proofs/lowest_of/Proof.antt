@@ -1,0 +1,61 @@
+-- `figure_text::lowest_of` meets its contract.
+-- Assumes nothing.
+use mathlib.Core.Path.{_≡_, _∙_}
+use Prim.Native.Nat.{_-_, _≤_}
+use native.Mathlib.Omega.{arith}
+use borrow.Author.Needs.{needs}
+use Rattle.figures.specs.Places.{lowestFrom, lowestPlace}
+use Rattle.figures.proofs.Places.{lowest-here, lowest-further, lowest-end}
+use Rattle.figure_text.proofs.lowest_of.Statement.{statement}
+use Rattle.figure_text.proofs.lowest_of.Tie as tie
+
+abbrev Inv-loop : tie.InvT-loop
+Inv-loop digits k₀ k = (k ≤ 40) × (lowestFrom (40 - k) k digits ≡ lowestPlace digits)
+
+abbrev μ-loop : tie.MeasureT-loop
+μ-loop digits k₀ k = 40 - k
+
+bottom-of-requires : tie.Need-bottom-of-requires Inv-loop μ-loop
+bottom-of-requires c κs = search needs
+
+loop-holds : tie.Need-loop-holds Inv-loop μ-loop
+loop-holds c = c .bottom-of .ensures
+
+array-read-if1 : tie.Need-array-read-if1 Inv-loop μ-loop
+array-read-if1 c = search needs
+
+returns : tie.Need-returns Inv-loop μ-loop
+returns c =
+    let l = c .before .before .loop in
+    lowest-here (l .k) (c .before .before .before .before .args .t1) (c .before .loop-test .taken) (c .if1 .taken) ∙ l .inv .1
+
+add-k : tie.Need-add-k Inv-loop μ-loop
+add-k c = search needs
+
+loop-less : tie.Need-loop-less Inv-loop μ-loop
+loop-less c = search needs
+
+loop-again : tie.Need-loop-again Inv-loop μ-loop
+loop-again c =
+    let l = c .before .before .loop in
+    (omega arith, lowest-further (l .k) (c .before .before .before .before .args .t1) (c .before .loop-test .taken) (c .if1 .left) ∙ l .inv .1)
+
+returns-2 : tie.Need-returns-2 Inv-loop μ-loop
+returns-2 c =
+    let l = c .before .loop in
+    lowest-end (l .k) (c .before .before .before .args .t1) (l .inv .0) (c .loop-test .left) ∙ l .inv .1
+
+pub lowest-of-spec : {M : Type 1} → statement M
+lowest-of-spec =
+    tie.close
+    (tie.spec
+    Inv-loop
+    μ-loop
+    bottom-of-requires
+    loop-holds
+    array-read-if1
+    returns
+    add-k
+    loop-less
+    loop-again
+    returns-2)

@@ -1,0 +1,301 @@
+// Writes a number's figures into a lent room, placeholder by placeholder. A store past the room's end is dropped.
+ghost use mathlib.Core.Path.{_≡_};
+ghost use mathlib.Core.Bool.{cond, _&&_};
+ghost use mathlib.Core.List.{List, [], _∷_};
+ghost use Prim.Native.Nat.{ℕ, _+_, _-_, _/_, _^_, _≤_, _<_, max};
+ghost use lib.Dec.{leb, ltb, eqb};
+ghost use lib.ListN.{take};
+ghost use Rattle.figures.specs.Digits.{figures, digitUnit, digitUnits};
+ghost use Rattle.figures.specs.Places.{placesUsed, lowestFrom, lowestPlace};
+ghost use Rattle.figures.specs.General.{pointed, generalUnits};
+ghost use Rattle.formats.specs.Text.{Context, endsGroup, idleUnits, figureUnits, extraUnits, placeUnits, pointUnits};
+ghost use Rattle.writing.specs.Put.{Put};
+ghost use Rattle.figure_text.specs.Shown.{DigitsAre, FiguresAre, placeOfTag, idle, separated, figuresWith, unitsBefore, digitSum};
+use writing::put_unit;
+
+// A rounded number's digits, that of 10^-15 first, how many places are used, the lowest place whose digit is not 0,
+// and how the section shows them: its integer places, and whether it groups.
+pub struct Figures {
+    pub digits: [u8; 40],
+    pub used: usize,
+    pub lowest: usize,
+    pub integers: u32,
+    pub grouped: bool,
+}
+
+// A digit as a wider number.
+fn wide(d: u8) -> u32
+    ensures { λ r. ⌜ (r ≡ d) × (r < 256) ⌝ }
+{
+    d as u32
+}
+
+// The four digits from k on as one word, so that one test tells four zeros.
+fn word_at(digits: [u8; 40], k: usize) -> u32
+    requires { ⌜ k ≤ 36 ⌝ }
+    ensures { λ r. ⌜ (r ≡ 0 → digitSum digits k 4 ≡ 0) ⌝ }
+{
+    let d0 = wide(digits[k]);
+    let d1 = wide(digits[k + 1]);
+    let d2 = wide(digits[k + 2]);
+    let d3 = wide(digits[k + 3]);
+    d0 + 256 * d1 + 65536 * d2 + 16777216 * d3
+}
+
+// A place from which on all digits are 0, found four digits at a time: most numbers have few.
+fn top_of(digits: [u8; 40]) -> usize
+    ensures { λ r. ⌜ (r ≤ 40) × (placesUsed r digits ≡ placesUsed 40 digits) ⌝ }
+{
+    let mut k = 40;
+    while 4 < k {
+        if word_at(digits, k - 4) != 0 {
+            return k;
+        }
+        k -= 4;
+    }
+    k
+}
+
+// How many places are used.
+fn used_of(digits: [u8; 40]) -> usize
+    ensures { λ r. ⌜ r ≡ placesUsed 40 digits ⌝ }
+{
+    let mut k = top_of(digits);
+    while 0 < k {
+        if digits[k - 1] != 0 {
+            return k;
+        }
+        k -= 1;
+    }
+    0
+}
+
+// A place below which all digits are 0.
+fn bottom_of(digits: [u8; 40]) -> usize
+    ensures { λ r. ⌜ (r ≤ 40) × (lowestFrom (40 - r) r digits ≡ lowestPlace digits) ⌝ }
+{
+    let mut k = 0;
+    while k < 36 {
+        if word_at(digits, k) != 0 {
+            return k;
+        }
+        k += 4;
+    }
+    k
+}
+
+// The lowest place whose digit is not 0; 40 where all are 0.
+fn lowest_of(digits: [u8; 40]) -> usize
+    ensures { λ r. ⌜ r ≡ lowestPlace digits ⌝ }
+{
+    let mut k = bottom_of(digits);
+    while k < 40 {
+        if digits[k] != 0 {
+            return k;
+        }
+        k += 1;
+    }
+    40
+}
+
+// The figures of a section: those of every context with this number, these integer places and this grouping (`figures-are`).
+pub fn figures_of(digits: [u8; 40], integers: u32, grouped: bool) -> Figures
+    ensures made { λ r. ⌜ r ≡ figuresWith digits integers grouped ⌝ }
+    ensures most { λ r. ⌜ r .used ≤ 40 ⌝ }
+{
+    Figures {
+        digits,
+        used: used_of(digits),
+        lowest: lowest_of(digits),
+        integers,
+        grouped,
+    }
+}
+
+// The unit that shows a digit.
+fn digit_unit(d: u8) -> u16
+    ensures { λ r. ⌜ r ≡ digitUnit d ⌝ }
+{
+    48 + d as u16
+}
+
+// Whether the digit at q is an insignificant zero.
+fn is_idle(used: usize, lowest: usize, q: usize) -> bool
+    ensures { λ r. ⌜ r ≡ idle used lowest q ⌝ }
+{
+    if 14 < q {
+        return used <= q;
+    }
+    q < lowest
+}
+
+// Whether a separator follows the digit at q.
+fn ends_group(grouped: bool, q: usize) -> bool
+    ensures { λ r. ⌜ r ≡ grouped && endsGroup q ⌝ }
+{
+    if q < 16 {
+        return false;
+    }
+    if grouped {
+        return q % 3 == 0;
+    }
+    false
+}
+
+// What follows a unit at the end of a group.
+fn separator(u: u16) -> u16
+    ensures { λ r. ⌜ r ≡ cond (eqb u 32) 32 44 ⌝ }
+{
+    if u == 32 {
+        return 32;
+    }
+    44
+}
+
+// Puts a unit of the digit at q, with the separator behind it where one is due.
+fn put_shown(room: &mut [u16], at: usize, u: u16, grouped: bool, q: usize) -> usize
+    requires { ⌜ at + 2 < 2 ^ 63 ⌝ }
+    ensures { λ r. ⌜ Put (now (room .entry)) at (separated grouped q (u ∷ [])) r (now (room .exit)) ⌝ }
+{
+    let a = put_unit(room, at, u);
+    if ends_group(grouped, q) {
+        return put_unit(room, a, separator(u));
+    }
+    a
+}
+
+// Puts what an insignificant zero at q shows.
+fn put_idle(room: &mut [u16], at: usize, place: u16, grouped: bool, q: usize) -> usize
+    requires { ⌜ at + 2 < 2 ^ 63 ⌝ }
+    ensures { λ r. ⌜ Put (now (room .entry)) at (separated grouped q (idleUnits (placeOfTag place))) r (now (room .exit)) ⌝ }
+{
+    if place == 4 {
+        return put_shown(room, at, 48, grouped, q);
+    }
+    if place == 5 {
+        return at;
+    }
+    put_shown(room, at, 32, grouped, q)
+}
+
+// Puts what a place, told by its tag, shows of the digit at q.
+pub fn put_figure(room: &mut [u16], at: usize, f: Figures, place: u16, q: usize) -> usize
+    requires { ⌜ (at + 2 < 2 ^ 63) × (q < 40) ⌝ }
+    ensures within { λ r. ⌜ r ≤ at + 2 ⌝ }
+    ensures put { λ r. ⌜ ((c : Context) → FiguresAre f c
+        → Put (now (room .entry)) at (figureUnits (c .figures) (c .grouped) (placeOfTag place) q) r (now (room .exit))) ⌝ }
+{
+    if is_idle(f.used, f.lowest, q) {
+        return put_idle(room, at, place, f.grouped, q);
+    }
+    put_shown(room, at, digit_unit(f.digits[q]), f.grouped, q)
+}
+
+// Puts the digits beyond the places: from the highest one used down to q.
+fn put_extra(room: &mut [u16], at: usize, f: Figures, q: usize) -> usize
+    requires { ⌜ (at < 2 ^ 62) × (f .used ≤ 40) × (15 ≤ q) × (q ≤ 40) ⌝ }
+    ensures within { λ r. ⌜ r ≤ at + 80 ⌝ }
+    ensures put { λ r. ⌜ ((c : Context) → FiguresAre f c
+        → Put (now (room .entry)) at (extraUnits (c .figures) (c .grouped) q (40 - q)) r (now (room .exit))) ⌝ }
+{
+    let mut k = f.used;
+    let mut o = at;
+    while q < k {
+        k -= 1;
+        o = put_shown(room, o, digit_unit(f.digits[k]), f.grouped, k);
+    }
+    o
+}
+
+// Puts the digits beyond the places that go in before the digit at q: where it is the first integer place's.
+fn put_before(room: &mut [u16], at: usize, f: Figures, q: usize) -> usize
+    requires { ⌜ (at < 2 ^ 62) × (f .used ≤ 40) × (q < 40) ⌝ }
+    ensures within { λ r. ⌜ r ≤ at + 80 ⌝ }
+    ensures put { λ r. ⌜ ((c : Context) → FiguresAre f c → Put (now (room .entry)) at (unitsBefore c q) r (now (room .exit))) ⌝ }
+{
+    if f.used <= q + 1 {
+        return at;
+    }
+    if q < 15 {
+        return at;
+    }
+    if q - 14 != f.integers as usize {
+        return at;
+    }
+    put_extra(room, at, f, q + 1)
+}
+
+// Puts what a place, told by its tag, shows of the digit at q, with the digits beyond the places where they go in.
+pub fn put_place(room: &mut [u16], at: usize, f: Figures, place: u16, q: usize) -> usize
+    requires { ⌜ (at < 2 ^ 62) × (f .used ≤ 40) × (q < 40) ⌝ }
+    ensures within { λ r. ⌜ r ≤ at + 82 ⌝ }
+    ensures put { λ r. ⌜ ((c : Context) → FiguresAre f c
+        → Put (now (room .entry)) at (placeUnits c (placeOfTag place) q) r (now (room .exit))) ⌝ }
+{
+    let a = put_before(room, at, f, q);
+    put_figure(room, a, f, place, q)
+}
+
+// Puts the point, with the integer digits before it where the section has no integer place.
+pub fn put_point(room: &mut [u16], at: usize, f: Figures) -> usize
+    requires { ⌜ (at < 2 ^ 62) × (f .used ≤ 40) ⌝ }
+    ensures within { λ r. ⌜ r ≤ at + 81 ⌝ }
+    ensures put { λ r. ⌜ ((c : Context) → FiguresAre f c → Put (now (room .entry)) at (pointUnits c) r (now (room .exit))) ⌝ }
+{
+    if f.integers == 0 {
+        let a = put_extra(room, at, f, 15);
+        return put_unit(room, a, 46);
+    }
+    put_unit(room, at, 46)
+}
+
+// Puts the digits from below `high` down to `low`.
+fn put_run(room: &mut [u16], at: usize, digits: [u8; 40], high: usize, low: usize) -> usize
+    requires { ⌜ (at < 2 ^ 62 + 50) × (high ≤ 40) ⌝ }
+    ensures within { λ r. ⌜ r ≤ at + 40 ⌝ }
+    ensures put { λ r. ⌜ ((n : ℕ) → digits ≡ figures n
+        → Put (now (room .entry)) at (digitUnits (high - low) (n / 10 ^ low)) r (now (room .exit))) ⌝ }
+{
+    let mut k = high;
+    let mut o = at;
+    while low < k {
+        k -= 1;
+        o = put_unit(room, o, digit_unit(digits[k]));
+    }
+    o
+}
+
+// The places that General shows from 10^0 on: at least one.
+fn at_least_one(used: usize) -> usize
+    ensures { λ r. ⌜ r ≡ max 16 used ⌝ }
+{
+    if used < 16 {
+        return 16;
+    }
+    used
+}
+
+// Puts a point and the decimals down to the lowest that is not 0, or nothing where there is none.
+fn put_decimals(room: &mut [u16], at: usize, digits: [u8; 40], lowest: usize) -> usize
+    requires { ⌜ at < 2 ^ 62 + 49 ⌝ }
+    ensures within { λ r. ⌜ r ≤ at + 41 ⌝ }
+    ensures put { λ r. ⌜ ((n : ℕ) → digits ≡ figures n
+        → Put (now (room .entry)) at (pointed (take (15 - lowest) (digitUnits 15 n))) r (now (room .exit))) ⌝ }
+{
+    if lowest < 15 {
+        let a = put_unit(room, at, 46);
+        return put_run(room, a, digits, 15, lowest);
+    }
+    at
+}
+
+// Puts a number as General shows it: its integer digits, and its decimals without the zeros at their end.
+pub fn put_general(room: &mut [u16], at: usize, f: Figures) -> usize
+    requires { ⌜ (at < 2 ^ 62) × (f .used ≤ 40) ⌝ }
+    ensures within { λ r. ⌜ r ≤ at + 81 ⌝ }
+    ensures put { λ r. ⌜ ((n : ℕ) → DigitsAre f n → Put (now (room .entry)) at (generalUnits n) r (now (room .exit))) ⌝ }
+{
+    let digits = f.digits;
+    let a = put_run(room, at, digits, at_least_one(f.used), 15);
+    put_decimals(room, a, digits, f.lowest)
+}
