@@ -1,4 +1,3 @@
 pub mod Digits
 pub mod Extra
 pub mod General
-pub mod Passed

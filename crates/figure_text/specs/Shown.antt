@@ -3,9 +3,8 @@
 use mathlib.Core.Path.{_≡_}
 use mathlib.Core.Bool.{Bool, cond, _&&_}
 use mathlib.Core.List.{List, []}
-use Prim.Native.Nat.{ℕ, zero, suc, _+_, _-_, _^_, _<_}
+use Prim.Native.Nat.{ℕ, suc, _+_, _-_, _^_, _<_}
 use lib.Dec.{leb, ltb, eqb}
-use lib.ListN.{getD}
 use Rattle.figures.specs.Digits.{figures}
 use Rattle.figures.specs.Places.{placesUsed, lowestPlace}
 use Rattle.formats.specs.Tokens.{Place, zeroPlace, hashPlace, spacePlace}
@@ -37,11 +36,6 @@ figuresWith digits integers grouped = record {
   integers = integers;
   grouped = grouped;
 }
-
--- the sum of n digits from place k on: 0 where all are 0
-unfoldable pub digitSum : List ℕ → ℕ → ℕ → ℕ
-digitSum l k zero = 0
-digitSum l k (suc n) = digitSum l k n + getD l (k + n) 0
 
 -- "4, 5, 6 places `0 # ?`"
 unfoldable pub placeOfTag : ℕ → Place

@@ -6,11 +6,10 @@ ghost use Prim.Native.Nat.{ℕ, _+_, _-_, _/_, _^_, _≤_, _<_, max};
 ghost use lib.Dec.{leb, ltb, eqb};
 ghost use lib.ListN.{take};
 ghost use Rattle.figures.specs.Digits.{figures, digitUnit, digitUnits};
-ghost use Rattle.figures.specs.Places.{placesUsed, lowestFrom, lowestPlace};
 ghost use Rattle.figures.specs.General.{pointed, generalUnits};
 ghost use Rattle.formats.specs.Text.{Context, endsGroup, idleUnits, figureUnits, extraUnits, placeUnits, pointUnits};
 ghost use Rattle.writing.specs.Put.{Put};
-ghost use Rattle.figure_text.specs.Shown.{DigitsAre, FiguresAre, placeOfTag, idle, separated, figuresWith, unitsBefore, digitSum};
+ghost use Rattle.figure_text.specs.Shown.{DigitsAre, FiguresAre, placeOfTag, idle, separated, figuresWith, unitsBefore};
 use writing::put_unit;
 
 // A rounded number's digits, that of 10^-15 first, how many places are used, the lowest place whose digit is not 0,
@@ -23,81 +22,6 @@ pub struct Figures {
     pub grouped: bool,
 }
 
-// A digit as a wider number.
-fn wide(d: u8) -> u32
-    ensures { λ r. ⌜ (r ≡ d) × (r < 256) ⌝ }
-{
-    d as u32
-}
-
-// The four digits from k on as one word, so that one test tells four zeros.
-fn word_at(digits: [u8; 40], k: usize) -> u32
-    requires { ⌜ k ≤ 36 ⌝ }
-    ensures { λ r. ⌜ (r ≡ 0 → digitSum digits k 4 ≡ 0) ⌝ }
-{
-    let d0 = wide(digits[k]);
-    let d1 = wide(digits[k + 1]);
-    let d2 = wide(digits[k + 2]);
-    let d3 = wide(digits[k + 3]);
-    d0 + 256 * d1 + 65536 * d2 + 16777216 * d3
-}
-
-// A place from which on all digits are 0, found four digits at a time: most numbers have few.
-fn top_of(digits: [u8; 40]) -> usize
-    ensures { λ r. ⌜ (r ≤ 40) × (placesUsed r digits ≡ placesUsed 40 digits) ⌝ }
-{
-    let mut k = 40;
-    while 4 < k {
-        if word_at(digits, k - 4) != 0 {
-            return k;
-        }
-        k -= 4;
-    }
-    k
-}
-
-// How many places are used.
-fn used_of(digits: [u8; 40]) -> usize
-    ensures { λ r. ⌜ r ≡ placesUsed 40 digits ⌝ }
-{
-    let mut k = top_of(digits);
-    while 0 < k {
-        if digits[k - 1] != 0 {
-            return k;
-        }
-        k -= 1;
-    }
-    0
-}
-
-// A place below which all digits are 0.
-fn bottom_of(digits: [u8; 40]) -> usize
-    ensures { λ r. ⌜ (r ≤ 40) × (lowestFrom (40 - r) r digits ≡ lowestPlace digits) ⌝ }
-{
-    let mut k = 0;
-    while k < 36 {
-        if word_at(digits, k) != 0 {
-            return k;
-        }
-        k += 4;
-    }
-    k
-}
-
-// The lowest place whose digit is not 0; 40 where all are 0.
-fn lowest_of(digits: [u8; 40]) -> usize
-    ensures { λ r. ⌜ r ≡ lowestPlace digits ⌝ }
-{
-    let mut k = bottom_of(digits);
-    while k < 40 {
-        if digits[k] != 0 {
-            return k;
-        }
-        k += 1;
-    }
-    40
-}
-
 // The figures of a section: those of every context with this number, these integer places and this grouping (`figures-are`).
 pub fn figures_of(digits: [u8; 40], integers: u32, grouped: bool) -> Figures
     ensures made { λ r. ⌜ r ≡ figuresWith digits integers grouped ⌝ }
@@ -105,8 +29,8 @@ pub fn figures_of(digits: [u8; 40], integers: u32, grouped: bool) -> Figures
 {
     Figures {
         digits,
-        used: used_of(digits),
-        lowest: lowest_of(digits),
+        used: figures::places_used(digits),
+        lowest: figures::lowest_place(digits),
         integers,
         grouped,
     }

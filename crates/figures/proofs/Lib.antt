@@ -6,3 +6,4 @@ pub mod Filling
 pub mod Places
 pub mod General
 pub mod Widths
+pub mod Passed

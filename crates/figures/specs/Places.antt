@@ -1,6 +1,6 @@
 -- Digits read place by place, the lowest first.
 -- Assumes nothing.
-use Prim.Native.Nat.{ℕ, zero, suc}
+use Prim.Native.Nat.{ℕ, zero, suc, _+_}
 use mathlib.Core.Bool.{cond}
 use mathlib.Core.List.{List}
 use lib.Dec.{eqb}
@@ -18,3 +18,8 @@ lowestFrom (suc f) k l = let r = lowestFrom f (suc k) l in cond (eqb (getD l k 0
 
 unfoldable pub lowestPlace : List ℕ → ℕ
 lowestPlace l = lowestFrom 40 0 l
+
+-- the sum of n digits from place k on: 0 where all are 0
+unfoldable pub digitSum : List ℕ → ℕ → ℕ → ℕ
+digitSum l k zero = 0
+digitSum l k (suc n) = digitSum l k n + getD l (k + n) 0

@@ -10,7 +10,7 @@ ghost use Rattle.figures.specs.Powers.{powered};
 ghost use Rattle.figures.specs.General.{generalDecimals, generalTooWide, withoutEndZeros};
 ghost use Rattle.figures.specs.Sign.{takenOf};
 ghost use Rattle.figures.specs.Rounder.{roundable, roundedOf, generalOf};
-ghost use Rattle.figures.specs.Places.{placesUsed, lowestPlace};
+ghost use Rattle.figures.specs.Places.{digitSum, placesUsed, lowestFrom, lowestPlace};
 use values::Number;
 
 // A number in range, its sign apart.
@@ -191,13 +191,60 @@ pub fn round(digits: [u8; 40], m: u64, up: u32, down: u32, decimals: u32) -> Rou
     }
 }
 
+// A digit as a wider number.
+fn wide(d: u8) -> u32
+    ensures { λ r. ⌜ (r ≡ d) × (r < 256) ⌝ }
+{
+    d as u32
+}
+
+// The four digits from k on as one word, so that one test tells four zeros.
+fn word_at(digits: [u8; 40], k: usize) -> u32
+    requires { ⌜ k ≤ 36 ⌝ }
+    ensures { λ r. ⌜ (r ≡ 0 → digitSum digits k 4 ≡ 0) ⌝ }
+{
+    let d0 = wide(digits[k]);
+    let d1 = wide(digits[k + 1]);
+    let d2 = wide(digits[k + 2]);
+    let d3 = wide(digits[k + 3]);
+    d0 + 256 * d1 + 65536 * d2 + 16777216 * d3
+}
+
+// A place from which on all digits are 0, found four digits at a time: most numbers have few.
+fn top_of(digits: [u8; 40]) -> usize
+    ensures { λ r. ⌜ (r ≤ 40) × (placesUsed r digits ≡ placesUsed 40 digits) ⌝ }
+{
+    let mut k = 40;
+    while 4 < k {
+        if word_at(digits, k - 4) != 0 {
+            return k;
+        }
+        k -= 4;
+    }
+    k
+}
+
+// A place below which all digits are 0.
+fn bottom_of(digits: [u8; 40]) -> usize
+    ensures { λ r. ⌜ (r ≤ 40) × (lowestFrom (40 - r) r digits ≡ lowestPlace digits) ⌝ }
+{
+    let mut k = 0;
+    while k < 36 {
+        if word_at(digits, k) != 0 {
+            return k;
+        }
+        k += 4;
+    }
+    k
+}
+
 // How many places there are up to the highest digit that is not 0; 0 where all are 0.
 // An integer zero at place q is insignificant where this is at most q.
 pub fn places_used(digits: [u8; 40]) -> usize
     ensures list { λ r. ⌜ r ≡ placesUsed 40 digits ⌝ }
     ensures number { λ r. ⌜ ((n : ℕ) → n < 10 ^ 40 → digits ≡ figures n → (q : ℕ) → leb r q ≡ eqb (n / 10 ^ q) 0) ⌝ }
 {
-    let mut k: usize = 40;
+    let mut k = top_of(digits);
     while 0 < k {
         if digits[k - 1] != 0 {
             return k;
@@ -213,7 +260,7 @@ pub fn lowest_place(digits: [u8; 40]) -> usize
     ensures list { λ r. ⌜ r ≡ lowestPlace digits ⌝ }
     ensures number { λ r. ⌜ ((n : ℕ) → digits ≡ figures n → (q : ℕ) → q < 40 → ltb q r ≡ eqb (n % 10 ^ (q + 1)) 0) ⌝ }
 {
-    let mut k: usize = 0;
+    let mut k = bottom_of(digits);
     while k < 40 {
         if digits[k] != 0 {
             return k;

@@ -1,48 +1,50 @@
--- `figures::lowest_place` meets its contract. The invariant: what is left of the places has the answer.
+-- `figures::lowest_place` meets its contract.
 -- Assumes nothing.
-use mathlib.Core.Path.{_≡_, refl, _∙_}
+use mathlib.Core.Path.{_≡_, _∙_}
 use Prim.Native.Nat.{_-_, _≤_}
 use native.Mathlib.Omega.{arith}
+use borrow.Author.Needs.{needs}
 use Rattle.figures.specs.Places.{lowestFrom, lowestPlace}
 use Rattle.figures.proofs.Places.{lowest-here, lowest-further, lowest-end, lowest-number}
 use Rattle.figures.proofs.lowest_place.Statement.{statement}
 use Rattle.figures.proofs.lowest_place.Tie as tie
 
 abbrev Inv-loop : tie.InvT-loop
-Inv-loop digits k₀ k = (k ≤ 40) × (lowestFrom (40 - k) k digits ≡ lowestFrom 40 0 digits)
+Inv-loop digits k₀ k = (k ≤ 40) × (lowestFrom (40 - k) k digits ≡ lowestPlace digits)
 
 abbrev μ-loop : tie.MeasureT-loop
 μ-loop digits k₀ k = 40 - k
 
+bottom-of-requires : tie.Need-bottom-of-requires Inv-loop μ-loop
+bottom-of-requires c κs = search needs
+
 loop-holds : tie.Need-loop-holds Inv-loop μ-loop
-loop-holds c = (omega arith, refl)
+loop-holds c = c .bottom-of .ensures
 
 array-read-if1 : tie.Need-array-read-if1 Inv-loop μ-loop
-array-read-if1 c = omega arith
+array-read-if1 c = search needs
 
 returns : tie.Need-returns Inv-loop μ-loop
-unfolding lowestPlace
 returns c =
     let l = c .before .before .loop in
-    let e = lowest-here (l .k) (c .before .before .before .args .t1) (c .before .loop-test .taken) (c .if1 .taken) ∙ l .inv .1 in
+    let e = lowest-here (l .k) (c .before .before .before .before .args .t1) (c .before .loop-test .taken) (c .if1 .taken) ∙ l .inv .1 in
     (e, lowest-number e)
 
 add-k : tie.Need-add-k Inv-loop μ-loop
-add-k c = omega arith
+add-k c = search needs
 
 loop-less : tie.Need-loop-less Inv-loop μ-loop
-loop-less c = omega arith
+loop-less c = search needs
 
 loop-again : tie.Need-loop-again Inv-loop μ-loop
 loop-again c =
     let l = c .before .before .loop in
-    (omega arith, lowest-further (l .k) (c .before .before .before .args .t1) (c .before .loop-test .taken) (c .if1 .left) ∙ l .inv .1)
+    (omega arith, lowest-further (l .k) (c .before .before .before .before .args .t1) (c .before .loop-test .taken) (c .if1 .left) ∙ l .inv .1)
 
 returns-2 : tie.Need-returns-2 Inv-loop μ-loop
-unfolding lowestPlace
 returns-2 c =
     let l = c .before .loop in
-    let e = lowest-end (l .k) (c .before .before .args .t1) (l .inv .0) (c .loop-test .left) ∙ l .inv .1 in
+    let e = lowest-end (l .k) (c .before .before .before .args .t1) (l .inv .0) (c .loop-test .left) ∙ l .inv .1 in
     (e, lowest-number e)
 
 pub lowest-place-spec : {M : Type 1} → statement M
@@ -51,6 +53,7 @@ lowest-place-spec =
     (tie.spec
     Inv-loop
     μ-loop
+    bottom-of-requires
     loop-holds
     array-read-if1
     returns

@@ -1,8 +1,9 @@
--- `figures::places_used` meets its contract. The invariant: what is left of the places has the answer.
+-- `figures::places_used` meets its contract.
 -- Assumes nothing.
-use mathlib.Core.Path.{_≡_, refl, _∙_}
+use mathlib.Core.Path.{_≡_, _∙_}
 use Prim.Native.Nat.{_≤_}
 use native.Mathlib.Omega.{arith}
+use borrow.Author.Needs.{needs}
 use Rattle.figures.specs.Places.{placesUsed}
 use Rattle.figures.proofs.Places.{used-here, used-below, used-end, used-number}
 use Rattle.figures.proofs.places_used.Statement.{statement}
@@ -14,36 +15,39 @@ Inv-loop digits k₀ k = (k ≤ 40) × (placesUsed k digits ≡ placesUsed 40 di
 abbrev μ-loop : tie.MeasureT-loop
 μ-loop digits k₀ k = k
 
+top-of-requires : tie.Need-top-of-requires Inv-loop μ-loop
+top-of-requires c κs = search needs
+
 loop-holds : tie.Need-loop-holds Inv-loop μ-loop
-loop-holds c = (omega arith, refl)
+loop-holds c = c .top-of .ensures
 
 sub-if1 : tie.Need-sub-if1 Inv-loop μ-loop
-sub-if1 c = omega arith
+sub-if1 c = search needs
 
 array-read-if1 : tie.Need-array-read-if1 Inv-loop μ-loop
-array-read-if1 c = omega arith
+array-read-if1 c = search needs
 
 returns : tie.Need-returns Inv-loop μ-loop
 returns c =
     let l = c .before .before .loop in
-    let e = used-here (l .k) (c .before .before .before .args .t1) (c .before .loop-test .taken) (c .if1 .taken) ∙ l .inv .1 in
+    let e = used-here (l .k) (c .before .before .before .before .args .t1) (c .before .loop-test .taken) (c .if1 .taken) ∙ l .inv .1 in
     (e, used-number e)
 
 sub-k : tie.Need-sub-k Inv-loop μ-loop
-sub-k c = omega arith
+sub-k c = search needs
 
 loop-less : tie.Need-loop-less Inv-loop μ-loop
-loop-less c = omega arith
+loop-less c = search needs
 
 loop-again : tie.Need-loop-again Inv-loop μ-loop
 loop-again c =
     let l = c .before .before .loop in
-    (omega arith, used-below (l .k) (c .before .before .before .args .t1) (c .before .loop-test .taken) (c .if1 .left) ∙ l .inv .1)
+    (omega arith, used-below (l .k) (c .before .before .before .before .args .t1) (c .before .loop-test .taken) (c .if1 .left) ∙ l .inv .1)
 
 returns-2 : tie.Need-returns-2 Inv-loop μ-loop
 returns-2 c =
     let l = c .before .loop in
-    let e = used-end (l .k) (c .before .before .args .t1) (c .loop-test .left) ∙ l .inv .1 in
+    let e = used-end (l .k) (c .before .before .before .args .t1) (c .loop-test .left) ∙ l .inv .1 in
     (e, used-number e)
 
 pub places-used-spec : {M : Type 1} → statement M
@@ -52,6 +56,7 @@ places-used-spec =
     (tie.spec
     Inv-loop
     μ-loop
+    top-of-requires
     loop-holds
     sub-if1
     array-read-if1

@@ -1,13 +1,13 @@
--- `figure_text::top_of` meets its contract.
+-- `figures::top_of` meets its contract.
 -- Assumes nothing.
 use mathlib.Core.Path.{_≡_, refl, _∙_}
 use Prim.Native.Nat.{_≤_}
 use native.Mathlib.Omega.{arith}
 use borrow.Author.Needs.{needs}
 use Rattle.figures.specs.Places.{placesUsed}
-use Rattle.figure_text.proofs.Passed.{used-word}
-use Rattle.figure_text.proofs.top_of.Statement.{statement}
-use Rattle.figure_text.proofs.top_of.Tie as tie
+use Rattle.figures.proofs.Passed.{used-word}
+use Rattle.figures.proofs.top_of.Statement.{statement}
+use Rattle.figures.proofs.top_of.Tie as tie
 
 abbrev Inv-loop : tie.InvT-loop
 Inv-loop digits k₀ k = (k ≤ 40) × (placesUsed k digits ≡ placesUsed 40 digits)

@@ -1,13 +1,13 @@
--- `figure_text::bottom_of` meets its contract.
+-- `figures::bottom_of` meets its contract.
 -- Assumes nothing.
 use mathlib.Core.Path.{_≡_, refl, _∙_}
 use Prim.Native.Nat.{_-_, _≤_}
 use native.Mathlib.Omega.{arith}
 use borrow.Author.Needs.{needs}
 use Rattle.figures.specs.Places.{lowestFrom, lowestPlace}
-use Rattle.figure_text.proofs.Passed.{lowest-passed}
-use Rattle.figure_text.proofs.bottom_of.Statement.{statement}
-use Rattle.figure_text.proofs.bottom_of.Tie as tie
+use Rattle.figures.proofs.Passed.{lowest-passed}
+use Rattle.figures.proofs.bottom_of.Statement.{statement}
+use Rattle.figures.proofs.bottom_of.Tie as tie
 
 abbrev Inv-loop : tie.InvT-loop
 Inv-loop digits k₀ k = (k ≤ 40) × (lowestFrom (40 - k) k digits ≡ lowestPlace digits)

@@ -6,9 +6,8 @@ use Prim.Native.Nat.{ℕ, zero, suc, _+_, _-_, _*_, _≤_, _<_}
 use native.Mathlib.Nat.{add-zero}
 use native.Mathlib.Omega.{arith}
 use lib.ListN.{getD}
-use Rattle.figures.specs.Places.{placesUsed, lowestFrom}
+use Rattle.figures.specs.Places.{digitSum, placesUsed, lowestFrom}
 use Rattle.figures.proofs.Places.{used-below, lowest-further}
-use Rattle.figure_text.specs.Shown.{digitSum}
 
 -- four digits as one word
 pub word-zero : (l : List ℕ) (k : ℕ) {a b c d : ℕ} → a ≡ getD l k 0 → b ≡ getD l (k + 1) 0 → c ≡ getD l (k + 2) 0 → d ≡ getD l (k + 3) 0

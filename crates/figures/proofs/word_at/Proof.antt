@@ -1,9 +1,9 @@
--- `figure_text::word_at` meets its contract.
+-- `figures::word_at` meets its contract.
 -- Assumes nothing.
 use borrow.Author.Needs.{needs}
-use Rattle.figure_text.proofs.Passed.{word-zero}
-use Rattle.figure_text.proofs.word_at.Statement.{statement}
-use Rattle.figure_text.proofs.word_at.Tie as tie
+use Rattle.figures.proofs.Passed.{word-zero}
+use Rattle.figures.proofs.word_at.Statement.{statement}
+use Rattle.figures.proofs.word_at.Tie as tie
 
 array-read-wide : tie.Need-array-read-wide
 array-read-wide c = search needs
