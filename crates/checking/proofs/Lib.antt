@@ -1,0 +1,6 @@
+pub mod Tests
+pub mod Rows
+pub mod Places
+pub mod Passing
+pub mod Heads
+pub mod Loops

@@ -1,0 +1,291 @@
+-- The loops over the heads: what was found, and the heads that are left.
+-- Assumes nothing.
+use Prim.Native.Nat.{ℕ, zero, suc, _+_, _-_, _*_, _/_, _≤_, _<_}
+use native.Mathlib.Omega.{arith}
+use native.Mathlib.Nat.{sub-zero}
+use mathlib.Core.Path.{_≡_, refl, sym, _∙_, ap}
+use mathlib.Core.Bool.{Bool, true, false, cond, _||_}
+use mathlib.Core.List.{List, [], _∷_}
+use lib.ListN.{length, getD, drop, take, length-drop}
+use lib.Seq.{drop-drop, getD-drop, length-take-le}
+use lib.Dec.{eqb}
+use Rattle.lists.specs.Lists.{every}
+use Rattle.tables.specs.Words.{Head, Entry, headAt, headsAt, entriesAt, rowsAt, headsIn, rowsIn, itemsSaid}
+use Rattle.tallies.specs.Tally.{entriesIn, tallyOf}
+use Rattle.checking.specs.declared.HeadWords.{HeadWords}
+use Rattle.checking.specs.Checking.{headFrom, Sized, rowTold, rowGood, hasIn, placeFits, placesFrom, placesFit, countedOne, countedHeads, firstHasIn}
+use Rattle.checking.proofs.Rows.{row-told}
+
+-- the heads from the i-th on
+abbrev pub left : List ℕ → ℕ → ℕ → List Head
+left ws n i = headsAt (n - i) (drop (1 + 12 * i) ws)
+
+pub left-front : (ws : List ℕ) (n i : ℕ) → i < n → left ws n i ≡ headAt (drop (1 + 12 * i) ws) ∷ left ws n (i + 1)
+unfolding headsAt
+left-front ws n i h =
+    let one : n - i ≡ suc (n - (i + 1)) = omega arith in
+    let two : 1 + 12 * (i + 1) ≡ 1 + 12 * i + 12 = omega arith in
+    rw (one, two, drop-drop 12 (1 + 12 * i) ws)
+
+left-start : (ws : List ℕ) (n : ℕ) → n ≡ getD ws 0 0 → headsIn ws ≡ left ws n 0
+unfolding headsIn
+left-start ws n e = rw (sub-zero n, e)
+
+left-end : (ws : List ℕ) (n i : ℕ) → n ≤ i → left ws n i ≡ []
+unfolding headsAt
+left-end ws n i h = let z : n - i ≡ 0 = omega arith in rw z
+
+-- ---- the words of the head at a place
+pub head-read : (ws : List ℕ) (a : ℕ) → (record {
+  kind = getD ws a 0;
+  colour = getD ws (a + 1) 0;
+  operator = getD ws (a + 2) 0;
+  negative = getD ws (a + 3) 0;
+  wholeLow = getD ws (a + 4) 0;
+  wholeHigh = getD ws (a + 5) 0;
+  millionthsLow = getD ws (a + 6) 0;
+  millionthsHigh = getD ws (a + 7) 0;
+  shift = getD ws (a + 8) 0;
+  flags = getD ws (a + 9) 0;
+  decimals = getD ws (a + 10) 0;
+  items = getD ws (a + 11) 0;
+}) ≡ headAt (drop a ws)
+unfolding headAt
+head-read ws a =
+    let nought : a + 0 ≡ a = omega arith in
+    rw (getD-drop a ws 0 0, getD-drop a ws 1 0, getD-drop a ws 2 0, getD-drop a ws 3 0, getD-drop a ws 4 0, getD-drop a ws 5 0, getD-drop a ws 6 0, getD-drop a ws 7 0, getD-drop a ws 8 0, getD-drop a ws 9 0, getD-drop a ws 10 0, getD-drop a ws 11 0, nought)
+
+-- ---- the sum of the items
+pub record Summing (ws : List ℕ) (n i sum : ℕ) : Type 0 where
+  pub sections : n ≡ getD ws 0 0
+  pub most : n ≤ 4
+  pub words : 1 + 12 * n ≤ length ws
+  pub inside : i ≤ n
+  pub small : sum ≤ 65535 * i
+  pub same : itemsSaid (headsIn ws) ≡ sum + itemsSaid (left ws n i)
+
+pub summing-start : (ws : List ℕ) (n : ℕ) → n ≡ getD ws 0 0 → n ≤ 4 → 1 + 12 * n ≤ length ws → Summing ws n 0 0
+summing-start ws n e m l =
+    record {
+      sections = e;
+      most = m;
+      words = l;
+      inside = omega arith;
+      small = omega arith;
+      same = ap itemsSaid (left-start ws n e) ∙ omega arith;
+    }
+
+module _ (ws : List ℕ) (n i sum : ℕ) (inv : Summing ws n i sum) where
+  pub summing-step : (h : HeadWords) → i < n → headFrom h ≡ headAt (drop (1 + 12 * i) ws) → h .items ≤ 65535 → Summing ws n (i + 1) (sum + h .items)
+  unfolding itemsSaid
+  summing-step h l e m =
+      let p : h .items ≡ headAt (drop (1 + 12 * i) ws) .items = ap (λ (x : Head). x .items) e in
+      let q : itemsSaid (left ws n i) ≡ headAt (drop (1 + 12 * i) ws) .items + itemsSaid (left ws n (i + 1)) = ap itemsSaid (left-front ws n i l) in
+      record {
+        sections = inv .sections;
+        most = inv .most;
+        words = inv .words;
+        inside = omega arith;
+        small = omega (arith, inv .small);
+        same = omega (arith, inv .same, p, q);
+      }
+
+  pub summing-end : n ≤ i → (sum ≡ itemsSaid (headsIn ws)) × (sum ≤ 262140)
+  unfolding itemsSaid
+  summing-end l =
+      let z : itemsSaid (left ws n i) ≡ 0 = ap itemsSaid (left-end ws n i l) in
+      (omega (arith, inv .same, z), omega (arith, inv .small, inv .inside, inv .most))
+
+-- ---- the rows
+entries-taken : (k : ℕ) (ws : List ℕ) → 2 * k ≤ length ws → entriesAt k (take (2 * k) ws) ≡ entriesAt k ws
+unfolding entriesAt
+entries-taken zero ws h = refl
+entries-taken (suc k) [] h = absurd (omega arith)
+entries-taken (suc k) (a ∷ []) h = absurd (omega arith)
+entries-taken (suc k) (a ∷ b ∷ ws) h =
+    let e : 2 * suc k ≡ suc (suc (2 * k)) = omega arith in
+    rw e (ap (λ (es : List Entry). record { tag = a; argument = b } ∷ es) (entries-taken k ws (omega arith)))
+
+entries-part : (k : ℕ) (ws : List ℕ) → 2 * k ≤ length ws → entriesIn (take (2 * k) ws) ≡ entriesAt k ws
+unfolding entriesIn
+entries-part k ws h =
+    let l : length (take (2 * k) ws) / 2 ≡ k = rw (length-take-le (2 * k) ws h) (omega arith) in
+    rw l (entries-taken k ws h)
+
+take-most : (m : ℕ) (l : List ℕ) → length (take m l) ≤ m
+take-most zero l = omega arith
+take-most (suc m) [] = omega arith
+take-most (suc m) (x ∷ l) = omega (arith, take-most m l)
+
+pub part-short : (m : ℕ) (l : List ℕ) (items : ℕ) → items ≤ 254 → m ≡ 2 * items → length (take m l) ≤ 508
+part-short m l items h e = omega (arith, take-most m l)
+
+pub record Rowing (ws : List ℕ) (n i at : ℕ) : Type 0 where
+  pub sized : Sized ws
+  pub sections : n ≡ getD ws 0 0
+  pub inside : i ≤ n
+  pub behind : at + 2 * itemsSaid (left ws n i) ≡ length ws
+  pub few : itemsSaid (left ws n i) ≤ 254
+  pub same : every rowGood (rowsIn ws) ≡ every rowGood (rowsAt (left ws n i) (drop at ws))
+
+pub rowing-start : (ws : List ℕ) (n : ℕ) → Sized ws → n ≡ getD ws 0 0 → Rowing ws n 0 (1 + 12 * n)
+unfolding rowsIn
+rowing-start ws n s e =
+    let heads : headsIn ws ≡ left ws n 0 = left-start ws n e in
+    let said : itemsSaid (headsIn ws) ≡ itemsSaid (left ws n 0) = ap itemsSaid heads in
+    record {
+      sized = s;
+      sections = e;
+      inside = omega arith;
+      behind = omega (arith, s .words, said, e);
+      few = omega (arith, s .items, said);
+      same = rw (← e, heads);
+    }
+
+module _ (ws : List ℕ) (n i at : ℕ) (inv : Rowing ws n i at) where
+  -- the head of section i and its items are within
+  pub record Within (h : HeadWords) : Type 0 where
+    pub few : h .items ≤ 254
+    pub words : at + 2 * h .items ≤ length ws
+    pub said : itemsSaid (left ws n i) ≡ h .items + itemsSaid (left ws n (i + 1))
+
+  pub within : (h : HeadWords) → i < n → headFrom h ≡ headAt (drop (1 + 12 * i) ws) → Within h
+  unfolding itemsSaid
+  within h l e =
+      let p : h .items ≡ headAt (drop (1 + 12 * i) ws) .items = ap (λ (x : Head). x .items) e in
+      let q : itemsSaid (left ws n i) ≡ headAt (drop (1 + 12 * i) ws) .items + itemsSaid (left ws n (i + 1)) = ap itemsSaid (left-front ws n i l) in
+      record {
+        few = omega (arith, inv .few, p, q);
+        words = omega (arith, inv .behind, p, q);
+        said = omega (arith, p, q);
+      }
+
+  module _ (h : HeadWords) (l : i < n) (e : headFrom h ≡ headAt (drop (1 + 12 * i) ws)) where
+    row-front : every rowGood (rowsIn ws)
+        ≡ cond (rowTold (headFrom h) (tallyOf (entriesIn (take (2 * h .items) (drop at ws)))))
+        (every rowGood (rowsAt (left ws n (i + 1)) (drop (at + 2 * h .items) ws))) false
+    unfolding rowsAt every
+    row-front =
+        let w : Within h = within h l e in
+        let d : length (drop at ws) ≡ length ws - at = length-drop at ws in
+        inv .same ∙ rw (left-front ws n i l, ← e, entries-part (h .items) (drop at ws) (omega arith), row-told (headFrom h) (entriesAt (h .items) (drop at ws)), drop-drop (2 * h .items) at ws)
+
+    module _ (m : ℕ) (k : m ≡ 2 * h .items) (b : Bool) (r : b ≡ rowTold (headFrom h) (tallyOf (entriesIn (take m (drop at ws))))) where
+      told : rowTold (headFrom h) (tallyOf (entriesIn (take (2 * h .items) (drop at ws)))) ≡ b
+      told = sym (r ∙ rw k)
+
+      pub rowing-step : b ≡ true → Rowing ws n (i + 1) (at + 2 * h .items)
+      rowing-step t =
+          let w : Within h = within h l e in
+          record {
+            sized = inv .sized;
+            sections = inv .sections;
+            inside = omega arith;
+            behind = omega (arith, inv .behind, w .said);
+            few = omega (arith, inv .few, w .said);
+            same = row-front ∙ rw (told, t);
+          }
+
+      pub rowing-fails : b ≡ false → false ≡ every rowGood (rowsIn ws)
+      rowing-fails t = sym (row-front ∙ rw (told, t))
+
+  pub rowing-end : n ≤ i → true ≡ every rowGood (rowsIn ws)
+  unfolding every rowsAt
+  rowing-end l = sym (inv .same ∙ rw (left-end ws n i l))
+
+-- ---- N
+pub record Counting (ws : List ℕ) (n i most : ℕ) : Type 0 where
+  pub sized : Sized ws
+  pub sections : n ≡ getD ws 0 0
+  pub inside : i ≤ n
+  pub few : most ≤ i
+  pub same : countedHeads 0 (headsIn ws) ≡ most + countedHeads i (left ws n i)
+
+pub counting-start : (ws : List ℕ) (n : ℕ) → Sized ws → n ≡ getD ws 0 0 → Counting ws n 0 0
+counting-start ws n s e =
+    record {
+      sized = s;
+      sections = e;
+      inside = omega arith;
+      few = omega arith;
+      same = ap (countedHeads 0) (left-start ws n e) ∙ omega arith;
+    }
+
+pub one-most : (i kind : ℕ) → countedOne i kind ≤ 1
+unfolding countedOne
+one-most i kind = go (eqb kind 3 || eqb i 3)
+  where
+    go : (b : Bool) → cond b 0 1 ≤ 1
+    go true = omega arith
+    go false = omega arith
+
+module _ (ws : List ℕ) (n i most : ℕ) (inv : Counting ws n i most) where
+  pub counting-step : (h : HeadWords) (d : ℕ) → i < n → headFrom h ≡ headAt (drop (1 + 12 * i) ws) → d ≡ countedOne i (h .kind) → Counting ws n (i + 1) (most + d)
+  unfolding countedHeads
+  counting-step h d l e f =
+      let p : d ≡ countedOne i (headAt (drop (1 + 12 * i) ws) .kind) = f ∙ ap (λ (x : Head). countedOne i (x .kind)) e in
+      let q : countedHeads i (left ws n i) ≡ countedOne i (headAt (drop (1 + 12 * i) ws) .kind) + countedHeads (i + 1) (left ws n (i + 1)) = ap (countedHeads i) (left-front ws n i l) in
+      record {
+        sized = inv .sized;
+        sections = inv .sections;
+        inside = omega arith;
+        few = omega (arith, inv .few, f, one-most i (h .kind));
+        same = omega (arith, inv .same, p, q);
+      }
+
+  pub counting-end : n ≤ i → most ≡ countedHeads 0 (headsIn ws)
+  unfolding countedHeads
+  counting-end l =
+      let z : countedHeads i (left ws n i) ≡ 0 = ap (countedHeads i) (left-end ws n i l) in
+      omega (arith, inv .same, z)
+
+-- ---- where the sections stand
+pub record Placing (ws : List ℕ) (n most : ℕ) (firstHas : Bool) (i : ℕ) : Type 0 where
+  pub sized : Sized ws
+  pub sections : n ≡ getD ws 0 0
+  pub inside : i ≤ n
+  pub same : placesFit (headsIn ws) ≡ placesFrom n most firstHas i (left ws n i)
+
+heads-length : (n : ℕ) (ws : List ℕ) → length (headsAt n ws) ≡ n
+unfolding headsAt
+heads-length zero ws = refl
+heads-length (suc n) ws = ap suc (heads-length n (drop 12 ws))
+
+heads-counted : (ws : List ℕ) (n : ℕ) → n ≡ getD ws 0 0 → length (headsIn ws) ≡ n
+unfolding headsIn
+heads-counted ws n e = heads-length (getD ws 0 0) (drop 1 ws) ∙ sym e
+
+pub placing-start : (ws : List ℕ) (n most : ℕ) (h : HeadWords) → Sized ws → n ≡ getD ws 0 0 → most ≡ countedHeads 0 (headsIn ws)
+    → headFrom h ≡ headAt (drop 1 ws) → Placing ws n most (hasIn (headFrom h)) 0
+unfolding placesFit firstHasIn
+placing-start ws n most h s e m f =
+    let heads : headsIn ws ≡ left ws n 0 = left-start ws n e in
+    let first : firstHasIn (headsIn ws) ≡ hasIn (headFrom h) =
+    ap firstHasIn (heads ∙ left-front ws n 0 (omega (arith, s .least, e))) ∙ ap hasIn (sym f) in
+    record {
+      sized = s;
+      sections = e;
+      inside = omega arith;
+      same = rw (heads-counted ws n e, ← m, first, heads);
+    }
+
+module _ (ws : List ℕ) (n most : ℕ) (firstHas : Bool) (i : ℕ) (inv : Placing ws n most firstHas i) (l : i < n) (h : HeadWords) (e : headFrom h ≡ headAt (drop (1 + 12 * i) ws)) where
+  place-front : placesFit (headsIn ws) ≡ cond (placeFits n most firstHas i (headFrom h)) (placesFrom n most firstHas (i + 1) (left ws n (i + 1))) false
+  unfolding placesFrom
+  place-front = inv .same ∙ rw (left-front ws n i l, ← e)
+
+  pub placing-step : placeFits n most firstHas i (headFrom h) ≡ true → Placing ws n most firstHas (i + 1)
+  placing-step t =
+      record {
+        sized = inv .sized;
+        sections = inv .sections;
+        inside = omega arith;
+        same = place-front ∙ rw t;
+      }
+
+  pub placing-fails : placeFits n most firstHas i (headFrom h) ≡ false → false ≡ placesFit (headsIn ws)
+  placing-fails t = sym (place-front ∙ rw t)
+
+pub placing-end : (ws : List ℕ) (n most : ℕ) (firstHas : Bool) (i : ℕ) → Placing ws n most firstHas i → n ≤ i → true ≡ placesFit (headsIn ws)
+unfolding placesFrom
+placing-end ws n most firstHas i inv l = sym (inv .same ∙ rw (left-end ws n i l))

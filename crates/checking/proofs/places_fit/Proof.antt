@@ -1,0 +1,72 @@
+-- `checking::places_fit` meets its contract. The invariant, `Placing`: the heads that are left decide.
+-- Assumes nothing.
+use borrow.Author.Tests.{not-true, not-false}
+use mathlib.Core.Path.{sym, _∙_}
+use Prim.Native.Nat.{_-_}
+use native.Mathlib.Omega.{arith}
+use Rattle.checking.proofs.Loops.{Placing, placing-start, placing-step, placing-fails, placing-end}
+use mathlib.Core.Path.{refl}
+use borrow.Author.Needs.{needs}
+use Rattle.checking.proofs.places_fit.Statement.{statement}
+use Rattle.checking.proofs.places_fit.Tie as tie
+
+abbrev Inv-loop : tie.InvT-loop
+Inv-loop table n most first-has i₀ i = Placing table n most first-has i
+
+abbrev μ-loop : tie.MeasureT-loop
+μ-loop table n most first-has i₀ i = n - i
+
+shared-slice-read-n : tie.Need-shared-slice-read-n Inv-loop μ-loop
+shared-slice-read-n c = search needs
+
+cast-n : tie.Need-cast-n Inv-loop μ-loop
+cast-n c = search needs
+
+counted-requires : tie.Need-counted-requires Inv-loop μ-loop
+counted-requires c κs = search needs
+
+head-at-requires : tie.Need-head-at-requires Inv-loop μ-loop
+head-at-requires c κs = search needs
+
+loop-holds : tie.Need-loop-holds Inv-loop μ-loop
+loop-holds c = placing-start _ _ _ _ (c .before .before .before .before .before .pre) refl (c .before .before .counted .ensures) (c .before .head-at .ensures)
+
+head-at-requires-2 : tie.Need-head-at-requires-2 Inv-loop μ-loop
+head-at-requires-2 c κs = search needs
+
+place-fits-requires : tie.Need-place-fits-requires Inv-loop μ-loop
+place-fits-requires c κs = search needs
+
+returns : tie.Need-returns Inv-loop μ-loop
+returns c = placing-fails _ _ _ _ _ (c .before .before .before .before .loop .inv) (omega arith) _ (c .before .before .head-at2 .ensures) (sym (c .before .place-fits .ensures) ∙ not-true _ (c .if1 .taken))
+
+add-i : tie.Need-add-i Inv-loop μ-loop
+add-i c = search needs
+
+loop-less : tie.Need-loop-less Inv-loop μ-loop
+loop-less c = search needs
+
+loop-again : tie.Need-loop-again Inv-loop μ-loop
+loop-again c = placing-step _ _ _ _ _ (c .before .before .before .before .loop .inv) (omega arith) _ (c .before .before .head-at2 .ensures) (sym (c .before .place-fits .ensures) ∙ not-false _ (c .if1 .left))
+
+returns-2 : tie.Need-returns-2 Inv-loop μ-loop
+returns-2 c = placing-end _ _ _ _ _ (c .before .loop .inv) (search needs)
+
+pub places-fit-spec : {M : Type 1} → statement M
+places-fit-spec =
+    tie.close
+    (tie.spec
+    Inv-loop
+    μ-loop
+    shared-slice-read-n
+    cast-n
+    counted-requires
+    head-at-requires
+    loop-holds
+    head-at-requires-2
+    place-fits-requires
+    returns
+    add-i
+    loop-less
+    loop-again
+    returns-2)

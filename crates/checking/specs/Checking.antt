@@ -1,0 +1,128 @@
+-- The table rules in the order in which they are tested: how many words there are; each section by its head and the tally of its
+-- items; where each section stands, by the heads alone.
+-- Assumes nothing.
+use Prim.Native.Nat.{ℕ, _+_, _*_, _/_, _%_, _≤_}
+use mathlib.Core.Path.{_≡_}
+use mathlib.Core.Bool.{Bool, true, false, cond, not, _&&_, _||_}
+use mathlib.Core.List.{List, [], _∷_}
+use lib.ListN.{length, getD}
+use lib.Dec.{leb, ltb, eqb}
+use Rattle.formats.specs.Where.{implies}
+use Rattle.formats.specs.Minus.{exceptionA}
+use Rattle.tables.specs.Words.{Head, Row, headsIn, itemsSaid, exactWords}
+use Rattle.tables.specs.Encode.{hasHalf}
+use Rattle.tables.specs.Decode.{itemsAt, groupedAt, thousandsAt}
+use Rattle.tables.specs.Rules.{headInRange, conditionFits, shiftTells, rowFits}
+use Rattle.tallies.specs.declared.Tally.{Tally}
+use Rattle.tallies.specs.Tally.{kindTold, itemsFitTold, oneFillTold, withinTold, groupingTold, decimalsTold}
+use Rattle.checking.specs.declared.HeadWords.{HeadWords}
+
+abbrev pub headFrom : HeadWords → Head
+headFrom w =
+    record {
+      kind = w .kind;
+      colour = w .colour;
+      operator = w .operator;
+      negative = w .negative;
+      wholeLow = w .«whole_low»;
+      wholeHigh = w .«whole_high»;
+      millionthsLow = w .«millionths_low»;
+      millionthsHigh = w .«millionths_high»;
+      shift = w .shift;
+      flags = w .flags;
+      decimals = w .decimals;
+      items = w .items;
+    }
+
+-- both or neither
+abbrev pub agree : Bool → Bool → Bool
+agree a b = (a && b) || (not a && not b)
+
+-- ---- how many words there are
+unfoldable pub sized : List ℕ → Bool
+sized ws = exactWords ws && leb (itemsSaid (headsIn ws)) 254
+
+-- the same as facts
+pub record Sized (ws : List ℕ) : Type 0 where
+  pub least : 1 ≤ getD ws 0 0
+  pub most : getD ws 0 0 ≤ 4
+  pub words : length ws ≡ 1 + 12 * getD ws 0 0 + 2 * itemsSaid (headsIn ws)
+  pub items : itemsSaid (headsIn ws) ≤ 254
+
+-- ---- one section, by its head and the tally of its items
+-- a condition's words, whose numbers are read
+abbrev pub conditionWith : ℕ → ℕ → ℕ → ℕ → Bool
+conditionWith operator negative whole millionths =
+    implies (eqb operator 0) (eqb negative 0 && eqb whole 0 && eqb millionths 0)
+    && implies (eqb whole 0 && eqb millionths 0) (eqb negative 0)
+
+unfoldable pub thousandsTold : ℕ → Tally → ℕ
+thousandsTold shift t = cond (eqb (kindTold t) 2) (thousandsAt shift (t .percents)) 0
+
+unfoldable pub shiftTold : ℕ → Tally → Bool
+shiftTold shift t = cond (eqb (kindTold t) 2) (shiftTells shift (t .percents)) (eqb shift 0)
+
+-- the words that follow from the items
+unfoldable pub derivedTold : Head → Tally → Bool
+derivedTold h t =
+    eqb (h .kind) (kindTold t)
+    && (eqb (h .decimals) (decimalsTold t) && (shiftTold (h .shift) t && agree (leb 4 (h .flags)) (t .halves)))
+
+unfoldable pub itemsTold : Head → Tally → Bool
+itemsTold h t =
+    t .sound
+    && (itemsFitTold t && (oneFillTold t && (withinTold t (thousandsTold (h .shift) t) && groupingTold t (groupedAt (h .flags)))))
+
+unfoldable pub headTold : Head → Bool
+headTold h = headInRange h && conditionFits h
+
+unfoldable pub rowTold : Head → Tally → Bool
+rowTold h t = headTold h && (itemsTold h t && derivedTold h t)
+
+-- a row with its twelve-hour flag, the only flag besides grouping that its items tell
+unfoldable pub halfFits : Row → Bool
+halfFits r = agree (leb 4 (r .head .flags)) (hasHalf (itemsAt (r .entries)))
+
+unfoldable pub rowGood : Row → Bool
+rowGood r = rowFits r && halfFits r
+
+-- ---- where the sections stand, by their heads
+abbrev pub hasIn : Head → Bool
+hasIn h = not (eqb (h .operator) 0)
+
+abbrev pub standsWith : ℕ → ℕ → ℕ → ℕ → Bool → Bool
+standsWith n i kind colour has =
+    implies (eqb kind 3) (eqb (i + 1) n)
+    && implies (eqb n 1 && has) (eqb kind 1)
+    && implies has (ltb i 2)
+    && implies (eqb kind 3) (not has)
+    && implies (eqb i 3) (eqb kind 3 || eqb kind 1 || eqb kind 0)
+    && implies (eqb i 3) (eqb colour 0 && not has)
+
+-- the flag of exception (a), of section i where `most` sections count
+abbrev pub minusWith : ℕ → ℕ → Bool → Bool → ℕ → Bool
+minusWith most i has firstHas flags = agree (eqb (flags / 2 % 2) 1) (exceptionA most i has firstHas)
+
+unfoldable pub placeFits : ℕ → ℕ → Bool → ℕ → Head → Bool
+placeFits n most firstHas i h =
+    standsWith n i (h .kind) (h .colour) (hasIn h) && minusWith most i (hasIn h) firstHas (h .flags)
+
+unfoldable pub placesFrom : ℕ → ℕ → Bool → ℕ → List Head → Bool
+placesFrom n most firstHas i [] = true
+placesFrom n most firstHas i (h ∷ hs) =
+    let r = placesFrom n most firstHas (i + 1) hs in cond (placeFits n most firstHas i h) r false
+
+-- one where a section counts, by its place and kind word
+unfoldable pub countedOne : ℕ → ℕ → ℕ
+countedOne i kind = cond (eqb kind 3 || eqb i 3) 0 1
+
+unfoldable pub countedHeads : ℕ → List Head → ℕ
+countedHeads i [] = 0
+countedHeads i (h ∷ hs) = countedOne i (h .kind) + countedHeads (i + 1) hs
+
+unfoldable pub firstHasIn : List Head → Bool
+firstHasIn [] = false
+firstHasIn (h ∷ hs) = hasIn h
+
+unfoldable pub placesFit : List Head → Bool
+placesFit hs = placesFrom (length hs) (countedHeads 0 hs) (firstHasIn hs) 0 hs
