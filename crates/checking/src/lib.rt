@@ -19,19 +19,19 @@ use tallies::tally_words;
 use tallies::within;
 
 // The words of a section's head.
-pub struct HeadWords {
-    pub kind: u16,
-    pub colour: u16,
-    pub operator: u16,
-    pub negative: u16,
-    pub whole_low: u16,
-    pub whole_high: u16,
-    pub millionths_low: u16,
-    pub millionths_high: u16,
-    pub shift: u16,
-    pub flags: u16,
-    pub decimals: u16,
-    pub items: u16,
+struct HeadWords {
+    kind: u16,
+    colour: u16,
+    operator: u16,
+    negative: u16,
+    whole_low: u16,
+    whole_high: u16,
+    millionths_low: u16,
+    millionths_high: u16,
+    shift: u16,
+    flags: u16,
+    decimals: u16,
+    items: u16,
 }
 
 // The head of section i.

@@ -1,7 +1,7 @@
 -- `checking::check` meets its contract.
 -- Assumes nothing.
-use borrow.Author.Tests.{not-true, not-false}
 use mathlib.Core.Path.{sym, _∙_}
+use borrow.Author.Tests.{not-true, not-false}
 use Rattle.lists.proofs.Bools.{true-T}
 use Rattle.checking.proofs.Passing.{sized-facts, not-sized, not-good, all-good}
 use borrow.Author.Needs.{needs}

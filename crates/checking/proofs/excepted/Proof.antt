@@ -1,7 +1,7 @@
 -- `checking::excepted` meets its contract.
 -- Assumes nothing.
-use Rattle.formats.specs.Minus.{exceptionA}
 use mathlib.Core.Path.{refl}
+use Rattle.formats.specs.Minus.{exceptionA}
 use Rattle.checking.proofs.excepted.Statement.{statement}
 use Rattle.checking.proofs.excepted.Tie as tie
 

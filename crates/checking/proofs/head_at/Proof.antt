@@ -1,8 +1,8 @@
 -- `checking::head_at` meets its contract.
 -- Assumes nothing.
+use Prim.Native.Nat.{_+_, _*_}
 use denote.Ref.{now}
 use Rattle.checking.proofs.Loops.{head-read}
-use Prim.Native.Nat.{_+_, _*_}
 use borrow.Author.Needs.{needs}
 use Rattle.checking.proofs.head_at.Statement.{statement}
 use Rattle.checking.proofs.head_at.Tie as tie

@@ -1,11 +1,10 @@
 -- `checking::places_fit` meets its contract. The invariant, `Placing`: the heads that are left decide.
 -- Assumes nothing.
-use borrow.Author.Tests.{not-true, not-false}
-use mathlib.Core.Path.{sym, _∙_}
 use Prim.Native.Nat.{_-_}
 use native.Mathlib.Omega.{arith}
+use mathlib.Core.Path.{sym, _∙_, refl}
+use borrow.Author.Tests.{not-true, not-false}
 use Rattle.checking.proofs.Loops.{Placing, placing-start, placing-step, placing-fails, placing-end}
-use mathlib.Core.Path.{refl}
 use borrow.Author.Needs.{needs}
 use Rattle.checking.proofs.places_fit.Statement.{statement}
 use Rattle.checking.proofs.places_fit.Tie as tie

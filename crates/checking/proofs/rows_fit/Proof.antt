@@ -1,14 +1,12 @@
 -- `checking::rows_fit` meets its contract. The invariant, `Rowing`: the rows that are left decide.
 -- Assumes nothing.
-use borrow.Author.Tests.{not-true, not-false}
-use Rattle.checking.proofs.Loops.{part-short}
-use Prim.Native.Nat.{_+_, _*_}
+use Prim.Native.Nat.{_+_, _*_, _-_}
+use native.Mathlib.Omega.{arith}
+use mathlib.Core.Path.{refl}
 use lib.ListN.{drop}
 use denote.Ref.{now}
-use Prim.Native.Nat.{_-_}
-use native.Mathlib.Omega.{arith}
-use Rattle.checking.proofs.Loops.{Rowing, rowing-start, rowing-step, rowing-fails, rowing-end, within}
-use mathlib.Core.Path.{refl}
+use borrow.Author.Tests.{not-true, not-false}
+use Rattle.checking.proofs.Loops.{part-short, Rowing, rowing-start, rowing-step, rowing-fails, rowing-end, within}
 use borrow.Author.Needs.{needs}
 use Rattle.checking.proofs.rows_fit.Statement.{statement}
 use Rattle.checking.proofs.rows_fit.Tie as tie

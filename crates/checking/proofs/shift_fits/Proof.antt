@@ -1,9 +1,9 @@
 -- `checking::shift_fits` meets its contract.
 -- Assumes nothing.
-use Rattle.checking.specs.Checking.{shiftTold}
-use Rattle.tallies.specs.Tally.{kindTold}
 use mathlib.Core.Path.{sym, _∙_}
 use borrow.Author.Tests.{eq-eqb, ne-eqb}
+use Rattle.checking.specs.Checking.{shiftTold}
+use Rattle.tallies.specs.Tally.{kindTold}
 use borrow.Author.Needs.{needs}
 use Rattle.checking.proofs.shift_fits.Statement.{statement}
 use Rattle.checking.proofs.shift_fits.Tie as tie

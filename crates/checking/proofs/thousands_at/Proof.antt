@@ -1,7 +1,7 @@
 -- `checking::thousands_at` meets its contract.
 -- Assumes nothing.
-use Rattle.checking.proofs.Heads.{thousands-some, thousands-none}
 use native.Mathlib.Omega.{arith}
+use Rattle.checking.proofs.Heads.{thousands-some, thousands-none}
 use borrow.Author.Needs.{needs}
 use Rattle.checking.proofs.thousands_at.Statement.{statement}
 use Rattle.checking.proofs.thousands_at.Tie as tie
