@@ -1,0 +1,131 @@
+-- What preparing answers and leaves, from what examining told.
+-- Assumes nothing.
+use Prim.Native.Nat.{ℕ, zero, suc, _+_, _-_, _*_, _≤_, _<_}
+use native.Mathlib.Omega.{arith}
+use mathlib.Core.Path.{_≡_, refl, sym, _∙_, ap}
+use mathlib.Core.Bool.{Bool, true, false, cond, true≢false}
+use mathlib.Core.List.{List, [], _∷_, _++_, map}
+use mathlib.Core.Option.{Option, none, some}
+use lib.ListN.{length, take, length-append, length-map}
+use lib.Seq.{sets, length-take-le}
+use lib.Dec.{leb, eqb}
+use borrow.Author.Tests.{le-leb, lt-leb, eq-eqb, ne-eqb, eqb-true}
+use Rattle.answers.specs.declared.Answer.{Answer}
+use Rattle.answers.specs.declared.Answer.the-variants as answer
+use Rattle.answers.specs.declared.Prepared.{Prepared}
+use Rattle.answers.specs.Number.{numberOf, refusedPrepared}
+use Rattle.lists.specs.Lists.{All, overlay, firstFailing}
+use Rattle.lists.proofs.Bools.{by-cases}
+use Rattle.formats.specs.Kinds.{Parts, sectionOf}
+use Rattle.formats.specs.Limits.{withinLimits}
+use Rattle.formats.specs.Accept.{partsIn, sectionsIn, Verdict, fine, refused, sectionVerdict, limitVerdict, verdict, Accepted, sections, refusal, acceptedBy, accept}
+use Rattle.formats.proofs.First.{verdict-fine}
+use Rattle.formats.proofs.ItemCount.{section-count}
+use Rattle.tables.specs.Words.{headWords}
+use Rattle.tables.specs.Encode.{encode}
+use Rattle.tables.specs.Calls.{wordsOf, tableOf, preparedAs, prepared, written, tableAfter}
+use Rattle.writing.specs.Put.{Put}
+use Rattle.writing.proofs.Laws.{sets-overlay}
+use Rattle.preparing.specs.declared.drafts.Draft.{Draft}
+use Rattle.preparing.specs.declared.examining.Examined.{Examined}
+use Rattle.preparing.specs.Draft.{Drafted, itemWords, countedBy, firstBy, headBy, headsBy, tableBy}
+use Rattle.preparing.specs.Examine.{verdictOf, Sound, ExaminedAs}
+use Rattle.preparing.proofs.Tabling.{table-same}
+
+-- the words taken from a room
+pub part-few : (n : ℕ) (l : List ℕ) → n ≤ length l → n ≤ 508 → length (take n l) ≤ 508
+part-few n l h k = omega (arith, length-take-le n l h)
+
+-- ---- a refusal
+module _ (code : List ℕ) (a : Answer) (k : ℕ) (v : verdict code ≡ refused a k) where
+  pub refused-prepared : (size : ℕ) → prepared code size ≡ refusedPrepared a k
+  unfolding prepared accept acceptedBy preparedAs
+  refused-prepared size = rw v
+
+  pub refused-table : (old : List ℕ) → tableAfter code old ≡ old
+  unfolding tableAfter tableOf wordsOf accept acceptedBy written overlay
+  refused-table old = rw (v, le-leb 0 (length old) (omega arith))
+
+pub examined-no : (code : List ℕ) (r : Examined) (out : List ℕ) (n : ℕ) → ExaminedAs code r out → n ≡ numberOf (r .answer) → (n ≡ 0 → ⊥)
+    → verdict code ≡ refused (r .answer) (r .place)
+unfolding verdictOf
+examined-no code r out n x e z = sym (x .told) ∙ rw (ne-eqb (numberOf (r .answer)) 0 (λ t. z (e ∙ t)))
+
+pub examined-fine : (code : List ℕ) (r : Examined) (out : List ℕ) (n : ℕ) → ExaminedAs code r out → n ≡ numberOf (r .answer) → n ≡ 0 → verdict code ≡ fine
+unfolding verdictOf
+examined-fine code r out n x e z = sym (x .told) ∙ rw (eq-eqb (numberOf (r .answer)) 0 (sym e ∙ z))
+
+-- ---- the table
+none-fine : (a : Answer) (o : Option ℕ) → sectionVerdict a o ≡ fine → o ≡ none
+unfolding sectionVerdict
+none-fine a none e = refl
+none-fine a (some k) e = let z : _≡_ {A = ℕ} 0 1 = cc in absurd (omega arith)
+
+within-from : (k : ℕ) (ps : List Parts) → firstFailing (λ (i : ℕ) (p : Parts). withinLimits p) k ps ≡ none → All (λ (p : Parts). withinLimits p ≡ true) ps
+unfolding firstFailing
+within-from k [] e = tt
+within-from k (p ∷ ps) e = by-cases (withinLimits p)
+    (λ t. (t, within-from (suc k) ps (rw t at e)))
+    (λ t. let y = rw t at e in let z : _≡_ {A = ℕ} 0 1 = cc in absurd (omega arith))
+
+all-within : (code : List ℕ) → verdict code ≡ fine → All (λ (p : Parts). withinLimits p ≡ true) (partsIn code)
+unfolding limitVerdict
+all-within code v = within-from 0 (partsIn code) (none-fine answer.Limit _ (verdict-fine code v .limits-fine))
+
+heads-size : (n : ℕ) (firstHas : Bool) (i : ℕ) (ds : List Draft) → length (headsBy n firstHas i ds) ≡ 12 * length ds
+unfolding headsBy headWords
+heads-size n firstHas i [] = refl
+heads-size n firstHas i (d ∷ ds) = omega (arith, heads-size n firstHas (i + 1) ds)
+
+drafted-length : (ps : List Parts) (ds : List Draft) → Drafted ps ds → length ps ≤ length ds
+drafted-length [] ds h = omega arith
+drafted-length (p ∷ ps) [] h = absurd h
+drafted-length (p ∷ ps) (d ∷ ds) h = omega (arith, drafted-length ps ds (h .1))
+
+module _ (code : List ℕ) (v : verdict code ≡ fine) (r : Examined) (out : List ℕ) (s : Sound code r out) where
+  one-least : 1 ≤ r .sections
+  unfolding sectionsIn
+  one-least = omega (arith, s .many, section-count code, length-map (partsIn code) sectionOf)
+
+  abbrev table : List ℕ
+  table = tableBy (r .sections) (r .drafts) (take (r .words) out)
+
+  table-is : table ≡ encode (sectionsIn code)
+  unfolding sectionsIn
+  table-is = rw (s .words) (table-same (partsIn code) (r .drafts) (r .sections) (s .many) one-least (s .each) (all-within code v))
+
+  table-size : length table ≡ 1 + 12 * r .sections + r .words
+  unfolding tableBy
+  table-size =
+      let ds : List Draft = take (r .sections) (r .drafts) in
+      let hs : List ℕ = headsBy (countedBy 0 ds) (firstBy (r .drafts)) 0 ds in
+      omega (arith, length-append hs (take (r .words) out), heads-size (countedBy 0 ds) (firstBy (r .drafts)) 0 ds,
+      length-take-le (r .sections) (r .drafts) (omega (arith, s .many, drafted-length (partsIn code) (r .drafts) (s .each))), length-take-le (r .words) out (s .room))
+
+  accepted : accept code ≡ sections (sectionsIn code)
+  unfolding accept acceptedBy
+  accepted = rw v
+
+  module _ (size : ℕ) (e : size ≡ 1 + 12 * r .sections + r .words) where
+    long : length (encode (sectionsIn code)) ≡ size
+    long = sym (ap length table-is) ∙ table-size ∙ sym e
+
+    pub room-prepared : (old : ℕ) → old < size → prepared code old ≡ refusedPrepared answer.TableRoom 0
+    unfolding prepared preparedAs
+    room-prepared old h = rw (accepted, long, lt-leb size old h)
+
+    pub room-table : (old : List ℕ) → length old < size → tableAfter code old ≡ old
+    unfolding tableAfter tableOf wordsOf written
+    room-table old h = rw (accepted, long, lt-leb size (length old) h)
+
+    pub done-prepared : (old : ℕ) → size ≤ old → prepared code old ≡ record { answer = answer.Done; place = 0; words = size }
+    unfolding prepared preparedAs
+    done-prepared old h = rw (accepted, long, le-leb size old h)
+
+    pub done-table : (old new : List ℕ) (k : ℕ) → size ≤ length old → Put old 0 table k new → new ≡ tableAfter code old
+    unfolding tableAfter tableOf wordsOf written
+    done-table old new k h put =
+        let fits : length (encode (sectionsIn code)) ≤ length old = omega (arith, long) in
+        let after : tableAfter code old ≡ overlay (encode (sectionsIn code)) old = rw (accepted, long, le-leb size (length old) h) in
+        let set : sets old 0 table ≡ overlay (encode (sectionsIn code)) old = rw table-is (sets-overlay old (encode (sectionsIn code)) fits) in
+        put .room ∙ set ∙ sym after

@@ -1,0 +1,9 @@
+pub mod Integers
+pub mod Drafting
+pub mod Digits
+pub mod Sectioning
+pub mod Testing
+pub mod Refusing
+pub mod Tabling
+pub mod Answering
+pub mod Finishing

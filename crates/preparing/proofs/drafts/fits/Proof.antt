@@ -1,0 +1,16 @@
+-- `preparing::drafts::fits` meets its contract.
+-- Assumes nothing.
+use borrow.Author.Needs.{needs}
+use Rattle.preparing.proofs.drafts.fits.Statement.{statement}
+use Rattle.preparing.proofs.drafts.fits.Tie as tie
+
+-- src/drafts.rt:101:53
+items-fit-requires : tie.Need-items-fit-requires
+items-fit-requires c κs = search needs
+
+-- src/drafts.rt:98:1
+returns : tie.Need-returns
+returns c = rw (c .items-fit .ensures)
+
+pub fits-spec : {M : Type 1} → statement M
+fits-spec = tie.close (tie.spec items-fit-requires returns)

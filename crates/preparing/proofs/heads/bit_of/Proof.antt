@@ -1,0 +1,20 @@
+-- `preparing::heads::bit_of` meets its contract.
+-- Assumes nothing.
+use native.Mathlib.Omega.{arith}
+use Rattle.tables.specs.Encode.{bit}
+use borrow.Author.Needs.{needs}
+use Rattle.preparing.proofs.heads.bit_of.Statement.{statement}
+use Rattle.preparing.proofs.heads.bit_of.Tie as tie
+
+-- src/heads.rt:19:9
+returns : tie.Need-returns
+unfolding bit
+returns c = (rw (c .if1 .taken), omega arith)
+
+-- src/heads.rt:15:1
+returns-2 : tie.Need-returns-2
+unfolding bit
+returns-2 c = (rw (c .if1 .left), omega arith)
+
+pub bit-of-spec : {M : Type 1} → statement M
+bit-of-spec = tie.close (tie.spec returns returns-2)

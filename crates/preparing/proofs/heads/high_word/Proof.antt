@@ -1,0 +1,19 @@
+-- `preparing::heads::high_word` meets its contract.
+-- Assumes nothing.
+use mathlib.Core.Path.{refl}
+use Rattle.tables.specs.Encode.{highWord}
+use borrow.Author.Needs.{needs}
+use Rattle.preparing.proofs.heads.high_word.Statement.{statement}
+use Rattle.preparing.proofs.heads.high_word.Tie as tie
+
+-- src/heads.rt:33:5
+cast-result : tie.Need-cast-result
+cast-result c = search needs
+
+-- src/heads.rt:30:1
+returns : tie.Need-returns
+unfolding highWord
+returns c = refl
+
+pub high-word-spec : {M : Type 1} → statement M
+high-word-spec = tie.close (tie.spec cast-result returns)

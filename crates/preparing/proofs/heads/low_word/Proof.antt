@@ -1,0 +1,19 @@
+-- `preparing::heads::low_word` meets its contract.
+-- Assumes nothing.
+use mathlib.Core.Path.{refl}
+use Rattle.tables.specs.Encode.{lowWord}
+use borrow.Author.Needs.{needs}
+use Rattle.preparing.proofs.heads.low_word.Statement.{statement}
+use Rattle.preparing.proofs.heads.low_word.Tie as tie
+
+-- src/heads.rt:27:5
+cast-result : tie.Need-cast-result
+cast-result c = search needs
+
+-- src/heads.rt:24:1
+returns : tie.Need-returns
+unfolding lowWord
+returns c = refl
+
+pub low-word-spec : {M : Type 1} → statement M
+low-word-spec = tie.close (tie.spec cast-result returns)

@@ -1,0 +1,53 @@
+// Prepares a code: tests it, and writes its table.
+pub mod drafts;
+pub mod examining;
+pub mod heads;
+pub mod places;
+pub mod sections;
+pub mod verdicts;
+
+use answers::Answer;
+use answers::Prepared;
+use answers::number;
+use examining::examine;
+use heads::put_table;
+ghost use mathlib.Core.Path.{_≡_};
+ghost use lib.ListN.{length};
+ghost use Rattle.answers.specs.Number.{refusedPrepared};
+ghost use Rattle.tables.specs.Calls.{prepared, tableAfter};
+
+fn refused(answer: Answer, place: u32) -> Prepared
+    ensures { λ r. ⌜ r ≡ refusedPrepared answer place ⌝ }
+{
+    Prepared {
+        answer,
+        place,
+        words: 0,
+    }
+}
+
+// Prepares a code: the table is written only where it fits.
+pub fn prepare(code: &[u16], table: &mut [u16]) -> Prepared
+    ensures answer { λ r. ⌜ r ≡ prepared (now (code .entry)) (length (now (table .entry))) ⌝ }
+    ensures table { λ r. ⌜ now (table .exit) ≡ tableAfter (now (code .entry)) (now (table .entry)) ⌝ }
+{
+    let mut tokens = [0u16; 762];
+    let mut items = [0u16; 508];
+    let e = examine(code, &mut tokens, &mut items);
+    let answer = e.answer;
+    if number(answer) != 0 {
+        return refused(answer, e.place);
+    }
+    let end = e.words;
+    let size = 1 + 12 * e.sections + end;
+    if table.len() < size {
+        return refused(Answer::TableRoom, 0);
+    }
+    let drafts = e.drafts;
+    put_table(table, drafts, e.sections, &items[..end]);
+    Prepared {
+        answer: Answer::Done,
+        place: 0,
+        words: size as u32,
+    }
+}
