@@ -1,0 +1,174 @@
+-- What a section's kind says of its words, of its places, and of the subject that it shows.
+-- Assumes nothing.
+use Prim.Native.Nat.{ℕ, _+_, _*_, _<_}
+use mathlib.Core.Path.{_≡_, refl, sym, ap, subst, _∙_}
+use mathlib.Core.Bool.{Bool, true, false, true≢false}
+use mathlib.Core.List.{List, [], _∷_}
+use lib.Dec.{T, ltb}
+use lib.ListN.{length, getD}
+use Rattle.answers.specs.declared.Answer.the-variants as answer
+use Rattle.answers.specs.declared.Shown.{Shown}
+use Rattle.values.specs.declared.Day.{Day}
+use Rattle.values.specs.declared.Millisecond.{Millisecond}
+use Rattle.lists.specs.Lists.{every}
+use Rattle.lists.proofs.Bools.{every-head, every-tail}
+use Rattle.formats.specs.Items.{Item, literal, blank, fill, place, point, percent, general, at, year, month, day, hour, minute, second, part, elapsed, half, Section, Kind, textKind, generalKind, dateKind, numberKind, literalKind, sameKind, itemAllowed, itemBelongs, kindOf, integerPlaces}
+use Rattle.formats.specs.Text.{Context}
+use Rattle.answers.specs.Number.{refusedShown}
+use Rattle.calendar.specs.Clock.{sinceDayZero}
+use Rattle.formats.specs.Choice.{Exact, instantExact, Reason, Choice, chosen, choose}
+use Rattle.formats.specs.Reading.{takesInstant, instantContext, readInstant}
+use Rattle.tables.specs.Encode.{bit, flagsWord, hasHalf, kindWord, headOf}
+use Rattle.tables.specs.Decode.{itemsAt, decode}
+use Rattle.tables.specs.Rules.{passes}
+use Rattle.date_text.specs.Moment.{momentOf, MomentIs}
+use Rattle.date_text.proofs.Moments.{moment-instant}
+use Rattle.choosing.specs.declared.Sought.{Sought}
+use Rattle.choosing.specs.declared.Found.the-variants as found
+use Rattle.choosing.specs.Seeking.{exactOf, instantSought, foundOf, sectionIn, wordIn}
+use Rattle.choosing.proofs.Asking.{instant-exact}
+use Rattle.choosing.proofs.Finding.{found-nothing, found-at}
+use Rattle.choosing.proofs.Places.{words-by-place}
+use Rattle.showing.specs.declared.Subject.{Subject}
+use Rattle.showing.specs.Subject.{SubjectIs}
+use Rattle.showing.specs.KindWord.{instantWord}
+use Rattle.showing.specs.Place.{Known}
+use Rattle.showing.specs.Show.{signText, sectionReading, Shows}
+use Rattle.showing.proofs.Fitting.{shows-refused}
+use Rattle.showing.proofs.Bodies.{section-fits}
+
+-- a section that is no number section has no integer place
+no-places : (k : Kind) (is : List Item) → T (every (itemAllowed k) is) → sameKind numberKind k ≡ false → 0 ≡ integerPlaces is
+unfolding integerPlaces itemAllowed itemBelongs
+no-places k [] t e = refl
+no-places k ((literal u) ∷ is) t e = no-places k is (every-tail (itemAllowed k) (literal u) is t) e
+no-places k ((blank u) ∷ is) t e = no-places k is (every-tail (itemAllowed k) (blank u) is t) e
+no-places k ((fill u) ∷ is) t e = no-places k is (every-tail (itemAllowed k) (fill u) is t) e
+no-places k ((place p) ∷ is) t e = let b : T (sameKind numberKind k) = every-head (itemAllowed k) (place p) is t in absurd (rw e at b)
+no-places k (point ∷ is) t e = refl
+no-places k (percent ∷ is) t e = no-places k is (every-tail (itemAllowed k) percent is t) e
+no-places k (general ∷ is) t e = no-places k is (every-tail (itemAllowed k) general is t) e
+no-places k (at ∷ is) t e = no-places k is (every-tail (itemAllowed k) at is t) e
+no-places k ((year n) ∷ is) t e = no-places k is (every-tail (itemAllowed k) (year n) is t) e
+no-places k ((month n) ∷ is) t e = no-places k is (every-tail (itemAllowed k) (month n) is t) e
+no-places k ((day n) ∷ is) t e = no-places k is (every-tail (itemAllowed k) (day n) is t) e
+no-places k ((hour n) ∷ is) t e = no-places k is (every-tail (itemAllowed k) (hour n) is t) e
+no-places k ((minute n) ∷ is) t e = no-places k is (every-tail (itemAllowed k) (minute n) is t) e
+no-places k ((second n) ∷ is) t e = no-places k is (every-tail (itemAllowed k) (second n) is t) e
+no-places k ((part n) ∷ is) t e = no-places k is (every-tail (itemAllowed k) (part n) is t) e
+no-places k ((elapsed o n) ∷ is) t e = no-places k is (every-tail (itemAllowed k) (elapsed o n) is t) e
+no-places k ((half h) ∷ is) t e = no-places k is (every-tail (itemAllowed k) (half h) is t) e
+
+pub section-places : (ws : List ℕ) (i : ℕ) → T (passes ws) → i < getD ws 0 0 → sameKind numberKind (kindOf (sectionIn ws i)) ≡ false
+    → 0 ≡ integerPlaces (sectionIn ws i .items)
+section-places ws i t h e =
+    let f = section-fits ws i t h in
+    no-places (kindOf (sectionIn ws i)) (itemsAt _) (f .fit .allowed) e ∙ ap integerPlaces (sym (f .items))
+
+-- the kinds that take an instant, by their words
+takes-word : (k : Kind) → instantWord (kindWord k) ≡ takesInstant k
+unfolding kindWord takesInstant
+takes-word textKind = refl
+takes-word generalKind = refl
+takes-word dateKind = refl
+takes-word numberKind = refl
+takes-word literalKind = refl
+
+pub takes-told : (ws : List ℕ) (i w : ℕ) (b : Bool) → T (passes ws) → i < getD ws 0 0 → w ≡ wordIn ws i 0 → b ≡ instantWord w
+    → takesInstant (kindOf (sectionIn ws i)) ≡ b
+unfolding headOf
+takes-told ws i w b t h e f =
+    let k : wordIn ws i 0 ≡ kindWord (kindOf (sectionIn ws i)) = words-by-place ws i t h .kind in
+    sym (takes-word (kindOf (sectionIn ws i))) ∙ ap instantWord (sym (e ∙ k)) ∙ sym f
+
+instant-other : (k : Kind) → takesInstant k ≡ true → sameKind numberKind k ≡ false
+unfolding takesInstant
+instant-other textKind e = refl
+instant-other generalKind e = refl
+instant-other dateKind e = refl
+instant-other numberKind e = absurd (true≢false (sym e))
+instant-other literalKind e = refl
+
+-- the twelve-hour flag
+flag-told : (g n h : Bool) → ltb 3 (flagsWord g n h) ≡ h
+unfolding flagsWord bit
+flag-told true true true = refl
+flag-told true true false = refl
+flag-told true false true = refl
+flag-told true false false = refl
+flag-told false true true = refl
+flag-told false true false = refl
+flag-told false false true = refl
+flag-told false false false = refl
+
+pub twelve-told : (ws : List ℕ) (i w : ℕ) → T (passes ws) → i < getD ws 0 0 → w ≡ wordIn ws i 9 → ltb 3 w ≡ hasHalf (sectionIn ws i .items)
+unfolding headOf
+twelve-told ws i w t h e =
+    let f = words-by-place ws i t h .flags in
+    ap (ltb 3) (e ∙ f) ∙ flag-told _ _ (hasHalf (sectionIn ws i .items))
+
+subject-instant : (k : Kind) (s : Subject) (text : List ℕ) (c : Context) → takesInstant k ≡ true → MomentIs true (s .moment) c → SubjectIs k s text c
+unfolding takesInstant
+subject-instant textKind s text c e m = absurd (true≢false (sym e))
+subject-instant generalKind s text c e m = absurd (true≢false (sym e))
+subject-instant numberKind s text c e m = absurd (true≢false (sym e))
+subject-instant dateKind s text c e m = record { numeric = λ t. absurd t; general = λ t. absurd t; textual = λ t. absurd t; moment = λ t. m }
+subject-instant literalKind s text c e m = record { numeric = λ t. absurd t; general = λ t. absurd t; textual = λ t. absurd t; moment = λ t. absurd t }
+
+module _ (ws : List ℕ) (i : ℕ) (t : T (passes ws)) (h : i < getD ws 0 0) (e : takesInstant (kindOf (sectionIn ws i)) ≡ true) where
+  pub instant-places : (d : Day) (m : Millisecond) → instantContext (sectionIn ws i) d m .integerPlaces ≡ integerPlaces (sectionIn ws i .items)
+  unfolding instantContext
+  instant-places d m = section-places ws i t h (instant-other (kindOf (sectionIn ws i)) e)
+
+  pub instant-subject : (s : Subject) (text : List ℕ) (b : Bool) (d : Day) (m : Millisecond)
+      → b ≡ hasHalf (sectionIn ws i .items) → s .moment ≡ momentOf true b d m
+      → SubjectIs (kindOf (sectionIn ws i)) s text (instantContext (sectionIn ws i) d m)
+  unfolding hasHalf
+  instant-subject s text b d m eb em =
+      subject-instant (kindOf (sectionIn ws i)) s text (instantContext (sectionIn ws i) d m) e
+      (moment-instant true b (sectionIn ws i) d m (s .moment) em eb)
+
+  pub instant-known : (s : Subject) (text : List ℕ) (b : Bool) (d : Day) (m : Millisecond)
+      → b ≡ hasHalf (sectionIn ws i .items) → s .moment ≡ momentOf true b d m → Known (kindOf (sectionIn ws i)) s text
+  instant-known s text b d m eb em =
+      record { context = instantContext (sectionIn ws i) d m; is = instant-subject s text b d m eb em }
+
+-- the reading of an instant in a section, by whether its kind takes one
+pub instant-shows : {old out : List ℕ} {r : Shown} (s : Section) (i : ℕ) (why : Reason) (d : Day) (m : Millisecond)
+    → takesInstant (kindOf s) ≡ true → Shows (sectionReading (length old) s i false (instantContext s d m)) old r out
+    → Shows (readInstant d m (length old) (chosen i s why)) old r out
+unfolding readInstant sectionReading signText
+instant-shows s i why d m e x = rw e x
+
+pub instant-refused : (old : List ℕ) (s : Section) (i : ℕ) (why : Reason) (d : Day) (m : Millisecond)
+    → takesInstant (kindOf s) ≡ false → Shows (readInstant d m (length old) (chosen i s why)) old (refusedShown answer.Sort) old
+unfolding readInstant
+instant-refused old s i why d m e = rw e (shows-refused old answer.Sort)
+
+-- the section that was found
+module _ (ws : List ℕ) (d : Day) (m : Millisecond) (v : Sought) (ev : v ≡ instantSought d m) where
+  instant-choice : choose (decode ws) (instantExact d m) ≡ choose (decode ws) (exactOf v)
+  instant-choice = ap (choose (decode ws)) (instant-exact d m ∙ ap exactOf (sym ev))
+
+  pub instant-nothing : (old : List ℕ) → found.Nothing ≡ foundOf (choose (decode ws) (exactOf v))
+      → Shows (readInstant d m (length old) (choose (decode ws) (instantExact d m))) old (refusedShown answer.NoSection) old
+  unfolding readInstant
+  instant-nothing old e = rw (instant-choice, found-nothing ws (exactOf v) e) (shows-refused old answer.NoSection)
+
+  pub instant-found : {old out : List ℕ} {r : Shown} (i : ℕ) (own : Bool) → found.At i own ≡ foundOf (choose (decode ws) (exactOf v))
+      → ((why : Reason) → Shows (readInstant d m (length old) (chosen i (sectionIn ws i) why)) old r out)
+      → Shows (readInstant d m (length old) (choose (decode ws) (instantExact d m))) old r out
+  instant-found {old} {out} {r} i own e f =
+      found-at ws (exactOf v) i own e (λ why h o l.
+      subst (λ (x : Choice). Shows (readInstant d m (length old) x) old r out) (sym (instant-choice ∙ h)) (f why))
+
+pub found-within : (ws : List ℕ) (x : Exact) (i : ℕ) (own : Bool) → found.At i own ≡ foundOf (choose (decode ws) x) → i < getD ws 0 0
+found-within ws x i own e = found-at ws x i own e (λ why h o l. l)
+
+pub sought-instant : (d : Day) (m : Millisecond)
+    → record { negative = false; instant = true; above = d .0 * 86400000 + m .0; scale = 0 } ≡ instantSought d m
+unfolding instantSought sinceDayZero
+sought-instant d m = refl
+
+pub not-lent : {b : Bool} {P : Type 0} → b ≡ false → b ≡ true → P
+not-lent e f = absurd (true≢false (sym f ∙ e))

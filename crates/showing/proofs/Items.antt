@@ -1,0 +1,144 @@
+-- The text of each item by its tag, and what its section's kind says of the subject.
+-- Assumes nothing.
+use Prim.Native.Nat.{ℕ, suc, _+_, _-_, _≤_, _<_}
+use native.Mathlib.Omega.{arith}
+use mathlib.Core.Path.{_≡_, refl, sym}
+use mathlib.Core.Bool.{Bool, true, false, _||_, true≢false}
+use mathlib.Core.List.{List, [], _∷_}
+use lib.Dec.{T, eqb, eqb→eq}
+use borrow.Author.Tests.{eqb-true}
+use Rattle.calendar.specs.Names.{units}
+use Rattle.lists.proofs.Bools.{by-cases}
+use Rattle.values.specs.Ranges.{between}
+use Rattle.formats.specs.Items.{Kind, dateKind, numberKind, sameKind, itemAllowed, itemBelongs, isPlace}
+use Rattle.formats.specs.Where.{implies}
+use Rattle.formats.specs.Tokens.{Place}
+use Rattle.formats.specs.Text.{Context, itemUnits, placeUnits, pointUnits}
+use Rattle.tables.specs.Encode.{entry}
+use Rattle.tables.specs.Decode.{itemAt}
+use Rattle.tables.specs.Rules.{entryInRange}
+use Rattle.tables.proofs.BackEntries.{span-at, tag-known, between-facts}
+use Rattle.figure_text.specs.declared.Figures.{Figures}
+use Rattle.figure_text.specs.Shown.{DigitsAre, FiguresAre, placeOfTag}
+use Rattle.date_text.proofs.Items.{Apart, past}
+use Rattle.writing.specs.Put.{Put}
+use Rattle.date_text.proofs.Lengths.{item-length}
+use Rattle.showing.specs.declared.Subject.{Subject}
+use Rattle.showing.specs.Subject.{GeneralOf, StandsFor, SubjectIs, EntryFits, ItemPut}
+
+-- a place's argument, and a date item's
+pub place-argument : (tag a : ℕ) → 4 ≤ tag → tag ≤ 6 → T (entryInRange (entry tag a)) → (1 ≤ a) × (a ≤ 40)
+unfolding entryInRange
+place-argument tag a least most t =
+    let f : (1 ≤ a) × (a ≤ 35) =
+    span-at (λ (t : ℕ). T (entryInRange (entry t a)) → (1 ≤ a) × (a ≤ 35)) 4 3 tag
+    (between-facts 1 35 a, (between-facts 1 35 a, (between-facts 1 35 a, tt))) least (omega arith) t in
+    (f .0, omega arith)
+
+module _ (c : Context) (q tag a : ℕ) where
+  pub literal-item : tag ≡ 1 → itemUnits c q (itemAt (entry tag a)) ≡ a ∷ []
+  unfolding itemUnits itemAt
+  literal-item e = rw e
+
+  pub blank-item : tag ≡ 2 → itemUnits c q (itemAt (entry tag a)) ≡ 32 ∷ []
+  unfolding itemUnits itemAt
+  blank-item e = rw e
+
+  pub fill-item : tag ≡ 3 → itemUnits c q (itemAt (entry tag a)) ≡ []
+  unfolding itemUnits itemAt
+  fill-item e = rw e
+
+  pub percent-item : tag ≡ 8 → itemUnits c q (itemAt (entry tag a)) ≡ 37 ∷ []
+  unfolding itemUnits itemAt units
+  percent-item e = rw e
+
+  pub point-item : tag ≡ 7 → itemUnits c q (itemAt (entry tag a)) ≡ pointUnits c
+  unfolding itemUnits itemAt
+  point-item e = rw e
+
+  pub place-item : 4 ≤ tag → tag ≤ 6 → itemUnits c q (itemAt (entry tag a)) ≡ placeUnits c (placeOfTag tag) q
+  unfolding itemUnits itemAt placeOfTag
+  place-item least most =
+      span-at (λ (t : ℕ). itemUnits c q (itemAt (entry t a)) ≡ placeUnits c (placeOfTag t) q) 4 3 tag
+      (refl, (refl, (refl, tt))) least (omega arith)
+
+  pub standing-item : 9 ≤ tag → tag ≤ 10 → itemUnits c q (itemAt (entry tag a)) ≡ c .standing
+  unfolding itemUnits itemAt
+  standing-item least most =
+      span-at (λ (t : ℕ). itemUnits c q (itemAt (entry t a)) ≡ c .standing) 9 2 tag (refl, (refl, tt)) least (omega arith)
+
+module _ (k : Kind) (q tag a : ℕ) (f : EntryFits k q (entry tag a)) where
+  pub place-power : 4 ≤ tag → tag ≤ 6 → a ≡ q + 1
+  unfolding itemAt
+  place-power least most =
+      let e : a ≡ suc q = span-at (λ (t : ℕ). T (implies (isPlace (itemAt (entry t a))) (eqb a (suc q))) → a ≡ suc q) 4 3 tag
+      (eqb→eq a (suc q), (eqb→eq a (suc q), (eqb→eq a (suc q), tt))) least (omega arith) (f .power) in
+      omega arith
+
+  -- the kinds of sections that hold these items
+  pub number-held : 4 ≤ tag → tag ≤ 7 → T (sameKind numberKind k)
+  unfolding itemAt itemAllowed itemBelongs
+  number-held least most =
+      span-at (λ (t : ℕ). T (itemAllowed k (itemAt (entry t a))) → T (sameKind numberKind k)) 4 4 tag
+      ((λ h. h), ((λ h. h), ((λ h. h), ((λ h. h), tt)))) least (omega arith) (f .allowed)
+
+  pub date-held : 10 < tag → tag ≤ 21 → T (sameKind dateKind k)
+  unfolding itemAt itemAllowed itemBelongs
+  date-held least most =
+      span-at (λ (t : ℕ). T (itemAllowed k (itemAt (entry t a))) → T (sameKind dateKind k)) 11 11 tag
+      ((λ h. h), ((λ h. h), ((λ h. h), ((λ h. h), ((λ h. h), ((λ h. h), ((λ h. h), ((λ h. h), ((λ h. h), ((λ h. h), ((λ h. h), tt)))))))))))
+      least (omega arith) (f .allowed)
+
+  pub standing-held : {s : Subject} {text : List ℕ} {c : Context} → SubjectIs k s text c → 9 ≤ tag → tag ≤ 10
+      → StandsFor (s .lent) (s .figures) text (c .standing)
+  unfolding itemAt itemAllowed itemBelongs
+  standing-held {s} {text} {c} i least most =
+      span-at (λ (t : ℕ). T (itemAllowed k (itemAt (entry t a))) → StandsFor (s .lent) (s .figures) text (c .standing)) 9 2 tag
+      (i .general, (i .textual, tt)) least (omega arith) (f .allowed)
+
+-- ---- what is put
+-- the figures of a context are digits of its number
+pub digits-of : {f : Figures} {c : Context} → FiguresAre f c → DigitsAre f (c .figures)
+digits-of a = record { digits = a .digits; small = a .small; used = a .used; lowest = a .lowest }
+
+pub stands-lent : (b : Bool) (f : Figures) (text us : List ℕ) → b ≡ true → StandsFor b f text us → text ≡ us
+stands-lent true f text us e h = h
+stands-lent false f text us e h = absurd (true≢false (sym e))
+
+pub stands-general : (b : Bool) (f : Figures) (text us : List ℕ) → b ≡ false → StandsFor b f text us → GeneralOf f us
+stands-general true f text us e h = absurd (true≢false e)
+stands-general false f text us e h = h
+
+pub place-put : {old out : List ℕ} {at r : ℕ} (c : Context) (p : Place) (a q : ℕ) → a ≡ q + 1
+    → Put old at (placeUnits c p (a - 1)) r out → Put old at (placeUnits c p q) r out
+place-put c p a q e h = let z : a - 1 ≡ q = omega arith in rw z at h
+
+pub piece-put : {old out us piece : List ℕ} {at r : ℕ} → us ≡ piece → r ≤ at + 1024 → Put old at piece r out → ItemPut old at us r out
+piece-put e h p = record { short = omega arith; put = rw e p }
+
+pub unit-put : {old out us : List ℕ} {at r u : ℕ} → us ≡ u ∷ [] → Put old at (u ∷ []) r out → ItemPut old at us r out
+unit-put e p = record { short = omega (arith, p .next); put = rw e p }
+
+year-argument : (a : ℕ) → T (eqb a 2 || eqb a 4) → a ≤ 9
+year-argument a t =
+    by-cases (eqb a 2) (λ e. omega (arith, eqb-true a 2 e))
+    (λ e. let f : T (eqb a 4) = rw e at t in omega (arith, eqb→eq a 4 f))
+
+date-argument : (tag a : ℕ) → 10 < tag → T (entryInRange (entry tag a)) → a ≤ 9
+unfolding entryInRange
+date-argument tag a h t =
+    span-at (λ (t : ℕ). T (entryInRange (entry t a)) → a ≤ 9) 11 11 tag
+    (year-argument a, (upto 5 (omega arith), (upto 4 (omega arith), (upto 2 (omega arith), (upto 2 (omega arith), (upto 2 (omega arith), (upto 3 (omega arith), (upto 9 (omega arith), (upto 9 (omega arith), (upto 9 (omega arith), (upto 2 (omega arith), tt)))))))))))
+    h (omega (arith, tag-known (entry tag a) t)) t
+  where
+    upto : (n : ℕ) → n ≤ 9 → T (between 1 n a) → a ≤ 9
+    upto n l t = omega (arith, between-facts 1 n a t)
+
+pub moment-put : {old out : List ℕ} {at r : ℕ} (c : Context) (q tag a : ℕ) → 10 < tag → T (entryInRange (entry tag a))
+    → Put old at (itemUnits c q (itemAt (entry tag a))) r out → ItemPut old at (itemUnits c q (itemAt (entry tag a))) r out
+moment-put c q tag a h t p =
+    record { short = omega (arith, p .next, item-length c q tag a h, date-argument tag a h t); put = p }
+
+-- a tag that is none of the first ten
+pub late : (tag a : ℕ) → T (entryInRange (entry tag a)) → Apart tag 1 10 → 10 < tag
+late tag a t apart = omega (arith, past tag 1 10 (tag-known (entry tag a) t .0) apart)

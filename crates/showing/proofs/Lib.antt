@@ -1,0 +1,10 @@
+pub mod Items
+pub mod Walking
+pub mod Fitting
+pub mod Bodies
+pub mod Instants
+pub mod Texts
+pub mod Minus
+pub mod Numbers
+pub mod Generals
+pub mod Literals

@@ -1,0 +1,75 @@
+-- The added minus of a number, as `has_minus` tells it.
+-- Assumes nothing.
+use Prim.Native.Nat.{ℕ, _*_}
+use native.Mathlib.Omega.{arith}
+use mathlib.Core.Path.{_≡_, refl, sym}
+use mathlib.Core.Bool.{Bool, true, false, cond, not}
+use mathlib.Core.List.{List, [], _∷_}
+use lib.Dec.{eqb, ltb}
+use lib.IntN.{pos}
+use lib.Signed.{ltZ}
+use lib.ListN.{length}
+use borrow.Author.Tests.{le-ltb, eq-eqb, ne-eqb}
+use Rattle.values.specs.declared.Number.{Number}
+use Rattle.lists.specs.Lists.{isEmpty}
+use Rattle.formats.specs.Items.{Item, Section}
+use Rattle.formats.specs.Choice.{Exact, zeroExact, smaller, lessThan, numberExact}
+use Rattle.formats.specs.Minus.{minus, notNegative, noItem, forNegatives, nought, signFor, signUnits}
+use Rattle.showing.specs.Show.{signText, minusTold}
+
+-- a number is below 0 where its sign says so
+below-zero : (x : Exact) → lessThan x zeroExact ≡ x .negative
+unfolding lessThan smaller
+below-zero x =
+    let z : ltb (x .size .above * 1) (0 * x .size .below) ≡ false = le-ltb (x .size .above * 1) (0 * x .size .below) (omega arith) in
+    go (x .negative) z
+  where
+    go : (b : Bool) {c : Bool} → c ≡ false → cond b true c ≡ b
+    go true e = refl
+    go false e = e
+
+empty-told : (is : List Item) (n : ℕ) → n ≡ length is → isEmpty is ≡ eqb n 0
+unfolding isEmpty
+empty-told [] n e = sym (eq-eqb n 0 e)
+empty-told (i ∷ is) n e = sym (ne-eqb n 0 (λ f. omega arith))
+
+four : (negative empty excepted held : Bool)
+    → signUnits (cond (not negative) notNegative (cond empty noItem (cond excepted forNegatives (cond held nought minus))))
+    ≡ signText (minusTold negative empty excepted held)
+unfolding signUnits signText minusTold
+four false e a b = refl
+four true true a b = refl
+four true false true b = refl
+four true false false true = refl
+four true false false false = refl
+
+-- the units of the sign
+pub sign-told : (x : Number) (s : Section) (excepted held : Bool) (n : ℕ) → n ≡ length (s .items)
+    → signUnits (signFor (numberExact x) s excepted held) ≡ signText (minusTold (ltZ (x .coefficient) (pos 0)) (eqb n 0) excepted held)
+unfolding signFor numberExact
+sign-told x s a b n e =
+    rw (below-zero (numberExact x), empty-told (s .items) n e) (four (ltZ (x .coefficient) (pos 0)) (eqb n 0) a b)
+
+-- no minus, and the number's sign
+pub minus-empty : (n a b : Bool) (k : ℕ) → k ≡ 0 → false ≡ minusTold n (eqb k 0) a b
+unfolding minusTold
+minus-empty true a b k e = rw (eq-eqb k 0 e)
+minus-empty false a b k e = refl
+
+pub minus-excepted : (n e a b : Bool) → a ≡ true → false ≡ minusTold n e a b
+unfolding minusTold
+minus-excepted true true a b f = refl
+minus-excepted true false a b f = rw f
+minus-excepted false e a b f = refl
+
+pub minus-nought : (n e a b : Bool) → b ≡ true → false ≡ minusTold n e a b
+unfolding minusTold
+minus-nought true true a b f = refl
+minus-nought true false true b f = refl
+minus-nought true false false b f = rw f
+minus-nought false e a b f = refl
+
+pub minus-is : (n a b : Bool) (k : ℕ) → (k ≡ 0 → ⊥) → a ≡ false → b ≡ false → n ≡ minusTold n (eqb k 0) a b
+unfolding minusTold
+minus-is true a b k e f g = rw (ne-eqb k 0 e, f, g)
+minus-is false a b k e f g = refl

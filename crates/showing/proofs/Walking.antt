@@ -1,0 +1,164 @@
+-- The loop over a section's item words: what is left to put, and how far it has come.
+-- Assumes nothing.
+use Prim.Native.Nat.{ℕ, suc, _+_, _-_, _*_, _/_, _≤_, _<_, _^_}
+use native.Mathlib.Omega.{arith}
+use native.Mathlib.Nat.{sub-zero}
+use mathlib.Core.Path.{_≡_, subst}
+use mathlib.Core.List.{List, _∷_}
+use lib.Dec.{T, eqb}
+use lib.ListN.{length, drop, getD}
+use lib.Seq.{getD-drop, drop-drop}
+use Rattle.lists.specs.Lists.{every}
+use Rattle.lists.proofs.Bools.{and-left, and-right, every-head, every-tail}
+use Rattle.formats.specs.Items.{Kind, itemAllowed, isPlace}
+use Rattle.formats.specs.Where.{implies}
+use Rattle.formats.specs.Text.{Context, itemUnits, itemsUnits, digitAfter}
+use Rattle.tables.specs.Words.{Entry, entriesAt}
+use Rattle.tables.specs.Encode.{entry}
+use Rattle.tables.specs.Decode.{itemAt, itemsAt}
+use Rattle.tables.specs.Rules.{entryInRange, powersFrom}
+use Rattle.writing.specs.Put.{Put, Rest}
+use Rattle.writing.proofs.Laws.{rest-start, rest-put, rest-done}
+use Rattle.showing.specs.declared.Subject.{Subject}
+use Rattle.showing.specs.Subject.{SubjectIs, EntryFits, ItemPut}
+use Rattle.showing.specs.Walk.{entriesIn, EntriesFit, Ready}
+
+-- the first of some entries, and those behind it
+module _ (k : Kind) (q : ℕ) (e : Entry) (es : List Entry) (f : EntriesFit k q (e ∷ es)) where
+  pub first-in-range : T (entryInRange e)
+  first-in-range = every-head entryInRange e es (f .inRange)
+
+  pub first-fits : EntryFits k q e
+  unfolding itemsAt powersFrom
+  first-fits = record {
+    allowed = every-head (itemAllowed k) (itemAt e) (itemsAt es) (f .allowed);
+    power = and-left (implies (isPlace (itemAt e)) (eqb (e .argument) (suc q))) (powersFrom (digitAfter q (itemAt e)) es) (f .powers);
+  }
+
+  pub others-fit : EntriesFit k (digitAfter q (itemAt e)) es
+  unfolding itemsAt powersFrom
+  others-fit = record {
+    inRange = every-tail entryInRange e es (f .inRange);
+    allowed = every-tail (itemAllowed k) (itemAt e) (itemsAt es) (f .allowed);
+    powers = and-right (implies (isPlace (itemAt e)) (eqb (e .argument) (suc q))) (powersFrom (digitAfter q (itemAt e)) es) (f .powers);
+  }
+
+-- what is left when the entries es are: they fit from some power on, and their text is what is left to put
+pub record Left (old : List ℕ) (start : ℕ) (whole : List ℕ) (c : Context) (k : Kind) (room : List ℕ) (at : ℕ) (es : List Entry) : Type 0 where
+  pub power : ℕ
+  pub fit : EntriesFit k power es
+  pub rest : Rest old start whole room at (itemsUnits c power (itemsAt es))
+
+-- an item is put, in every context that the subject is of
+abbrev pub Puts : Subject → List ℕ → List ℕ → ℕ → Entry → ℕ → List ℕ → Type 0
+Puts s text room at e r out =
+    (c : Context) (k : Kind) (q : ℕ) → SubjectIs k s text c → EntryFits k q e → ItemPut room at (itemUnits c q (itemAt e)) r out
+
+left-step : {old whole room out : List ℕ} {start at r : ℕ} {c : Context} {k : Kind} (s : Subject) (text : List ℕ) (e : Entry) (es : List Entry)
+    → SubjectIs k s text c → Puts s text room at e r out
+    → Left old start whole c k room at (e ∷ es) → Left old start whole c k out r es
+unfolding itemsUnits itemsAt
+left-step {c = c} {k} s text e es i p l =
+    let f = first-fits k (l .power) e es (l .fit) in
+    record {
+      power = digitAfter (l .power) (itemAt e);
+      fit = others-fit k (l .power) e es (l .fit);
+      rest = rest-put (l .rest) (p c k (l .power) i f .put);
+    }
+
+left-short : {old whole room out : List ℕ} {start at r : ℕ} {c : Context} {k : Kind} (s : Subject) (text : List ℕ) (e : Entry) (es : List Entry)
+    → SubjectIs k s text c → Puts s text room at e r out → Left old start whole c k room at (e ∷ es) → r ≤ at + 1104
+left-short {c = c} {k} s text e es i p l = p c k (l .power) i (first-fits k (l .power) e es (l .fit)) .short
+
+-- the entries from the k-th on
+abbrev pub entriesFrom : List ℕ → ℕ → ℕ → List Entry
+entriesFrom words n k = entriesAt (n - k) (drop (2 * k) words)
+
+entries-front : (words : List ℕ) (n k : ℕ) → k < n
+    → entriesFrom words n k ≡ entry (getD words (2 * k) 0) (getD words (2 * k + 1) 0) ∷ entriesFrom words n (k + 1)
+unfolding entriesAt
+entries-front words n k h =
+    let one : n - k ≡ suc (n - (k + 1)) = omega arith in
+    let two : 2 * (k + 1) ≡ 2 * k + 2 = omega arith in
+    let nought : 2 * k + 0 ≡ 2 * k = omega arith in
+    rw (one, two, getD-drop (2 * k) words 0 0, getD-drop (2 * k) words 1 0, drop-drop 2 (2 * k) words, nought)
+
+-- after k of n items: in the context that is known to be there, and in every other
+pub record Walking (old : List ℕ) (start : ℕ) (words : List ℕ) (s : Subject) (text : List ℕ) (n k : ℕ) (room : List ℕ) (at : ℕ) : Type 0 where
+  pub small : length words ≤ 508
+  pub items : n ≡ length words / 2
+  pub inside : k ≤ n
+  pub short : at ≤ start + 1104 * k
+  pub ready : Ready words s text
+  pub known : Left old start (itemsUnits (ready .context) (ready .power) (itemsAt (entriesIn words))) (ready .context) (ready .kind) room at (entriesFrom words n k)
+  pub left : (c : Context) (kind : Kind) (q : ℕ) → SubjectIs kind s text c → EntriesFit kind q (entriesIn words)
+      → Left old start (itemsUnits c q (itemsAt (entriesIn words))) c kind room at (entriesFrom words n k)
+
+left-start : (old : List ℕ) (start : ℕ) (words : List ℕ) (n : ℕ) (c : Context) (kind : Kind) (q : ℕ) → n ≡ length words / 2
+    → EntriesFit kind q (entriesIn words)
+    → Left old start (itemsUnits c q (itemsAt (entriesIn words))) c kind old start (entriesFrom words n 0)
+unfolding entriesIn
+left-start old start words n c kind q e f =
+    rw (sub-zero n, e) (record { power = q; fit = f; rest = rest-start old start _ })
+
+pub walking-start : (old : List ℕ) (start : ℕ) (words : List ℕ) (s : Subject) (text : List ℕ) (n : ℕ)
+    → length words ≤ 508 → n ≡ length words / 2 → Ready words s text → Walking old start words s text n 0 old start
+walking-start old start words s text n h e d =
+    record {
+      small = h;
+      items = e;
+      inside = omega arith;
+      short = omega arith;
+      ready = d;
+      known = left-start old start words n (d .context) (d .kind) (d .power) e (d .fit);
+      left = λ c kind q i f. left-start old start words n c kind q e f;
+    }
+
+module _ {old : List ℕ} {start : ℕ} {words : List ℕ} {s : Subject} {text : List ℕ} {n k : ℕ} {room : List ℕ} {at : ℕ}
+    (inv : Walking old start words s text n k room at) (h : k < n) where
+  pub walking-in-range : T (entryInRange (entry (getD words (2 * k) 0) (getD words (2 * k + 1) 0)))
+  walking-in-range =
+      let l = inv .known in
+      first-in-range (inv .ready .kind) (l .power) _ _ (rw (entries-front words n k h) at (l .fit))
+
+  pub walking-step : (r : ℕ) (out : List ℕ) → Puts s text room at (entry (getD words (2 * k) 0) (getD words (2 * k + 1) 0)) r out
+      → Walking old start words s text n (k + 1) out r
+  walking-step r out p =
+      let e = entry (getD words (2 * k) 0) (getD words (2 * k + 1) 0) in
+      let g = entries-front words n k h in
+      let d = inv .ready in
+      let l = subst (Left old start (itemsUnits (d .context) (d .power) (itemsAt (entriesIn words))) (d .context) (d .kind) room at) g (inv .known) in
+      let b : r ≤ at + 1104 = left-short s text e (entriesFrom words n (k + 1)) (d .subject) p l in
+      record {
+        small = inv .small;
+        items = inv .items;
+        inside = omega arith;
+        short = omega (arith, b, inv .short);
+        ready = d;
+        known = left-step s text e (entriesFrom words n (k + 1)) (d .subject) p l;
+        left = λ c kind q i f.
+            left-step s text e (entriesFrom words n (k + 1)) i p
+            (subst (Left old start (itemsUnits c q (itemsAt (entriesIn words))) c kind room at) g (inv .left c kind q i f));
+      }
+
+pub walking-end : {old : List ℕ} {start : ℕ} {words : List ℕ} {s : Subject} {text : List ℕ} {n k : ℕ} {room : List ℕ} {at : ℕ}
+    → Walking old start words s text n k room at → n ≤ k → (c : Context) (kind : Kind) (q : ℕ) → SubjectIs kind s text c → EntriesFit kind q (entriesIn words)
+    → Put old start (itemsUnits c q (itemsAt (entriesIn words))) at room
+unfolding itemsUnits itemsAt entriesAt
+walking-end {words = words} {n = n} {k} inv h c kind q i f =
+    let none : n - k ≡ 0 = omega arith in
+    let l = inv .left c kind q i f in
+    rest-done (rw none at (l .rest))
+
+-- the place where the next item goes is far from the end of numbers, and the room keeps its length
+pub walking-short : {old : List ℕ} {start : ℕ} {words : List ℕ} {s : Subject} {text : List ℕ} {n k : ℕ} {room : List ℕ} {at : ℕ}
+    → Walking old start words s text n k room at → start ≤ 1 → at < 2 ^ 61
+walking-short inv h = omega (arith, inv .small, inv .items, inv .inside, inv .short)
+
+pub walking-size : {old : List ℕ} {start : ℕ} {words : List ℕ} {s : Subject} {text : List ℕ} {n k : ℕ} {room : List ℕ} {at : ℕ}
+    → Walking old start words s text n k room at → length room ≡ length old
+walking-size inv = inv .known .rest .size
+
+pub walking-within : {old : List ℕ} {start : ℕ} {words : List ℕ} {s : Subject} {text : List ℕ} {n k : ℕ} {room : List ℕ} {at : ℕ}
+    → Walking old start words s text n k room at → at ≤ start + 280416
+walking-within inv = omega (arith, inv .small, inv .items, inv .inside, inv .short)

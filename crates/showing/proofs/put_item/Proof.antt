@@ -1,0 +1,214 @@
+-- `showing::put_item` meets its contract.
+-- Assumes nothing.
+use native.Mathlib.Omega.{arith}
+use mathlib.Core.Path.{refl}
+use mathlib.Core.Bool.{true}
+use Rattle.showing.proofs.Items.{place-argument, literal-item, blank-item, fill-item, percent-item, point-item, place-item, standing-item, place-power, number-held, date-held, standing-held, piece-put, unit-put, moment-put, late}
+use Rattle.writing.proofs.Laws.{put-none}
+use Rattle.tables.proofs.BackEntries.{tag-known}
+use borrow.Author.Needs.{needs}
+use Rattle.showing.proofs.put_item.Statement.{statement}
+use Rattle.showing.proofs.put_item.Tie as tie
+
+put-unit-requires : tie.Need-put-unit-requires
+put-unit-requires c κs = search needs
+
+put-unit-requires-2 : tie.Need-put-unit-requires-2
+put-unit-requires-2 c κs = search needs
+
+put-digit-requires : tie.Need-put-digit-requires
+put-digit-requires c κs =
+    let k = c .before in
+    let b = k .before .before .before in
+    let f = place-argument _ _ (omega (arith, k .match .keys4)) (omega (arith, k .match .keys4)) (b .pre .3) in
+    (b .pre .0, b .pre .1, f .0, f .1)
+
+put-digit-requires-2 : tie.Need-put-digit-requires-2
+put-digit-requires-2 c κs =
+    let k = c .before in
+    let b = k .before .before .before in
+    let f = place-argument _ _ (omega (arith, k .match .keys5)) (omega (arith, k .match .keys5)) (b .pre .3) in
+    (b .pre .0, b .pre .1, f .0, f .1)
+
+put-digit-requires-3 : tie.Need-put-digit-requires-3
+put-digit-requires-3 c κs =
+    let k = c .before in
+    let b = k .before .before .before in
+    let f = place-argument _ _ (omega (arith, k .match .keys6)) (omega (arith, k .match .keys6)) (b .pre .3) in
+    (b .pre .0, b .pre .1, f .0, f .1)
+
+put-point-requires : tie.Need-put-point-requires
+put-point-requires c κs = search needs
+
+put-unit-requires-3 : tie.Need-put-unit-requires-3
+put-unit-requires-3 c κs = search needs
+
+put-standing-requires : tie.Need-put-standing-requires
+put-standing-requires c κs = search needs
+
+put-standing-requires-2 : tie.Need-put-standing-requires-2
+put-standing-requires-2 c κs = search needs
+
+put-moment-item-requires : tie.Need-put-moment-item-requires
+put-moment-item-requires c κs =
+    let k = c .before in
+    let b = k .before .before .before in
+    (omega (arith, b .pre .0), late _ _ (b .pre .3) (k .match .rest))
+
+same-length : tie.Need-same-length
+same-length c = search needs
+
+returns : tie.Need-returns
+returns c =
+    let p = c .before .before in
+    let k = p .before .before in
+    let e = k .match .keys1 in
+    λ x kind q i f. unit-put (literal-item x q _ _ e) (p .put-unit .ensures)
+
+same-length-2 : tie.Need-same-length-2
+same-length-2 c = search needs
+
+returns-2 : tie.Need-returns-2
+returns-2 c =
+    let p = c .before .before in
+    let k = p .before .before in
+    let e = k .match .keys2 in
+    λ x kind q i f. unit-put (blank-item x q _ _ e) (p .put-unit2 .ensures)
+
+returns-3 : tie.Need-returns-3
+returns-3 c =
+    λ x kind q i f. piece-put (fill-item x q _ _ (c .match .keys3)) (omega arith) (put-none _ _)
+
+same-length-3 : tie.Need-same-length-3
+same-length-3 c = search needs
+
+returns-4 : tie.Need-returns-4
+returns-4 c =
+    let p = c .before .before in
+    let k = p .before .before in
+    let e = k .match .keys4 in
+    λ x kind q i f.
+    piece-put (place-item x q _ _ (omega (arith, e)) (omega (arith, e))) (omega (arith, p .put-digit .ensures .0))
+    (p .put-digit .ensures .1 x q (i .numeric (number-held kind q _ _ f (omega (arith, e)) (omega (arith, e))))
+    (place-power kind q _ _ f (omega (arith, e)) (omega (arith, e))))
+
+same-length-4 : tie.Need-same-length-4
+same-length-4 c = search needs
+
+returns-5 : tie.Need-returns-5
+returns-5 c =
+    let p = c .before .before in
+    let k = p .before .before in
+    let e = k .match .keys5 in
+    λ x kind q i f.
+    piece-put (place-item x q _ _ (omega (arith, e)) (omega (arith, e))) (omega (arith, p .put-digit2 .ensures .0))
+    (p .put-digit2 .ensures .1 x q (i .numeric (number-held kind q _ _ f (omega (arith, e)) (omega (arith, e))))
+    (place-power kind q _ _ f (omega (arith, e)) (omega (arith, e))))
+
+same-length-5 : tie.Need-same-length-5
+same-length-5 c = search needs
+
+returns-6 : tie.Need-returns-6
+returns-6 c =
+    let p = c .before .before in
+    let k = p .before .before in
+    let e = k .match .keys6 in
+    λ x kind q i f.
+    piece-put (place-item x q _ _ (omega (arith, e)) (omega (arith, e))) (omega (arith, p .put-digit3 .ensures .0))
+    (p .put-digit3 .ensures .1 x q (i .numeric (number-held kind q _ _ f (omega (arith, e)) (omega (arith, e))))
+    (place-power kind q _ _ f (omega (arith, e)) (omega (arith, e))))
+
+same-length-6 : tie.Need-same-length-6
+same-length-6 c = search needs
+
+returns-7 : tie.Need-returns-7
+returns-7 c =
+    let p = c .before .before in
+    let k = p .before .before in
+    let e = k .match .keys7 in
+    λ x kind q i f.
+    piece-put (point-item x q _ _ e) (omega (arith, p .put-point .ensures .0))
+    (p .put-point .ensures .1 x (i .numeric (number-held kind q _ _ f (omega (arith, e)) (omega (arith, e)))))
+
+same-length-7 : tie.Need-same-length-7
+same-length-7 c = search needs
+
+returns-8 : tie.Need-returns-8
+returns-8 c =
+    let p = c .before .before in
+    let k = p .before .before in
+    let e = k .match .keys8 in
+    λ x kind q i f. unit-put (percent-item x q _ _ e) (p .put-unit3 .ensures)
+
+same-length-8 : tie.Need-same-length-8
+same-length-8 c = search needs
+
+returns-9 : tie.Need-returns-9
+returns-9 c =
+    let p = c .before .before in
+    let k = p .before .before in
+    let e = k .match .keys9 in
+    λ x kind q i f.
+    piece-put (standing-item x q _ _ (omega (arith, e)) (omega (arith, e))) (p .put-standing .ensures .0)
+    (p .put-standing .ensures .1 _ (standing-held kind q _ _ f i (omega (arith, e)) (omega (arith, e))))
+
+same-length-9 : tie.Need-same-length-9
+same-length-9 c = search needs
+
+returns-10 : tie.Need-returns-10
+returns-10 c =
+    let p = c .before .before in
+    let k = p .before .before in
+    let e = k .match .keys10 in
+    λ x kind q i f.
+    piece-put (standing-item x q _ _ (omega (arith, e)) (omega (arith, e))) (p .put-standing2 .ensures .0)
+    (p .put-standing2 .ensures .1 _ (standing-held kind q _ _ f i (omega (arith, e)) (omega (arith, e))))
+
+same-length-10 : tie.Need-same-length-10
+same-length-10 c = search needs
+
+returns-11 : tie.Need-returns-11
+returns-11 c =
+    let p = c .before .before in
+    let k = p .before .before in
+    let b = k .before .before .before in
+    let h = late _ _ (b .pre .3) (k .match .rest) in
+    λ x kind q i f.
+    moment-put x q _ _ h (b .pre .3)
+    (p .put-moment-item .ensures x q true (λ _. refl) (i .moment (date-held kind q _ _ f h (tag-known _ (b .pre .3) .1))))
+
+pub put-item-spec : {M : Type 1} → statement M
+put-item-spec =
+    tie.close
+    (tie.spec
+    put-unit-requires
+    put-unit-requires-2
+    put-digit-requires
+    put-digit-requires-2
+    put-digit-requires-3
+    put-point-requires
+    put-unit-requires-3
+    put-standing-requires
+    put-standing-requires-2
+    put-moment-item-requires
+    same-length
+    returns
+    same-length-2
+    returns-2
+    returns-3
+    same-length-3
+    returns-4
+    same-length-4
+    returns-5
+    same-length-5
+    returns-6
+    same-length-6
+    returns-7
+    same-length-7
+    returns-8
+    same-length-8
+    returns-9
+    same-length-9
+    returns-10
+    same-length-10
+    returns-11)

@@ -1,0 +1,84 @@
+-- `showing::put_items` meets its contract. The invariant, `Walking`: the text of the entries that are left is what is left to put.
+-- Assumes nothing.
+use Prim.Native.Nat.{_-_}
+use mathlib.Core.Path.{refl}
+use Rattle.showing.proofs.Walking.{Walking, walking-start, walking-in-range, walking-step, walking-end, walking-short, walking-within, walking-size}
+use borrow.Author.Needs.{needs}
+use Rattle.showing.proofs.put_items.Statement.{statement}
+use Rattle.showing.proofs.put_items.Tie as tie
+
+abbrev Inv-loop : tie.InvT-loop
+Inv-loop room₀ at items s text n k₀ o₀ room k o = Walking room₀ at items s text n k room o
+
+abbrev μ-loop : tie.MeasureT-loop
+μ-loop room₀ at items s text n k₀ o₀ room k o = n - k
+
+loop-holds : tie.Need-loop-holds Inv-loop μ-loop
+loop-holds c =
+    let b = c .before .before .before in
+    walking-start _ _ _ _ _ _ (b .pre .3) refl (b .pre .4)
+
+mul-i : tie.Need-mul-i Inv-loop μ-loop
+mul-i c = search needs
+
+add-j : tie.Need-add-j Inv-loop μ-loop
+add-j c = search needs
+
+mul-put-item : tie.Need-mul-put-item Inv-loop μ-loop
+mul-put-item c = search needs
+
+shared-slice-read-put-item : tie.Need-shared-slice-read-put-item Inv-loop μ-loop
+shared-slice-read-put-item c = search needs
+
+mul-put-item-2 : tie.Need-mul-put-item-2 Inv-loop μ-loop
+mul-put-item-2 c = search needs
+
+shared-slice-read-put-item-2 : tie.Need-shared-slice-read-put-item-2 Inv-loop μ-loop
+shared-slice-read-put-item-2 c = search needs
+
+put-item-requires : tie.Need-put-item-requires Inv-loop μ-loop
+put-item-requires c κs =
+    let t = c .before .before .before in
+    let b = t .before .before .before .before .before in
+    let w = t .before .loop .inv in
+    (walking-short w (b .pre .0), b .pre .1, b .pre .2, walking-in-range w (t .loop-test .taken))
+
+add-k : tie.Need-add-k Inv-loop μ-loop
+add-k c = search needs
+
+loop-less : tie.Need-loop-less Inv-loop μ-loop
+loop-less c = search needs
+
+loop-again : tie.Need-loop-again Inv-loop μ-loop
+loop-again c =
+    let p = c .before .before in
+    let t = p .before .before .before .before in
+    walking-step (t .before .loop .inv) (t .loop-test .taken) _ _ (p .put-item .ensures)
+
+same-length : tie.Need-same-length Inv-loop μ-loop
+same-length c = walking-size (c .before .loop .inv)
+
+returns : tie.Need-returns Inv-loop μ-loop
+returns c =
+    let w = c .before .loop .inv in
+    (walking-within w, walking-end w (c .loop-test .left))
+
+pub put-items-spec : {M : Type 1} → statement M
+put-items-spec =
+    tie.close
+    (tie.spec
+    Inv-loop
+    μ-loop
+    loop-holds
+    mul-i
+    add-j
+    mul-put-item
+    shared-slice-read-put-item
+    mul-put-item-2
+    shared-slice-read-put-item-2
+    put-item-requires
+    add-k
+    loop-less
+    loop-again
+    same-length
+    returns)

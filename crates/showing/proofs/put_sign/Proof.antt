@@ -1,0 +1,23 @@
+-- `showing::put_sign` meets its contract.
+-- Assumes nothing.
+use Rattle.showing.proofs.Fitting.{sign-put, sign-none}
+use borrow.Author.Needs.{needs}
+use Rattle.showing.proofs.put_sign.Statement.{statement}
+use Rattle.showing.proofs.put_sign.Tie as tie
+
+put-unit-requires : tie.Need-put-unit-requires
+put-unit-requires c κs = search needs
+
+same-length : tie.Need-same-length
+same-length c = search needs
+
+returns : tie.Need-returns
+returns c =
+    let p = c .before .before in
+    sign-put _ (p .before .before .if1 .taken) (p .put-unit .ensures)
+
+returns-2 : tie.Need-returns-2
+returns-2 c = sign-none _ _ (c .if1 .left)
+
+pub put-sign-spec : {M : Type 1} → statement M
+put-sign-spec = tie.close (tie.spec put-unit-requires same-length returns returns-2)

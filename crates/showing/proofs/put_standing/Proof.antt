@@ -1,0 +1,41 @@
+-- `showing::put_standing` meets its contract.
+-- Assumes nothing.
+use native.Mathlib.Omega.{arith}
+use Rattle.showing.proofs.Items.{digits-of, stands-lent, stands-general}
+use borrow.Author.Needs.{needs}
+use Rattle.showing.proofs.put_standing.Statement.{statement}
+use Rattle.showing.proofs.put_standing.Tie as tie
+
+put-units-requires : tie.Need-put-units-requires
+put-units-requires c κs = search needs
+
+same-length : tie.Need-same-length
+same-length c = search needs
+
+returns : tie.Need-returns
+returns c =
+    let p = c .before .before in
+    let k = p .before .before in
+    let b = k .before .before .before in (
+      omega (arith, b .pre .2 (k .if1 .taken), p .put-units .ensures .next),
+      λ us h. rw (← stands-lent _ _ _ us (k .if1 .taken) h) (p .put-units .ensures),
+    )
+
+put-general-requires : tie.Need-put-general-requires
+put-general-requires c κs = search needs
+
+same-length-2 : tie.Need-same-length-2
+same-length-2 c = search needs
+
+returns-2 : tie.Need-returns-2
+returns-2 c =
+    let p = c .before .before in
+    let k = p .before .before in (
+      omega arith,
+      λ us h. let g = stands-general _ _ _ us (k .if1 .left) h in rw (g .shows) (p .put-general .ensures .1 (g .context .figures) (digits-of (g .are))),
+    )
+
+pub put-standing-spec : {M : Type 1} → statement M
+put-standing-spec =
+    tie.close
+    (tie.spec put-units-requires same-length returns put-general-requires same-length-2 returns-2)

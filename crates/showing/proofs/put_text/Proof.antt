@@ -1,0 +1,27 @@
+-- `showing::put_text` meets its contract.
+-- Assumes nothing.
+use native.Mathlib.Omega.{arith}
+use Rattle.writing.proofs.Laws.{put-put}
+use borrow.Author.Needs.{needs}
+use Rattle.showing.proofs.put_text.Statement.{statement}
+use Rattle.showing.proofs.put_text.Tie as tie
+
+put-sign-requires : tie.Need-put-sign-requires
+put-sign-requires c κs = search needs
+
+put-items-requires : tie.Need-put-items-requires
+put-items-requires c κs = search needs
+
+same-length : tie.Need-same-length
+same-length c = search needs
+
+returns : tie.Need-returns
+returns c =
+    let p = c .before .before in
+    let g = p .before .before .before .before in (
+      omega (arith, p .put-items .ensures .0, g .put-sign .ensures .0),
+      λ x k q i f. put-put (g .put-sign .ensures .1) (p .put-items .ensures .1 x k q i f),
+    )
+
+pub put-text-spec : {M : Type 1} → statement M
+put-text-spec = tie.close (tie.spec put-sign-requires put-items-requires same-length returns)

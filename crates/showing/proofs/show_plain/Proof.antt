@@ -1,0 +1,30 @@
+-- `showing::show_plain` meets its contract.
+-- Assumes nothing.
+use Rattle.showing.proofs.Texts.{plain-none, plain-all}
+use borrow.Author.Needs.{needs}
+use Rattle.showing.proofs.show_plain.Statement.{statement}
+use Rattle.showing.proofs.show_plain.Tie as tie
+
+refuse-requires : tie.Need-refuse-requires
+refuse-requires c κs = search needs
+
+returns : tie.Need-returns
+returns c = rw (c .refuse .ensures) (plain-none _ _ (c .before .if1 .taken))
+
+put-units-requires : tie.Need-put-units-requires
+put-units-requires c κs = search needs
+
+cast-t10 : tie.Need-cast-t10
+cast-t10 c = search needs
+
+same-length : tie.Need-same-length
+same-length c = search needs
+
+returns-2 : tie.Need-returns-2
+returns-2 c =
+    let p = c .before .before in
+    plain-all _ _ (p .before .before .if1 .left) (p .put-units .ensures)
+
+pub show-plain-spec : {M : Type 1} → statement M
+show-plain-spec =
+    tie.close (tie.spec refuse-requires returns put-units-requires cast-t10 same-length returns-2)

@@ -1,0 +1,6 @@
+pub mod Subject
+pub mod Walk
+pub mod Show
+pub mod Place
+pub mod KindWord
+pub mod General

@@ -1,0 +1,28 @@
+-- What a function leaves behind that shows a reading: its result, and the room with its text.
+-- Assumes nothing.
+use mathlib.Core.Path.{_≡_}
+use mathlib.Core.Bool.{Bool, false, cond, not}
+use mathlib.Core.List.{List, [], _∷_, _++_}
+use Prim.Native.Nat.{ℕ}
+use Rattle.answers.specs.declared.Shown.{Shown}
+use Rattle.lists.specs.Lists.{overlay}
+use Rattle.formats.specs.Items.{Section}
+use Rattle.formats.specs.Text.{Context, sectionUnits}
+use Rattle.formats.specs.Reading.{Reading, within}
+use Rattle.tables.specs.Calls.{shownAs, textAs}
+
+-- a minus in front, or none
+unfoldable pub signText : Bool → List ℕ
+signText minus = cond minus (45 ∷ []) []
+
+-- the added minus of a number: below 0, in a section that has an item, where no exception holds it back
+unfoldable pub minusTold : Bool → Bool → Bool → Bool → Bool
+minusTold negative empty excepted nought = cond negative (cond empty false (cond excepted false (not nought))) false
+
+-- 13, or section i shown in a room of this size, with a minus in front or without
+unfoldable pub sectionReading : ℕ → Section → ℕ → Bool → Context → Reading
+sectionReading size s i minus c = within size (signText minus ++ sectionUnits c (s .items)) (s .colour) i
+
+pub record Shows (reading : Reading) (old : List ℕ) (r : Shown) (out : List ℕ) : Type 0 where
+  pub result : r ≡ shownAs reading
+  pub room : out ≡ overlay (textAs reading) old

@@ -1,0 +1,32 @@
+-- What is asked of a section's item words to show them.
+-- Assumes nothing.
+use mathlib.Core.List.{List}
+use Prim.Native.Nat.{ℕ, _/_}
+use lib.Dec.{T}
+use lib.ListN.{length}
+use Rattle.lists.specs.Lists.{every}
+use Rattle.formats.specs.Items.{Kind, itemAllowed}
+use Rattle.formats.specs.Text.{Context}
+use Rattle.tables.specs.Words.{Entry, entriesAt}
+use Rattle.tables.specs.Decode.{itemsAt}
+use Rattle.tables.specs.Rules.{entryInRange, powersFrom}
+use Rattle.showing.specs.declared.Subject.{Subject}
+use Rattle.showing.specs.Subject.{SubjectIs}
+
+-- the entries of a section's item words
+unfoldable pub entriesIn : List ℕ → List Entry
+entriesIn words = entriesAt (length words / 2) words
+
+-- the entries are in range, a section of kind k may hold their items, and the places' powers run down from q
+pub record EntriesFit (k : Kind) (q : ℕ) (es : List Entry) : Type 0 where
+  pub inRange : T (every entryInRange es)
+  pub allowed : T (every (itemAllowed k) (itemsAt es))
+  pub powers : T (powersFrom q es)
+
+-- there is a context that the subject is of, and the entries fit
+pub record Ready (words : List ℕ) (s : Subject) (text : List ℕ) : Type 0 where
+  pub context : Context
+  pub kind : Kind
+  pub power : ℕ
+  pub subject : SubjectIs kind s text context
+  pub fit : EntriesFit kind power (entriesIn words)
