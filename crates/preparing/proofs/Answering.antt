@@ -59,7 +59,6 @@ module _ (code : List ℕ) (v : verdict code ≡ sectionsVerdict code) {old out 
     verdict-where k e l = v ∙ rw (kind-none (partsIn code) (r .drafts) (d .each) n j many kinds kinds-none, where-some (partsIn code) (r .drafts) (d .each) n k many e l)
 
     module _ (i : ℕ) (stand : found 5 i) (stand-none : n ≤ i) where
-
       pub verdict-limit : (k : ℕ) → found 6 k → k < n → verdict code ≡ refused answer.Limit k
       unfolding sectionsVerdict orElse sectionsIn
       verdict-limit k e l = v ∙ rw (kind-none (partsIn code) (r .drafts) (d .each) n j many kinds kinds-none, where-none (partsIn code) (r .drafts) (d .each) n i many stand stand-none, limit-some (partsIn code) (r .drafts) (d .each) n k many e l)

@@ -61,7 +61,7 @@ module _ (code : List ℕ) (h : Heading) where
   -- the bracket has units behind its first one
   pub start-inside : isSome (conditionInside (take (h .argument) (drop (suc (h .start)) code))) ≡ true → suc (h .start) < length code
   start-inside e = elim (decLe (length code) (suc (h .start))) [
-    yes l ↦ absurd (true≢false (sym e ∙ rw (drop-of-length-le code {i = suc (h .start)} l) (inside-none (h .argument))))
+    | yes l ↦ absurd (true≢false (sym e ∙ rw (drop-of-length-le code {i = suc (h .start)} l) (inside-none (h .argument))))
     | no l ↦ omega arith
   ]
 
@@ -127,6 +127,7 @@ within-bounds t thousands e = (leb-true (t .percents) 5 (go .0), leb-true thousa
     parts true true false d f h = absurd (true≢false (sym h))
     parts true false c d f h = absurd (true≢false (sym h))
     parts false b c d f h = absurd (true≢false (sym h))
+
     go : (leb (t .percents) 5 ≡ true) × (leb thousands 5 ≡ true)
     go = parts (leb (t .integers) 20) (leb (t .decimals) 15) (leb (t .percents) 5) (leb thousands 5) (t .short) e
 

@@ -99,8 +99,13 @@ module _ (code : List ℕ) (v : verdict code ≡ fine) (r : Examined) (out : Lis
   table-size =
       let ds : List Draft = take (r .sections) (r .drafts) in
       let hs : List ℕ = headsBy (countedBy 0 ds) (firstBy (r .drafts)) 0 ds in
-      omega (arith, length-append hs (take (r .words) out), heads-size (countedBy 0 ds) (firstBy (r .drafts)) 0 ds,
-      length-take-le (r .sections) (r .drafts) (omega (arith, s .many, drafted-length (partsIn code) (r .drafts) (s .each))), length-take-le (r .words) out (s .room))
+      omega (
+        arith,
+        length-append hs (take (r .words) out),
+        heads-size (countedBy 0 ds) (firstBy (r .drafts)) 0 ds,
+        length-take-le (r .sections) (r .drafts) (omega (arith, s .many, drafted-length (partsIn code) (r .drafts) (s .each))),
+        length-take-le (r .words) out (s .room),
+      )
 
   accepted : accept code ≡ sections (sectionsIn code)
   unfolding accept acceptedBy

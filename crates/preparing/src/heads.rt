@@ -68,18 +68,47 @@ fn put_head(room: &mut [u16], at: usize, d: Draft, n: usize, i: usize, first: bo
 {
     let body = d.body;
     let condition = d.condition;
-    let flags = flags_word(body.grouped, no_minus(n, i, has_condition(d), first), body.twelve);
+    let flags = flags_word(
+        body.grouped,
+        no_minus(n, i, has_condition(d), first),
+        body.twelve,
+    );
     let negative = bit_of(condition.negative);
     let low = low_word(condition.whole);
     let high = high_word(condition.whole);
-    let o = put_six(room, at, body.kind, d.colour, condition.operator, negative, low, high);
+    let o = put_six(
+        room,
+        at,
+        body.kind,
+        d.colour,
+        condition.operator,
+        negative,
+        low,
+        high,
+    );
     let small = low_word(condition.millionths);
     let large = high_word(condition.millionths);
-    put_six(room, o, small, large, body.shift, flags, body.decimals, body.items)
+    put_six(
+        room,
+        o,
+        small,
+        large,
+        body.shift,
+        flags,
+        body.decimals,
+        body.items,
+    )
 }
 
 // Puts the heads of `count` sections, of which n are counted.
-pub fn put_heads(room: &mut [u16], at: usize, drafts: [Draft; 4], count: usize, n: usize, first: bool) -> usize
+pub fn put_heads(
+    room: &mut [u16],
+    at: usize,
+    drafts: [Draft; 4],
+    count: usize,
+    n: usize,
+    first: bool,
+) -> usize
     requires { ⌜ (at < 2 ^ 60) × (count ≤ 4) ⌝ }
     ensures { λ r. ⌜ Put (now (room .entry)) at (headsBy n first 0 (take count drafts)) r (now (room .exit)) ⌝ }
 {

@@ -27,8 +27,7 @@ put-items-requires c κs =
     let f = c .before .before .before in
     let s = f .before .before .before .before in
     let code = now (s .args .code) in
-    let places = c .before .integer-places .ensures in
-    (
+    let places = c .before .integer-places .ensures in (
       (omega (arith, s .pre .2, s .pre .3), s .pre .0, s .pre .1, places .1),
       (facts-date _ _ (f .facts-of .ensures code), (facts-fills _ _ (f .facts-of .ensures code), places .0 code)),
     )
@@ -75,8 +74,7 @@ returns c =
     let p = c .before .before .before .before .before .before in
     let g = p .before .before .before in
     let s = g .before .before .before .before .before in
-    let code = now (s .args .code) in
-    (
+    let code = now (s .args .code) in (
       (λ q e. body-put q _ _ _ _ _ e (g .before .facts-of .ensures code) (g .commas-of .ensures code) (p .put-items .ensures) (s .pre .3) (c .before .tally-words .ensures) (c .body-of .ensures)),
       put-place _ (p .put-items .ensures) (body-end _ (p .put-items .ensures) _ (ap (λ (b : Body). b .items) (c .body-of .ensures))),
     )

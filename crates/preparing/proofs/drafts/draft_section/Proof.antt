@@ -45,8 +45,7 @@ part-draft-body-end c = search needs
 draft-body-requires : tie.Need-draft-body-requires
 draft-body-requires c κs =
     let h = c .before .before .before .before in
-    let s = h .before .before .before .before in
-    (
+    let s = h .before .before .before .before in (
       s .pre .0 .0,
       part-short (now (s .args .part)) (length (now (s .args .part)) - 3 * h .heading-of .result .tokens) (3 * h .heading-of .result .tokens) (s .pre .0 .1),
       s .pre .0 .2,
@@ -64,8 +63,7 @@ returns c =
     let d = b .before .before .before in
     let h = d .before .before in
     let s = h .before .before .before .before in
-    let body = heading-body (now (s .args .code)) (now (s .args .part)) _ (h .heading-of .ensures) in
-    (
+    let body = heading-body (now (s .args .code)) (now (s .args .part)) _ (h .heading-of .ensures) in (
       section-drafted (now (s .args .code)) (now (s .args .part)) _ (h .heading-of .ensures) _ _ _ (d .heading-condition .ensures) (b .draft-body .ensures .0 _ (sym body)) refl,
       rw (← body) (b .draft-body .ensures .1),
     )

@@ -58,8 +58,7 @@ condition-of-requires-2 : tie.Need-condition-of-requires-2
 condition-of-requires-2 c κs =
     let d = c .before .before .before in
     let s = d .before .before .before in
-    let h = s .args .h in
-    (
+    let h = s .args .h in (
       s .pre .0,
       omega (arith, start-inside (now (s .args .code)) h (s .pre .1 (not-false (s .args .h .condition) (d .if1 .left)))),
       clamped-inside (now (s .args .code)) (h .start) (h .argument) _ refl (omega (arith, c .if2 .left)) (s .pre .1 (not-false (s .args .h .condition) (d .if1 .left))),

@@ -43,8 +43,7 @@ examine-sections-requires : tie.Need-examine-sections-requires
 examine-sections-requires c κs =
     let n = c .before .before in
     let s = n .before .before .before .before in
-    let b = s .pre .1 in
-    (
+    let b = s .pre .1 in (
       (b .small, omega (arith, b .size, b .few), s .pre .0, omega (arith, c .before .if1 .left)),
       (
         lexes-all (now (s .args .code)) (now (s .args .tokens)) (s .args .n) b _ (n .semicolon-count .ensures),

@@ -61,8 +61,7 @@ draft-next-requires : tie.Need-draft-next-requires Inv-loop μ-loop
 draft-next-requires c κs =
     let t = c .before .before in
     let l = t .before .loop in
-    let words = now (t .before .before .before .before .before .before .args .tokens) in
-    (
+    let words = now (t .before .before .before .before .before .before .args .tokens) in (
       (l .inv .small, part-short words (length words - 3 * l .first) (3 * l .first) (l .inv .words-small), omega (arith, l .inv .rest .size, l .inv .wide)),
       (rw (left-part _ _ _ _ _ _ _ _ _ (l .inv) (t .loop-test .taken)) (next-room _ _ _ _ _ _ _ _ _ (l .inv) (t .loop-test .taken)), rw (left-part _ _ _ _ _ _ _ _ _ (l .inv) (t .loop-test .taken)) (next-digits _ _ _ _ _ _ _ _ _ (l .inv) (t .loop-test .taken))),
     )

@@ -32,8 +32,7 @@ draft-section-requires c κs =
     let e = c .before .before in
     let s = e .before .before .before .before in
     let code = now (s .args .code) in
-    let tokens = now (s .args .tokens) in
-    (
+    let tokens = now (s .args .tokens) in (
       (s .pre .0 .0, front-short tokens (3 * e .section-end .result) (s .pre .0 .1), s .pre .0 .2),
       (
         rw (first-tokens code tokens (e .section-end .result) (e .section-end .ensures)) (s .pre .1 .0),
