@@ -8,26 +8,21 @@ use Rattle.emitting.proofs.digit_after.Tie as tie
 use Rattle.emitting.proofs.digit_after.Reads as reads
 use Rattle.emitting.proofs.digit_after.Lts as lts
 
--- src/lib.rt:170:9
 returns : tie.Need-returns
 unfolding formDigit
 returns c = rw (lt-leb _ _ (c .if1 .taken))
 
--- src/lib.rt:173:9
 returns-2 : tie.Need-returns-2
 unfolding formDigit
 returns-2 c = rw (le-leb _ _ (c .before .if1 .left), lt-leb _ _ (c .if2 .taken))
 
--- src/lib.rt:176:9
 returns-3 : tie.Need-returns-3
 unfolding formDigit
 returns-3 c = rw (le-leb _ _ (c .before .before .if1 .left), le-leb _ _ (c .before .if2 .left), c .if3 .taken)
 
--- src/lib.rt:178:5
 sub-result : tie.Need-sub-result
 sub-result c = search needs
 
--- src/lib.rt:166:1
 returns-4 : tie.Need-returns-4
 unfolding formDigit
 returns-4 c = rw (le-leb _ _ (c .before .before .if1 .left), le-leb _ _ (c .before .if2 .left))

@@ -6,11 +6,9 @@ use Rattle.emitting.proofs.fill_goes.Tie as tie
 use Rattle.emitting.proofs.fill_goes.Reads as reads
 use Rattle.emitting.proofs.fill_goes.Lts as lts
 
--- src/lib.rt:199:9
 returns : tie.Need-returns
 returns c = rw (c .if1 .taken)
 
--- src/lib.rt:195:1
 returns-2 : tie.Need-returns-2
 returns-2 c = rw (ne-eqb _ _ (c .if1 .left))
 

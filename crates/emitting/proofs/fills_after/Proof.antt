@@ -8,21 +8,17 @@ use Rattle.emitting.proofs.fills_after.Tie as tie
 use Rattle.emitting.proofs.fills_after.Reads as reads
 use Rattle.emitting.proofs.fills_after.Lts as lts
 
--- src/lib.rt:187:13
 returns : tie.Need-returns
 unfolding formFills
 returns c = rw (c .before .if1 .taken, c .if2 .taken)
 
--- src/lib.rt:189:16
 sub-result : tie.Need-sub-result
 sub-result c = search needs
 
--- src/lib.rt:189:9
 returns-2 : tie.Need-returns-2
 unfolding formFills
 returns-2 c = rw (c .before .if1 .taken)
 
--- src/lib.rt:182:1
 returns-3 : tie.Need-returns-3
 unfolding formFills
 returns-3 c = rw (ne-eqb _ _ (c .if1 .left))

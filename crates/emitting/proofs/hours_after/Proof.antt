@@ -7,22 +7,18 @@ use Rattle.emitting.proofs.hours_after.Tie as tie
 use Rattle.emitting.proofs.hours_after.Reads as reads
 use Rattle.emitting.proofs.hours_after.Lts as lts
 
--- src/lib.rt:154:9
 returns : tie.Need-returns
 unfolding formHours
 returns c = rw (lt-leb _ _ (c .if1 .taken))
 
--- src/lib.rt:157:9
 returns-2 : tie.Need-returns-2
 unfolding formHours
 returns-2 c = rw (le-leb _ _ (c .before .if1 .left), lt-leb _ _ (c .if2 .taken))
 
--- src/lib.rt:160:9
 returns-3 : tie.Need-returns-3
 unfolding formHours
 returns-3 c = rw (c .if3 .taken)
 
--- src/lib.rt:150:1
 returns-4 : tie.Need-returns-4
 unfolding formHours
 returns-4 c = rw (le-leb _ _ (c .before .before .if1 .left), le-leb _ _ (c .before .if2 .left), ne-eqb _ _ (c .if3 .left))

@@ -12,115 +12,87 @@ use Rattle.emitting.proofs.comma_of.Reads as comma-of-reads
 use Rattle.emitting.proofs.month_of.Reads as month-of-reads
 use Rattle.emitting.proofs.point_of.Reads as point-of-reads
 
--- src/lib.rt:116:39
 add-t7 : tie.Need-add-t7
 add-t7 c = search needs
 
--- src/lib.rt:117:39
 add-t8 : tie.Need-add-t8
 add-t8 c = search needs
 
--- src/lib.rt:118:39
 add-t9 : tie.Need-add-t9
 add-t9 c = search needs
 
--- src/lib.rt:119:14
 point-of-requires : tie.Need-point-of-requires
 point-of-requires c κs = search needs
 
--- src/lib.rt:120:14
 comma-of-requires : tie.Need-comma-of-requires
 comma-of-requires c κs = search needs
 
--- src/lib.rt:127:15
 month-of-requires : tie.Need-month-of-requires
 month-of-requires c κs = search needs
 
--- src/lib.rt:108:1
 returns : tie.Need-returns
 returns c = rw (c .match .keys1)
 
--- src/lib.rt:108:1
 returns-2 : tie.Need-returns-2
 returns-2 c = rw (c .match .keys2)
 
--- src/lib.rt:108:1
 returns-3 : tie.Need-returns-3
 returns-3 c = rw (c .match .keys3)
 
--- src/lib.rt:108:1
 returns-4 : tie.Need-returns-4
 returns-4 c = rw (c .match .keys4) (power-words 4 _ _ (omega arith))
 
--- src/lib.rt:108:1
 returns-5 : tie.Need-returns-5
 returns-5 c = rw (c .match .keys5) (power-words 5 _ _ (omega arith))
 
--- src/lib.rt:108:1
 returns-6 : tie.Need-returns-6
 returns-6 c = rw (c .match .keys6) (power-words 6 _ _ (omega arith))
 
--- src/lib.rt:108:1
 returns-7 : tie.Need-returns-7
 returns-7 c = rw (c .before .match .keys7) (c .point-of .ensures)
 
--- src/lib.rt:108:1
 returns-8 : tie.Need-returns-8
 returns-8 c = rw (c .before .match .keys8) (c .comma-of .ensures)
 
--- src/lib.rt:108:1
 returns-9 : tie.Need-returns-9
 returns-9 c = rw (c .match .keys9)
 
--- src/lib.rt:108:1
 returns-10 : tie.Need-returns-10
 returns-10 c = rw (c .match .keys10)
 
--- src/lib.rt:108:1
 returns-11 : tie.Need-returns-11
 returns-11 c = rw (c .match .keys11)
 
--- src/lib.rt:108:1
 returns-12 : tie.Need-returns-12
 returns-12 c = rw (c .match .keys12)
 
--- src/lib.rt:108:1
 returns-13 : tie.Need-returns-13
 returns-13 c = rw (c .match .keys13)
 
--- src/lib.rt:108:1
 returns-14 : tie.Need-returns-14
 returns-14 c = rw (c .match .keys14)
 
--- src/lib.rt:108:1
 returns-15 : tie.Need-returns-15
 returns-15 c = rw (c .before .match .keys15) (c .month-of .ensures)
 
--- src/lib.rt:108:1
 returns-16 : tie.Need-returns-16
 returns-16 c = rw (c .match .keys16)
 
--- src/lib.rt:108:1
 returns-17 : tie.Need-returns-17
 returns-17 c = rw (c .match .keys17)
 
--- src/lib.rt:108:1
 returns-18 : tie.Need-returns-18
 returns-18 c = rw (c .match .keys18)
 
--- src/lib.rt:108:1
 returns-19 : tie.Need-returns-19
 returns-19 c = rw (c .match .keys19)
 
--- src/lib.rt:108:1
 returns-20 : tie.Need-returns-20
 returns-20 c = rw (c .match .keys20)
 
--- src/lib.rt:108:1
 returns-21 : tie.Need-returns-21
 returns-21 c = rw (c .match .keys21)
 
--- src/lib.rt:108:1
 returns-22 : tie.Need-returns-22
 returns-22 c =
     let r = c .match .rest in

@@ -6,15 +6,12 @@ use Rattle.emitting.proofs.month_of.Tie as tie
 use Rattle.emitting.proofs.month_of.Reads as reads
 use Rattle.emitting.proofs.month_of.Lts as lts
 
--- src/lib.rt:101:13
 returns : tie.Need-returns
 returns c = rw (c .before .if1 .taken, le-leb _ _ (c .if2 .taken))
 
--- src/lib.rt:96:1
 returns-2 : tie.Need-returns-2
 returns-2 c = rw (c .before .if1 .taken, lt-leb _ _ (c .if2 .left))
 
--- src/lib.rt:96:1
 returns-3 : tie.Need-returns-3
 returns-3 c = rw (c .if1 .left)
 

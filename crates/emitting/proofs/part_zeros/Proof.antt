@@ -8,25 +8,20 @@ use Rattle.emitting.proofs.part_zeros.Reads as reads
 use Rattle.emitting.proofs.part_zeros.Lts as lts
 use Rattle.emitting.proofs.zeros_from.Reads as zeros-from-reads
 
--- src/lib.rt:231:9
 returns : tie.Need-returns
 returns c = let a = c .before .before .args in rw (not-true (a .date) (c .if1 .taken))
 
--- src/lib.rt:234:9
 returns-2 : tie.Need-returns-2
 returns-2 c = let a = c .before .before .before .args in rw (not-false (a .date) (c .before .if1 .left), not-true (a .behind) (c .if2 .taken))
 
--- src/lib.rt:237:9
 returns-3 : tie.Need-returns-3
 returns-3 c =
     let a = c .before .before .before .before .args in
     rw (not-false (a .date) (c .before .before .if1 .left), not-false (a .behind) (c .before .if2 .left), ne-eqb _ _ (c .if3 .taken))
 
--- src/lib.rt:239:5
 zeros-from-requires : tie.Need-zeros-from-requires
 zeros-from-requires c κs = search needs
 
--- src/lib.rt:226:1
 returns-4 : tie.Need-returns-4
 returns-4 c =
     let a = c .before .before .before .before .before .args in

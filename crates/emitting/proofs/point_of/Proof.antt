@@ -5,11 +5,9 @@ use Rattle.emitting.proofs.point_of.Tie as tie
 use Rattle.emitting.proofs.point_of.Reads as reads
 use Rattle.emitting.proofs.point_of.Lts as lts
 
--- src/lib.rt:80:9
 returns : tie.Need-returns
 returns c = rw (c .if1 .taken)
 
--- src/lib.rt:76:1
 returns-2 : tie.Need-returns-2
 returns-2 c = rw (c .if1 .left)
 

@@ -8,19 +8,15 @@ use Rattle.emitting.proofs.put_entry.Tie as tie
 use Rattle.emitting.proofs.put_entry.Reads as reads
 use Rattle.emitting.proofs.put_entry.Lts as lts
 
--- src/lib.rt:38:9
 put-unit-requires : tie.Need-put-unit-requires
 put-unit-requires c κs = search needs
 
--- src/lib.rt:39:5
 put-unit-requires-2 : tie.Need-put-unit-requires-2
 put-unit-requires-2 c κs = search needs
 
--- src/lib.rt:34:1
 same-length : tie.Need-same-length
 same-length c = search needs
 
--- src/lib.rt:34:1
 returns : tie.Need-returns
 returns c = put-put (c .before .before .before .before .before .before .put-unit .ensures) (c .before .before .put-unit2 .ensures)
 

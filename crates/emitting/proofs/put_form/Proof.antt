@@ -17,15 +17,12 @@ use Rattle.emitting.proofs.put_entry.Reads as put-entry-reads
 use Rattle.emitting.proofs.put_literals.Reads as put-literals-reads
 use Rattle.emitting.proofs.put_made.Reads as put-made-reads
 
--- src/lib.rt:249:9
 put-entry-requires : tie.Need-put-entry-requires
 put-entry-requires c κs = search needs
 
--- src/lib.rt:249:9
 same-length : tie.Need-same-length
 same-length c = search needs
 
--- src/lib.rt:249:9
 returns : tie.Need-returns
 returns c =
     let p = c .before .before in
@@ -33,19 +30,15 @@ returns c =
     let a = t .before .before .before .args in
     put-near (piece-part (a .date) (a .w) (a .n) (now (a .code)) (a .form) (a .argument) (a .start) (t .if1 .taken)) (omega arith) (p .put-entry .ensures)
 
--- src/lib.rt:252:47
 add-put-literals : tie.Need-add-put-literals
 add-put-literals c = search needs
 
--- src/lib.rt:252:9
 put-literals-requires : tie.Need-put-literals-requires
 put-literals-requires c κs = search needs
 
--- src/lib.rt:252:9
 same-length-2 : tie.Need-same-length-2
 same-length-2 c = search needs
 
--- src/lib.rt:252:9
 returns-2 : tie.Need-returns-2
 returns-2 c =
     let p = c .before .before in
@@ -54,11 +47,9 @@ returns-2 c =
     put-near (piece-literal (a .date) (a .w) (a .n) (now (a .code)) (a .form) (a .argument) (a .start) (t .before .if1 .left) (t .if2 .taken))
     (literals-short (now (a .code)) (a .argument) (a .start + 1) (omega arith)) (p .put-literals .ensures)
 
--- src/lib.rt:254:8
 fill-goes-requires : tie.Need-fill-goes-requires
 fill-goes-requires c κs = search needs
 
--- src/lib.rt:255:9
 returns-3 : tie.Need-returns-3
 returns-3 c =
     let g = c .before in
@@ -66,19 +57,15 @@ returns-3 c =
     let e = sym (g .fill-goes .ensures) ∙ c .if3 .taken in
     put-near (piece-goes (a .date) (a .w) (a .n) (now (a .code)) (a .form) (a .argument) (a .start) (g .before .before .if1 .left) e) (omega arith) (put-none _ _)
 
--- src/lib.rt:257:26
 item-of-requires : tie.Need-item-of-requires
 item-of-requires c κs = search needs
 
--- src/lib.rt:257:5
 put-made-requires : tie.Need-put-made-requires
 put-made-requires c κs = search needs
 
--- src/lib.rt:243:1
 same-length-3 : tie.Need-same-length-3
 same-length-3 c = search needs
 
--- src/lib.rt:243:1
 returns-4 : tie.Need-returns-4
 returns-4 c =
     let p = c .before .before in

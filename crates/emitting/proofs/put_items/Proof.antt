@@ -18,22 +18,18 @@ Inv-loop code body date fills integers room₀ at w₀ i₀ room w i = Going dat
 abbrev μ-loop : tie.MeasureT-loop
 μ-loop code body date fills integers room₀ at w₀ i₀ room w i = length body - i
 
--- src/lib.rt:318:16
 add-t10 : tie.Need-add-t10 Inv-loop μ-loop
 add-t10 c = search needs
 
--- src/lib.rt:322:5
 loop-holds : tie.Need-loop-holds Inv-loop μ-loop
 loop-holds c =
     let s = c .before .before .before in
     let a = s .args in
     going-start (a .date) (now (a .code)) (now (a .body)) _ _ (a .fills) (a .integers) (s .pre .0 .3) (s .pre .1 .0) (s .pre .1 .1 .0) (s .pre .1 .1 .1)
 
--- src/lib.rt:322:11
 add-loop : tie.Need-add-loop Inv-loop μ-loop
 add-loop c = search needs
 
--- src/lib.rt:323:9
 put-token-requires : tie.Need-put-token-requires Inv-loop μ-loop
 put-token-requires c κs =
     let t = c .before in
@@ -43,25 +39,20 @@ put-token-requires c κs =
     let d : l .w .digit < 2 ^ 15 = omega (arith, l .inv .digit) in
     ((n, d, s .pre .0 .1, s .pre .0 .2, t .loop-test .taken), l .inv .fills)
 
--- src/lib.rt:324:9
 add-i : tie.Need-add-i Inv-loop μ-loop
 add-i c = search needs
 
--- src/lib.rt:322:5
 loop-less : tie.Need-loop-less Inv-loop μ-loop
 loop-less c = search needs
 
--- src/lib.rt:322:5
 loop-again : tie.Need-loop-again Inv-loop μ-loop
 loop-again c =
     let t = c .before .before .before .before in
     going-step _ _ _ _ _ _ _ _ _ _ (t .loop-test .taken) (t .before .loop .inv) (c .before .before .put-token .ensures)
 
--- src/lib.rt:306:1
 same-length : tie.Need-same-length Inv-loop μ-loop
 same-length c = search needs
 
--- src/lib.rt:306:1
 returns : tie.Need-returns Inv-loop μ-loop
 returns c = going-end _ _ _ _ _ _ _ _ (c .loop-test .left) (c .before .loop .inv)
 

@@ -24,46 +24,36 @@ Inv-loop room₀ at code from count o₀ i₀ more₀ room o i more =
 abbrev μ-loop : tie.MeasureT-loop
 μ-loop room₀ at code from count o₀ i₀ more₀ room o i more = more
 
--- src/lib.rt:62:5
 loop-holds : tie.Need-loop-holds Inv-loop μ-loop
 loop-holds c = (rest-start _ _ _, omega arith)
 
--- src/lib.rt:64:13
 same-length : tie.Need-same-length Inv-loop μ-loop
 same-length c = search needs
 
--- src/lib.rt:64:13
 returns : tie.Need-returns Inv-loop μ-loop
 returns c =
     let l = c .before .before .loop in
     let a = c .before .before .before .before .before .args in
     rest-done (rw (literals-end (now (a .code)) (l .i) (l .more) (c .if1 .taken)) at (l .inv .0))
 
--- src/lib.rt:66:35
 mul-put-entry : tie.Need-mul-put-entry Inv-loop μ-loop
 mul-put-entry c = search needs
 
--- src/lib.rt:66:35
 shared-slice-read-put-entry : tie.Need-shared-slice-read-put-entry Inv-loop μ-loop
 shared-slice-read-put-entry c = search needs
 
--- src/lib.rt:66:9
 put-entry-requires : tie.Need-put-entry-requires Inv-loop μ-loop
 put-entry-requires c κs = search needs
 
--- src/lib.rt:67:9
 add-i : tie.Need-add-i Inv-loop μ-loop
 add-i c = search needs
 
--- src/lib.rt:68:9
 sub-more : tie.Need-sub-more Inv-loop μ-loop
 sub-more c = search needs
 
--- src/lib.rt:62:5
 loop-less : tie.Need-loop-less Inv-loop μ-loop
 loop-less c = search needs
 
--- src/lib.rt:62:5
 loop-again : tie.Need-loop-again Inv-loop μ-loop
 loop-again c =
     let f = c .before .before .before .before .before in
@@ -71,11 +61,9 @@ loop-again c =
     let a = f .before .before .before .before .before .args in
     (rest-put (rw (literals-first (now (a .code)) (l .i) (l .more) (f .before .loop-test .taken) (f .if1 .left)) at (l .inv .0)) (c .before .before .put-entry .ensures), omega arith)
 
--- src/lib.rt:55:1
 same-length-2 : tie.Need-same-length-2 Inv-loop μ-loop
 same-length-2 c = search needs
 
--- src/lib.rt:55:1
 returns-2 : tie.Need-returns-2 Inv-loop μ-loop
 returns-2 c =
     let l = c .before .loop in

@@ -9,19 +9,15 @@ use Rattle.emitting.proofs.put_made.Reads as reads
 use Rattle.emitting.proofs.put_made.Lts as lts
 use Rattle.emitting.proofs.put_entry.Reads as put-entry-reads
 
--- src/lib.rt:48:9
 returns : tie.Need-returns
 returns c = rw (c .if1 .taken) (put-none _ _)
 
--- src/lib.rt:50:5
 put-entry-requires : tie.Need-put-entry-requires
 put-entry-requires c κs = search needs
 
--- src/lib.rt:43:1
 same-length : tie.Need-same-length
 same-length c = search needs
 
--- src/lib.rt:43:1
 returns-2 : tie.Need-returns-2
 returns-2 c =
     let a = c .before .before in

@@ -12,70 +12,54 @@ use Rattle.emitting.proofs.passed.Reads as passed-reads
 use Rattle.emitting.proofs.put_form.Reads as put-form-reads
 use Rattle.emitting.proofs.walked.Reads as walked-reads
 
--- src/lib.rt:296:9
 passed-requires : tie.Need-passed-requires
 passed-requires c κs = search needs
 
--- src/lib.rt:296:9
 returns : tie.Need-returns
 returns c =
     let s = c .before .before .before .before .before .before in
     let a = s .args in
     turn-past (a .date) (now (a .code)) (now (a .body)) (a .i) (a .w) (s .pre .0 .4) _ _ (c .passed .ensures) (c .before .if1 .taken) (s .pre .1)
 
--- src/lib.rt:298:16
 mul-form : tie.Need-mul-form
 mul-form c = search needs
 
--- src/lib.rt:298:16
 shared-slice-read-form : tie.Need-shared-slice-read-form
 shared-slice-read-form c = search needs
 
--- src/lib.rt:299:30
 add-part-zeros : tie.Need-add-part-zeros
 add-part-zeros c = search needs
 
--- src/lib.rt:299:9
 part-zeros-requires : tie.Need-part-zeros-requires
 part-zeros-requires c κs = search needs
 
--- src/lib.rt:300:49
 add-put-form : tie.Need-add-put-form
 add-put-form c = search needs
 
--- src/lib.rt:300:44
 mul-put-form : tie.Need-mul-put-form
 mul-put-form c = search needs
 
--- src/lib.rt:300:44
 shared-slice-read-put-form : tie.Need-shared-slice-read-put-form
 shared-slice-read-put-form c = search needs
 
--- src/lib.rt:300:62
 add-put-form-2 : tie.Need-add-put-form-2
 add-put-form-2 c = search needs
 
--- src/lib.rt:300:57
 mul-put-form-2 : tie.Need-mul-put-form-2
 mul-put-form-2 c = search needs
 
--- src/lib.rt:300:57
 shared-slice-read-put-form-2 : tie.Need-shared-slice-read-put-form-2
 shared-slice-read-put-form-2 c = search needs
 
--- src/lib.rt:300:9
 put-form-requires : tie.Need-put-form-requires
 put-form-requires c κs = search needs
 
--- src/lib.rt:301:5
 walked-requires : tie.Need-walked-requires
 walked-requires c κs = search needs
 
--- src/lib.rt:290:1
 same-length : tie.Need-same-length
 same-length c = search needs
 
--- src/lib.rt:290:1
 returns-2 : tie.Need-returns-2
 returns-2 c =
     let p = c .before .before .before in

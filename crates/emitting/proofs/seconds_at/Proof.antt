@@ -7,12 +7,10 @@ use Rattle.emitting.proofs.seconds_at.Tie as tie
 use Rattle.emitting.proofs.seconds_at.Reads as reads
 use Rattle.emitting.proofs.seconds_at.Lts as lts
 
--- src/lib.rt:144:9
 returns : tie.Need-returns
 unfolding formSeconds
 returns c = rw (c .if1 .taken)
 
--- src/lib.rt:140:1
 returns-2 : tie.Need-returns-2
 unfolding formSeconds
 returns-2 c = rw (ne-eqb _ _ (c .if1 .left))

@@ -10,23 +10,18 @@ use Rattle.emitting.proofs.fills_after.Reads as fills-after-reads
 use Rattle.emitting.proofs.hours_after.Reads as hours-after-reads
 use Rattle.emitting.proofs.seconds_at.Reads as seconds-at-reads
 
--- src/lib.rt:266:17
 seconds-at-requires : tie.Need-seconds-at-requires
 seconds-at-requires c κs = search needs
 
--- src/lib.rt:268:16
 hours-after-requires : tie.Need-hours-after-requires
 hours-after-requires c κs = search needs
 
--- src/lib.rt:269:16
 digit-after-requires : tie.Need-digit-after-requires
 digit-after-requires c κs = search needs
 
--- src/lib.rt:270:16
 fills-after-requires : tie.Need-fills-after-requires
 fills-after-requires c κs = search needs
 
--- src/lib.rt:261:1
 returns : tie.Need-returns
 returns c =
     let d = c .before in

@@ -23,56 +23,45 @@ Inv-loop body i n₀ j₀ n j =
 abbrev μ-loop : tie.MeasureT-loop
 μ-loop body i n₀ j₀ n j = 3 - n
 
--- src/lib.rt:211:5
 loop-holds : tie.Need-loop-holds Inv-loop μ-loop
 loop-holds c = (omega arith, omega arith, omega arith)
 
--- src/lib.rt:212:26
 add-if1 : tie.Need-add-if1 Inv-loop μ-loop
 add-if1 c = search needs
 
--- src/lib.rt:213:13
 returns : tie.Need-returns Inv-loop μ-loop
 returns c =
     let l = c .before .before .loop in
     let a = c .before .before .before .args in
     zeros-all (l .n) _ _ (l .inv .0) (l .inv .1) (zeros-end [] (now (a .body)) (l .j) (c .if1 .taken))
 
--- src/lib.rt:215:12
 mul-if2 : tie.Need-mul-if2 Inv-loop μ-loop
 mul-if2 c = search needs
 
--- src/lib.rt:215:12
 shared-slice-read-if2 : tie.Need-shared-slice-read-if2 Inv-loop μ-loop
 shared-slice-read-if2 c = search needs
 
--- src/lib.rt:216:13
 returns-2 : tie.Need-returns-2 Inv-loop μ-loop
 returns-2 c =
     let l = c .before .before .before .before .loop in
     let a = c .before .before .before .before .before .args in
     zeros-all (l .n) _ _ (l .inv .0) (l .inv .1) (zeros-stop [] (now (a .body)) (l .j) (c .before .before .if1 .left) (ne-eqb _ _ (c .if2 .taken)))
 
--- src/lib.rt:218:9
 add-n : tie.Need-add-n Inv-loop μ-loop
 add-n c = search needs
 
--- src/lib.rt:219:9
 add-j : tie.Need-add-j Inv-loop μ-loop
 add-j c = search needs
 
--- src/lib.rt:211:5
 loop-less : tie.Need-loop-less Inv-loop μ-loop
 loop-less c = search needs
 
--- src/lib.rt:211:5
 loop-again : tie.Need-loop-again Inv-loop μ-loop
 loop-again c =
     let l = c .before .before .before .before .loop in
     let a = c .before .before .before .before .before .args in
     (l .inv .0 ∙ rw (zeros-next [] (now (a .body)) (l .j) (c .before .before .if1 .left) (c .if2 .left)) (omega arith), omega arith, omega arith)
 
--- src/lib.rt:205:1
 returns-3 : tie.Need-returns-3 Inv-loop μ-loop
 returns-3 c =
     let l = c .before .loop in

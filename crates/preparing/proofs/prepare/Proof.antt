@@ -8,27 +8,21 @@ use borrow.Author.Needs.{needs}
 use Rattle.preparing.proofs.prepare.Statement.{statement}
 use Rattle.preparing.proofs.prepare.Tie as tie
 
--- src/lib.rt:36:27
 slice-aggregate-examine : tie.Need-slice-aggregate-examine
 slice-aggregate-examine c = search needs
 
--- src/lib.rt:36:40
 slice-aggregate-examine-2 : tie.Need-slice-aggregate-examine-2
 slice-aggregate-examine-2 c = search needs
 
--- src/lib.rt:36:9
 examine-requires : tie.Need-examine-requires
 examine-requires c κs = search needs
 
--- src/lib.rt:38:8
 number-requires : tie.Need-number-requires
 number-requires c κs = search needs
 
--- src/lib.rt:39:9
 refused-requires : tie.Need-refused-requires
 refused-requires c κs = search needs
 
--- src/lib.rt:39:9
 returns : tie.Need-returns
 returns c =
     let m = c .before .before in
@@ -36,7 +30,6 @@ returns c =
     let v = examined-no _ _ _ _ (x .examine .ensures) (m .number .ensures) (c .before .if1 .taken) in
     (c .refused .ensures ∙ sym (refused-prepared _ _ _ v _), sym (refused-table _ _ _ v _))
 
--- src/lib.rt:42:20
 mul-size : tie.Need-mul-size
 mul-size c =
     let i = c .before in
@@ -45,7 +38,6 @@ mul-size c =
     let s = x .examine .ensures .sound (sym (m .number .ensures) ∙ i .if1 .left) in
     omega (arith, s .few)
 
--- src/lib.rt:42:16
 add-size : tie.Need-add-size
 add-size c =
     let i = c .before in
@@ -54,7 +46,6 @@ add-size c =
     let s = x .examine .ensures .sound (sym (m .number .ensures) ∙ i .if1 .left) in
     omega (arith, s .few)
 
--- src/lib.rt:42:16
 add-size-2 : tie.Need-add-size-2
 add-size-2 c =
     let i = c .before in
@@ -63,11 +54,9 @@ add-size-2 c =
     let s = x .examine .ensures .sound (sym (m .number .ensures) ∙ i .if1 .left) in
     omega (arith, s .few, s .short)
 
--- src/lib.rt:44:9
 refused-requires-2 : tie.Need-refused-requires-2
 refused-requires-2 c κs = search needs
 
--- src/lib.rt:44:9
 returns-2 : tie.Need-returns-2
 returns-2 c =
     let i = c .before .before .before in
@@ -77,7 +66,6 @@ returns-2 c =
     let v = examined-fine _ _ _ _ (x .examine .ensures) (m .number .ensures) (i .if1 .left) in
     (c .refused2 .ensures ∙ sym (room-prepared _ v _ _ s _ refl _ (c .before .if2 .taken)), sym (room-table _ v _ _ s _ refl _ (c .before .if2 .taken)))
 
--- src/lib.rt:47:42
 array-share-prefix-items : tie.Need-array-share-prefix-items
 array-share-prefix-items c =
     let i = c .before .before .before .before in
@@ -86,7 +74,6 @@ array-share-prefix-items c =
     let s = x .examine .ensures .sound (sym (m .number .ensures) ∙ i .if1 .left) in
     omega (arith, s .short)
 
--- src/lib.rt:47:42
 slice-aggregate-put-table : tie.Need-slice-aggregate-put-table
 slice-aggregate-put-table c =
     let i = c .before .before .before .before .before in
@@ -95,7 +82,6 @@ slice-aggregate-put-table c =
     let s = x .examine .ensures .sound (sym (m .number .ensures) ∙ i .if1 .left) in
     sym (length-take-le _ _ (s .room))
 
--- src/lib.rt:47:5
 put-table-requires : tie.Need-put-table-requires
 put-table-requires c κs =
     let i = c .before .before .before .before .before in
@@ -104,7 +90,6 @@ put-table-requires c κs =
     let s = x .examine .ensures .sound (sym (m .number .ensures) ∙ i .if1 .left) in
     (s .few, part-few _ _ (s .room) (s .short))
 
--- src/lib.rt:51:16
 cast-t24 : tie.Need-cast-t24
 cast-t24 c =
     let i = c .before .before .before .before .before .before .before .before in
@@ -113,11 +98,9 @@ cast-t24 c =
     let s = x .examine .ensures .sound (sym (m .number .ensures) ∙ i .if1 .left) in
     omega (arith, s .few, s .short)
 
--- src/lib.rt:30:1
 same-length : tie.Need-same-length
 same-length c = search needs
 
--- src/lib.rt:30:1
 returns-3 : tie.Need-returns-3
 returns-3 c =
     let i = c .before .before .before .before .before .before .before .before in

@@ -13,46 +13,36 @@ Inv-loop room₀ at count n end rest₀ o₀ room rest o = Peeled room₀ at cou
 abbrev μ-loop : tie.MeasureT-loop
 μ-loop room₀ at count n end rest₀ o₀ room rest o = o
 
--- src/lib.rt:60:15
 add-end : tie.Need-add-end Inv-loop μ-loop
 add-end c = search needs
 
--- src/lib.rt:62:9
 returns : tie.Need-returns Inv-loop μ-loop
 returns c = digits-out _ _ _ _ (c .if1 .taken)
 
--- src/lib.rt:66:5
 loop-holds : tie.Need-loop-holds Inv-loop μ-loop
 loop-holds c = peeled-start _ _ _ _
 
--- src/lib.rt:67:9
 sub-o : tie.Need-sub-o Inv-loop μ-loop
 sub-o c = search needs
 
--- src/lib.rt:68:27
 digit-unit-requires : tie.Need-digit-unit-requires Inv-loop μ-loop
 digit-unit-requires c κs = search needs
 
--- src/lib.rt:68:9
 put-unit-requires : tie.Need-put-unit-requires Inv-loop μ-loop
 put-unit-requires c κs = search needs
 
--- src/lib.rt:66:5
 loop-less : tie.Need-loop-less Inv-loop μ-loop
 loop-less c = search needs
 
--- src/lib.rt:66:5
 loop-again : tie.Need-loop-again Inv-loop μ-loop
 loop-again c =
     let p = c .before .before in
     let t = p .before .before .before in
     peeled-put (t .before .loop .inv) (t .loop-test .taken) (rw (p .before .digit-unit .ensures) at (p .put-unit .ensures))
 
--- src/lib.rt:56:1
 same-length : tie.Need-same-length Inv-loop μ-loop
 same-length c = search needs
 
--- src/lib.rt:56:1
 returns-2 : tie.Need-returns-2 Inv-loop μ-loop
 returns-2 c = peeled-done (c .before .loop .inv) (c .loop-test .left)
 

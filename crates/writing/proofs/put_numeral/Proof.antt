@@ -11,73 +11,57 @@ use Rattle.writing.proofs.put_two.Reads as put-two-reads
 use Rattle.writing.proofs.put_unit.Reads as put-unit-reads
 use Rattle.writing.proofs.put_wide.Reads as put-wide-reads
 
--- src/lib.rt:146:9
 put-wide-requires : tie.Need-put-wide-requires
 put-wide-requires c κs = search needs
 
--- src/lib.rt:146:9
 same-length : tie.Need-same-length
 same-length c = search needs
 
--- src/lib.rt:146:9
 returns : tie.Need-returns
 returns c = search needs
 
--- src/lib.rt:149:9
 put-wide-requires-2 : tie.Need-put-wide-requires-2
 put-wide-requires-2 c κs = search needs
 
--- src/lib.rt:149:9
 same-length-2 : tie.Need-same-length-2
 same-length-2 c = search needs
 
--- src/lib.rt:149:9
 returns-2 : tie.Need-returns-2
 returns-2 c = search needs
 
--- src/lib.rt:152:9
 put-two-requires : tie.Need-put-two-requires
 put-two-requires c κs = search needs
 
--- src/lib.rt:152:9
 same-length-3 : tie.Need-same-length-3
 same-length-3 c = search needs
 
--- src/lib.rt:152:9
 returns-3 : tie.Need-returns-3
 returns-3 c =
     let d = c .before .before in
     let t = d .before .before in
     rw (t .if3 .taken, numeral-two-least _ (t .before .before .if1 .left)) (d .put-two .ensures)
 
--- src/lib.rt:155:9
 put-two-requires-2 : tie.Need-put-two-requires-2
 put-two-requires-2 c κs = search needs
 
--- src/lib.rt:155:9
 same-length-4 : tie.Need-same-length-4
 same-length-4 c = search needs
 
--- src/lib.rt:155:9
 returns-4 : tie.Need-returns-4
 returns-4 c =
     let d = c .before .before in
     let t = d .before .before in
     rw (numeral-two _ _ (t .before .before .if2 .left) (t .if4 .taken) (t .before .before .before .if1 .left)) (d .put-two2 .ensures)
 
--- src/lib.rt:157:24
 digit-unit-requires : tie.Need-digit-unit-requires
 digit-unit-requires c κs = search needs
 
--- src/lib.rt:157:5
 put-unit-requires : tie.Need-put-unit-requires
 put-unit-requires c κs = search needs
 
--- src/lib.rt:141:1
 same-length-5 : tie.Need-same-length-5
 same-length-5 c = search needs
 
--- src/lib.rt:141:1
 returns-5 : tie.Need-returns-5
 returns-5 c =
     let d = c .before .before in

@@ -8,27 +8,21 @@ use Rattle.writing.proofs.put_two.Lts as lts
 use Rattle.writing.proofs.digit_unit.Reads as digit-unit-reads
 use Rattle.writing.proofs.put_unit.Reads as put-unit-reads
 
--- src/lib.rt:124:32
 digit-unit-requires : tie.Need-digit-unit-requires
 digit-unit-requires c κs = search needs
 
--- src/lib.rt:124:9
 put-unit-requires : tie.Need-put-unit-requires
 put-unit-requires c κs = search needs
 
--- src/lib.rt:125:23
 digit-unit-requires-2 : tie.Need-digit-unit-requires-2
 digit-unit-requires-2 c κs = search needs
 
--- src/lib.rt:125:5
 put-unit-requires-2 : tie.Need-put-unit-requires-2
 put-unit-requires-2 c κs = search needs
 
--- src/lib.rt:120:1
 same-length : tie.Need-same-length
 same-length c = search needs
 
--- src/lib.rt:120:1
 returns : tie.Need-returns
 returns c =
     let b = c .before .before in

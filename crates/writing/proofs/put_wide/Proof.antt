@@ -6,34 +6,27 @@ use Rattle.writing.proofs.put_wide.Reads as reads
 use Rattle.writing.proofs.put_wide.Lts as lts
 use Rattle.writing.proofs.put_digits.Reads as put-digits-reads
 
--- src/lib.rt:133:9
 width-of-requires : tie.Need-width-of-requires
 width-of-requires c κs = search needs
 
--- src/lib.rt:135:9
 put-digits-requires : tie.Need-put-digits-requires
 put-digits-requires c κs = search needs
 
--- src/lib.rt:135:9
 same-length : tie.Need-same-length
 same-length c = search needs
 
--- src/lib.rt:135:9
 returns : tie.Need-returns
 returns c =
     let d = c .before .before in
     let t = d .before .before in
     rw (numeral-least _ _ _ (t .before .width-of .ensures) (t .if1 .taken)) (d .put-digits .ensures)
 
--- src/lib.rt:137:5
 put-digits-requires-2 : tie.Need-put-digits-requires-2
 put-digits-requires-2 c κs = search needs
 
--- src/lib.rt:129:1
 same-length-2 : tie.Need-same-length-2
 same-length-2 c = search needs
 
--- src/lib.rt:129:1
 returns-2 : tie.Need-returns-2
 returns-2 c =
     let d = c .before .before in

@@ -6,31 +6,24 @@ use borrow.Author.Needs.{needs}
 use Rattle.preparing.proofs.drafts.body_of.Statement.{statement}
 use Rattle.preparing.proofs.drafts.body_of.Tie as tie
 
--- src/drafts.rt:108:9
 thousands-of-requires : tie.Need-thousands-of-requires
 thousands-of-requires c κs = search needs
 
--- src/drafts.rt:110:15
 fits-requires : tie.Need-fits-requires
 fits-requires c κs = search needs
 
--- src/drafts.rt:111:17
 within-requires : tie.Need-within-requires
 within-requires c κs = search needs
 
--- src/drafts.rt:112:15
 kind-requires : tie.Need-kind-requires
 kind-requires c κs = search needs
 
--- src/drafts.rt:113:16
 shift-of-requires : tie.Need-shift-of-requires
 shift-of-requires c κs = search needs
 
--- src/drafts.rt:116:19
 decimals-word-requires : tie.Need-decimals-word-requires
 decimals-word-requires c κs = search needs
 
--- src/drafts.rt:105:1
 returns : tie.Need-returns
 returns c =
     let d = c .before .before .before in

@@ -9,19 +9,15 @@ use borrow.Author.Needs.{needs}
 use Rattle.preparing.proofs.drafts.draft_body.Statement.{statement}
 use Rattle.preparing.proofs.drafts.draft_body.Tie as tie
 
--- src/drafts.rt:127:9
 facts-of-requires : tie.Need-facts-of-requires
 facts-of-requires c κs = search needs
 
--- src/drafts.rt:128:9
 commas-of-requires : tie.Need-commas-of-requires
 commas-of-requires c κs = search needs
 
--- src/drafts.rt:129:9
 integer-places-requires : tie.Need-integer-places-requires
 integer-places-requires c κs = search needs
 
--- src/drafts.rt:130:9
 put-items-requires : tie.Need-put-items-requires
 put-items-requires c κs =
     let f = c .before .before .before in
@@ -32,43 +28,33 @@ put-items-requires c κs =
       (facts-date _ _ (f .facts-of .ensures code), (facts-fills _ _ (f .facts-of .ensures code), places .0 code)),
     )
 
--- src/drafts.rt:131:25
 mul-tally-words : tie.Need-mul-tally-words
 mul-tally-words c = search needs
 
--- src/drafts.rt:131:25
 sub-tally-words : tie.Need-sub-tally-words
 sub-tally-words c = search needs
 
--- src/drafts.rt:131:25
 part-tally-words-start : tie.Need-part-tally-words-start
 part-tally-words-start c = search needs
 
--- src/drafts.rt:131:25
 part-tally-words-end : tie.Need-part-tally-words-end
 part-tally-words-end c = search needs
 
--- src/drafts.rt:131:9
 tally-words-requires : tie.Need-tally-words-requires
 tally-words-requires c κs = search needs
 
--- src/drafts.rt:132:16
 sub-size : tie.Need-sub-size
 sub-size c = search needs
 
--- src/drafts.rt:133:22
 cast-body-of : tie.Need-cast-body-of
 cast-body-of c = search needs
 
--- src/drafts.rt:133:5
 body-of-requires : tie.Need-body-of-requires
 body-of-requires c κs = search needs
 
--- src/drafts.rt:122:1
 same-length : tie.Need-same-length
 same-length c = search needs
 
--- src/drafts.rt:122:1
 returns : tie.Need-returns
 returns c =
     let p = c .before .before .before .before .before .before in

@@ -10,38 +10,30 @@ use borrow.Author.Needs.{needs}
 use Rattle.preparing.proofs.drafts.draft_section.Statement.{statement}
 use Rattle.preparing.proofs.drafts.draft_section.Tie as tie
 
--- src/drafts.rt:144:9
 heading-of-requires : tie.Need-heading-of-requires
 heading-of-requires c κs = search needs
 
--- src/drafts.rt:145:16
 mul-from : tie.Need-mul-from
 mul-from c = search needs
 
--- src/drafts.rt:146:9
 heading-condition-requires : tie.Need-heading-condition-requires
 heading-condition-requires c κs =
     let h = c .before in
     let s = h .before .before .before .before in
     (s .pre .0 .0, heading-digit (now (s .args .code)) (now (s .args .part)) _ (h .heading-of .ensures) (s .pre .1 .1))
 
--- src/drafts.rt:147:33
 mul-draft-body : tie.Need-mul-draft-body
 mul-draft-body c = search needs
 
--- src/drafts.rt:147:33
 sub-draft-body : tie.Need-sub-draft-body
 sub-draft-body c = search needs
 
--- src/drafts.rt:147:33
 part-draft-body-start : tie.Need-part-draft-body-start
 part-draft-body-start c = search needs
 
--- src/drafts.rt:147:33
 part-draft-body-end : tie.Need-part-draft-body-end
 part-draft-body-end c = search needs
 
--- src/drafts.rt:147:9
 draft-body-requires : tie.Need-draft-body-requires
 draft-body-requires c κs =
     let h = c .before .before .before .before in
@@ -52,11 +44,9 @@ draft-body-requires c κs =
       rw (heading-body (now (s .args .code)) (now (s .args .part)) _ (h .heading-of .ensures)) (s .pre .1 .0),
     )
 
--- src/drafts.rt:137:1
 same-length : tie.Need-same-length
 same-length c = search needs
 
--- src/drafts.rt:137:1
 returns : tie.Need-returns
 returns c =
     let b = c .before .before .before .before in

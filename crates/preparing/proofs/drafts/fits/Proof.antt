@@ -4,11 +4,9 @@ use borrow.Author.Needs.{needs}
 use Rattle.preparing.proofs.drafts.fits.Statement.{statement}
 use Rattle.preparing.proofs.drafts.fits.Tie as tie
 
--- src/drafts.rt:101:53
 items-fit-requires : tie.Need-items-fit-requires
 items-fit-requires c κs = search needs
 
--- src/drafts.rt:98:1
 returns : tie.Need-returns
 returns c = rw (c .items-fit .ensures)
 

@@ -9,51 +9,41 @@ use borrow.Author.Needs.{needs}
 use Rattle.preparing.proofs.drafts.heading_condition.Statement.{statement}
 use Rattle.preparing.proofs.drafts.heading_condition.Tie as tie
 
--- src/drafts.rt:69:9
 no-condition-requires : tie.Need-no-condition-requires
 no-condition-requires c κs = search needs
 
--- src/drafts.rt:69:9
 returns : tie.Need-returns
 returns c =
     let s = c .before .before .before .before in
     rw (c .no-condition .ensures) (condition-none (now (s .args .code)) (s .args .h) (not-true (s .args .h .condition) (c .before .if1 .taken)))
 
--- src/drafts.rt:71:29
 cast-room : tie.Need-cast-room
 cast-room c = search needs
 
--- src/drafts.rt:71:16
 sub-room : tie.Need-sub-room
 sub-room c = let s = c .before .before .before .before in omega (arith, start-inside (now (s .args .code)) (s .args .h) (s .pre .1 (not-false (s .args .h .condition) (c .before .if1 .left))))
 
--- src/drafts.rt:71:16
 sub-room-2 : tie.Need-sub-room-2
 sub-room-2 c = let s = c .before .before .before .before in omega (arith, start-inside (now (s .args .code)) (s .args .h) (s .pre .1 (not-false (s .args .h .condition) (c .before .if1 .left))))
 
--- src/drafts.rt:72:9
 cast-if2 : tie.Need-cast-if2
 cast-if2 c = search needs
 
--- src/drafts.rt:73:9
 condition-of-requires : tie.Need-condition-of-requires
 condition-of-requires c κs =
     let d = c .before .before .before in
     let s = d .before .before .before in
     (s .pre .0, omega (arith, c .if2 .taken, start-inside (now (s .args .code)) (s .args .h) (s .pre .1 (not-false (s .args .h .condition) (d .if1 .left)))), s .pre .1 (not-false (s .args .h .condition) (d .if1 .left)))
 
--- src/drafts.rt:73:9
 returns-2 : tie.Need-returns-2
 returns-2 c =
     let d = c .before .before .before .before in
     let s = d .before .before .before in
     condition-some (now (s .args .code)) (s .args .h) (not-false (s .args .h .condition) (d .if1 .left)) _ (c .condition-of .ensures)
 
--- src/drafts.rt:75:33
 cast-condition-of : tie.Need-cast-condition-of
 cast-condition-of c = search needs
 
--- src/drafts.rt:75:5
 condition-of-requires-2 : tie.Need-condition-of-requires-2
 condition-of-requires-2 c κs =
     let d = c .before .before .before in
@@ -64,7 +54,6 @@ condition-of-requires-2 c κs =
       clamped-inside (now (s .args .code)) (h .start) (h .argument) _ refl (omega (arith, c .if2 .left)) (s .pre .1 (not-false (s .args .h .condition) (d .if1 .left))),
     )
 
--- src/drafts.rt:64:1
 returns-3 : tie.Need-returns-3
 returns-3 c =
     let d = c .before .before .before .before in

@@ -12,19 +12,15 @@ use borrow.Author.Needs.{needs}
 use Rattle.preparing.proofs.drafts.shift_of.Statement.{statement}
 use Rattle.preparing.proofs.drafts.shift_of.Tie as tie
 
--- src/drafts.rt:89:9
 within-requires : tie.Need-within-requires
 within-requires c κs = search needs
 
--- src/drafts.rt:90:9
 returns : tie.Need-returns
 returns c = rw (sym (c .before .within .ensures) ∙ not-true _ (c .if1 .taken))
 
--- src/drafts.rt:92:8
 kind-requires : tie.Need-kind-requires
 kind-requires c κs = search needs
 
--- src/drafts.rt:93:9
 returns-2 : tie.Need-returns-2
 returns-2 c =
     let a = c .before .before .before .before .args in
@@ -39,23 +35,18 @@ bounds : (c : tie.After-struct-known)
     → (c .before .before .before .before .before .args .t .percents ≤ 5) × (c .before .before .before .before .before .args .thousands ≤ 5)
 bounds c = let a = c .before .before .before .before .before .args in within-bounds (a .t) (a .thousands) (told c)
 
--- src/drafts.rt:95:10
 mul-result : tie.Need-mul-result
 mul-result c = omega (arith, bounds c)
 
--- src/drafts.rt:95:5
 add-result : tie.Need-add-result
 add-result c = omega (arith, bounds c)
 
--- src/drafts.rt:95:27
 mul-result-2 : tie.Need-mul-result-2
 mul-result-2 c = omega (arith, bounds c)
 
--- src/drafts.rt:95:5
 sub-result : tie.Need-sub-result
 sub-result c = omega (arith, bounds c)
 
--- src/drafts.rt:86:1
 returns-3 : tie.Need-returns-3
 returns-3 c =
     let s = c .before .before .before .before .before in

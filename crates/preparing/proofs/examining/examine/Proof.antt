@@ -10,38 +10,30 @@ use borrow.Author.Needs.{needs}
 use Rattle.preparing.proofs.examining.examine.Statement.{statement}
 use Rattle.preparing.proofs.examining.examine.Tie as tie
 
--- src/examining.rt:90:9
 refused-requires : tie.Need-refused-requires
 refused-requires c κs = search needs
 
--- src/examining.rt:90:9
 returns : tie.Need-returns
 returns c = examined-refused _ _ _ _ _ (c .refused .ensures) refl (length-none _ (c .before .if1 .taken))
 
--- src/examining.rt:93:9
 refused-requires-2 : tie.Need-refused-requires-2
 refused-requires-2 c κs = search needs
 
--- src/examining.rt:93:9
 returns-2 : tie.Need-returns-2
 returns-2 c = examined-refused _ _ _ _ _ (c .refused2 .ensures) refl (length-over _ (c .before .if2 .taken))
 
--- src/examining.rt:95:11
 fill-requires : tie.Need-fill-requires
 fill-requires c κs = search needs
 
--- src/examining.rt:96:21
 enum-known-n : tie.Need-enum-known-n
 enum-known-n c = search needs
 
--- src/examining.rt:97:23
 mul-end : tie.Need-mul-end
 mul-end c =
     let f = c .before .before .before .before .before in
     let n : c .before .n .given .0 .0 ≤ length (now (f .before .before .before .before .before .before .before .args .code)) = filled-few _ _ _ _ (f .fill .ensures) _ (c .before .n .given .1) in
     omega (arith, n, f .before .before .if2 .left)
 
--- src/examining.rt:98:34
 slice-reshare-prefix-examine-tokens : tie.Need-slice-reshare-prefix-examine-tokens
 slice-reshare-prefix-examine-tokens c =
     let f = c .before .before .before .before .before in
@@ -49,7 +41,6 @@ slice-reshare-prefix-examine-tokens c =
     let n : c .before .n .given .0 .0 ≤ length (now (s .args .code)) = filled-few _ _ _ _ (f .fill .ensures) _ (c .before .n .given .1) in
     omega (arith, n, f .before .before .if2 .left, f .fill .ensures .size, s .pre .0)
 
--- src/examining.rt:98:34
 slice-aggregate-examine-tokens : tie.Need-slice-aggregate-examine-tokens
 slice-aggregate-examine-tokens c =
     let k = c .before in
@@ -57,7 +48,6 @@ slice-aggregate-examine-tokens c =
     let s = f .before .before .before .before .before .before .before in
     sym (filled-all _ _ _ _ (f .fill .ensures) _ (k .before .n .given .1) (f .before .before .if2 .left) (s .pre .0) (length-fair _ (f .before .before .before .if1 .left) (f .before .before .if2 .left)) .size)
 
--- src/examining.rt:98:13
 examine-tokens-requires : tie.Need-examine-tokens-requires
 examine-tokens-requires c κs =
     let k = c .before .before in
@@ -65,11 +55,9 @@ examine-tokens-requires c κs =
     let s = f .before .before .before .before .before .before .before in
     (s .pre .1, filled-all _ _ _ _ (f .fill .ensures) _ (k .before .n .given .1) (f .before .before .if2 .left) (s .pre .0) (length-fair _ (f .before .before .before .if1 .left) (f .before .before .if2 .left)))
 
--- src/examining.rt:100:21
 enum-known-k : tie.Need-enum-known-k
 enum-known-k c = search needs
 
--- src/examining.rt:100:50
 cast-refused : tie.Need-cast-refused
 cast-refused c =
     let f = c .before .before .before .before .before in
@@ -78,27 +66,21 @@ cast-refused c =
     = token-inside code _ (filled-bad code _ _ _ (f .fill .ensures) _ (c .before .k .given .1) (length-fair code (f .before .before .before .if1 .left) (f .before .before .if2 .left))) in
     omega (arith, k, f .before .before .if2 .left)
 
--- src/examining.rt:100:27
 refused-requires-3 : tie.Need-refused-requires-3
 refused-requires-3 c κs = search needs
 
--- src/examining.rt:85:1
 same-length : tie.Need-same-length
 same-length c = search needs
 
--- src/examining.rt:85:1
 same-length-2 : tie.Need-same-length-2
 same-length-2 c = search needs
 
--- src/examining.rt:85:1
 returns-3 : tie.Need-returns-3
 returns-3 c = search needs
 
--- src/examining.rt:85:1
 same-length-3 : tie.Need-same-length-3
 same-length-3 c = search needs
 
--- src/examining.rt:85:1
 returns-4 : tie.Need-returns-4
 returns-4 c =
     let d = c .before in

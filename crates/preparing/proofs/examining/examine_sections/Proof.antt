@@ -7,27 +7,21 @@ use borrow.Author.Needs.{needs}
 use Rattle.preparing.proofs.examining.examine_sections.Statement.{statement}
 use Rattle.preparing.proofs.examining.examine_sections.Tie as tie
 
--- src/examining.rt:45:9
 draft-all-requires : tie.Need-draft-all-requires
 draft-all-requires c κs = search needs
 
--- src/examining.rt:47:9
 first-failing-requires : tie.Need-first-failing-requires
 first-failing-requires c κs = search needs
 
--- src/examining.rt:49:38
 cast-refused : tie.Need-cast-refused
 cast-refused c = search needs
 
--- src/examining.rt:49:9
 refused-requires : tie.Need-refused-requires
 refused-requires c κs = search needs
 
--- src/examining.rt:49:9
 same-length : tie.Need-same-length
 same-length c = search needs
 
--- src/examining.rt:49:9
 returns : tie.Need-returns
 returns c =
     let f = c .before .before in
@@ -36,23 +30,18 @@ returns c =
     examined-refused _ _ _ _ _ (c .refused .ensures) refl
     (verdict-kind (now (s .args .code)) (s .pre .1 .1) _ (a .draft-all .ensures) _ (s .pre .1 .0 .many) _ (f .first-failing .ensures) (c .before .if1 .taken))
 
--- src/examining.rt:51:9
 first-failing-requires-2 : tie.Need-first-failing-requires-2
 first-failing-requires-2 c κs = search needs
 
--- src/examining.rt:53:42
 cast-refused-2 : tie.Need-cast-refused-2
 cast-refused-2 c = search needs
 
--- src/examining.rt:53:9
 refused-requires-2 : tie.Need-refused-requires-2
 refused-requires-2 c κs = search needs
 
--- src/examining.rt:53:9
 same-length-2 : tie.Need-same-length-2
 same-length-2 c = search needs
 
--- src/examining.rt:53:9
 returns-2 : tie.Need-returns-2
 returns-2 c =
     let g = c .before .before in
@@ -63,23 +52,18 @@ returns-2 c =
     (verdict-where (now (s .args .code)) (s .pre .1 .1) _ (a .draft-all .ensures) _ (s .pre .1 .0 .many) _ (f .first-failing .ensures) (g .before .if1 .left)
     _ (g .first-failing2 .ensures) (c .before .if2 .taken))
 
--- src/examining.rt:55:9
 first-failing-requires-3 : tie.Need-first-failing-requires-3
 first-failing-requires-3 c κs = search needs
 
--- src/examining.rt:57:39
 cast-refused-3 : tie.Need-cast-refused-3
 cast-refused-3 c = search needs
 
--- src/examining.rt:57:9
 refused-requires-3 : tie.Need-refused-requires-3
 refused-requires-3 c κs = search needs
 
--- src/examining.rt:57:9
 same-length-3 : tie.Need-same-length-3
 same-length-3 c = search needs
 
--- src/examining.rt:57:9
 returns-3 : tie.Need-returns-3
 returns-3 c =
     let h = c .before .before in
@@ -91,11 +75,9 @@ returns-3 c =
     (verdict-limit (now (s .args .code)) (s .pre .1 .1) _ (a .draft-all .ensures) _ (s .pre .1 .0 .many) _ (f .first-failing .ensures) (g .before .if1 .left)
     _ (g .first-failing2 .ensures) (h .before .if2 .left) _ (h .first-failing3 .ensures) (c .before .if3 .taken))
 
--- src/examining.rt:39:1
 same-length-4 : tie.Need-same-length-4
 same-length-4 c = search needs
 
--- src/examining.rt:39:1
 returns-4 : tie.Need-returns-4
 returns-4 c =
     let h = c .before in

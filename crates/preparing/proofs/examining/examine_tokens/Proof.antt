@@ -8,25 +8,20 @@ use borrow.Author.Needs.{needs}
 use Rattle.preparing.proofs.examining.examine_tokens.Statement.{statement}
 use Rattle.preparing.proofs.examining.examine_tokens.Tie as tie
 
--- src/examining.rt:74:9
 semicolon-count-requires : tie.Need-semicolon-count-requires
 semicolon-count-requires c κs = search needs
 
--- src/examining.rt:76:13
 semicolon-place-requires : tie.Need-semicolon-place-requires
 semicolon-place-requires c κs = search needs
 
--- src/examining.rt:77:46
 cast-refused : tie.Need-cast-refused
 cast-refused c =
     let s = c .before .before .before .before .before .before in
     omega (arith, s .pre .1 .small, count-inside (now (s .args .code)) (c .semicolon-place .result) (verdict-count (now (s .args .code)) (now (s .args .tokens)) (s .args .n) (s .pre .1) (c .before .before .semicolon-count .result) (c .before .before .semicolon-count .ensures) (c .semicolon-place .result) (c .semicolon-place .ensures) (c .before .if1 .taken)))
 
--- src/examining.rt:77:9
 refused-requires : tie.Need-refused-requires
 refused-requires c κs = search needs
 
--- src/examining.rt:77:9
 returns : tie.Need-returns
 returns c =
     let p = c .before in
@@ -34,11 +29,9 @@ returns c =
     examined-refused _ _ _ _ _ (c .refused .ensures) refl
     (verdict-count (now (s .args .code)) (now (s .args .tokens)) (s .args .n) (s .pre .1) _ (p .before .before .semicolon-count .ensures) _ (p .semicolon-place .ensures) (p .before .if1 .taken))
 
--- src/examining.rt:79:36
 add-examine-sections : tie.Need-add-examine-sections
 add-examine-sections c = search needs
 
--- src/examining.rt:79:5
 examine-sections-requires : tie.Need-examine-sections-requires
 examine-sections-requires c κs =
     let n = c .before .before in
@@ -51,11 +44,9 @@ examine-sections-requires c κs =
       ),
     )
 
--- src/examining.rt:69:1
 same-length : tie.Need-same-length
 same-length c = search needs
 
--- src/examining.rt:69:1
 returns-2 : tie.Need-returns-2
 returns-2 c = search needs
 

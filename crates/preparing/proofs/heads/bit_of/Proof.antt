@@ -6,12 +6,10 @@ use borrow.Author.Needs.{needs}
 use Rattle.preparing.proofs.heads.bit_of.Statement.{statement}
 use Rattle.preparing.proofs.heads.bit_of.Tie as tie
 
--- src/heads.rt:19:9
 returns : tie.Need-returns
 unfolding bit
 returns c = (rw (c .if1 .taken), omega arith)
 
--- src/heads.rt:15:1
 returns-2 : tie.Need-returns-2
 unfolding bit
 returns-2 c = (rw (c .if1 .left), omega arith)

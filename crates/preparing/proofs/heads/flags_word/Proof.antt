@@ -5,35 +5,27 @@ use borrow.Author.Needs.{needs}
 use Rattle.preparing.proofs.heads.flags_word.Statement.{statement}
 use Rattle.preparing.proofs.heads.flags_word.Tie as tie
 
--- src/heads.rt:46:5
 bit-of-requires : tie.Need-bit-of-requires
 bit-of-requires c κs = search needs
 
--- src/heads.rt:46:27
 bit-of-requires-2 : tie.Need-bit-of-requires-2
 bit-of-requires-2 c κs = search needs
 
--- src/heads.rt:46:23
 mul-result : tie.Need-mul-result
 mul-result c = search needs
 
--- src/heads.rt:46:5
 add-result : tie.Need-add-result
 add-result c = search needs
 
--- src/heads.rt:46:50
 bit-of-requires-3 : tie.Need-bit-of-requires-3
 bit-of-requires-3 c κs = search needs
 
--- src/heads.rt:46:46
 mul-result-2 : tie.Need-mul-result-2
 mul-result-2 c = search needs
 
--- src/heads.rt:46:5
 add-result-2 : tie.Need-add-result-2
 add-result-2 c = search needs
 
--- src/heads.rt:43:1
 returns : tie.Need-returns
 unfolding flagsWord
 returns c = rw (c .bit-of3 .ensures .0, c .before .bit-of2 .ensures .0, c .before .before .bit-of .ensures .0)

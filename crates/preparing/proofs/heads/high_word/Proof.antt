@@ -6,11 +6,9 @@ use borrow.Author.Needs.{needs}
 use Rattle.preparing.proofs.heads.high_word.Statement.{statement}
 use Rattle.preparing.proofs.heads.high_word.Tie as tie
 
--- src/heads.rt:33:5
 cast-result : tie.Need-cast-result
 cast-result c = search needs
 
--- src/heads.rt:30:1
 returns : tie.Need-returns
 unfolding highWord
 returns c = refl

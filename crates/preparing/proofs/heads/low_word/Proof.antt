@@ -6,11 +6,9 @@ use borrow.Author.Needs.{needs}
 use Rattle.preparing.proofs.heads.low_word.Statement.{statement}
 use Rattle.preparing.proofs.heads.low_word.Tie as tie
 
--- src/heads.rt:27:5
 cast-result : tie.Need-cast-result
 cast-result c = search needs
 
--- src/heads.rt:24:1
 returns : tie.Need-returns
 unfolding lowWord
 returns c = refl

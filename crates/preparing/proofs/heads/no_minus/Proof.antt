@@ -6,7 +6,6 @@ use borrow.Author.Needs.{needs}
 use Rattle.preparing.proofs.heads.no_minus.Statement.{statement}
 use Rattle.preparing.proofs.heads.no_minus.Tie as tie
 
--- src/heads.rt:37:1
 returns : tie.Need-returns
 unfolding exceptionA
 returns c = refl

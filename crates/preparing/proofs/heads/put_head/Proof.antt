@@ -5,51 +5,39 @@ use borrow.Author.Needs.{needs}
 use Rattle.preparing.proofs.heads.put_head.Statement.{statement}
 use Rattle.preparing.proofs.heads.put_head.Tie as tie
 
--- src/heads.rt:69:57
 has-condition-requires : tie.Need-has-condition-requires
 has-condition-requires c κs = search needs
 
--- src/heads.rt:69:42
 no-minus-requires : tie.Need-no-minus-requires
 no-minus-requires c κs = search needs
 
--- src/heads.rt:69:9
 flags-word-requires : tie.Need-flags-word-requires
 flags-word-requires c κs = search needs
 
--- src/heads.rt:70:9
 bit-of-requires : tie.Need-bit-of-requires
 bit-of-requires c κs = search needs
 
--- src/heads.rt:71:9
 low-word-requires : tie.Need-low-word-requires
 low-word-requires c κs = search needs
 
--- src/heads.rt:72:9
 high-word-requires : tie.Need-high-word-requires
 high-word-requires c κs = search needs
 
--- src/heads.rt:73:9
 put-six-requires : tie.Need-put-six-requires
 put-six-requires c κs = search needs
 
--- src/heads.rt:74:9
 low-word-requires-2 : tie.Need-low-word-requires-2
 low-word-requires-2 c κs = search needs
 
--- src/heads.rt:75:9
 high-word-requires-2 : tie.Need-high-word-requires-2
 high-word-requires-2 c κs = search needs
 
--- src/heads.rt:76:5
 put-six-requires-2 : tie.Need-put-six-requires-2
 put-six-requires-2 c κs = search needs
 
--- src/heads.rt:63:1
 same-length : tie.Need-same-length
 same-length c = search needs
 
--- src/heads.rt:63:1
 returns : tie.Need-returns
 returns c =
     let t = c .before .before in

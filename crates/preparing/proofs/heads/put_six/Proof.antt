@@ -5,35 +5,27 @@ use borrow.Author.Needs.{needs}
 use Rattle.preparing.proofs.heads.put_six.Statement.{statement}
 use Rattle.preparing.proofs.heads.put_six.Tie as tie
 
--- src/heads.rt:54:9
 put-unit-requires : tie.Need-put-unit-requires
 put-unit-requires c κs = search needs
 
--- src/heads.rt:55:9
 put-unit-requires-2 : tie.Need-put-unit-requires-2
 put-unit-requires-2 c κs = search needs
 
--- src/heads.rt:56:9
 put-unit-requires-3 : tie.Need-put-unit-requires-3
 put-unit-requires-3 c κs = search needs
 
--- src/heads.rt:57:9
 put-unit-requires-4 : tie.Need-put-unit-requires-4
 put-unit-requires-4 c κs = search needs
 
--- src/heads.rt:58:9
 put-unit-requires-5 : tie.Need-put-unit-requires-5
 put-unit-requires-5 c κs = search needs
 
--- src/heads.rt:59:5
 put-unit-requires-6 : tie.Need-put-unit-requires-6
 put-unit-requires-6 c κs = search needs
 
--- src/heads.rt:50:1
 same-length : tie.Need-same-length
 same-length c = search needs
 
--- src/heads.rt:50:1
 returns : tie.Need-returns
 returns c =
     let f = c .before .before in

@@ -8,31 +8,24 @@ use borrow.Author.Needs.{needs}
 use Rattle.preparing.proofs.heads.put_table.Statement.{statement}
 use Rattle.preparing.proofs.heads.put_table.Tie as tie
 
--- src/heads.rt:100:31
 array-copy-out-has-condition : tie.Need-array-copy-out-has-condition
 array-copy-out-has-condition c = search needs
 
--- src/heads.rt:100:9
 has-condition-requires : tie.Need-has-condition-requires
 has-condition-requires c κs = search needs
 
--- src/heads.rt:101:9
 counted-requires : tie.Need-counted-requires
 counted-requires c κs = search needs
 
--- src/heads.rt:102:32
 cast-put-unit : tie.Need-cast-put-unit
 cast-put-unit c = search needs
 
--- src/heads.rt:102:9
 put-unit-requires : tie.Need-put-unit-requires
 put-unit-requires c κs = search needs
 
--- src/heads.rt:103:9
 put-heads-requires : tie.Need-put-heads-requires
 put-heads-requires c κs = search needs
 
--- src/heads.rt:104:5
 put-units-requires : tie.Need-put-units-requires
 put-units-requires c κs =
     let h = c .before .before .before in
@@ -40,11 +33,9 @@ put-units-requires c κs =
     let s = u .before .before .before .before .before .before .before in
     omega (arith, heads-near (u .before .before .counted .result) (s .args .n) (u .before .before .before .has-condition .result) (s .args .t2) (h .put-heads .ensures), u .put-unit .ensures .next, s .pre .0, s .pre .1)
 
--- src/heads.rt:96:1
 same-length : tie.Need-same-length
 same-length c = search needs
 
--- src/heads.rt:96:1
 wide : (c : tie.After-has-condition) → length (c .before .before .before .before .args .t2) ≡ 4
 wide c = search needs
 

@@ -13,39 +13,30 @@ Inv-loop body s₀ i₀ s i = Passing body i s
 abbrev μ-loop : tie.MeasureT-loop
 μ-loop body s₀ i₀ s i = length body - i
 
--- src/places.rt:67:5
 loop-holds : tie.Need-loop-holds Inv-loop μ-loop
 loop-holds c = search (needs, passing-start)
 
--- src/places.rt:67:11
 add-loop : tie.Need-add-loop Inv-loop μ-loop
 add-loop c = search needs
 
--- src/places.rt:68:27
 mul-part-token : tie.Need-mul-part-token Inv-loop μ-loop
 mul-part-token c = search needs
 
--- src/places.rt:68:27
 shared-slice-read-part-token : tie.Need-shared-slice-read-part-token Inv-loop μ-loop
 shared-slice-read-part-token c = search needs
 
--- src/places.rt:68:9
 part-token-requires : tie.Need-part-token-requires Inv-loop μ-loop
 part-token-requires c κs = search needs
 
--- src/places.rt:69:9
 add-i : tie.Need-add-i Inv-loop μ-loop
 add-i c = search needs
 
--- src/places.rt:67:5
 loop-less : tie.Need-loop-less Inv-loop μ-loop
 loop-less c = search needs
 
--- src/places.rt:67:5
 loop-again : tie.Need-loop-again Inv-loop μ-loop
 loop-again c = search (needs, passing-step)
 
--- src/places.rt:57:1
 returns : tie.Need-returns Inv-loop μ-loop
 returns c = passing-end _ _ _ (c .before .loop .inv) (c .loop-test .left)
 

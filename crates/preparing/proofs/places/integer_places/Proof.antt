@@ -6,17 +6,14 @@ use borrow.Author.Needs.{needs}
 use Rattle.preparing.proofs.places.integer_places.Statement.{statement}
 use Rattle.preparing.proofs.places.integer_places.Tie as tie
 
--- src/places.rt:80:9
 date-places-requires : tie.Need-date-places-requires
 date-places-requires c κs = search needs
 
--- src/places.rt:80:9
 returns : tie.Need-returns
 returns c =
     let s = c .before .before .before in
     (places-dated (s .args .f) (now (s .args .body)) (s .pre .1) _ (c .date-places .ensures .0) (c .before .if1 .taken), c .date-places .ensures .1)
 
--- src/places.rt:75:1
 returns-2 : tie.Need-returns-2
 returns-2 c =
     let s = c .before .before in

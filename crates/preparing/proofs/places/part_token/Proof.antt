@@ -8,29 +8,23 @@ use borrow.Author.Needs.{needs}
 use Rattle.preparing.proofs.places.part_token.Statement.{statement}
 use Rattle.preparing.proofs.places.part_token.Tie as tie
 
--- src/places.rt:45:19
 sub-t6 : tie.Need-sub-t6
 sub-t6 c =
     let a = c .before .before .before .args in
     omega (arith, ltb-true 0 (a .s .left) (and-second (eqb (a .form) 4) (ltb 0 (a .s .left)) (c .before .if1 .taken)))
 
--- src/places.rt:43:9
 returns : tie.Need-returns
 returns c = rw (c .before .if1 .taken)
 
--- src/places.rt:51:15
 zeros-with-requires : tie.Need-zeros-with-requires
 zeros-with-requires c κs = search needs
 
--- src/places.rt:52:39
 between-requires : tie.Need-between-requires
 between-requires c κs = search needs
 
--- src/places.rt:52:17
 places-with-requires : tie.Need-places-with-requires
 places-with-requires c κs = search needs
 
--- src/places.rt:38:1
 returns-2 : tie.Need-returns-2
 returns-2 c =
     let d = c .before .before in

@@ -26,37 +26,29 @@ next c =
     let d = next-drafted _ _ _ _ _ _ _ _ _ (l .inv) (t .loop-test .taken) _ _ (c .draft-next .ensures) in
     (next-size _ _ _ _ _ _ _ _ _ (l .inv) (t .loop-test .taken) _ _ d, next-items _ _ _ _ _ _ _ _ _ (l .inv) (t .loop-test .taken) _ _ d)
 
--- src/sections.rt:69:23
 no-draft-requires : tie.Need-no-draft-requires Inv-loop μ-loop
 no-draft-requires c κs = search needs
 
--- src/sections.rt:73:5
 loop-holds : tie.Need-loop-holds Inv-loop μ-loop
 loop-holds c =
     let s = c .before .before .before .before in
     sectioning-start _ _ _ _ _ (s .pre .0) (s .pre .1) refl
 
--- src/sections.rt:74:20
 mul-from : tie.Need-mul-from Inv-loop μ-loop
 mul-from c = omega (arith, c .before .loop .inv .place (c .loop-test .taken), c .before .loop .inv .words-small)
 
--- src/sections.rt:75:37
 mul-draft-next : tie.Need-mul-draft-next Inv-loop μ-loop
 mul-draft-next c = omega (arith, c .before .loop .inv .place (c .loop-test .taken), c .before .loop .inv .words-small)
 
--- src/sections.rt:75:37
 sub-draft-next : tie.Need-sub-draft-next Inv-loop μ-loop
 sub-draft-next c = omega (arith, c .before .loop .inv .place (c .loop-test .taken), c .before .loop .inv .words-small)
 
--- src/sections.rt:75:37
 part-draft-next-start : tie.Need-part-draft-next-start Inv-loop μ-loop
 part-draft-next-start c = omega (arith, c .before .loop .inv .place (c .loop-test .taken), c .before .loop .inv .words-small)
 
--- src/sections.rt:75:37
 part-draft-next-end : tie.Need-part-draft-next-end Inv-loop μ-loop
 part-draft-next-end c = search needs
 
--- src/sections.rt:75:13
 draft-next-requires : tie.Need-draft-next-requires Inv-loop μ-loop
 draft-next-requires c κs =
     let t = c .before .before in
@@ -66,52 +58,42 @@ draft-next-requires c κs =
       (rw (left-part _ _ _ _ _ _ _ _ _ (l .inv) (t .loop-test .taken)) (next-room _ _ _ _ _ _ _ _ _ (l .inv) (t .loop-test .taken)), rw (left-part _ _ _ _ _ _ _ _ _ (l .inv) (t .loop-test .taken)) (next-digits _ _ _ _ _ _ _ _ _ (l .inv) (t .loop-test .taken))),
     )
 
--- src/sections.rt:77:9
 mul-drafts : tie.Need-mul-drafts Inv-loop μ-loop
 mul-drafts c = search needs
 
--- src/sections.rt:77:9
 array-set-from-drafts : tie.Need-array-set-from-drafts Inv-loop μ-loop
 array-set-from-drafts c =
     let t = c .before .before .before .before .before .before in
     omega (arith, t .loop-test .taken, t .before .loop .inv .few, t .before .loop .inv .size)
 
--- src/sections.rt:78:19
 cast-at : tie.Need-cast-at Inv-loop μ-loop
 cast-at c = search needs
 
--- src/sections.rt:78:15
 mul-at : tie.Need-mul-at Inv-loop μ-loop
 mul-at c = omega (arith, next (c .before .before .before .before) .1)
 
--- src/sections.rt:78:9
 add-at : tie.Need-add-at Inv-loop μ-loop
 add-at c = omega (arith, next (c .before .before .before .before) .1)
 
--- src/sections.rt:79:18
 add-first : tie.Need-add-first Inv-loop μ-loop
 add-first c = omega (arith, next (c .before .before .before .before .before) .0)
 
--- src/sections.rt:79:9
 add-first-2 : tie.Need-add-first-2 Inv-loop μ-loop
 add-first-2 c =
     let n = c .before .before .before .before .before in
     let t = n .before .before .before in
     omega (arith, next n .0, t .before .loop .inv .place (t .loop-test .taken), t .before .loop .inv .words-small)
 
--- src/sections.rt:80:9
 add-k : tie.Need-add-k Inv-loop μ-loop
 add-k c =
     let t = c .before .before .before .before .before .before .before .before in
     omega (arith, t .loop-test .taken, t .before .loop .inv .few)
 
--- src/sections.rt:73:5
 loop-less : tie.Need-loop-less Inv-loop μ-loop
 loop-less c =
     let t = c .before .before .before .before .before .before .before .before in
     omega (arith, t .loop-test .taken)
 
--- src/sections.rt:73:5
 loop-again : tie.Need-loop-again Inv-loop μ-loop
 loop-again c =
     let n = c .before .before .before .before .before in
@@ -119,11 +101,9 @@ loop-again c =
     let l = t .before .loop in
     sectioning-step _ _ _ _ _ _ _ _ _ (l .inv) (t .loop-test .taken) _ _ (next-drafted _ _ _ _ _ _ _ _ _ (l .inv) (t .loop-test .taken) _ _ (n .draft-next .ensures))
 
--- src/sections.rt:64:1
 same-length : tie.Need-same-length Inv-loop μ-loop
 same-length c = search needs
 
--- src/sections.rt:64:1
 returns : tie.Need-returns Inv-loop μ-loop
 returns c = sectioning-end _ _ _ _ _ _ _ _ _ (c .before .loop .inv) (c .loop-test .left)
 

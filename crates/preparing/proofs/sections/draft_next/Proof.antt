@@ -12,21 +12,17 @@ use borrow.Author.Needs.{needs}
 use Rattle.preparing.proofs.sections.draft_next.Statement.{statement}
 use Rattle.preparing.proofs.sections.draft_next.Tie as tie
 
--- src/sections.rt:38:9
 section-end-requires : tie.Need-section-end-requires
 section-end-requires c κs = search needs
 
--- src/sections.rt:39:15
 mul-end : tie.Need-mul-end
 mul-end c = search needs
 
--- src/sections.rt:40:37
 slice-aggregate-draft-section : tie.Need-slice-aggregate-draft-section
 slice-aggregate-draft-section c =
     let e = c .before in
     sym (length-take-le (3 * e .section-end .result) (now (e .before .before .before .before .args .tokens)) (e .section-end .ensures .inside))
 
--- src/sections.rt:40:9
 draft-section-requires : tie.Need-draft-section-requires
 draft-section-requires c κs =
     let e = c .before .before in
@@ -40,11 +36,9 @@ draft-section-requires c κs =
       ),
     )
 
--- src/sections.rt:32:1
 same-length : tie.Need-same-length
 same-length c = search needs
 
--- src/sections.rt:32:1
 returns : tie.Need-returns
 returns c =
     let d = c .before .before in

@@ -12,35 +12,27 @@ Inv-loop n drafts count₀ i₀ count i = Counting drafts n i count
 abbrev μ-loop : tie.MeasureT-loop
 μ-loop n drafts count₀ i₀ count i = n - i
 
--- src/verdicts.rt:84:5
 loop-holds : tie.Need-loop-holds Inv-loop μ-loop
 loop-holds c = search (needs, counting-start)
 
--- src/verdicts.rt:85:30
 mul-counted-with : tie.Need-mul-counted-with Inv-loop μ-loop
 mul-counted-with c = search needs
 
--- src/verdicts.rt:85:30
 array-copy-out-counted-with : tie.Need-array-copy-out-counted-with Inv-loop μ-loop
 array-copy-out-counted-with c = search needs
 
--- src/verdicts.rt:85:9
 counted-with-requires : tie.Need-counted-with-requires Inv-loop μ-loop
 counted-with-requires c κs = search needs
 
--- src/verdicts.rt:86:9
 add-i : tie.Need-add-i Inv-loop μ-loop
 add-i c = search needs
 
--- src/verdicts.rt:84:5
 loop-less : tie.Need-loop-less Inv-loop μ-loop
 loop-less c = search needs
 
--- src/verdicts.rt:84:5
 loop-again : tie.Need-loop-again Inv-loop μ-loop
 loop-again c = counting-step _ _ _ _ (c .before .before .before .loop .inv) (c .before .before .loop-test .taken) _ _ (c .counted-with .ensures)
 
--- src/verdicts.rt:78:1
 returns : tie.Need-returns Inv-loop μ-loop
 returns c = counting-end _ _ _ _ (c .before .loop .inv) (c .loop-test .left)
 

@@ -4,15 +4,12 @@ use borrow.Author.Needs.{needs}
 use Rattle.preparing.proofs.verdicts.counted_with.Statement.{statement}
 use Rattle.preparing.proofs.verdicts.counted_with.Tie as tie
 
--- src/verdicts.rt:72:16
 add-result : tie.Need-add-result
 add-result c = search needs
 
--- src/verdicts.rt:72:9
 returns : tie.Need-returns
 returns c = rw (c .if1 .taken)
 
--- src/verdicts.rt:66:1
 returns-2 : tie.Need-returns-2
 returns-2 c = rw (c .if1 .left)
 

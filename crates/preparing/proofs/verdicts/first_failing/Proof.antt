@@ -15,39 +15,30 @@ Inv-loop n test drafts i₀ i = Seeking (passesBy test n) drafts n i
 abbrev μ-loop : tie.MeasureT-loop
 μ-loop n test drafts i₀ i = n - i
 
--- src/verdicts.rt:56:5
 loop-holds : tie.Need-loop-holds Inv-loop μ-loop
 loop-holds c = search (needs, seeking-start)
 
--- src/verdicts.rt:57:20
 mul-passes : tie.Need-mul-passes Inv-loop μ-loop
 mul-passes c = search needs
 
--- src/verdicts.rt:57:20
 array-copy-out-passes : tie.Need-array-copy-out-passes Inv-loop μ-loop
 array-copy-out-passes c = search needs
 
--- src/verdicts.rt:57:13
 passes-requires : tie.Need-passes-requires Inv-loop μ-loop
 passes-requires c κs = search needs
 
--- src/verdicts.rt:58:13
 returns : tie.Need-returns Inv-loop μ-loop
 returns c = seeking-fail _ _ _ _ (c .before .before .before .before .loop .inv) (c .before .before .before .loop-test .taken) _ (sym (c .before .passes .ensures) ∙ not-true _ (c .if1 .taken))
 
--- src/verdicts.rt:60:9
 add-i : tie.Need-add-i Inv-loop μ-loop
 add-i c = search needs
 
--- src/verdicts.rt:56:5
 loop-less : tie.Need-loop-less Inv-loop μ-loop
 loop-less c = search needs
 
--- src/verdicts.rt:56:5
 loop-again : tie.Need-loop-again Inv-loop μ-loop
 loop-again c = seeking-step _ _ _ _ (c .before .before .before .before .loop .inv) (c .before .before .before .loop-test .taken) _ (sym (c .before .passes .ensures) ∙ not-false _ (c .if1 .left))
 
--- src/verdicts.rt:51:1
 returns-2 : tie.Need-returns-2 Inv-loop μ-loop
 returns-2 c = seeking-end _ _ _ _ (c .before .loop .inv) (c .loop-test .left)
 

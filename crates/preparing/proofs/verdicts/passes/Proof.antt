@@ -6,21 +6,17 @@ use borrow.Author.Needs.{needs}
 use Rattle.preparing.proofs.verdicts.passes.Statement.{statement}
 use Rattle.preparing.proofs.verdicts.passes.Tie as tie
 
--- src/verdicts.rt:42:9
 returns : tie.Need-returns
 unfolding passesBy
 returns c = rw (eq-eqb _ 4 (c .before .if1 .taken))
 
--- src/verdicts.rt:45:9
 stands-requires : tie.Need-stands-requires
 stands-requires c κs = search needs
 
--- src/verdicts.rt:45:9
 returns-2 : tie.Need-returns-2
 unfolding passesBy
 returns-2 c = rw (ne-eqb _ 4 (c .before .before .if1 .left), eq-eqb _ 5 (c .before .if2 .taken)) (c .stands .ensures)
 
--- src/verdicts.rt:36:1
 returns-3 : tie.Need-returns-3
 unfolding passesBy
 returns-3 c = rw (ne-eqb _ 4 (c .before .if1 .left), ne-eqb _ 5 (c .if2 .left))
