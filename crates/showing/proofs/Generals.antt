@@ -34,12 +34,12 @@ use Rattle.formats.specs.Reading.{textContext, numberContext, takesNumber, show
 use Rattle.figure_text.specs.declared.Figures.{Figures}
 use Rattle.figure_text.specs.Shown.{FiguresAre, figuresWith}
 use Rattle.figure_text.proofs.Digits.{figures-are}
-use Rattle.showing.specs.declared.Subject.{Subject}
-use Rattle.showing.specs.Subject.{GeneralOf, StandsFor, SubjectIs}
+use Rattle.section_text.specs.declared.Subject.{Subject}
+use Rattle.section_text.specs.Subject.{GeneralOf, StandsFor, SubjectIs}
 use Rattle.showing.specs.General.{contextOf, generalNumber}
-use Rattle.showing.specs.Place.{Known}
-use Rattle.showing.specs.Show.{Shows}
-use Rattle.showing.proofs.Fitting.{shows-refused}
+use Rattle.section_text.specs.Place.{Known}
+use Rattle.section_text.specs.Show.{Shows}
+use Rattle.section_text.proofs.Fitting.{shows-refused}
 
 general-small : (m s : ℕ) → m < 10 ^ 15 → generalNumber m s < 10 ^ 40
 unfolding generalRounded

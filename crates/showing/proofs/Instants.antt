@@ -29,13 +29,13 @@ use Rattle.choosing.specs.Seeking.{exactOf, instantSought, foundOf, sectionIn, 
 use Rattle.choosing.proofs.Asking.{instant-exact}
 use Rattle.choosing.proofs.Finding.{found-nothing, found-at}
 use Rattle.choosing.proofs.Places.{words-by-place}
-use Rattle.showing.specs.declared.Subject.{Subject}
-use Rattle.showing.specs.Subject.{SubjectIs}
+use Rattle.section_text.specs.declared.Subject.{Subject}
+use Rattle.section_text.specs.Subject.{SubjectIs}
 use Rattle.showing.specs.KindWord.{instantWord}
-use Rattle.showing.specs.Place.{Known}
-use Rattle.showing.specs.Show.{signText, sectionReading, Shows}
-use Rattle.showing.proofs.Fitting.{shows-refused}
-use Rattle.showing.proofs.Bodies.{section-fits}
+use Rattle.section_text.specs.Place.{Known}
+use Rattle.section_text.specs.Show.{signText, sectionReading, Shows}
+use Rattle.section_text.proofs.Fitting.{shows-refused}
+use Rattle.section_text.proofs.Bodies.{section-fits}
 
 -- a section that is no number section has no integer place
 no-places : (k : Kind) (is : List Item) → T (every (itemAllowed k) is) → sameKind numberKind k ≡ false → 0 ≡ integerPlaces is

@@ -1,7 +1,3 @@
-pub mod Items
-pub mod Walking
-pub mod Fitting
-pub mod Bodies
 pub mod Instants
 pub mod Texts
 pub mod Minus

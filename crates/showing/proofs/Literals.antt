@@ -11,10 +11,10 @@ use Rattle.formats.specs.Items.{Kind, literalKind, kindOf, Section}
 use Rattle.formats.specs.Choice.{Reason, chosen}
 use Rattle.formats.specs.Text.{Context}
 use Rattle.formats.specs.Reading.{textContext, takesNumber, showsGeneral, showsNought, numberUnits, within, readNumber}
-use Rattle.showing.specs.declared.Subject.{Subject}
-use Rattle.showing.specs.Subject.{SubjectIs}
-use Rattle.showing.specs.Place.{Known}
-use Rattle.showing.specs.Show.{Shows}
+use Rattle.section_text.specs.declared.Subject.{Subject}
+use Rattle.section_text.specs.Subject.{SubjectIs}
+use Rattle.section_text.specs.Place.{Known}
+use Rattle.section_text.specs.Show.{Shows}
 
 -- nothing is asked of the subject
 subject-any : (s : Subject) (text : List ℕ) (c : Context) → SubjectIs literalKind s text c

@@ -15,7 +15,8 @@ use Rattle.lists.specs.Lists.{isEmpty}
 use Rattle.formats.specs.Items.{Item, Section}
 use Rattle.formats.specs.Choice.{Exact, zeroExact, smaller, lessThan, numberExact}
 use Rattle.formats.specs.Minus.{minus, notNegative, noItem, forNegatives, nought, signFor, signUnits}
-use Rattle.showing.specs.Show.{signText, minusTold}
+use Rattle.section_text.specs.Show.{signText}
+use Rattle.showing.specs.Minus.{minusTold}
 
 -- a number is below 0 where its sign says so
 below-zero : (x : Exact) → lessThan x zeroExact ≡ x .negative

@@ -20,7 +20,8 @@ use Rattle.tables.specs.Decode.{decode}
 use Rattle.tables.specs.Rules.{passes}
 use Rattle.choosing.specs.Seeking.{sectionIn, wordIn}
 use Rattle.choosing.proofs.Places.{words-by-place}
-use Rattle.showing.specs.Show.{signText, minusTold, sectionReading, Shows}
+use Rattle.section_text.specs.Show.{signText, sectionReading, Shows}
+use Rattle.showing.specs.Minus.{minusTold}
 use Rattle.showing.proofs.Minus.{sign-told}
 
 pub number-places : (s : Section) (x : Number) → numberContext s x .integerPlaces ≡ integerPlaces (s .items)

@@ -30,11 +30,11 @@ use Rattle.choosing.specs.declared.TextFound.the-variants as found
 use Rattle.choosing.specs.Seeking.{noSection, textFoundOf, sectionIn}
 use Rattle.choosing.proofs.Places.{passing, sections-length}
 use Rattle.choosing.proofs.Finding.{text-itself, text-at}
-use Rattle.showing.specs.declared.Subject.{Subject}
-use Rattle.showing.specs.Subject.{StandsFor, SubjectIs}
-use Rattle.showing.specs.Place.{Known}
-use Rattle.showing.specs.Show.{signText, sectionReading, Shows}
-use Rattle.showing.proofs.Fitting.{shows-none, shows-all}
+use Rattle.section_text.specs.declared.Subject.{Subject}
+use Rattle.section_text.specs.Subject.{StandsFor, SubjectIs}
+use Rattle.section_text.specs.Place.{Known}
+use Rattle.section_text.specs.Show.{signText, sectionReading, Shows}
+use Rattle.section_text.proofs.Fitting.{shows-none, shows-all}
 use Rattle.showing.proofs.Instants.{section-places}
 
 -- a text goes to the fourth section or to a text section

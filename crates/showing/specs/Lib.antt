@@ -1,6 +1,3 @@
-pub mod Subject
-pub mod Walk
-pub mod Show
-pub mod Place
+pub mod Minus
 pub mod KindWord
 pub mod General

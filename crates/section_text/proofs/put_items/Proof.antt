@@ -1,11 +1,11 @@
--- `showing::put_items` meets its contract. The invariant, `Walking`: the text of the entries that are left is what is left to put.
+-- `section_text::put_items` meets its contract. The invariant, `Walking`: the text of the entries that are left is what is left to put.
 -- Assumes nothing.
 use Prim.Native.Nat.{_-_}
 use mathlib.Core.Path.{refl}
-use Rattle.showing.proofs.Walking.{Walking, walking-start, walking-in-range, walking-step, walking-end, walking-short, walking-within, walking-size}
+use Rattle.section_text.proofs.Walking.{Walking, walking-start, walking-in-range, walking-step, walking-end, walking-short, walking-within, walking-size}
 use borrow.Author.Needs.{needs}
-use Rattle.showing.proofs.put_items.Statement.{statement}
-use Rattle.showing.proofs.put_items.Tie as tie
+use Rattle.section_text.proofs.put_items.Statement.{statement}
+use Rattle.section_text.proofs.put_items.Tie as tie
 
 abbrev Inv-loop : tie.InvT-loop
 Inv-loop room₀ at items s text n k₀ o₀ room k o = Walking room₀ at items s text n k room o

@@ -1,7 +1,7 @@
 -- What a function leaves behind that shows a reading: its result, and the room with its text.
 -- Assumes nothing.
 use mathlib.Core.Path.{_≡_}
-use mathlib.Core.Bool.{Bool, false, cond, not}
+use mathlib.Core.Bool.{Bool, cond}
 use mathlib.Core.List.{List, [], _∷_, _++_}
 use Prim.Native.Nat.{ℕ}
 use Rattle.answers.specs.declared.Shown.{Shown}
@@ -14,10 +14,6 @@ use Rattle.tables.specs.Calls.{shownAs, textAs}
 -- a minus in front, or none
 unfoldable pub signText : Bool → List ℕ
 signText minus = cond minus (45 ∷ []) []
-
--- the added minus of a number: below 0, in a section that has an item, where no exception holds it back
-unfoldable pub minusTold : Bool → Bool → Bool → Bool → Bool
-minusTold negative empty excepted nought = cond negative (cond empty false (cond excepted false (not nought))) false
 
 -- 13, or section i shown in a room of this size, with a minus in front or without
 unfoldable pub sectionReading : ℕ → Section → ℕ → Bool → Context → Reading

@@ -1,14 +1,14 @@
--- `showing::put_item` meets its contract.
+-- `section_text::put_item` meets its contract.
 -- Assumes nothing.
 use native.Mathlib.Omega.{arith}
 use mathlib.Core.Path.{refl}
 use mathlib.Core.Bool.{true}
-use Rattle.showing.proofs.Items.{place-argument, literal-item, blank-item, fill-item, percent-item, point-item, place-item, standing-item, place-power, number-held, date-held, standing-held, piece-put, unit-put, moment-put, late}
+use Rattle.section_text.proofs.Items.{place-argument, literal-item, blank-item, fill-item, percent-item, point-item, place-item, standing-item, place-power, number-held, date-held, standing-held, piece-put, unit-put, moment-put, late}
 use Rattle.writing.proofs.Laws.{put-none}
 use Rattle.tables.proofs.BackEntries.{tag-known}
 use borrow.Author.Needs.{needs}
-use Rattle.showing.proofs.put_item.Statement.{statement}
-use Rattle.showing.proofs.put_item.Tie as tie
+use Rattle.section_text.proofs.put_item.Statement.{statement}
+use Rattle.section_text.proofs.put_item.Tie as tie
 
 put-unit-requires : tie.Need-put-unit-requires
 put-unit-requires c κs = search needs

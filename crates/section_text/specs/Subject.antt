@@ -15,7 +15,7 @@ use Rattle.writing.specs.Put.{Put}
 use Rattle.figure_text.specs.declared.Figures.{Figures}
 use Rattle.figure_text.specs.Shown.{FiguresAre}
 use Rattle.date_text.specs.Moment.{MomentIs}
-use Rattle.showing.specs.declared.Subject.{Subject}
+use Rattle.section_text.specs.declared.Subject.{Subject}
 
 -- units are what General shows of the number that the figures are of
 pub record GeneralOf (f : Figures) (us : List ℕ) : Type 0 where

@@ -23,8 +23,8 @@ use Rattle.figure_text.specs.Shown.{DigitsAre, FiguresAre, placeOfTag}
 use Rattle.date_text.proofs.Items.{Apart, past}
 use Rattle.writing.specs.Put.{Put}
 use Rattle.date_text.proofs.Lengths.{item-length}
-use Rattle.showing.specs.declared.Subject.{Subject}
-use Rattle.showing.specs.Subject.{GeneralOf, StandsFor, SubjectIs, EntryFits, ItemPut}
+use Rattle.section_text.specs.declared.Subject.{Subject}
+use Rattle.section_text.specs.Subject.{GeneralOf, StandsFor, SubjectIs, EntryFits, ItemPut}
 
 -- a place's argument, and a date item's
 pub place-argument : (tag a : ℕ) → 4 ≤ tag → tag ≤ 6 → T (entryInRange (entry tag a)) → (1 ≤ a) × (a ≤ 40)

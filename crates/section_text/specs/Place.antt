@@ -6,8 +6,8 @@ use lib.ListN.{getD}
 use Rattle.formats.specs.Items.{Kind}
 use Rattle.formats.specs.Text.{Context}
 use Rattle.choosing.specs.Seeking.{wordIn}
-use Rattle.showing.specs.declared.Subject.{Subject}
-use Rattle.showing.specs.Subject.{SubjectIs}
+use Rattle.section_text.specs.declared.Subject.{Subject}
+use Rattle.section_text.specs.Subject.{SubjectIs}
 
 -- "Then two words an item, section by section": where those of section i begin
 unfoldable pub bodyStart : List ℕ → ℕ → ℕ

@@ -22,10 +22,10 @@ use Rattle.tables.proofs.Words.{rows-length, Exactly, exactly}
 use Rattle.tables.proofs.Back.{RowFacts, row-facts}
 use Rattle.choosing.specs.Seeking.{sectionIn, wordIn}
 use Rattle.choosing.proofs.Places.{noRow, passing, row-placed, section-row, row-fits, words-by-place}
-use Rattle.showing.specs.declared.Subject.{Subject}
-use Rattle.showing.specs.Walk.{entriesIn, EntriesFit, Ready}
-use Rattle.showing.specs.Place.{bodyStart, Known}
-use Rattle.showing.specs.Show.{signText, sectionReading, Shows}
+use Rattle.section_text.specs.declared.Subject.{Subject}
+use Rattle.section_text.specs.Walk.{entriesIn, EntriesFit, Ready}
+use Rattle.section_text.specs.Place.{bodyStart, Known}
+use Rattle.section_text.specs.Show.{signText, sectionReading, Shows}
 
 -- the items of the first i rows
 unfoldable before : ℕ → List Row → ℕ

@@ -1,10 +1,10 @@
--- `showing::put_standing` meets its contract.
+-- `section_text::put_standing` meets its contract.
 -- Assumes nothing.
 use native.Mathlib.Omega.{arith}
-use Rattle.showing.proofs.Items.{digits-of, stands-lent, stands-general}
+use Rattle.section_text.proofs.Items.{digits-of, stands-lent, stands-general}
 use borrow.Author.Needs.{needs}
-use Rattle.showing.proofs.put_standing.Statement.{statement}
-use Rattle.showing.proofs.put_standing.Tie as tie
+use Rattle.section_text.proofs.put_standing.Statement.{statement}
+use Rattle.section_text.proofs.put_standing.Tie as tie
 
 put-units-requires : tie.Need-put-units-requires
 put-units-requires c κs = search needs

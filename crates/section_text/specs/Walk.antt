@@ -10,8 +10,8 @@ use Rattle.formats.specs.Text.{Context}
 use Rattle.tables.specs.Words.{Entry, entriesAt}
 use Rattle.tables.specs.Decode.{itemsAt}
 use Rattle.tables.specs.Rules.{entryInRange, powersFrom}
-use Rattle.showing.specs.declared.Subject.{Subject}
-use Rattle.showing.specs.Subject.{SubjectIs}
+use Rattle.section_text.specs.declared.Subject.{Subject}
+use Rattle.section_text.specs.Subject.{SubjectIs}
 
 -- the entries of a section's item words
 unfoldable pub entriesIn : List ℕ → List Entry

@@ -1,10 +1,10 @@
--- `showing::put_digit` meets its contract.
+-- `section_text::put_digit` meets its contract.
 -- Assumes nothing.
 use native.Mathlib.Omega.{arith}
-use Rattle.showing.proofs.Items.{place-put}
+use Rattle.section_text.proofs.Items.{place-put}
 use borrow.Author.Needs.{needs}
-use Rattle.showing.proofs.put_digit.Statement.{statement}
-use Rattle.showing.proofs.put_digit.Tie as tie
+use Rattle.section_text.proofs.put_digit.Statement.{statement}
+use Rattle.section_text.proofs.put_digit.Tie as tie
 
 sub-q : tie.Need-sub-q
 sub-q c = search needs

@@ -1,10 +1,10 @@
--- `showing::show_section` meets its contract.
+-- `section_text::show_section` meets its contract.
 -- Assumes nothing.
 use native.Mathlib.Omega.{arith}
-use Rattle.showing.proofs.Bodies.{part-within, part-few, part-ready, part-fits, part-shows}
+use Rattle.section_text.proofs.Bodies.{part-within, part-few, part-ready, part-fits, part-shows}
 use borrow.Author.Needs.{needs}
-use Rattle.showing.proofs.show_section.Statement.{statement}
-use Rattle.showing.proofs.show_section.Tie as tie
+use Rattle.section_text.proofs.show_section.Statement.{statement}
+use Rattle.section_text.proofs.show_section.Tie as tie
 
 word-requires : tie.Need-word-requires
 word-requires c κs = search needs

@@ -1,11 +1,11 @@
--- `showing::items_start` meets its contract. The invariant, `Starting`: where the words of section k begin.
+-- `section_text::items_start` meets its contract. The invariant, `Starting`: where the words of section k begin.
 -- Assumes nothing.
 use Prim.Native.Nat.{_-_}
 use native.Mathlib.Omega.{arith}
-use Rattle.showing.proofs.Bodies.{Starting, sections-most, starting-start, starting-within, starting-step, starting-end}
+use Rattle.section_text.proofs.Bodies.{Starting, sections-most, starting-start, starting-within, starting-step, starting-end}
 use borrow.Author.Needs.{needs}
-use Rattle.showing.proofs.items_start.Statement.{statement}
-use Rattle.showing.proofs.items_start.Tie as tie
+use Rattle.section_text.proofs.items_start.Statement.{statement}
+use Rattle.section_text.proofs.items_start.Tie as tie
 
 abbrev Inv-loop : tie.InvT-loop
 Inv-loop table i start₀ k₀ start k = Starting table i k start

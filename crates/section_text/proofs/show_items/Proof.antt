@@ -1,10 +1,10 @@
--- `showing::show_items` meets its contract.
+-- `section_text::show_items` meets its contract.
 -- Assumes nothing.
 use native.Mathlib.Omega.{arith}
-use Rattle.showing.proofs.Fitting.{none, shows-none, shows-all}
+use Rattle.section_text.proofs.Fitting.{none, shows-none, shows-all}
 use borrow.Author.Needs.{needs}
-use Rattle.showing.proofs.show_items.Statement.{statement}
-use Rattle.showing.proofs.show_items.Tie as tie
+use Rattle.section_text.proofs.show_items.Statement.{statement}
+use Rattle.section_text.proofs.show_items.Tie as tie
 
 slice-relend-prefix-put-text : tie.Need-slice-relend-prefix-put-text
 slice-relend-prefix-put-text c = search needs

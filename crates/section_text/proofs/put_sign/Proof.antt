@@ -1,9 +1,9 @@
--- `showing::put_sign` meets its contract.
+-- `section_text::put_sign` meets its contract.
 -- Assumes nothing.
-use Rattle.showing.proofs.Fitting.{sign-put, sign-none}
+use Rattle.section_text.proofs.Fitting.{sign-put, sign-none}
 use borrow.Author.Needs.{needs}
-use Rattle.showing.proofs.put_sign.Statement.{statement}
-use Rattle.showing.proofs.put_sign.Tie as tie
+use Rattle.section_text.proofs.put_sign.Statement.{statement}
+use Rattle.section_text.proofs.put_sign.Tie as tie
 
 put-unit-requires : tie.Need-put-unit-requires
 put-unit-requires c κs = search needs

@@ -15,7 +15,7 @@ use Rattle.formats.specs.Reading.{refused, within}
 use Rattle.tables.specs.Calls.{shownAs, textAs}
 use Rattle.writing.specs.Put.{Put}
 use Rattle.writing.proofs.Laws.{put-none, sets-overlay}
-use Rattle.showing.specs.Show.{signText, Shows}
+use Rattle.section_text.specs.Show.{signText, Shows}
 
 pub sign-put : {old out : List ℕ} {r : ℕ} (minus : Bool) → minus ≡ true → Put old 0 (45 ∷ []) r out
     → (r ≤ 1) × Put old 0 (signText minus) r out

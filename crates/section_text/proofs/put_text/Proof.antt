@@ -1,10 +1,10 @@
--- `showing::put_text` meets its contract.
+-- `section_text::put_text` meets its contract.
 -- Assumes nothing.
 use native.Mathlib.Omega.{arith}
 use Rattle.writing.proofs.Laws.{put-put}
 use borrow.Author.Needs.{needs}
-use Rattle.showing.proofs.put_text.Statement.{statement}
-use Rattle.showing.proofs.put_text.Tie as tie
+use Rattle.section_text.proofs.put_text.Statement.{statement}
+use Rattle.section_text.proofs.put_text.Tie as tie
 
 put-sign-requires : tie.Need-put-sign-requires
 put-sign-requires c κs = search needs

@@ -19,9 +19,9 @@ use Rattle.tables.specs.Decode.{itemAt, itemsAt}
 use Rattle.tables.specs.Rules.{entryInRange, powersFrom}
 use Rattle.writing.specs.Put.{Put, Rest}
 use Rattle.writing.proofs.Laws.{rest-start, rest-put, rest-done}
-use Rattle.showing.specs.declared.Subject.{Subject}
-use Rattle.showing.specs.Subject.{SubjectIs, EntryFits, ItemPut}
-use Rattle.showing.specs.Walk.{entriesIn, EntriesFit, Ready}
+use Rattle.section_text.specs.declared.Subject.{Subject}
+use Rattle.section_text.specs.Subject.{SubjectIs, EntryFits, ItemPut}
+use Rattle.section_text.specs.Walk.{entriesIn, EntriesFit, Ready}
 
 -- the first of some entries, and those behind it
 module _ (k : Kind) (q : ℕ) (e : Entry) (es : List Entry) (f : EntriesFit k q (e ∷ es)) where

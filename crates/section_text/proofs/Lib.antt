@@ -1,0 +1,4 @@
+pub mod Items
+pub mod Walking
+pub mod Fitting
+pub mod Bodies

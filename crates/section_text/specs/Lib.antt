@@ -1,0 +1,4 @@
+pub mod Subject
+pub mod Walk
+pub mod Show
+pub mod Place

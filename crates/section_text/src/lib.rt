@@ -1,0 +1,205 @@
+// The text of a section's items, shown whole in a lent room or not at all.
+ghost use mathlib.Core.Path.{_≡_};
+ghost use mathlib.Core.Bool.{true};
+ghost use mathlib.Core.List.{List, _++_};
+ghost use Prim.Native.Nat.{ℕ, _+_, _≤_, _<_, _^_};
+ghost use lib.Dec.{T};
+ghost use lib.ListN.{length, getD};
+ghost use Rattle.answers.specs.Number.{refusedShown};
+ghost use Rattle.formats.specs.Items.{Kind, kindOf, integerPlaces};
+ghost use Rattle.formats.specs.Reading.{within};
+ghost use Rattle.formats.specs.Text.{Context, itemUnits, itemsUnits, placeUnits};
+ghost use Rattle.tables.specs.Encode.{entry};
+ghost use Rattle.tables.specs.Decode.{itemAt, itemsAt};
+ghost use Rattle.tables.specs.Rules.{entryInRange, passes};
+ghost use Rattle.choosing.specs.Seeking.{sectionIn};
+ghost use Rattle.writing.specs.Put.{Put};
+ghost use Rattle.figure_text.specs.Shown.{FiguresAre, placeOfTag};
+ghost use Rattle.section_text.specs.Subject.{StandsFor, SubjectIs, EntryFits, ItemPut};
+ghost use Rattle.section_text.specs.Walk.{entriesIn, EntriesFit, Ready};
+ghost use Rattle.section_text.specs.Show.{signText, sectionReading, Shows};
+ghost use Rattle.section_text.specs.Place.{bodyStart, Known};
+use answers::Answer;
+use answers::Shown;
+use date_text::Moment;
+use figure_text::Figures;
+
+// What a section's items are shown from: a number's figures, in a number section those that its places show, in others
+// General's; an instant's moment; `lent`: General and `@` stand for the text lent beside it.
+pub struct Subject {
+    pub figures: Figures,
+    pub moment: Moment,
+    pub lent: bool,
+}
+
+// Puts what General and `@` stand for.
+fn put_standing(room: &mut [u16], at: usize, s: Subject, text: &[u16]) -> usize
+    requires { ⌜ (at < 2 ^ 61) × (s .figures .used ≤ 40) × (s .lent ≡ true → length (now text) ≤ 1024) ⌝ }
+    ensures within { λ r. ⌜ r ≤ at + 1024 ⌝ }
+    ensures put { λ r. ⌜ ((us : List ℕ) → StandsFor (s .lent) (s .figures) (now (text .entry)) us
+        → Put (now (room .entry)) at us r (now (room .exit))) ⌝ }
+{
+    if s.lent {
+        return writing::put_units(room, at, text);
+    }
+    figure_text::put_general(room, at, s.figures)
+}
+
+// Puts what a place shows; its argument is one more than the place of its digit.
+fn put_digit(room: &mut [u16], at: usize, tag: u16, argument: u16, f: Figures) -> usize
+    requires { ⌜ (at < 2 ^ 61) × (f .used ≤ 40) × (1 ≤ argument) × (argument ≤ 40) ⌝ }
+    ensures within { λ r. ⌜ r ≤ at + 82 ⌝ }
+    ensures put { λ r. ⌜ ((c : Context) (q : ℕ) → FiguresAre f c → argument ≡ q + 1
+        → Put (now (room .entry)) at (placeUnits c (placeOfTag tag) q) r (now (room .exit))) ⌝ }
+{
+    let q = argument as usize - 1;
+    figure_text::put_place(room, at, f, tag, q)
+}
+
+// Puts the text of an item that a table has under this tag with this argument.
+fn put_item(
+    room: &mut [u16],
+    at: usize,
+    tag: u16,
+    argument: u16,
+    s: Subject,
+    text: &[u16],
+) -> usize
+    requires { ⌜ (at < 2 ^ 61) × (s .figures .used ≤ 40) × (s .lent ≡ true → length (now text) ≤ 1024) × T (entryInRange (entry tag argument)) ⌝ }
+    ensures { λ r. ⌜ ((c : Context) (k : Kind) (q : ℕ) → SubjectIs k s (now (text .entry)) c → EntryFits k q (entry tag argument)
+        → ItemPut (now (room .entry)) at (itemUnits c q (itemAt (entry tag argument))) r (now (room .exit))) ⌝ }
+{
+    match tag {
+        1 => writing::put_unit(room, at, argument),
+        2 => writing::put_unit(room, at, 32),
+        3 => at,
+        4 => put_digit(room, at, tag, argument, s.figures),
+        5 => put_digit(room, at, tag, argument, s.figures),
+        6 => put_digit(room, at, tag, argument, s.figures),
+        7 => figure_text::put_point(room, at, s.figures),
+        8 => writing::put_unit(room, at, 37),
+        9 => put_standing(room, at, s, text),
+        10 => put_standing(room, at, s, text),
+        _ => date_text::put_moment_item(room, at, tag, argument, s.moment),
+    }
+}
+
+// Puts the text of a section's items, whose words these are.
+fn put_items(room: &mut [u16], at: usize, items: &[u16], s: Subject, text: &[u16]) -> usize
+    requires { ⌜ (at ≤ 1) × (s .figures .used ≤ 40) × (s .lent ≡ true → length (now text) ≤ 1024) × (length (now items) ≤ 508)
+        × Ready (now items) s (now text) ⌝ }
+    ensures within { λ r. ⌜ r ≤ at + 280416 ⌝ }
+    ensures put { λ r. ⌜ ((c : Context) (k : Kind) (q : ℕ) → SubjectIs k s (now (text .entry)) c → EntriesFit k q (entriesIn (now (items .entry)))
+        → Put (now (room .entry)) at (itemsUnits c q (itemsAt (entriesIn (now (items .entry))))) r (now (room .exit))) ⌝ }
+{
+    let n = items.len() / 2;
+    let mut k: usize = 0;
+    let mut o = at;
+    while k < n {
+        let i = 2 * k;
+        let j = i + 1;
+        o = put_item(room, o, items[i], items[j], s, text);
+        k += 1;
+    }
+    o
+}
+
+// Puts a minus, or nothing.
+fn put_sign(room: &mut [u16], minus: bool) -> usize
+    ensures within { λ r. ⌜ r ≤ 1 ⌝ }
+    ensures put { λ r. ⌜ Put (now (room .entry)) 0 (signText minus) r (now (room .exit)) ⌝ }
+{
+    if minus {
+        return writing::put_unit(room, 0, 45);
+    }
+    0
+}
+
+// Puts a section's text: a minus or nothing, and then its items'.
+fn put_text(room: &mut [u16], minus: bool, items: &[u16], s: Subject, text: &[u16]) -> usize
+    requires { ⌜ (s .figures .used ≤ 40) × (s .lent ≡ true → length (now text) ≤ 1024) × (length (now items) ≤ 508)
+        × Ready (now items) s (now text) ⌝ }
+    ensures within { λ r. ⌜ r ≤ 280417 ⌝ }
+    ensures put { λ r. ⌜ ((c : Context) (k : Kind) (q : ℕ) → SubjectIs k s (now (text .entry)) c → EntriesFit k q (entriesIn (now (items .entry)))
+        → Put (now (room .entry)) 0 (signText minus ++ itemsUnits c q (itemsAt (entriesIn (now (items .entry))))) r (now (room .exit))) ⌝ }
+{
+    let at = put_sign(room, minus);
+    put_items(room, at, items, s, text)
+}
+
+// What a refusal returns.
+pub fn refuse(answer: Answer) -> Shown
+    ensures { λ r. ⌜ r ≡ refusedShown answer ⌝ }
+{
+    Shown {
+        answer,
+        length: 0,
+        colour: 0,
+        section: 0,
+    }
+}
+
+// Shows a section's text where the room holds it. It is measured first, into no room.
+fn show_items(
+    room: &mut [u16],
+    minus: bool,
+    items: &[u16],
+    s: Subject,
+    text: &[u16],
+    colour: u16,
+    section: u16,
+) -> Shown
+    requires { ⌜ (s .figures .used ≤ 40) × (s .lent ≡ true → length (now text) ≤ 1024) × (length (now items) ≤ 508)
+        × Ready (now items) s (now text) ⌝ }
+    ensures { λ r. ⌜ ((c : Context) (k : Kind) (q : ℕ) → SubjectIs k s (now (text .entry)) c → EntriesFit k q (entriesIn (now (items .entry)))
+        → Shows (within (length (now (room .entry))) (signText minus ++ itemsUnits c q (itemsAt (entriesIn (now (items .entry))))) colour section)
+        (now (room .entry)) r (now (room .exit))) ⌝ }
+{
+    let limit = room.len();
+    let n = put_text(&mut room[..0], minus, items, s, text);
+    if limit < n {
+        return refuse(Answer::TextRoom);
+    }
+    put_text(room, minus, items, s, text);
+    Shown {
+        answer: Answer::Done,
+        length: n as u32,
+        colour,
+        section,
+    }
+}
+
+// Where the item words of section i begin.
+fn items_start(table: &[u16], i: usize) -> usize
+    requires { ⌜ T (passes (now table)) × (i < getD (now table) 0 0) ⌝ }
+    ensures { λ r. ⌜ r ≡ bodyStart (now (table .entry)) i ⌝ }
+{
+    let mut start = 1 + 12 * choosing::section_count(table);
+    let mut k: usize = 0;
+    while k < i {
+        start += 2 * choosing::word(table, k, 11) as usize;
+        k += 1;
+    }
+    start
+}
+
+// Shows section i.
+pub fn show_section(
+    room: &mut [u16],
+    table: &[u16],
+    i: u16,
+    minus: bool,
+    s: Subject,
+    text: &[u16],
+) -> Shown
+    requires { ⌜ T (passes (now table)) × (i < getD (now table) 0 0) × (s .figures .used ≤ 40) × (s .lent ≡ true → length (now text) ≤ 1024)
+        × Known (kindOf (sectionIn (now table) i)) s (now text) ⌝ }
+    ensures { λ r. ⌜ ((c : Context) → SubjectIs (kindOf (sectionIn (now (table .entry)) i)) s (now (text .entry)) c
+        → c .integerPlaces ≡ integerPlaces (sectionIn (now (table .entry)) i .items)
+        → Shows (sectionReading (length (now (room .entry))) (sectionIn (now (table .entry)) i) i minus c) (now (room .entry)) r (now (room .exit))) ⌝ }
+{
+    let colour = choosing::word(table, i as usize, 1);
+    let start = items_start(table, i as usize);
+    let end = start + 2 * choosing::word(table, i as usize, 11) as usize;
+    show_items(room, minus, &table[start..end], s, text, colour, i)
+}
