@@ -113,11 +113,16 @@ pub place-put : {old out : List ℕ} {at r : ℕ} (c : Context) (p : Place) (a q
     → Put old at (placeUnits c p (a - 1)) r out → Put old at (placeUnits c p q) r out
 place-put c p a q e h = let z : a - 1 ≡ q = omega arith in rw z at h
 
-pub piece-put : {old out us piece : List ℕ} {at r : ℕ} → us ≡ piece → r ≤ at + 1024 → Put old at piece r out → ItemPut old at us r out
-piece-put e h p = record { short = omega arith; put = rw e p }
+module _ (lent : Bool) {old out us : List ℕ} {at r : ℕ} where
+  pub piece-put : {piece : List ℕ} → us ≡ piece → r ≤ at + 82 → Put old at piece r out → ItemPut lent old at us r out
+  piece-put e h p = record { short = omega arith; near = λ _. h; put = rw e p }
 
-pub unit-put : {old out us : List ℕ} {at r u : ℕ} → us ≡ u ∷ [] → Put old at (u ∷ []) r out → ItemPut old at us r out
-unit-put e p = record { short = omega (arith, p .next); put = rw e p }
+  pub standing-put : {piece : List ℕ} → us ≡ piece → (r ≤ at + 1024) × (lent ≡ false → r ≤ at + 82) → Put old at piece r out
+      → ItemPut lent old at us r out
+  standing-put e h p = record { short = h .0; near = h .1; put = rw e p }
+
+  pub unit-put : {u : ℕ} → us ≡ u ∷ [] → Put old at (u ∷ []) r out → ItemPut lent old at us r out
+  unit-put e p = piece-put e (omega (arith, p .next)) p
 
 year-argument : (a : ℕ) → T (eqb a 2 || eqb a 4) → a ≤ 9
 year-argument a t =
@@ -134,10 +139,10 @@ date-argument tag a h t =
     upto : (n : ℕ) → n ≤ 9 → T (between 1 n a) → a ≤ 9
     upto n l t = omega (arith, between-facts 1 n a t)
 
-pub moment-put : {old out : List ℕ} {at r : ℕ} (c : Context) (q tag a : ℕ) → 10 < tag → T (entryInRange (entry tag a))
-    → Put old at (itemUnits c q (itemAt (entry tag a))) r out → ItemPut old at (itemUnits c q (itemAt (entry tag a))) r out
-moment-put c q tag a h t p =
-    record { short = omega (arith, p .next, item-length c q tag a h, date-argument tag a h t); put = p }
+pub moment-put : (lent : Bool) {old out : List ℕ} {at r : ℕ} (c : Context) (q tag a : ℕ) → 10 < tag → T (entryInRange (entry tag a))
+    → Put old at (itemUnits c q (itemAt (entry tag a))) r out → ItemPut lent old at (itemUnits c q (itemAt (entry tag a))) r out
+moment-put lent c q tag a h t p =
+    piece-put lent refl (omega (arith, p .next, item-length c q tag a h, date-argument tag a h t)) p
 
 -- a tag that is none of the first ten
 pub late : (tag a : ℕ) → T (entryInRange (entry tag a)) → Apart tag 1 10 → 10 < tag

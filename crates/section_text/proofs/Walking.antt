@@ -4,6 +4,7 @@ use Prim.Native.Nat.{ℕ, suc, _+_, _-_, _*_, _/_, _≤_, _<_, _^_}
 use native.Mathlib.Omega.{arith}
 use native.Mathlib.Nat.{sub-zero}
 use mathlib.Core.Path.{_≡_, subst}
+use mathlib.Core.Bool.{false}
 use mathlib.Core.List.{List, _∷_}
 use lib.Dec.{T, eqb}
 use lib.ListN.{length, drop, getD}
@@ -52,7 +53,7 @@ pub record Left (old : List ℕ) (start : ℕ) (whole : List ℕ) (c : Context) 
 -- an item is put, in every context that the subject is of
 abbrev pub Puts : Subject → List ℕ → List ℕ → ℕ → Entry → ℕ → List ℕ → Type 0
 Puts s text room at e r out =
-    (c : Context) (k : Kind) (q : ℕ) → SubjectIs k s text c → EntryFits k q e → ItemPut room at (itemUnits c q (itemAt e)) r out
+    (c : Context) (k : Kind) (q : ℕ) → SubjectIs k s text c → EntryFits k q e → ItemPut (s .lent) room at (itemUnits c q (itemAt e)) r out
 
 left-step : {old whole room out : List ℕ} {start at r : ℕ} {c : Context} {k : Kind} (s : Subject) (text : List ℕ) (e : Entry) (es : List Entry)
     → SubjectIs k s text c → Puts s text room at e r out
@@ -67,8 +68,11 @@ left-step {c = c} {k} s text e es i p l =
     }
 
 left-short : {old whole room out : List ℕ} {start at r : ℕ} {c : Context} {k : Kind} (s : Subject) (text : List ℕ) (e : Entry) (es : List Entry)
-    → SubjectIs k s text c → Puts s text room at e r out → Left old start whole c k room at (e ∷ es) → r ≤ at + 1104
-left-short {c = c} {k} s text e es i p l = p c k (l .power) i (first-fits k (l .power) e es (l .fit)) .short
+    → SubjectIs k s text c → Puts s text room at e r out → Left old start whole c k room at (e ∷ es)
+    → (r ≤ at + 1024) × (s .lent ≡ false → r ≤ at + 82)
+left-short {c = c} {k} s text e es i p l =
+    let t = p c k (l .power) i (first-fits k (l .power) e es (l .fit)) in
+    (t .short, t .near)
 
 -- the entries from the k-th on
 abbrev pub entriesFrom : List ℕ → ℕ → ℕ → List Entry
@@ -88,7 +92,8 @@ pub record Walking (old : List ℕ) (start : ℕ) (words : List ℕ) (s : Subjec
   pub small : length words ≤ 508
   pub items : n ≡ length words / 2
   pub inside : k ≤ n
-  pub short : at ≤ start + 1104 * k
+  pub short : at ≤ start + 1024 * k
+  pub near : s .lent ≡ false → at ≤ start + 82 * k
   pub ready : Ready words s text
   pub known : Left old start (itemsUnits (ready .context) (ready .power) (itemsAt (entriesIn words))) (ready .context) (ready .kind) room at (entriesFrom words n k)
   pub left : (c : Context) (kind : Kind) (q : ℕ) → SubjectIs kind s text c → EntriesFit kind q (entriesIn words)
@@ -109,6 +114,7 @@ walking-start old start words s text n h e d =
       items = e;
       inside = omega arith;
       short = omega arith;
+      near = λ _. omega arith;
       ready = d;
       known = left-start old start words n (d .context) (d .kind) (d .power) e (d .fit);
       left = λ c kind q i f. left-start old start words n c kind q e f;
@@ -128,12 +134,13 @@ module _ {old : List ℕ} {start : ℕ} {words : List ℕ} {s : Subject} {text :
       let g = entries-front words n k h in
       let d = inv .ready in
       let l = subst (Left old start (itemsUnits (d .context) (d .power) (itemsAt (entriesIn words))) (d .context) (d .kind) room at) g (inv .known) in
-      let b : r ≤ at + 1104 = left-short s text e (entriesFrom words n (k + 1)) (d .subject) p l in
+      let b = left-short s text e (entriesFrom words n (k + 1)) (d .subject) p l in
       record {
         small = inv .small;
         items = inv .items;
         inside = omega arith;
-        short = omega (arith, b, inv .short);
+        short = omega (arith, b .0, inv .short);
+        near = λ z. omega (arith, b .1 z, inv .near z);
         ready = d;
         known = left-step s text e (entriesFrom words n (k + 1)) (d .subject) p l;
         left = λ c kind q i f.
@@ -160,5 +167,9 @@ pub walking-size : {old : List ℕ} {start : ℕ} {words : List ℕ} {s : Subjec
 walking-size inv = inv .known .rest .size
 
 pub walking-within : {old : List ℕ} {start : ℕ} {words : List ℕ} {s : Subject} {text : List ℕ} {n k : ℕ} {room : List ℕ} {at : ℕ}
-    → Walking old start words s text n k room at → at ≤ start + 280416
+    → Walking old start words s text n k room at → at ≤ start + 260096
 walking-within inv = omega (arith, inv .small, inv .items, inv .inside, inv .short)
+
+pub walking-near : {old : List ℕ} {start : ℕ} {words : List ℕ} {s : Subject} {text : List ℕ} {n k : ℕ} {room : List ℕ} {at : ℕ}
+    → Walking old start words s text n k room at → s .lent ≡ false → at ≤ start + 41 * length words
+walking-near inv z = omega (arith, inv .items, inv .inside, inv .near z)

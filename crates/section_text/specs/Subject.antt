@@ -40,7 +40,8 @@ pub record EntryFits (k : Kind) (q : ℕ) (e : Entry) : Type 0 where
   pub allowed : T (itemAllowed k (itemAt e))
   pub power : T (implies (isPlace (itemAt e)) (eqb (e .argument) (suc q)))
 
--- an item's text is put; it has at most 1,104 units
-pub record ItemPut (old : List ℕ) (at : ℕ) (piece : List ℕ) (r : ℕ) (out : List ℕ) : Type 0 where
-  pub short : r ≤ at + 1104
+-- an item's text is put; it has at most 1,024 units, and where no text is lent at most 82
+pub record ItemPut (lent : Bool) (old : List ℕ) (at : ℕ) (piece : List ℕ) (r : ℕ) (out : List ℕ) : Type 0 where
+  pub short : r ≤ at + 1024
+  pub near : lent ≡ false → r ≤ at + 82
   pub put : Put old at piece r out

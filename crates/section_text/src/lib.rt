@@ -1,9 +1,9 @@
 // The text of a section's items, shown whole in a lent room or not at all.
 ghost use mathlib.Core.Path.{_≡_};
-ghost use mathlib.Core.Bool.{true};
+ghost use mathlib.Core.Bool.{true, false, not, _&&_};
 ghost use mathlib.Core.List.{List, _++_};
-ghost use Prim.Native.Nat.{ℕ, _+_, _≤_, _<_, _^_};
-ghost use lib.Dec.{T};
+ghost use Prim.Native.Nat.{ℕ, _+_, _*_, _≤_, _<_, _^_};
+ghost use lib.Dec.{T, leb};
 ghost use lib.ListN.{length, getD};
 ghost use Rattle.answers.specs.Number.{refusedShown};
 ghost use Rattle.formats.specs.Items.{Kind, kindOf, integerPlaces};
@@ -36,6 +36,7 @@ pub struct Subject {
 fn put_standing(room: &mut [u16], at: usize, s: Subject, text: &[u16]) -> usize
     requires { ⌜ (at < 2 ^ 61) × (s .figures .used ≤ 40) × (s .lent ≡ true → length (now text) ≤ 1024) ⌝ }
     ensures within { λ r. ⌜ r ≤ at + 1024 ⌝ }
+    ensures near { λ r. ⌜ (s .lent ≡ false → r ≤ at + 82) ⌝ }
     ensures put { λ r. ⌜ ((us : List ℕ) → StandsFor (s .lent) (s .figures) (now (text .entry)) us
         → Put (now (room .entry)) at us r (now (room .exit))) ⌝ }
 {
@@ -57,17 +58,10 @@ fn put_digit(room: &mut [u16], at: usize, tag: u16, argument: u16, f: Figures) -
 }
 
 // Puts the text of an item that a table has under this tag with this argument.
-fn put_item(
-    room: &mut [u16],
-    at: usize,
-    tag: u16,
-    argument: u16,
-    s: Subject,
-    text: &[u16],
-) -> usize
+fn put_item(room: &mut [u16], at: usize, tag: u16, argument: u16, s: Subject, text: &[u16]) -> usize
     requires { ⌜ (at < 2 ^ 61) × (s .figures .used ≤ 40) × (s .lent ≡ true → length (now text) ≤ 1024) × T (entryInRange (entry tag argument)) ⌝ }
     ensures { λ r. ⌜ ((c : Context) (k : Kind) (q : ℕ) → SubjectIs k s (now (text .entry)) c → EntryFits k q (entry tag argument)
-        → ItemPut (now (room .entry)) at (itemUnits c q (itemAt (entry tag argument))) r (now (room .exit))) ⌝ }
+        → ItemPut (s .lent) (now (room .entry)) at (itemUnits c q (itemAt (entry tag argument))) r (now (room .exit))) ⌝ }
 {
     match tag {
         1 => writing::put_unit(room, at, argument),
@@ -88,7 +82,8 @@ fn put_item(
 fn put_items(room: &mut [u16], at: usize, items: &[u16], s: Subject, text: &[u16]) -> usize
     requires { ⌜ (at ≤ 1) × (s .figures .used ≤ 40) × (s .lent ≡ true → length (now text) ≤ 1024) × (length (now items) ≤ 508)
         × Ready (now items) s (now text) ⌝ }
-    ensures within { λ r. ⌜ r ≤ at + 280416 ⌝ }
+    ensures within { λ r. ⌜ r ≤ at + 260096 ⌝ }
+    ensures near { λ r. ⌜ (s .lent ≡ false → r ≤ at + 41 * length (now (items .entry))) ⌝ }
     ensures put { λ r. ⌜ ((c : Context) (k : Kind) (q : ℕ) → SubjectIs k s (now (text .entry)) c → EntriesFit k q (entriesIn (now (items .entry)))
         → Put (now (room .entry)) at (itemsUnits c q (itemsAt (entriesIn (now (items .entry))))) r (now (room .exit))) ⌝ }
 {
@@ -119,7 +114,8 @@ fn put_sign(room: &mut [u16], minus: bool) -> usize
 fn put_text(room: &mut [u16], minus: bool, items: &[u16], s: Subject, text: &[u16]) -> usize
     requires { ⌜ (s .figures .used ≤ 40) × (s .lent ≡ true → length (now text) ≤ 1024) × (length (now items) ≤ 508)
         × Ready (now items) s (now text) ⌝ }
-    ensures within { λ r. ⌜ r ≤ 280417 ⌝ }
+    ensures within { λ r. ⌜ r ≤ 260097 ⌝ }
+    ensures near { λ r. ⌜ (s .lent ≡ false → r ≤ 41 * length (now (items .entry)) + 1) ⌝ }
     ensures put { λ r. ⌜ ((c : Context) (k : Kind) (q : ℕ) → SubjectIs k s (now (text .entry)) c → EntriesFit k q (entriesIn (now (items .entry)))
         → Put (now (room .entry)) 0 (signText minus ++ itemsUnits c q (itemsAt (entriesIn (now (items .entry))))) r (now (room .exit))) ⌝ }
 {
@@ -139,7 +135,40 @@ pub fn refuse(answer: Answer) -> Shown
     }
 }
 
-// Shows a section's text where the room holds it. It is measured first, into no room.
+// Whether a room of this size surely takes the text of so many item words: 82 units an item, and a minus.
+fn is_roomy(size: usize, words: usize, lent: bool) -> bool
+    requires { ⌜ words ≤ 508 ⌝ }
+    ensures { λ r. ⌜ r ≡ (not lent && leb (41 * words + 1) size) ⌝ }
+{
+    !lent & (41 * words + 1 <= size)
+}
+
+// Shows a section's text in a room that surely takes it: in one pass.
+fn show_sure(
+    room: &mut [u16],
+    minus: bool,
+    items: &[u16],
+    s: Subject,
+    text: &[u16],
+    colour: u16,
+    section: u16,
+) -> Shown
+    requires { ⌜ (s .figures .used ≤ 40) × (s .lent ≡ true → length (now text) ≤ 1024) × (length (now items) ≤ 508)
+        × Ready (now items) s (now text) × T (not (s .lent) && leb (41 * length (now items) + 1) (length (now room))) ⌝ }
+    ensures { λ r. ⌜ ((c : Context) (k : Kind) (q : ℕ) → SubjectIs k s (now (text .entry)) c → EntriesFit k q (entriesIn (now (items .entry)))
+        → Shows (within (length (now (room .entry))) (signText minus ++ itemsUnits c q (itemsAt (entriesIn (now (items .entry))))) colour section)
+        (now (room .entry)) r (now (room .exit))) ⌝ }
+{
+    let n = put_text(room, minus, items, s, text);
+    Shown {
+        answer: Answer::Done,
+        length: n as u32,
+        colour,
+        section,
+    }
+}
+
+// Shows a section's text where the room holds it. Where it may not, the text is measured first, into no room.
 fn show_items(
     room: &mut [u16],
     minus: bool,
@@ -156,6 +185,9 @@ fn show_items(
         (now (room .entry)) r (now (room .exit))) ⌝ }
 {
     let limit = room.len();
+    if is_roomy(limit, items.len(), s.lent) {
+        return show_sure(room, minus, items, s, text, colour, section);
+    }
     let n = put_text(&mut room[..0], minus, items, s, text);
     if limit < n {
         return refuse(Answer::TextRoom);

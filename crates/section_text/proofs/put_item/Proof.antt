@@ -3,7 +3,7 @@
 use native.Mathlib.Omega.{arith}
 use mathlib.Core.Path.{refl}
 use mathlib.Core.Bool.{true}
-use Rattle.section_text.proofs.Items.{place-argument, literal-item, blank-item, fill-item, percent-item, point-item, place-item, standing-item, place-power, number-held, date-held, standing-held, piece-put, unit-put, moment-put, late}
+use Rattle.section_text.proofs.Items.{place-argument, literal-item, blank-item, fill-item, percent-item, point-item, place-item, standing-item, place-power, number-held, date-held, standing-held, piece-put, standing-put, unit-put, moment-put, late}
 use Rattle.writing.proofs.Laws.{put-none}
 use Rattle.tables.proofs.BackEntries.{tag-known}
 use borrow.Author.Needs.{needs}
@@ -63,7 +63,7 @@ returns c =
     let p = c .before .before in
     let k = p .before .before in
     let e = k .match .keys1 in
-    λ x kind q i f. unit-put (literal-item x q _ _ e) (p .put-unit .ensures)
+    λ x kind q i f. unit-put _ (literal-item x q _ _ e) (p .put-unit .ensures)
 
 same-length-2 : tie.Need-same-length-2
 same-length-2 c = search needs
@@ -73,11 +73,11 @@ returns-2 c =
     let p = c .before .before in
     let k = p .before .before in
     let e = k .match .keys2 in
-    λ x kind q i f. unit-put (blank-item x q _ _ e) (p .put-unit2 .ensures)
+    λ x kind q i f. unit-put _ (blank-item x q _ _ e) (p .put-unit2 .ensures)
 
 returns-3 : tie.Need-returns-3
 returns-3 c =
-    λ x kind q i f. piece-put (fill-item x q _ _ (c .match .keys3)) (omega arith) (put-none _ _)
+    λ x kind q i f. piece-put _ (fill-item x q _ _ (c .match .keys3)) (omega arith) (put-none _ _)
 
 same-length-3 : tie.Need-same-length-3
 same-length-3 c = search needs
@@ -88,7 +88,7 @@ returns-4 c =
     let k = p .before .before in
     let e = k .match .keys4 in
     λ x kind q i f.
-    piece-put (place-item x q _ _ (omega (arith, e)) (omega (arith, e))) (omega (arith, p .put-digit .ensures .0))
+    piece-put _ (place-item x q _ _ (omega (arith, e)) (omega (arith, e))) (omega (arith, p .put-digit .ensures .0))
     (p .put-digit .ensures .1 x q (i .numeric (number-held kind q _ _ f (omega (arith, e)) (omega (arith, e))))
     (place-power kind q _ _ f (omega (arith, e)) (omega (arith, e))))
 
@@ -101,7 +101,7 @@ returns-5 c =
     let k = p .before .before in
     let e = k .match .keys5 in
     λ x kind q i f.
-    piece-put (place-item x q _ _ (omega (arith, e)) (omega (arith, e))) (omega (arith, p .put-digit2 .ensures .0))
+    piece-put _ (place-item x q _ _ (omega (arith, e)) (omega (arith, e))) (omega (arith, p .put-digit2 .ensures .0))
     (p .put-digit2 .ensures .1 x q (i .numeric (number-held kind q _ _ f (omega (arith, e)) (omega (arith, e))))
     (place-power kind q _ _ f (omega (arith, e)) (omega (arith, e))))
 
@@ -114,7 +114,7 @@ returns-6 c =
     let k = p .before .before in
     let e = k .match .keys6 in
     λ x kind q i f.
-    piece-put (place-item x q _ _ (omega (arith, e)) (omega (arith, e))) (omega (arith, p .put-digit3 .ensures .0))
+    piece-put _ (place-item x q _ _ (omega (arith, e)) (omega (arith, e))) (omega (arith, p .put-digit3 .ensures .0))
     (p .put-digit3 .ensures .1 x q (i .numeric (number-held kind q _ _ f (omega (arith, e)) (omega (arith, e))))
     (place-power kind q _ _ f (omega (arith, e)) (omega (arith, e))))
 
@@ -127,7 +127,7 @@ returns-7 c =
     let k = p .before .before in
     let e = k .match .keys7 in
     λ x kind q i f.
-    piece-put (point-item x q _ _ e) (omega (arith, p .put-point .ensures .0))
+    piece-put _ (point-item x q _ _ e) (omega (arith, p .put-point .ensures .0))
     (p .put-point .ensures .1 x (i .numeric (number-held kind q _ _ f (omega (arith, e)) (omega (arith, e)))))
 
 same-length-7 : tie.Need-same-length-7
@@ -138,7 +138,7 @@ returns-8 c =
     let p = c .before .before in
     let k = p .before .before in
     let e = k .match .keys8 in
-    λ x kind q i f. unit-put (percent-item x q _ _ e) (p .put-unit3 .ensures)
+    λ x kind q i f. unit-put _ (percent-item x q _ _ e) (p .put-unit3 .ensures)
 
 same-length-8 : tie.Need-same-length-8
 same-length-8 c = search needs
@@ -149,8 +149,8 @@ returns-9 c =
     let k = p .before .before in
     let e = k .match .keys9 in
     λ x kind q i f.
-    piece-put (standing-item x q _ _ (omega (arith, e)) (omega (arith, e))) (p .put-standing .ensures .0)
-    (p .put-standing .ensures .1 _ (standing-held kind q _ _ f i (omega (arith, e)) (omega (arith, e))))
+    standing-put _ (standing-item x q _ _ (omega (arith, e)) (omega (arith, e))) (p .put-standing .ensures .0, p .put-standing .ensures .1 .0)
+    (p .put-standing .ensures .1 .1 _ (standing-held kind q _ _ f i (omega (arith, e)) (omega (arith, e))))
 
 same-length-9 : tie.Need-same-length-9
 same-length-9 c = search needs
@@ -161,8 +161,8 @@ returns-10 c =
     let k = p .before .before in
     let e = k .match .keys10 in
     λ x kind q i f.
-    piece-put (standing-item x q _ _ (omega (arith, e)) (omega (arith, e))) (p .put-standing2 .ensures .0)
-    (p .put-standing2 .ensures .1 _ (standing-held kind q _ _ f i (omega (arith, e)) (omega (arith, e))))
+    standing-put _ (standing-item x q _ _ (omega (arith, e)) (omega (arith, e))) (p .put-standing2 .ensures .0, p .put-standing2 .ensures .1 .0)
+    (p .put-standing2 .ensures .1 .1 _ (standing-held kind q _ _ f i (omega (arith, e)) (omega (arith, e))))
 
 same-length-10 : tie.Need-same-length-10
 same-length-10 c = search needs
@@ -174,7 +174,7 @@ returns-11 c =
     let b = k .before .before .before in
     let h = late _ _ (b .pre .3) (k .match .rest) in
     λ x kind q i f.
-    moment-put x q _ _ h (b .pre .3)
+    moment-put _ x q _ _ h (b .pre .3)
     (p .put-moment-item .ensures x q true (λ _. refl) (i .moment (date-held kind q _ _ f h (tag-known _ (b .pre .3) .1))))
 
 pub put-item-spec : {M : Type 1} → statement M

@@ -2,7 +2,7 @@
 -- Assumes nothing.
 use Prim.Native.Nat.{_-_}
 use mathlib.Core.Path.{refl}
-use Rattle.section_text.proofs.Walking.{Walking, walking-start, walking-in-range, walking-step, walking-end, walking-short, walking-within, walking-size}
+use Rattle.section_text.proofs.Walking.{Walking, walking-start, walking-in-range, walking-step, walking-end, walking-short, walking-within, walking-near, walking-size}
 use borrow.Author.Needs.{needs}
 use Rattle.section_text.proofs.put_items.Statement.{statement}
 use Rattle.section_text.proofs.put_items.Tie as tie
@@ -61,7 +61,7 @@ same-length c = walking-size (c .before .loop .inv)
 returns : tie.Need-returns Inv-loop μ-loop
 returns c =
     let w = c .before .loop .inv in
-    (walking-within w, walking-end w (c .loop-test .left))
+    (walking-within w, (walking-near w, walking-end w (c .loop-test .left)))
 
 pub put-items-spec : {M : Type 1} → statement M
 put-items-spec =

@@ -1,6 +1,8 @@
 -- `section_text::put_standing` meets its contract.
 -- Assumes nothing.
 use native.Mathlib.Omega.{arith}
+use mathlib.Core.Path.{sym, _∙_}
+use mathlib.Core.Bool.{true≢false}
 use Rattle.section_text.proofs.Items.{digits-of, stands-lent, stands-general}
 use borrow.Author.Needs.{needs}
 use Rattle.section_text.proofs.put_standing.Statement.{statement}
@@ -18,7 +20,10 @@ returns c =
     let k = p .before .before in
     let b = k .before .before .before in (
       omega (arith, b .pre .2 (k .if1 .taken), p .put-units .ensures .next),
-      λ us h. rw (← stands-lent _ _ _ us (k .if1 .taken) h) (p .put-units .ensures),
+      (
+        λ z. absurd (true≢false (sym (k .if1 .taken) ∙ z)),
+        λ us h. rw (← stands-lent _ _ _ us (k .if1 .taken) h) (p .put-units .ensures),
+      ),
     )
 
 put-general-requires : tie.Need-put-general-requires
@@ -32,7 +37,10 @@ returns-2 c =
     let p = c .before .before in
     let k = p .before .before in (
       omega arith,
-      λ us h. let g = stands-general _ _ _ us (k .if1 .left) h in rw (g .shows) (p .put-general .ensures .1 (g .context .figures) (digits-of (g .are))),
+      (
+        λ z. omega arith,
+        λ us h. let g = stands-general _ _ _ us (k .if1 .left) h in rw (g .shows) (p .put-general .ensures .1 (g .context .figures) (digits-of (g .are))),
+      ),
     )
 
 pub put-standing-spec : {M : Type 1} → statement M

@@ -20,7 +20,10 @@ returns c =
     let p = c .before .before in
     let g = p .before .before .before .before in (
       omega (arith, p .put-items .ensures .0, g .put-sign .ensures .0),
-      λ x k q i f. put-put (g .put-sign .ensures .1) (p .put-items .ensures .1 x k q i f),
+      (
+        λ z. omega (arith, p .put-items .ensures .1 .0 z, g .put-sign .ensures .0),
+        λ x k q i f. put-put (g .put-sign .ensures .1) (p .put-items .ensures .1 .1 x k q i f),
+      ),
     )
 
 pub put-text-spec : {M : Type 1} → statement M
