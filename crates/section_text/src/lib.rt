@@ -159,10 +159,10 @@ fn show_sure(
         → Shows (within (length (now (room .entry))) (signText minus ++ itemsUnits c q (itemsAt (entriesIn (now (items .entry))))) colour section)
         (now (room .entry)) r (now (room .exit))) ⌝ }
 {
-    let n = put_text(room, minus, items, s, text);
+    let end = put_text(room, minus, items, s, text);
     Shown {
         answer: Answer::Done,
-        length: n as u32,
+        length: end as u32,
         colour,
         section,
     }
