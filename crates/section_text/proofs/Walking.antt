@@ -78,7 +78,7 @@ left-short {c = c} {k} s text e es i p l =
 abbrev pub entriesFrom : List ℕ → ℕ → ℕ → List Entry
 entriesFrom words n k = entriesAt (n - k) (drop (2 * k) words)
 
-entries-front : (words : List ℕ) (n k : ℕ) → k < n
+pub entries-front : (words : List ℕ) (n k : ℕ) → k < n
     → entriesFrom words n k ≡ entry (getD words (2 * k) 0) (getD words (2 * k + 1) 0) ∷ entriesFrom words n (k + 1)
 unfolding entriesAt
 entries-front words n k h =

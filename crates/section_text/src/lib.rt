@@ -202,7 +202,7 @@ fn show_items(
 }
 
 // Where the item words of section i begin.
-fn items_start(table: &[u16], i: usize) -> usize
+pub fn items_start(table: &[u16], i: usize) -> usize
     requires { ⌜ T (passes (now table)) × (i < getD (now table) 0 0) ⌝ }
     ensures { λ r. ⌜ r ≡ bodyStart (now (table .entry)) i ⌝ }
 {

@@ -36,7 +36,7 @@ use Rattle.figure_text.specs.Shown.{FiguresAre, figuresWith}
 use Rattle.figure_text.proofs.Digits.{figures-are}
 use Rattle.section_text.specs.declared.Subject.{Subject}
 use Rattle.section_text.specs.Subject.{GeneralOf, StandsFor, SubjectIs}
-use Rattle.showing.specs.General.{contextOf, generalNumber}
+use Rattle.showing.specs.General.{contextWith, contextOf, generalNumber}
 use Rattle.section_text.specs.Place.{Known}
 use Rattle.section_text.specs.Show.{Shows}
 use Rattle.section_text.proofs.Fitting.{shows-refused}
@@ -47,13 +47,13 @@ general-small m s h = rounded-small m 0 s (generalDecimals (powered m 0 s)) h (o
 
 pub general-figures : {f : Figures} {r : Rounded} (l : List ℕ) (m s : ℕ) → r ≡ generalOf l m s → f ≡ figuresWith (r .digits) 0 false
     → m < 10 ^ 15 → s ≤ 15 → FiguresAre f (contextOf (generalNumber m s))
-unfolding contextOf
+unfolding contextWith
 general-figures {f} {r} l m s er ef hm hs =
     let d : r .digits ≡ figures (generalNumber m s) = ap (λ (x : Rounded). x .digits) (er ∙ general-fits l m s hm (omega arith)) in
     figures-are (r .digits) (contextOf (generalNumber m s)) ef d (general-small m s hm)
 
 pub general-of : {f : Figures} (m s : ℕ) → FiguresAre f (contextOf (generalNumber m s)) → GeneralOf f (generalUnits (generalNumber m s))
-unfolding contextOf
+unfolding contextWith
 general-of m s are = record { context = contextOf (generalNumber m s); are = are; shows = refl }
 
 none-used : (u : ℕ) → eqb u 0 ≡ leb u 0
@@ -61,10 +61,14 @@ none-used zero = refl
 none-used (suc u) = ne-eqb (suc u) 0 (λ e. omega arith) ∙ sym (lt-leb (suc u) 0 (omega arith))
 
 -- no place is used where the number is nought
-pub nought-told : {f : Figures} (n : ℕ) → FiguresAre f (contextOf n) → eqb (f .used) 0 ≡ eqb n 0
-unfolding contextOf
-nought-told {f} n are =
+pub figures-nought : {f : Figures} (c : Context) → FiguresAre f c → eqb (f .used) 0 ≡ eqb (c .figures) 0
+figures-nought {f} c are =
+    let n : ℕ = c .figures in
     ap (λ (u : ℕ). eqb u 0) (are .used) ∙ none-used (placesUsed 40 (figures n)) ∙ used-test n (are .small) 0 ∙ ap (λ (x : ℕ). eqb x 0) (div-one n)
+
+pub nought-told : {f : Figures} (n : ℕ) → FiguresAre f (contextOf n) → eqb (f .used) 0 ≡ eqb n 0
+unfolding contextWith
+nought-told n are = figures-nought (contextOf n) are
 
 -- the number of a value is the one that its context stands for
 powered-none : (m s : ℕ) → powered m 0 s ≡ record { above = m; below = 10 ^ s }

@@ -4,3 +4,7 @@ pub mod Minus
 pub mod Numbers
 pub mod Generals
 pub mod Literals
+pub mod Places
+pub mod Sections
+pub mod KindWords
+pub mod Values

@@ -1,7 +1,7 @@
--- The number that General shows, and a context of its figures.
+-- The number that General shows, and contexts of figures.
 -- Assumes nothing.
 use Prim.Native.Nat.{ℕ}
-use mathlib.Core.Bool.{false}
+use mathlib.Core.Bool.{Bool, false}
 use mathlib.Core.List.{[]}
 use Rattle.calendar.specs.Date.{dateOf}
 use Rattle.calendar.specs.Clock.{clockOf}
@@ -13,16 +13,20 @@ use Rattle.formats.specs.Text.{Context}
 abbrev pub generalNumber : ℕ → ℕ → ℕ
 generalNumber m scale = generalRounded (powered m 0 scale)
 
--- a context that shows this number
-unfoldable pub contextOf : ℕ → Context
-contextOf n =
+-- a context that shows this number, grouped or not, in so many integer places
+unfoldable pub contextWith : ℕ → Bool → ℕ → Context
+contextWith n grouped integers =
     record {
       figures = n;
-      grouped = false;
-      integerPlaces = 0;
+      grouped = grouped;
+      integerPlaces = integers;
       standing = [];
       date = dateOf 0;
       clock = clockOf 0;
       twelve = false;
       elapsed = 0;
     }
+
+-- a context that shows this number in General
+abbrev pub contextOf : ℕ → Context
+contextOf n = contextWith n false 0

@@ -1,28 +1,34 @@
 // Shows a value through a table.
 ghost use mathlib.Core.Path.{_≡_};
-ghost use mathlib.Core.Bool.{true, false};
-ghost use Prim.Native.Nat.{_≤_, _<_, _^_};
+ghost use mathlib.Core.Bool.{true, false, cond};
+ghost use Prim.Native.Nat.{_-_, _≤_, _<_, _^_};
 ghost use lib.Dec.{T, eqb};
 ghost use lib.IntN.{pos};
 ghost use lib.Signed.{ltZ};
 ghost use lib.ListN.{length, getD};
-ghost use Rattle.formats.specs.Items.{literalKind, kindOf};
-ghost use Rattle.formats.specs.Choice.{instantExact, Reason, chosen, choose, chooseText};
-ghost use Rattle.formats.specs.Reading.{within, readInstant, readText, numberContext, showsNought, numberUnits, showsGeneral, readNumber};
+ghost use Rattle.formats.specs.Items.{numberKind, literalKind, kindOf, integerPlaces};
+ghost use Rattle.formats.specs.Choice.{numberExact, instantExact, Reason, chosen, choose, chooseText};
+ghost use Rattle.formats.specs.Reading.{refused, within, readInstant, readText, numberContext, showsNought, numberUnits, showsGeneral, readNumber, reading};
 ghost use Rattle.figures.specs.Sign.{signedOf};
 ghost use Rattle.formats.specs.Minus.{isOwn};
 ghost use Rattle.values.specs.declared.Number.{Number};
+ghost use Rattle.values.specs.Ranges.{numberInRange, instantInRange, textInRange};
+ghost use Rattle.answers.specs.declared.Answer.the-variants as answer;
 ghost use Rattle.tables.specs.Decode.{decode};
 ghost use Rattle.tables.specs.Rules.{passes};
+ghost use Rattle.tables.specs.Calls.{showing, roomAfter};
 ghost use Rattle.choosing.specs.Seeking.{instantSought, sectionIn};
 ghost use Rattle.date_text.specs.Moment.{momentOf};
 ghost use Rattle.figure_text.specs.Shown.{FiguresAre};
 ghost use Rattle.section_text.specs.Subject.{SubjectIs};
 ghost use Rattle.section_text.specs.Show.{Shows};
+ghost use Rattle.section_text.specs.Walk.{entriesIn};
 ghost use Rattle.section_text.specs.Place.{Known};
 ghost use Rattle.showing.specs.Minus.{minusTold};
 ghost use Rattle.showing.specs.General.{contextOf, generalNumber};
 ghost use Rattle.showing.specs.KindWord.{instantWord};
+ghost use Rattle.showing.specs.Number.{sectionContext, firstArgument};
+ghost use Rattle.showing.specs.Sought.{signedSought};
 use answers::Answer;
 use answers::Shown;
 use choosing::Found;
@@ -30,11 +36,15 @@ use choosing::Sought;
 use choosing::TextFound;
 use figure_text::Figures;
 use figures::Signed;
+use figures::Taken;
 use section_text::Subject;
 use section_text::refuse;
 use section_text::show_section;
+use values::Ask;
 use values::Day;
 use values::Millisecond;
+use values::Number;
+use values::Value;
 
 // Whether a section with this kind word takes an instant.
 fn takes_instant(kind: u16) -> bool
@@ -249,4 +259,210 @@ fn show_literal(
 {
     let s = instant_subject(false, Day(0), Millisecond(0));
     show_signed(room, table, i, own, v.negative, false, s, text)
+}
+
+// The argument of the first place among item words; 15 where there is none.
+fn first_argument(items: &[u16]) -> u16
+    ensures { λ r. ⌜ r ≡ firstArgument (entriesIn (now (items .entry))) ⌝ }
+{
+    let n = items.len() / 2;
+    let mut k: usize = 0;
+    while k < n {
+        let i = 2 * k;
+        let tag = items[i];
+        if (4 <= tag) & (tag <= 6) {
+            return items[i + 1];
+        }
+        k += 1;
+    }
+    15
+}
+
+// How many integer places section i has: powers run down by one from the first place, whose argument is 16 more than its power.
+fn integer_places(table: &[u16], i: usize) -> u32
+    requires { ⌜ T (passes (now table)) × (i < getD (now table) 0 0) ⌝ }
+    ensures { λ r. ⌜ r ≡ integerPlaces (sectionIn (now (table .entry)) i .items) ⌝ }
+{
+    let start = section_text::items_start(table, i);
+    let end = start + 2 * choosing::word(table, i, 11) as usize;
+    first_argument(&table[start..end]) as u32 - 15
+}
+
+// By how much a is above b; 0 where it is not.
+fn excess(a: u32, b: u32) -> u32
+    ensures { λ r. ⌜ r ≡ a - b ⌝ }
+{
+    if b < a { a - b } else { 0 }
+}
+
+// The figures of a number in section i, which is a number section: a shift above 15 multiplies, one below 15 divides.
+fn number_figures(table: &[u16], i: usize, v: Signed) -> Figures
+    requires { ⌜ T (passes (now table)) × (i < getD (now table) 0 0) × (v .magnitude < 10 ^ 15) × (v .scale ≤ 15)
+        × (kindOf (sectionIn (now table) i) ≡ numberKind) ⌝ }
+    ensures used { λ r. ⌜ r .used ≤ 40 ⌝ }
+    ensures figures { λ r. ⌜ FiguresAre r (sectionContext (sectionIn (now (table .entry)) i) (v .magnitude) (v .scale)) ⌝ }
+{
+    let shift = choosing::word(table, i, 8) as u32;
+    let flags = choosing::word(table, i, 9);
+    let decimals = choosing::word(table, i, 10) as u32;
+    let up = excess(shift, 15);
+    let down = v.scale + excess(15, shift);
+    let rounded = figures::round([0; 40], v.magnitude, up, down, decimals);
+    let digits = rounded.digits;
+    figure_text::figures_of(digits, integer_places(table, i), flags % 2 == 1)
+}
+
+// The subject of a number in section i, which is a number section.
+fn number_subject(table: &[u16], i: usize, v: Signed) -> Subject
+    requires { ⌜ T (passes (now table)) × (i < getD (now table) 0 0) × (v .magnitude < 10 ^ 15) × (v .scale ≤ 15)
+        × (kindOf (sectionIn (now table) i) ≡ numberKind) ⌝ }
+    ensures used { λ r. ⌜ r .figures .used ≤ 40 ⌝ }
+    ensures lent { λ r. ⌜ r .lent ≡ false ⌝ }
+    ensures figures { λ r. ⌜ FiguresAre (r .figures) (sectionContext (sectionIn (now (table .entry)) i) (v .magnitude) (v .scale)) ⌝ }
+{
+    Subject {
+        figures: number_figures(table, i, v),
+        moment: date_text::moment_of(false, false, Day(0), Millisecond(0)),
+        lent: false,
+    }
+}
+
+// Shows a number in section i, which is a number section.
+fn show_figures(
+    room: &mut [u16],
+    table: &[u16],
+    i: u16,
+    own: bool,
+    v: Signed,
+    text: &[u16],
+) -> Shown
+    requires { ⌜ T (passes (now table)) × (i < getD (now table) 0 0) × (v .magnitude < 10 ^ 15) × (v .scale ≤ 15)
+        × (kindOf (sectionIn (now table) i) ≡ numberKind) ⌝ }
+    ensures { λ r. ⌜ ((x : Number) (why : Reason) → v ≡ signedOf x → own ≡ isOwn why
+        → Shows (readNumber (decode (now (table .entry))) x (length (now (room .entry))) (chosen i (sectionIn (now (table .entry)) i) why))
+        (now (room .entry)) r (now (room .exit))) ⌝ }
+{
+    let s = number_subject(table, i as usize, v);
+    let nought = s.figures.used == 0;
+    show_signed(room, table, i, own, v.negative, nought, s, text)
+}
+
+// Shows a number in section i, by the section's kind.
+fn show_number_in(
+    room: &mut [u16],
+    table: &[u16],
+    i: u16,
+    own: bool,
+    v: Signed,
+    text: &[u16],
+) -> Shown
+    requires { ⌜ T (passes (now table)) × (i < getD (now table) 0 0) × (v .magnitude < 10 ^ 15) × (v .scale ≤ 15) ⌝ }
+    ensures { λ r. ⌜ ((x : Number) (why : Reason) → v ≡ signedOf x → own ≡ isOwn why
+        → Shows (readNumber (decode (now (table .entry))) x (length (now (room .entry))) (chosen i (sectionIn (now (table .entry)) i) why))
+        (now (room .entry)) r (now (room .exit))) ⌝ }
+{
+    let kind = choosing::word(table, i as usize, 0);
+    match kind {
+        0 => show_literal(room, table, i, own, v, text),
+        2 => show_figures(room, table, i, own, v, text),
+        4 => refuse(Answer::Sort),
+        _ => show_general(room, table, i, own, v, text),
+    }
+}
+
+// A number as the chooser is asked for it.
+fn number_sought(v: Signed) -> Sought
+    ensures { λ r. ⌜ r ≡ signedSought v ⌝ }
+{
+    Sought {
+        negative: v.negative,
+        instant: false,
+        above: v.magnitude,
+        scale: v.scale,
+    }
+}
+
+// Shows a number that is in range.
+fn show_number_in_range(room: &mut [u16], table: &[u16], v: Signed, text: &[u16]) -> Shown
+    requires { ⌜ T (passes (now table)) × (v .magnitude < 10 ^ 15) × (v .scale ≤ 15) ⌝ }
+    ensures { λ r. ⌜ ((x : Number) → v ≡ signedOf x
+        → Shows (readNumber (decode (now (table .entry))) x (length (now (room .entry))) (choose (decode (now (table .entry))) (numberExact x)))
+        (now (room .entry)) r (now (room .exit))) ⌝ }
+{
+    match choosing::choose(table, number_sought(v)) {
+        Found::Nothing => refuse(Answer::NoSection),
+        Found::At(i, own) => show_number_in(room, table, i, own, v, text),
+    }
+}
+
+// Shows a number; one out of range is refused.
+fn show_number(room: &mut [u16], table: &[u16], x: Number, text: &[u16]) -> Shown
+    requires { ⌜ T (passes (now table)) ⌝ }
+    ensures { λ r. ⌜ Shows (cond (numberInRange x)
+        (readNumber (decode (now (table .entry))) x (length (now (room .entry))) (choose (decode (now (table .entry))) (numberExact x)))
+        (refused answer.Range)) (now (room .entry)) r (now (room .exit)) ⌝ }
+{
+    match figures::take_number(x) {
+        Taken::OutOfRange => refuse(Answer::Range),
+        Taken::In(v) => show_number_in_range(room, table, v, text),
+    }
+}
+
+// Whether both are in range.
+fn is_instant(d: Day, m: Millisecond) -> bool
+    ensures { λ r. ⌜ r ≡ instantInRange d m ⌝ }
+{
+    (d.0 <= Day::GREATEST) & (m.0 <= Millisecond::GREATEST)
+}
+
+// Shows an instant; one out of range is refused.
+fn show_any_instant(room: &mut [u16], table: &[u16], d: Day, m: Millisecond, text: &[u16]) -> Shown
+    requires { ⌜ T (passes (now table)) ⌝ }
+    ensures { λ r. ⌜ Shows (cond (instantInRange d m)
+        (readInstant d m (length (now (room .entry))) (choose (decode (now (table .entry))) (instantExact d m)))
+        (refused answer.Range)) (now (room .entry)) r (now (room .exit)) ⌝ }
+{
+    if is_instant(d, m) {
+        return show_instant(room, table, d, m, text);
+    }
+    refuse(Answer::Range)
+}
+
+// Shows a text; one that is too long is refused.
+fn show_any_text(room: &mut [u16], table: &[u16], text: &[u16]) -> Shown
+    requires { ⌜ T (passes (now table)) ⌝ }
+    ensures { λ r. ⌜ Shows (cond (textInRange (now (text .entry)))
+        (readText (now (text .entry)) (length (now (room .entry))) (chooseText (decode (now (table .entry)))))
+        (refused answer.Range)) (now (room .entry)) r (now (room .exit)) ⌝ }
+{
+    if text.len() <= 1024 {
+        return show_text(room, table, text);
+    }
+    refuse(Answer::Range)
+}
+
+// Shows a value through a table that passes.
+fn show_value(room: &mut [u16], table: &[u16], ask: Ask, text: &[u16]) -> Shown
+    requires { ⌜ T (passes (now table)) ⌝ }
+    ensures { λ r. ⌜ Shows (reading (decode (now (table .entry))) ask (now (text .entry)) (length (now (room .entry))))
+        (now (room .entry)) r (now (room .exit)) ⌝ }
+{
+    let value = ask.value;
+    match value {
+        Value::Number(x) => show_number(room, table, x, text),
+        Value::Instant(d, m) => show_any_instant(room, table, d, m, text),
+        Value::Text => show_any_text(room, table, text),
+    }
+}
+
+// Shows a value through the words lent as a table. Nothing is asked of the caller: words that break a table rule are answered 8,
+// and a value out of range 9. `text` is read only where the value is a text.
+pub fn show(table: &[u16], ask: Ask, text: &[u16], room: &mut [u16]) -> Shown
+    ensures result { λ r. ⌜ r ≡ showing (now (table .entry)) ask (now (text .entry)) (length (now (room .entry))) ⌝ }
+    ensures room { λ r. ⌜ now (room .exit) ≡ roomAfter (now (table .entry)) ask (now (text .entry)) (now (room .entry)) ⌝ }
+{
+    if checking::check(table) {
+        return show_value(room, table, ask, text);
+    }
+    refuse(Answer::Table)
 }

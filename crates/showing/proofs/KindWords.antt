@@ -1,0 +1,60 @@
+-- What a section's kind word says of a number in it.
+-- Assumes nothing.
+use Prim.Native.Nat.{ℕ, zero, suc, _<_}
+use mathlib.Core.Path.{_≡_, refl, sym, ap, _∙_}
+use mathlib.Core.List.{List}
+use lib.Dec.{T}
+use lib.ListN.{length, getD}
+use Rattle.answers.specs.declared.Answer.the-variants as answer
+use Rattle.answers.specs.Number.{refusedShown}
+use Rattle.values.specs.declared.Number.{Number}
+use Rattle.formats.specs.Items.{Section, Kind, textKind, generalKind, dateKind, numberKind, literalKind, kindOf}
+use Rattle.formats.specs.Choice.{Reason, chosen}
+use Rattle.formats.specs.Reading.{takesNumber, showsGeneral, readNumber}
+use Rattle.tables.specs.Encode.{kindWord, headOf}
+use Rattle.tables.specs.Rules.{passes}
+use Rattle.choosing.specs.Seeking.{sectionIn, wordIn}
+use Rattle.choosing.proofs.Places.{words-by-place}
+use Rattle.section_text.specs.Show.{Shows}
+use Rattle.section_text.proofs.Fitting.{shows-refused}
+
+-- the kind with this word
+abbrev pub kindWith : ℕ → Kind
+kindWith zero = literalKind
+kindWith (suc zero) = generalKind
+kindWith (suc (suc zero)) = numberKind
+kindWith (suc (suc (suc zero))) = textKind
+kindWith (suc (suc (suc (suc n)))) = dateKind
+
+kind-back : (k : Kind) → kindWith (kindWord k) ≡ k
+unfolding kindWord
+kind-back textKind = refl
+kind-back generalKind = refl
+kind-back dateKind = refl
+kind-back numberKind = refl
+kind-back literalKind = refl
+
+general-word : (k : Kind) → (kindWord k ≡ 0 → ⊥) → (kindWord k ≡ 2 → ⊥) → (kindWord k ≡ 4 → ⊥) → T (showsGeneral k)
+unfolding kindWord showsGeneral
+general-word textKind l n d = tt
+general-word generalKind l n d = tt
+general-word dateKind l n d = absurd (d refl)
+general-word numberKind l n d = absurd (n refl)
+general-word literalKind l n d = absurd (l refl)
+
+module _ (ws : List ℕ) (i w : ℕ) (t : T (passes ws)) (h : i < getD ws 0 0) (e : w ≡ wordIn ws i 0) where
+  kind-word : w ≡ kindWord (kindOf (sectionIn ws i))
+  unfolding headOf
+  kind-word = e ∙ words-by-place ws i t h .kind
+
+  pub kind-with : (n : ℕ) → w ≡ n → kindOf (sectionIn ws i) ≡ kindWith n
+  kind-with n f = sym (kind-back (kindOf (sectionIn ws i))) ∙ ap kindWith (sym kind-word ∙ f)
+
+  pub told-general : (w ≡ 0 → ⊥) → (w ≡ 2 → ⊥) → (w ≡ 4 → ⊥) → T (showsGeneral (kindOf (sectionIn ws i)))
+  told-general l n d =
+      general-word (kindOf (sectionIn ws i)) (λ f. l (kind-word ∙ f)) (λ f. n (kind-word ∙ f)) (λ f. d (kind-word ∙ f))
+
+pub date-refused : (old : List ℕ) (ss : List Section) (z : Section) (i : ℕ) (why : Reason) (x : Number)
+    → kindOf z ≡ dateKind → Shows (readNumber ss x (length old) (chosen i z why)) old (refusedShown answer.Sort) old
+unfolding readNumber takesNumber
+date-refused old ss z i why x e = rw e (shows-refused old answer.Sort)

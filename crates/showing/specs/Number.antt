@@ -1,0 +1,25 @@
+-- The number that a number section shows, and its integer places as the code finds them.
+-- Assumes nothing.
+use Prim.Native.Nat.{ℕ}
+use mathlib.Core.Bool.{cond}
+use mathlib.Core.List.{List, [], _∷_}
+use Rattle.values.specs.Ranges.{between}
+use Rattle.lists.specs.Lists.{count}
+use Rattle.figures.specs.Rounding.{scaled, rounded}
+use Rattle.formats.specs.Items.{Section, isPercent, integerPlaces, decimalPlaces}
+use Rattle.formats.specs.Text.{Context}
+use Rattle.tables.specs.Words.{Entry}
+use Rattle.showing.specs.General.{contextWith}
+
+-- a section's number of a magnitude: "the exact scaled number", rounded to its decimals
+unfoldable pub sectionNumber : Section → ℕ → ℕ → ℕ
+sectionNumber s m scale = rounded (scaled m scale (count isPercent (s .items)) (s .thousands)) (decimalPlaces (s .items))
+
+-- a context that shows it as the section does
+unfoldable pub sectionContext : Section → ℕ → ℕ → Context
+sectionContext s m scale = contextWith (sectionNumber s m scale) (s .grouped) (integerPlaces (s .items))
+
+-- the argument of the first place; 15 where there is none
+unfoldable pub firstArgument : List Entry → ℕ
+firstArgument [] = 15
+firstArgument (e ∷ es) = let r = firstArgument es in cond (between 4 6 (e .tag)) (e .argument) r
