@@ -8,7 +8,6 @@ use mathlib.Core.Bool.{true, false, cond}
 use mathlib.Core.List.{List, [], _∷_}
 use lib.Dec.{T, eqb, eqb→eq}
 use lib.ListN.{length, getD}
-use lib.Seq.{getD-drop, drop-drop}
 use Rattle.values.specs.Ranges.{between}
 use Rattle.lists.specs.Lists.{every}
 use Rattle.lists.proofs.Bools.{and-left, and-right, every-head, every-tail, by-cases}
@@ -23,7 +22,7 @@ use Rattle.tables.proofs.BackEntries.{span-at, tag-known}
 use Rattle.choosing.specs.Seeking.{sectionIn, wordIn}
 use Rattle.section_text.specs.Walk.{entriesIn}
 use Rattle.section_text.specs.Place.{bodyStart}
-use Rattle.section_text.proofs.Walking.{entriesFrom}
+use Rattle.section_text.proofs.Walking.{entriesFrom, entries-front}
 use Rattle.section_text.proofs.Bodies.{Fits, partOf, part-fits}
 use Rattle.showing.specs.Number.{firstArgument}
 
@@ -71,12 +70,8 @@ places-told s es f =
 -- ---- the loop over the item words, before item k
 front : (words : List ℕ) (n k : ℕ) → k < n → firstArgument (entriesFrom words n k)
     ≡ cond (between 4 6 (getD words (2 * k) 0)) (getD words (2 * k + 1) 0) (firstArgument (entriesFrom words n (k + 1)))
-unfolding firstArgument entriesAt
-front words n k h =
-    let one : n - k ≡ suc (n - (k + 1)) = omega arith in
-    let two : 2 * (k + 1) ≡ 2 * k + 2 = omega arith in
-    let nought : 2 * k + 0 ≡ 2 * k = omega arith in
-    rw (one, two, getD-drop (2 * k) words 0 0, getD-drop (2 * k) words 1 0, drop-drop 2 (2 * k) words, nought)
+unfolding firstArgument
+front words n k h = ap firstArgument (entries-front words n k h)
 
 -- no place has been met
 pub record Seeking (words : List ℕ) (n k : ℕ) : Type 0 where

@@ -1,0 +1,59 @@
+-- `prepare_check::refuses_short` is safe and ends.
+-- Assumes nothing.
+use Prim.Native.Nat.{_-_, _≤_}
+use native.Mathlib.Omega.{arith}
+use mathlib.Core.Path.{sym, _∙_}
+use lib.ListN.{length, length-take}
+use Rattle.prepare_check.proofs.Laws.{back-length}
+use borrow.Author.Needs.{needs}
+use Rattle.prepare_check.proofs.refuses_short.Statement.{statement}
+use Rattle.prepare_check.proofs.refuses_short.Tie as tie
+
+returns : tie.Need-returns
+returns c = search needs
+
+table-room-requires : tie.Need-table-room-requires
+table-room-requires c κs = search needs
+
+sub-room : tie.Need-sub-room
+sub-room c = search needs
+
+array-borrow-prefix-room : tie.Need-array-borrow-prefix-room
+array-borrow-prefix-room c = search needs
+
+slice-aggregate-prepare : tie.Need-slice-aggregate-prepare
+slice-aggregate-prepare c = simp length-take (omega arith)
+
+prepare-requires : tie.Need-prepare-requires
+prepare-requires c κs = search needs
+
+slice-aggregate-first-other : tie.Need-slice-aggregate-first-other
+slice-aggregate-first-other c =
+    let p = c .before .before in
+    let room = p .before .before in
+    let h : room .before .before .before .args .words - 1 ≤ length (room .table-room .result) = omega arith in
+    room .table-room .ensures ∙ sym (back-length (p .prepare .last .1 .0) _ _ h (p .prepare .kept .1 .0))
+
+first-other-requires : tie.Need-first-other-requires
+first-other-requires c κs = search needs
+
+number-requires : tie.Need-number-requires
+number-requires c κs = search needs
+
+returns-2 : tie.Need-returns-2
+returns-2 c = search needs
+
+pub refuses-short-spec : {M : Type 1} → statement M
+refuses-short-spec =
+    tie.close
+    (tie.spec
+    returns
+    table-room-requires
+    sub-room
+    array-borrow-prefix-room
+    slice-aggregate-prepare
+    prepare-requires
+    slice-aggregate-first-other
+    first-other-requires
+    number-requires
+    returns-2)

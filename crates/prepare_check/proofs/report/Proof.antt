@@ -1,0 +1,60 @@
+-- `prepare_check::report` is safe and ends.
+-- Assumes nothing.
+use native.Mathlib.Omega.{arith}
+use lib.ListN.{length-take}
+use borrow.Author.Needs.{needs}
+use Rattle.prepare_check.proofs.report.Statement.{statement}
+use Rattle.prepare_check.proofs.report.Tie as tie
+
+cast-n : tie.Need-cast-n
+cast-n c = search needs
+
+mul-first-other : tie.Need-mul-first-other
+mul-first-other c = search needs
+
+sub-first-other : tie.Need-sub-first-other
+sub-first-other c = search needs
+
+part-first-other-start : tie.Need-part-first-other-start
+part-first-other-start c = search needs
+
+part-first-other-end : tie.Need-part-first-other-end
+part-first-other-end c = search needs
+
+first-other-requires : tie.Need-first-other-requires
+first-other-requires c κs = search needs
+
+sub-kept : tie.Need-sub-kept
+sub-kept c = search needs
+
+refuses-short-requires : tie.Need-refuses-short-requires
+refuses-short-requires c κs = search needs
+
+number-requires : tie.Need-number-requires
+number-requires c κs = search needs
+
+slice-aggregate-write-line : tie.Need-slice-aggregate-write-line
+slice-aggregate-write-line c = simp length-take (omega arith)
+
+write-line-requires : tie.Need-write-line-requires
+write-line-requires c κs = simp length-take (omega arith)
+
+returns : tie.Need-returns
+returns c = search needs
+
+pub report-spec : {M : Type 1} → statement M
+report-spec =
+    tie.close
+    (tie.spec
+    cast-n
+    mul-first-other
+    sub-first-other
+    part-first-other-start
+    part-first-other-end
+    first-other-requires
+    sub-kept
+    refuses-short-requires
+    number-requires
+    slice-aggregate-write-line
+    write-line-requires
+    returns)
