@@ -64,7 +64,7 @@ returns-2 c =
     let k = p .before .before .before .before .before in
     let d = made _ _ _ _ (p .prepare .ensures .0) (m .number .ensures) (i .if1 .left) in
     let u = units-known (k .before .args .code .now) (λ i. omega (arith, k .shared-slice-known .given i)) in (
-      made-shows _ _ _ _ _ _ _ u d (p .prepare .ensures .1) _ (w .show .ensures .0),
+      made-shows _ _ _ (k .before .args .room .now) _ _ _ u d (p .prepare .ensures .1) _ (w .show .ensures .0),
       (p .prepare .ensures .1, made-room _ _ _ _ _ _ _ u d (p .prepare .ensures .1) (w .show .ensures .1)),
     )
 
