@@ -5,8 +5,8 @@ use native.Mathlib.Omega.{arith}
 use mathlib.Core.Path.{_≡_, refl, sym, _∙_, ap}
 use mathlib.Core.Bool.{Bool, true, false, cond, _||_, true≢false}
 use mathlib.Core.List.{List, [], _∷_, map}
-use lib.ListN.{length, take, drop, getD, length-map}
-use lib.Seq.{take-all, length-take-le}
+use lib.ListN.{length, take, drop, getD, length-map, length-take}
+use lib.Seq.{take-all, take-take, length-take-le}
 use lib.Dec.{ltb, eqb}
 use borrow.Author.Tests.{lt-ltb, le-ltb, eq-eqb, ne-eqb}
 use Rattle.answers.specs.declared.Answer.{Answer}
@@ -35,10 +35,10 @@ use Rattle.preparing.proofs.Sectioning.{items-room}
 use Rattle.preparing.proofs.Refusing.{kind-some, kind-none, where-some, where-none, limit-some, limit-none}
 
 -- ---- a refusal
-pub examined-refused : (code out : List ℕ) (r : Examined) (a : Answer) (k : ℕ) → (r .answer ≡ a) × (r .place ≡ k) → eqb (numberOf a) 0 ≡ false
-    → verdict code ≡ refused a k → ExaminedAs code r out
+pub examined-refused : (code tokens out : List ℕ) (r : Examined) (a : Answer) (k : ℕ) → (r .answer ≡ a) × (r .place ≡ k) → eqb (numberOf a) 0 ≡ false
+    → verdict code ≡ refused a k → ExaminedAs code tokens r out
 unfolding verdictOf
-examined-refused code out r a k e z v = record {
+examined-refused code tokens out r a k e z v = record {
   told = rw (e .0, e .1, z) (sym v);
   sound = λ t. absurd (true≢false (sym (eq-eqb (numberOf a) 0 (sym (ap numberOf (e .0)) ∙ t)) ∙ z));
 }
@@ -63,16 +63,17 @@ module _ (code : List ℕ) (v : verdict code ≡ sectionsVerdict code) {old out 
       unfolding sectionsVerdict orElse sectionsIn
       verdict-limit k e l = v ∙ rw (kind-none (partsIn code) (r .drafts) (d .each) n j many kinds kinds-none, where-none (partsIn code) (r .drafts) (d .each) n i many stand stand-none, limit-some (partsIn code) (r .drafts) (d .each) n k many e l)
 
-      pub examined-done : (k : ℕ) → found 6 k → n ≤ k → n ≤ 4 → length code ≤ 254 → length old ≡ 508
-          → ExaminedAs code (record { answer = answer.Done; place = 0; sections = n; words = r .words; drafts = r .drafts }) out
+      pub examined-done : (k : ℕ) → found 6 k → n ≤ k → n ≤ 4 → length old ≡ 508 → (tokens : List ℕ) (count : ℕ) → Buffered code tokens count
+          → ExaminedAs code tokens (record { answer = answer.Done; place = 0; tokens = count; sections = n; words = r .words; drafts = r .drafts }) out
       unfolding sectionsVerdict orElse sectionsIn verdictOf
-      examined-done k e l few small wide =
+      examined-done k e l few wide tokens count b =
           let size : r .words ≡ 0 + length (itemWords (partsIn code)) = d .put .next in
-          let room = items-room code small in
+          let room = items-room code (b .small) in
           record {
             told = sym (v ∙ rw (kind-none (partsIn code) (r .drafts) (d .each) n j many kinds kinds-none, where-none (partsIn code) (r .drafts) (d .each) n i many stand stand-none, limit-none (partsIn code) (r .drafts) (d .each) n k many e l));
             sound = λ t.
                 record {
+                  buffered = rw (take-all (3 * count) tokens (omega (arith, b .size))) b;
                   many = many;
                   few = few;
                   each = d .each;
@@ -84,11 +85,11 @@ module _ (code : List ℕ) (v : verdict code ≡ sectionsVerdict code) {old out 
 
 -- ---- 3
 module _ (code tokens : List ℕ) (n : ℕ) (b : Buffered code tokens n) where
-  places-same : semicolonsIn (take (3 * n) tokens) ≡ semicolons (placedOf (lex code))
+  pub places-same : semicolonsIn (take (3 * n) tokens) ≡ semicolons (placedOf (lex code))
   unfolding placedOf
   places-same = rw (take-all (3 * n) tokens (omega (arith, b .size))) (sym (semicolons-in code tokens) ∙ ap (λ (l : Lexed). semicolons (placedOf l)) (b .same))
 
-  token-fine : tokenVerdict (lex code) ≡ fine
+  pub token-fine : tokenVerdict (lex code) ≡ fine
   unfolding tokenVerdict
   token-fine = rw (← (b .same))
 
@@ -143,6 +144,24 @@ module _ (code old words : List ℕ) (r : Filled) (f : Fills code old words r) w
 
   pub filled-bad : (k : ℕ) → r ≡ Bad k → lengthVerdict code ≡ fine → verdict code ≡ refused answer.Token k
   filled-bad k e fair = verdict-token code words k fair (rw e at (f .same))
+
+-- what was told of the first words holds of all
+pub examined-front : (code words out : List ℕ) (r : Examined) (k : ℕ) → ExaminedAs code (take k words) r out → ExaminedAs code words r out
+examined-front code words out r k x = record {
+  told = x .told;
+  sound = λ t.
+      let s = x .sound t in
+      let inside : 3 * r .tokens ≤ k = omega (arith, s .buffered .size, length-take (3 * r .tokens) (take k words), length-take k words) in
+      record {
+        buffered = rw (take-take (3 * r .tokens) k words inside) at (s .buffered);
+        many = s .many;
+        few = s .few;
+        each = s .each;
+        words = s .words;
+        short = s .short;
+        room = s .room;
+      };
+}
 
 -- ---- 1
 pub length-none : (code : List ℕ) → length code ≡ 0 → verdict code ≡ refused answer.CodeLength 0

@@ -46,14 +46,14 @@ module _ (code : List ℕ) (a : Answer) (k : ℕ) (v : verdict code ≡ refused 
   unfolding tableAfter tableOf wordsOf accept acceptedBy written overlay
   refused-table old = rw (v, le-leb 0 (length old) (omega arith))
 
-pub examined-no : (code : List ℕ) (r : Examined) (out : List ℕ) (n : ℕ) → ExaminedAs code r out → n ≡ numberOf (r .answer) → (n ≡ 0 → ⊥)
+pub examined-no : (code tokens : List ℕ) (r : Examined) (out : List ℕ) (n : ℕ) → ExaminedAs code tokens r out → n ≡ numberOf (r .answer) → (n ≡ 0 → ⊥)
     → verdict code ≡ refused (r .answer) (r .place)
 unfolding verdictOf
-examined-no code r out n x e z = sym (x .told) ∙ rw (ne-eqb (numberOf (r .answer)) 0 (λ t. z (e ∙ t)))
+examined-no code tokens r out n x e z = sym (x .told) ∙ rw (ne-eqb (numberOf (r .answer)) 0 (λ t. z (e ∙ t)))
 
-pub examined-fine : (code : List ℕ) (r : Examined) (out : List ℕ) (n : ℕ) → ExaminedAs code r out → n ≡ numberOf (r .answer) → n ≡ 0 → verdict code ≡ fine
+pub examined-fine : (code tokens : List ℕ) (r : Examined) (out : List ℕ) (n : ℕ) → ExaminedAs code tokens r out → n ≡ numberOf (r .answer) → n ≡ 0 → verdict code ≡ fine
 unfolding verdictOf
-examined-fine code r out n x e z = sym (x .told) ∙ rw (eq-eqb (numberOf (r .answer)) 0 (sym e ∙ z))
+examined-fine code tokens r out n x e z = sym (x .told) ∙ rw (eq-eqb (numberOf (r .answer)) 0 (sym e ∙ z))
 
 -- ---- the table
 none-fine : (a : Answer) (o : Option ℕ) → sectionVerdict a o ≡ fine → o ≡ none
@@ -82,7 +82,7 @@ drafted-length [] ds h = omega arith
 drafted-length (p ∷ ps) [] h = absurd h
 drafted-length (p ∷ ps) (d ∷ ds) h = omega (arith, drafted-length ps ds (h .1))
 
-module _ (code : List ℕ) (v : verdict code ≡ fine) (r : Examined) (out : List ℕ) (s : Sound code r out) where
+module _ (code : List ℕ) (v : verdict code ≡ fine) {tokens : List ℕ} (r : Examined) (out : List ℕ) (s : Sound code tokens r out) where
   one-least : 1 ≤ r .sections
   unfolding sectionsIn
   one-least = omega (arith, s .many, section-count code, length-map (partsIn code) sectionOf)

@@ -7,3 +7,4 @@ pub mod Refusing
 pub mod Tabling
 pub mod Answering
 pub mod Finishing
+pub mod Spanning

@@ -27,8 +27,8 @@ pub record Seeking (f : ℕ → Draft → Bool) (ds : List Draft) (n i : ℕ) : 
   pub inside : i ≤ n
   pub same : firstFrom f 0 (take n ds) ≡ firstFrom f i (drop i (take n ds))
 
-pub seeking-start : (f : ℕ → Draft → Bool) (ds : List Draft) (n : ℕ) → n ≤ 4 → length ds ≡ 4 → Seeking f ds n 0
-seeking-start f ds n h e = record { few = h; size = e; inside = omega arith; same = refl }
+pub seeking-start : (f : ℕ → Draft → Bool) (ds : List Draft) (n i : ℕ) → i ≡ 0 → n ≤ 4 → length ds ≡ 4 → Seeking f ds n i
+seeking-start f ds n i z h e = record { few = h; size = e; inside = omega arith; same = rw z }
 
 module _ (f : ℕ → Draft → Bool) (ds : List Draft) (n i : ℕ) (inv : Seeking f ds n i) where
   pub seeking-end : n ≤ i → n ≡ firstFrom f 0 (take n ds)

@@ -70,6 +70,16 @@ headingCondition code h = cond (h .condition) (conditionIn (tokenAt code 24 (h .
 abbrev pub noCondition : Compared
 noCondition = record { operator = 0; negative = false; whole = 0; millionths = 0; within = true }
 
+-- the draft of no section
+abbrev pub noDraft : Draft
+noDraft =
+    record {
+      colour = 0;
+      within = true;
+      condition = noCondition;
+      body = record { fits = true; within = true; kind = 0; shift = 0; grouped = false; twelve = false; decimals = 0; items = 0 };
+    }
+
 -- the body of a section by its facts, its commas, the tally of its items and their count
 abbrev pub thousandsBy : Facts → Commas → ℕ
 thousandsBy f c = cond (f .number) (c .thousands) 0

@@ -22,19 +22,6 @@ verdictOf a k = cond (eqb (numberOf a) 0) fine (refused a k)
 unfoldable pub sectionsVerdict : List ℕ → Verdict
 sectionsVerdict code = orElse (kindVerdict (partsIn code)) (orElse (whereVerdict (sectionsIn code)) (limitVerdict (partsIn code)))
 
--- the sections of a code that is fine, as drafts, with the words of their items
-pub record Sound (code : List ℕ) (r : Examined) (out : List ℕ) : Type 0 where
-  pub many : r .sections ≡ length (partsIn code)
-  pub few : r .sections ≤ 4
-  pub each : Drafted (partsIn code) (r .drafts)
-  pub words : take (r .words) out ≡ itemWords (partsIn code)
-  pub short : r .words ≤ 508
-  pub room : r .words ≤ length out
-
-pub record ExaminedAs (code : List ℕ) (r : Examined) (out : List ℕ) : Type 0 where
-  pub told : verdictOf (r .answer) (r .place) ≡ verdict code
-  pub sound : numberOf (r .answer) ≡ 0 → Sound code r out
-
 -- the n tokens of a code of a length that is fine
 pub record Buffered (code tokens : List ℕ) (n : ℕ) : Type 0 where
   pub size : length tokens ≡ 3 * n
@@ -42,3 +29,17 @@ pub record Buffered (code tokens : List ℕ) (n : ℕ) : Type 0 where
   pub small : length code ≤ 254
   pub same : good (placedIn code tokens) ≡ lex code
   pub fair : lengthVerdict code ≡ fine
+
+-- the tokens of a code that is fine, and its sections as drafts, with the words of their items
+pub record Sound (code tokens : List ℕ) (r : Examined) (out : List ℕ) : Type 0 where
+  pub buffered : Buffered code (take (3 * r .tokens) tokens) (r .tokens)
+  pub many : r .sections ≡ length (partsIn code)
+  pub few : r .sections ≤ 4
+  pub each : Drafted (partsIn code) (r .drafts)
+  pub words : take (r .words) out ≡ itemWords (partsIn code)
+  pub short : r .words ≤ 508
+  pub room : r .words ≤ length out
+
+pub record ExaminedAs (code tokens : List ℕ) (r : Examined) (out : List ℕ) : Type 0 where
+  pub told : verdictOf (r .answer) (r .place) ≡ verdict code
+  pub sound : numberOf (r .answer) ≡ 0 → Sound code tokens r out

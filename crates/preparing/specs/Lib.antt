@@ -1,2 +1,3 @@
 pub mod Draft
 pub mod Examine
+pub mod Span

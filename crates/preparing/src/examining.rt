@@ -15,10 +15,12 @@ ghost use Rattle.formats.specs.Accept.{verdict};
 ghost use Rattle.preparing.specs.Draft.{Lexes};
 ghost use Rattle.preparing.specs.Examine.{sectionsVerdict, Buffered, ExaminedAs};
 
-// An answer and its place; where it is `Done`, how many sections there are, how many words their items have, and their drafts.
+// An answer and its place; where it is `Done`, how many tokens and sections there are, how many words the items have, and the
+// sections' drafts.
 pub struct Examined {
     pub answer: Answer,
     pub place: u32,
+    pub tokens: usize,
     pub sections: usize,
     pub words: usize,
     pub drafts: [Draft; 4],
@@ -31,18 +33,26 @@ fn refused(answer: Answer, place: u32) -> Examined
     Examined {
         answer,
         place,
+        tokens: 0,
         sections: 0,
         words: 0,
         drafts,
     }
 }
 
-// The tests 4, 5 and 6 of a code of n sections whose tokens these are.
-fn examine_sections(code: &[u16], tokens: &[u16], n: usize, items: &mut [u16]) -> Examined
-    requires { ⌜ (length (now code) ≤ 254) × (length (now tokens) ≤ 762) × (length (now items) ≡ 508) × (n ≤ 4) ⌝ }
+// The tests 4, 5 and 6 of a code of n sections whose `count` tokens these are.
+fn examine_sections(
+    code: &[u16],
+    tokens: &[u16],
+    count: usize,
+    n: usize,
+    items: &mut [u16],
+) -> Examined
+    requires { ⌜ (length (now items) ≡ 508) × (n ≤ 4) ⌝ }
+    requires { ⌜ Buffered (now code) (now tokens) count ⌝ }
     requires { ⌜ Lexes (now code) (now tokens) n ⌝ }
     requires { ⌜ verdict (now code) ≡ sectionsVerdict (now code) ⌝ }
-    ensures { λ r. ⌜ ExaminedAs (now (code .entry)) r (now (items .exit)) ⌝ }
+    ensures { λ r. ⌜ ExaminedAs (now (code .entry)) (now (tokens .entry)) r (now (items .exit)) ⌝ }
 {
     let d = draft_all(code, tokens, n, items);
     let drafts = d.drafts;
@@ -61,6 +71,7 @@ fn examine_sections(code: &[u16], tokens: &[u16], n: usize, items: &mut [u16]) -
     Examined {
         answer: Answer::Done,
         place: 0,
+        tokens: count,
         sections: n,
         words: d.words,
         drafts,
@@ -71,20 +82,20 @@ fn examine_sections(code: &[u16], tokens: &[u16], n: usize, items: &mut [u16]) -
 fn examine_tokens(code: &[u16], tokens: &[u16], n: usize, items: &mut [u16]) -> Examined
     requires { ⌜ length (now items) ≡ 508 ⌝ }
     requires { ⌜ Buffered (now code) (now tokens) n ⌝ }
-    ensures { λ r. ⌜ ExaminedAs (now (code .entry)) r (now (items .exit)) ⌝ }
+    ensures { λ r. ⌜ ExaminedAs (now (code .entry)) (now (tokens .entry)) r (now (items .exit)) ⌝ }
 {
     let semicolons = semicolon_count(tokens, n);
     if 3 < semicolons {
         let place = semicolon_place(tokens, n, 3);
         return refused(Answer::SectionCount, place as u32);
     }
-    examine_sections(code, tokens, semicolons + 1, items)
+    examine_sections(code, tokens, n, semicolons + 1, items)
 }
 
 // Examines a code, with 762 words of room for its tokens and 508 for its items.
 pub fn examine(code: &[u16], tokens: &mut [u16], items: &mut [u16]) -> Examined
     requires { ⌜ (length (now tokens) ≡ 762) × (length (now items) ≡ 508) ⌝ }
-    ensures { λ r. ⌜ ExaminedAs (now (code .entry)) r (now (items .exit)) ⌝ }
+    ensures { λ r. ⌜ ExaminedAs (now (code .entry)) (now (tokens .exit)) r (now (items .exit)) ⌝ }
 {
     if code.len() == 0 {
         return refused(Answer::CodeLength, 0);

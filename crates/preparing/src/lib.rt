@@ -4,6 +4,7 @@ pub mod examining;
 pub mod heads;
 pub mod places;
 pub mod sections;
+pub mod spans;
 pub mod verdicts;
 
 use answers::Answer;

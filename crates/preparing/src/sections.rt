@@ -14,7 +14,7 @@ ghost use Rattle.formats.specs.Accept.{partsIn};
 ghost use Rattle.marks.specs.Marks.{tokensIn};
 ghost use Rattle.bodies.specs.Sections.{firstSection};
 ghost use Rattle.emitting.specs.Emit.{bodyWords};
-ghost use Rattle.preparing.specs.Draft.{hasDigit, FirstDrafted, AllDrafted, Lexes};
+ghost use Rattle.preparing.specs.Draft.{noDraft, hasDigit, FirstDrafted, AllDrafted, Lexes};
 
 // The next section: its draft, and how many tokens it has.
 pub struct Next {
@@ -42,7 +42,9 @@ fn draft_next(code: &[u16], tokens: &[u16], items: &mut [u16], at: usize) -> Nex
 }
 
 // A draft of no section.
-pub fn no_draft() -> Draft {
+pub fn no_draft() -> Draft
+    ensures { λ r. ⌜ r ≡ noDraft ⌝ }
+{
     Draft {
         colour: 0,
         within: true,

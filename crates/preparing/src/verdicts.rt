@@ -52,12 +52,12 @@ pub fn first_failing(drafts: [Draft; 4], n: usize, test: u16) -> usize
     requires { ⌜ n ≤ 4 ⌝ }
     ensures { λ r. ⌜ r ≡ firstFrom (passesBy test n) 0 (take n drafts) ⌝ }
 {
-    let mut i: usize = 0;
-    while i < n {
-        if !passes(drafts[i], test, n, i) {
-            return i;
+    let mut place: usize = 0;
+    while place < n {
+        if !passes(drafts[place], test, n, place) {
+            return place;
         }
-        i += 1;
+        place += 1;
     }
     n
 }

@@ -27,7 +27,7 @@ returns : tie.Need-returns
 returns c =
     let m = c .before .before in
     let x = m .before .before .before in
-    let v = examined-no _ _ _ _ (x .examine .ensures) (m .number .ensures) (c .before .if1 .taken) in
+    let v = examined-no _ _ _ _ _ (x .examine .ensures) (m .number .ensures) (c .before .if1 .taken) in
     (c .refused .ensures ∙ sym (refused-prepared _ _ _ v _), sym (refused-table _ _ _ v _))
 
 mul-size : tie.Need-mul-size
@@ -63,7 +63,7 @@ returns-2 c =
     let m = i .before in
     let x = m .before .before .before in
     let s = x .examine .ensures .sound (sym (m .number .ensures) ∙ i .if1 .left) in
-    let v = examined-fine _ _ _ _ (x .examine .ensures) (m .number .ensures) (i .if1 .left) in
+    let v = examined-fine _ _ _ _ _ (x .examine .ensures) (m .number .ensures) (i .if1 .left) in
     (c .refused2 .ensures ∙ sym (room-prepared _ v _ _ s _ refl _ (c .before .if2 .taken)), sym (room-table _ v _ _ s _ refl _ (c .before .if2 .taken)))
 
 array-share-prefix-items : tie.Need-array-share-prefix-items
@@ -107,7 +107,7 @@ returns-3 c =
     let m = i .before in
     let x = m .before .before .before in
     let s = x .examine .ensures .sound (sym (m .number .ensures) ∙ i .if1 .left) in
-    let v = examined-fine _ _ _ _ (x .examine .ensures) (m .number .ensures) (i .if1 .left) in
+    let v = examined-fine _ _ _ _ _ (x .examine .ensures) (m .number .ensures) (i .if1 .left) in
     let f = c .before .before .before .before .before .before in
     (sym (done-prepared _ v _ _ s _ refl _ (f .if2 .left)), done-table _ v _ _ s _ refl _ _ _ (f .if2 .left) (c .before .before .put-table .ensures))
 

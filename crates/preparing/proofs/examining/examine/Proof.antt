@@ -1,11 +1,11 @@
 -- `preparing::examining::examine` meets its contract.
 -- Assumes nothing.
-use Prim.Native.Nat.{_≤_, _<_}
+use Prim.Native.Nat.{_*_, _≤_, _<_}
 use native.Mathlib.Omega.{arith}
 use mathlib.Core.Path.{refl, sym}
 use denote.Ref.{now}
 use lib.ListN.{length}
-use Rattle.preparing.proofs.Answering.{examined-refused, length-none, length-over, length-fair, filled-few, filled-all, filled-bad, token-inside}
+use Rattle.preparing.proofs.Answering.{examined-refused, examined-front, length-none, length-over, length-fair, filled-few, filled-all, filled-bad, token-inside}
 use borrow.Author.Needs.{needs}
 use Rattle.preparing.proofs.examining.examine.Statement.{statement}
 use Rattle.preparing.proofs.examining.examine.Tie as tie
@@ -14,13 +14,13 @@ refused-requires : tie.Need-refused-requires
 refused-requires c κs = search needs
 
 returns : tie.Need-returns
-returns c = examined-refused _ _ _ _ _ (c .refused .ensures) refl (length-none _ (c .before .if1 .taken))
+returns c = examined-refused _ _ _ _ _ _ (c .refused .ensures) refl (length-none _ (c .before .if1 .taken))
 
 refused-requires-2 : tie.Need-refused-requires-2
 refused-requires-2 c κs = search needs
 
 returns-2 : tie.Need-returns-2
-returns-2 c = examined-refused _ _ _ _ _ (c .refused2 .ensures) refl (length-over _ (c .before .if2 .taken))
+returns-2 c = examined-refused _ _ _ _ _ _ (c .refused2 .ensures) refl (length-over _ (c .before .if2 .taken))
 
 fill-requires : tie.Need-fill-requires
 fill-requires c κs = search needs
@@ -76,7 +76,9 @@ same-length-2 : tie.Need-same-length-2
 same-length-2 c = search needs
 
 returns-3 : tie.Need-returns-3
-returns-3 c = search needs
+returns-3 c =
+    let e = c .before .before in
+    examined-front _ _ _ _ (3 * e .before .before .before .before .n .given .0 .0) (e .examine-tokens .ensures)
 
 same-length-3 : tie.Need-same-length-3
 same-length-3 c = search needs
@@ -86,7 +88,7 @@ returns-4 c =
     let d = c .before in
     let f = d .before .before .before .before .before in
     let code = now (f .before .before .before .before .before .before .before .args .code) in
-    examined-refused _ _ _ _ _ (c .refused3 .ensures) refl
+    examined-refused _ _ _ _ _ _ (c .refused3 .ensures) refl
     (filled-bad code _ _ _ (f .fill .ensures) _ (d .before .k .given .1) (length-fair code (f .before .before .before .if1 .left) (f .before .before .if2 .left)))
 
 pub examine-spec : {M : Type 1} → statement M

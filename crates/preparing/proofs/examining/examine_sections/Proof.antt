@@ -1,5 +1,6 @@
 -- `preparing::examining::examine_sections` meets its contract.
 -- Assumes nothing.
+use native.Mathlib.Omega.{arith}
 use mathlib.Core.Path.{refl}
 use denote.Ref.{now}
 use Rattle.preparing.proofs.Answering.{examined-refused, verdict-kind, verdict-where, verdict-limit, examined-done}
@@ -8,7 +9,10 @@ use Rattle.preparing.proofs.examining.examine_sections.Statement.{state
 use Rattle.preparing.proofs.examining.examine_sections.Tie as tie
 
 draft-all-requires : tie.Need-draft-all-requires
-draft-all-requires c κs = search needs
+draft-all-requires c κs =
+    let s = c .before .before .before .before in
+    let b = s .pre .1 .0 in
+    ((b .small, omega (arith, b .size, b .few), s .pre .0 .0, s .pre .0 .1), s .pre .1 .1 .0)
 
 first-failing-requires : tie.Need-first-failing-requires
 first-failing-requires c κs = search needs
@@ -27,8 +31,8 @@ returns c =
     let f = c .before .before in
     let a = f .before .before .before .before in
     let s = a .before .before .before .before .before in
-    examined-refused _ _ _ _ _ (c .refused .ensures) refl
-    (verdict-kind (now (s .args .code)) (s .pre .1 .1) _ (a .draft-all .ensures) _ (s .pre .1 .0 .many) _ (f .first-failing .ensures) (c .before .if1 .taken))
+    examined-refused _ _ _ _ _ _ (c .refused .ensures) refl
+    (verdict-kind (now (s .args .code)) (s .pre .1 .1 .1) _ (a .draft-all .ensures) _ (s .pre .1 .1 .0 .many) _ (f .first-failing .ensures) (c .before .if1 .taken))
 
 first-failing-requires-2 : tie.Need-first-failing-requires-2
 first-failing-requires-2 c κs = search needs
@@ -48,8 +52,8 @@ returns-2 c =
     let f = g .before .before in
     let a = f .before .before .before .before in
     let s = a .before .before .before .before .before in
-    examined-refused _ _ _ _ _ (c .refused2 .ensures) refl
-    (verdict-where (now (s .args .code)) (s .pre .1 .1) _ (a .draft-all .ensures) _ (s .pre .1 .0 .many) _ (f .first-failing .ensures) (g .before .if1 .left)
+    examined-refused _ _ _ _ _ _ (c .refused2 .ensures) refl
+    (verdict-where (now (s .args .code)) (s .pre .1 .1 .1) _ (a .draft-all .ensures) _ (s .pre .1 .1 .0 .many) _ (f .first-failing .ensures) (g .before .if1 .left)
     _ (g .first-failing2 .ensures) (c .before .if2 .taken))
 
 first-failing-requires-3 : tie.Need-first-failing-requires-3
@@ -71,8 +75,8 @@ returns-3 c =
     let f = g .before .before in
     let a = f .before .before .before .before in
     let s = a .before .before .before .before .before in
-    examined-refused _ _ _ _ _ (c .refused3 .ensures) refl
-    (verdict-limit (now (s .args .code)) (s .pre .1 .1) _ (a .draft-all .ensures) _ (s .pre .1 .0 .many) _ (f .first-failing .ensures) (g .before .if1 .left)
+    examined-refused _ _ _ _ _ _ (c .refused3 .ensures) refl
+    (verdict-limit (now (s .args .code)) (s .pre .1 .1 .1) _ (a .draft-all .ensures) _ (s .pre .1 .1 .0 .many) _ (f .first-failing .ensures) (g .before .if1 .left)
     _ (g .first-failing2 .ensures) (h .before .if2 .left) _ (h .first-failing3 .ensures) (c .before .if3 .taken))
 
 same-length-4 : tie.Need-same-length-4
@@ -85,8 +89,8 @@ returns-4 c =
     let f = g .before .before in
     let a = f .before .before .before .before in
     let s = a .before .before .before .before .before in
-    examined-done (now (s .args .code)) (s .pre .1 .1) _ (a .draft-all .ensures) _ (s .pre .1 .0 .many) _ (f .first-failing .ensures) (g .before .if1 .left)
-    _ (g .first-failing2 .ensures) (h .before .if2 .left) _ (h .first-failing3 .ensures) (c .if3 .left) (s .pre .0 .3) (s .pre .0 .0) (s .pre .0 .2)
+    examined-done (now (s .args .code)) (s .pre .1 .1 .1) _ (a .draft-all .ensures) _ (s .pre .1 .1 .0 .many) _ (f .first-failing .ensures) (g .before .if1 .left)
+    _ (g .first-failing2 .ensures) (h .before .if2 .left) _ (h .first-failing3 .ensures) (c .if3 .left) (s .pre .0 .1) (s .pre .0 .0) _ _ (s .pre .1 .0)
 
 pub examine-sections-spec : {M : Type 1} → statement M
 examine-sections-spec =

@@ -26,7 +26,7 @@ returns : tie.Need-returns
 returns c =
     let p = c .before in
     let s = p .before .before .before .before .before .before in
-    examined-refused _ _ _ _ _ (c .refused .ensures) refl
+    examined-refused _ _ _ _ _ _ (c .refused .ensures) refl
     (verdict-count (now (s .args .code)) (now (s .args .tokens)) (s .args .n) (s .pre .1) _ (p .before .before .semicolon-count .ensures) _ (p .semicolon-place .ensures) (p .before .if1 .taken))
 
 add-examine-sections : tie.Need-add-examine-sections
@@ -37,10 +37,13 @@ examine-sections-requires c κs =
     let n = c .before .before in
     let s = n .before .before .before .before in
     let b = s .pre .1 in (
-      (b .small, omega (arith, b .size, b .few), s .pre .0, omega (arith, c .before .if1 .left)),
+      (s .pre .0, omega (arith, c .before .if1 .left)),
       (
-        lexes-all (now (s .args .code)) (now (s .args .tokens)) (s .args .n) b _ (n .semicolon-count .ensures),
-        verdict-sections (now (s .args .code)) (now (s .args .tokens)) (s .args .n) b _ (n .semicolon-count .ensures) (c .before .if1 .left),
+        b,
+        (
+          lexes-all (now (s .args .code)) (now (s .args .tokens)) (s .args .n) b _ (n .semicolon-count .ensures),
+          verdict-sections (now (s .args .code)) (now (s .args .tokens)) (s .args .n) b _ (n .semicolon-count .ensures) (c .before .if1 .left),
+        ),
       ),
     )
 

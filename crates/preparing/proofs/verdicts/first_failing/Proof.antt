@@ -1,6 +1,7 @@
 -- `preparing::verdicts::first_failing` meets its contract.
 -- Assumes nothing.
 use Prim.Native.Nat.{_-_}
+use native.Mathlib.Omega.{arith}
 use mathlib.Core.Path.{sym, _∙_}
 use borrow.Author.Tests.{not-true, not-false}
 use Rattle.preparing.specs.Draft.{passesBy}
@@ -10,13 +11,13 @@ use Rattle.preparing.proofs.verdicts.first_failing.Statement.{statement
 use Rattle.preparing.proofs.verdicts.first_failing.Tie as tie
 
 abbrev Inv-loop : tie.InvT-loop
-Inv-loop n test drafts i₀ i = Seeking (passesBy test n) drafts n i
+Inv-loop n test drafts place₀ place = Seeking (passesBy test n) drafts n place
 
 abbrev μ-loop : tie.MeasureT-loop
-μ-loop n test drafts i₀ i = n - i
+μ-loop n test drafts place₀ place = n - place
 
 loop-holds : tie.Need-loop-holds Inv-loop μ-loop
-loop-holds c = search (needs, seeking-start)
+loop-holds c = seeking-start _ _ _ _ (omega arith) (search needs) (search needs)
 
 mul-passes : tie.Need-mul-passes Inv-loop μ-loop
 mul-passes c = search needs
@@ -30,8 +31,8 @@ passes-requires c κs = search needs
 returns : tie.Need-returns Inv-loop μ-loop
 returns c = seeking-fail _ _ _ _ (c .before .before .before .before .loop .inv) (c .before .before .before .loop-test .taken) _ (sym (c .before .passes .ensures) ∙ not-true _ (c .if1 .taken))
 
-add-i : tie.Need-add-i Inv-loop μ-loop
-add-i c = search needs
+add-place : tie.Need-add-place Inv-loop μ-loop
+add-place c = search needs
 
 loop-less : tie.Need-loop-less Inv-loop μ-loop
 loop-less c = search needs
@@ -53,7 +54,7 @@ first-failing-spec =
     array-copy-out-passes
     passes-requires
     returns
-    add-i
+    add-place
     loop-less
     loop-again
     returns-2)
