@@ -1,0 +1,7 @@
+pub mod Lining
+pub mod Numerals
+pub mod Alike
+pub mod Valuing
+pub mod Requesting
+pub mod Cases
+pub mod Prefixes

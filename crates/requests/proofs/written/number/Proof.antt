@@ -1,0 +1,60 @@
+-- `requests::written::number` meets its contract.
+-- Assumes nothing.
+use mathlib.Core.List.{[], _∷_}
+use mathlib.Core.Path.{sym, _∙_}
+use native.Mathlib.Omega.{arith}
+use borrow.Author.Needs.{needs}
+use denote.Ref.{now}
+use lib.ListN.{length-drop}
+use Rattle.calendar.specs.Names.{units}
+use Rattle.lexing.proofs.Scanning.{rest-all, word-most}
+use Rattle.requests.proofs.Valuing.{number-minus, number-plain}
+use Rattle.requests.proofs.written.number.Statement.{statement}
+use Rattle.requests.proofs.written.number.Tie as tie
+
+slice-aggregate-starts-with : tie.Need-slice-aggregate-starts-with
+slice-aggregate-starts-with c = search needs
+
+starts-with-requires : tie.Need-starts-with-requires
+starts-with-requires c κs = search needs
+
+sub-unsigned : tie.Need-sub-unsigned
+sub-unsigned c = omega (arith, word-most (45 ∷ []) (now (c .before .before .before .before .args .us)) (sym (c .before .starts-with .ensures) ∙ c .if1 .taken))
+
+part-unsigned-start : tie.Need-part-unsigned-start
+part-unsigned-start c = omega (arith, word-most (45 ∷ []) (now (c .before .before .before .before .args .us)) (sym (c .before .starts-with .ensures) ∙ c .if1 .taken))
+
+part-unsigned-end : tie.Need-part-unsigned-end
+part-unsigned-end c = search needs
+
+unsigned-requires : tie.Need-unsigned-requires
+unsigned-requires c κs = rw (rest-all (now (c .before .before .before .before .before .args .us)) 1, length-drop) (search needs)
+
+returns : tie.Need-returns
+unfolding units
+returns c =
+    let us = now (c .before .before .before .before .before .before .args .us) in
+    number-minus us (c .unsigned .result) (sym (c .before .before .before .starts-with .ensures) ∙ c .before .before .if1 .taken) (rw (rest-all us 1) at (c .unsigned .ensures))
+
+unsigned-requires-2 : tie.Need-unsigned-requires-2
+unsigned-requires-2 c κs = search needs
+
+returns-2 : tie.Need-returns-2
+unfolding units
+returns-2 c =
+    let us = now (c .before .before .before .before .before .args .us) in
+    number-plain us (c .unsigned2 .result) (sym (c .before .before .starts-with .ensures) ∙ c .before .if1 .left) (c .unsigned2 .ensures)
+
+pub number-spec : {M : Type 1} → statement M
+number-spec =
+    tie.close
+    (tie.spec
+    slice-aggregate-starts-with
+    starts-with-requires
+    sub-unsigned
+    part-unsigned-start
+    part-unsigned-end
+    unsigned-requires
+    returns
+    unsigned-requires-2
+    returns-2)

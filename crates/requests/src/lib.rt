@@ -1,0 +1,105 @@
+// Reads the program's three lines: a code, the kind of a value, and the value.
+pub mod digits;
+pub mod lines;
+pub mod written;
+
+use lines::Line;
+use lines::Part;
+use lines::line_at;
+use values::Ask;
+use written::Sort;
+use written::SortRead;
+use written::ValueRead;
+use written::sort_of;
+use written::value_of;
+ghost use mathlib.Core.Path.{_≡_};
+ghost use Prim.Native.Nat.{_+_, _≤_};
+ghost use lib.ListN.{length, drop};
+ghost use Rattle.calendar.specs.Names.{units};
+ghost use Rattle.requests.specs.Lines.{fieldOf};
+ghost use Rattle.requests.specs.Written.{sortOf, valueOf, textOf};
+ghost use Rattle.requests.specs.Request.{fromValue, fromThird, fromKind, fromSecond};
+ghost use Rattle.requests.specs.Reads.{partOf, Ended, textPart, Reads, Requested};
+
+// A code, what is asked, and the text beside it; or the first malformed line.
+pub enum RequestRead {
+    Request(Part, Ask, Part),
+    Malformed(u32),
+}
+
+// The part that is the text beside a value.
+fn text_part(sort: Sort, value: Part) -> Part
+    ensures { λ r. ⌜ r ≡ textPart sort value ⌝ }
+{
+    match sort {
+        Sort::Number => Part { start: 0, end: 0 },
+        Sort::Instant => Part { start: 0, end: 0 },
+        Sort::Text => value,
+    }
+}
+
+// The value, and nothing behind its line.
+fn from_value(input: &[u16], code: Part, sort: Sort, value: Part) -> RequestRead
+    requires { ⌜ Ended (now input) code × Ended (now input) value ⌝ }
+    ensures { λ r. ⌜ Reads (now (input .entry)) (fromValue (partOf (now (input .entry)) code) (valueOf sort (partOf (now (input .entry)) value)) (textOf sort (partOf (now (input .entry)) value)) (drop (value .end + 1) (now (input .entry)))) r ⌝ }
+{
+    let a = value.start;
+    let e = value.end;
+    match value_of(sort, &input[a..e]) {
+        ValueRead::Known(v) => {
+            if e + 1 == input.len() {
+                let text = text_part(sort, value);
+                return RequestRead::Request(code, Ask { value: v }, text);
+            }
+            RequestRead::Malformed(4)
+        }
+        ValueRead::Malformed => RequestRead::Malformed(3),
+    }
+}
+
+// The third line, which starts at a place.
+fn from_third(input: &[u16], code: Part, sort: Sort, at: usize) -> RequestRead
+    requires { ⌜ Ended (now input) code × (at ≤ length (now input)) ⌝ }
+    ensures { λ r. ⌜ Reads (now (input .entry)) (fromThird (partOf (now (input .entry)) code) sort (fieldOf (units "value=") (drop at (now (input .entry))))) r ⌝ }
+{
+    match line_at(input, at, b"value=") {
+        Line::Content(value) => from_value(input, code, sort, value),
+        Line::Malformed => RequestRead::Malformed(3),
+    }
+}
+
+// The kind, and the third line.
+fn from_kind(input: &[u16], code: Part, kind: Part) -> RequestRead
+    requires { ⌜ Ended (now input) code × Ended (now input) kind ⌝ }
+    ensures { λ r. ⌜ Reads (now (input .entry)) (fromKind (partOf (now (input .entry)) code) (sortOf (partOf (now (input .entry)) kind)) (drop (kind .end + 1) (now (input .entry)))) r ⌝ }
+{
+    let a = kind.start;
+    let e = kind.end;
+    let next = e + 1;
+    match sort_of(&input[a..e]) {
+        SortRead::Known(sort) => from_third(input, code, sort, next),
+        SortRead::Unknown => RequestRead::Malformed(2),
+    }
+}
+
+// The second line, behind the code.
+fn from_second(input: &[u16], code: Part) -> RequestRead
+    requires { ⌜ Ended (now input) code ⌝ }
+    ensures { λ r. ⌜ Reads (now (input .entry)) (fromSecond (partOf (now (input .entry)) code) (fieldOf (units "kind=") (drop (code .end + 1) (now (input .entry))))) r ⌝ }
+{
+    let at = code.end + 1;
+    match line_at(input, at, b"kind=") {
+        Line::Content(kind) => from_kind(input, code, kind),
+        Line::Malformed => RequestRead::Malformed(2),
+    }
+}
+
+// The request that the input makes.
+pub fn read_request(input: &[u16]) -> RequestRead
+    ensures { λ r. ⌜ Requested (now (input .entry)) r ⌝ }
+{
+    match line_at(input, 0, b"code=") {
+        Line::Content(code) => from_second(input, code),
+        Line::Malformed => RequestRead::Malformed(1),
+    }
+}

@@ -1,0 +1,82 @@
+// Lines of a lent run of units: a name, what stands behind it, and a line feed.
+use lexing::scan::Set;
+use lexing::scan::scan;
+use lexing::scan::starts_with;
+use writing::put_unit;
+ghost use mathlib.Core.Path.{_≡_};
+ghost use Prim.Native.Nat.{_≤_};
+ghost use lib.ListN.{length, take};
+ghost use Rattle.lists.specs.Lists.{every, overlay};
+ghost use Rattle.requests.specs.Lines.{isAscii, isLine};
+ghost use Rattle.requests.specs.Reads.{LineAt};
+
+// A part of the lent units: where it starts, and where the units behind it start.
+pub struct Part {
+    pub start: usize,
+    pub end: usize,
+}
+
+// What stands behind the name of a line.
+pub enum Line {
+    Content(Part),
+    Malformed,
+}
+
+fn wide(b: u8) -> u16
+    ensures { λ r. ⌜ r ≡ b ⌝ }
+{
+    b as u16
+}
+
+// Copies bytes to units, as many as the room holds.
+pub fn widen(bytes: &[u8], room: &mut [u16])
+    ensures { λ _. ⌜ now (room .exit) ≡ overlay (take (length (now (room .entry))) (now (bytes .entry))) (now (room .entry)) ⌝ }
+{
+    let mut i: usize = 0;
+    while i < bytes.len() {
+        i = put_unit(room, i, wide(bytes[i]));
+    }
+}
+
+// Every unit is ASCII.
+fn is_ascii(us: &[u16]) -> bool
+    ensures { λ r. ⌜ r ≡ every isAscii (now (us .entry)) ⌝ }
+{
+    let mut i: usize = 0;
+    while i < us.len() {
+        if 127 < us[i] {
+            return false;
+        }
+        i += 1;
+    }
+    true
+}
+
+// The units are an ASCII line with this name, short enough.
+fn is_line(line: &[u16], name: &[u8]) -> bool
+    ensures { λ r. ⌜ r ≡ isLine (now (name .entry)) (now (line .entry)) ⌝ }
+{
+    if 2048 < line.len() {
+        return false;
+    }
+    is_ascii(line) & starts_with(line, name)
+}
+
+// The line with this name at a place.
+pub fn line_at(input: &[u16], at: usize, name: &[u8]) -> Line
+    requires { ⌜ at ≤ length (now input) ⌝ }
+    ensures { λ r. ⌜ LineAt (now (input .entry)) at (now (name .entry)) r ⌝ }
+{
+    let n = scan(&input[at..], Set::But(10));
+    let end = at + n;
+    if end == input.len() {
+        return Line::Malformed;
+    }
+    if is_line(&input[at..end], name) {
+        return Line::Content(Part {
+            start: at + name.len(),
+            end,
+        });
+    }
+    Line::Malformed
+}
