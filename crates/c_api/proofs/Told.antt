@@ -1,0 +1,50 @@
+-- The records of numbers are those of the Rattle calls.
+-- Assumes nothing.
+use Prim.Native.Nat.{ℕ, _+_, _≤_}
+use native.Mathlib.Omega.{arith}
+use mathlib.Core.Path.{_≡_, refl, ap, _∙_}
+use mathlib.Core.List.{List}
+use lib.ListN.{length}
+use Rattle.answers.specs.declared.Prepared.{Prepared}
+use Rattle.answers.specs.declared.Shown.{Shown}
+use Rattle.answers.specs.Number.{numberOf}
+use Rattle.values.specs.declared.Ask.{Ask}
+use Rattle.formats.specs.Accept.{Verdict, fine, refused, verdict, Span, spanBy, sectionSpan}
+use Rattle.formats.proofs.First.{verdict-fine, length-bounds}
+use Rattle.tables.specs.Calls.{showing, roomAfter}
+use Rattle.c_api.specs.declared.PreparedNumbers.{PreparedNumbers}
+use Rattle.c_api.specs.declared.PartNumbers.{PartNumbers}
+use Rattle.c_api.specs.declared.ShownNumbers.{ShownNumbers}
+use Rattle.c_api.specs.Numbers.{preparedNumbers, partNumbers, shownNumbers}
+
+pub prepared-told : {n : ℕ} {p q : Prepared} → n ≡ numberOf (p .answer) → p ≡ q
+    → _≡_ {A = PreparedNumbers} (record { answer = n; place = p .place; words = p .words }) (preparedNumbers q)
+prepared-told {n} {p} {q} e h = (λ j. record { answer = e j; place = p .place; words = p .words }) ∙ ap preparedNumbers h
+
+pub shown-told : (s : Shown) {n : ℕ} → n ≡ numberOf (s .answer)
+    → _≡_ {A = ShownNumbers} (record { answer = n; length = s .length; colour = s .colour; section = s .section }) (shownNumbers s)
+shown-told s e = λ j. record { answer = e j; length = s .length; colour = s .colour; section = s .section }
+
+-- a section stands among the first 254 units: a code that is not refused has no more
+small-by : (v : Verdict) (code : List ℕ) (n : ℕ) → verdict code ≡ v → spanBy v n code .start + spanBy v n code .size ≤ length code
+    → spanBy v n code .start + spanBy v n code .size ≤ 254
+unfolding spanBy
+small-by fine code n e h = omega (arith, length-bounds code (verdict-fine code e .length-fine))
+small-by (refused a k) code n e h = omega arith
+
+module _ (code : List ℕ) (n : ℕ) {start size : ℕ} (es : start ≡ sectionSpan n code .start) (ez : size ≡ sectionSpan n code .size) where
+  pub section-small : start + size ≤ length code → start + size ≤ 254
+  unfolding sectionSpan
+  section-small h = rw (es, ez) (small-by (verdict code) code n refl (rw (es, ez) at h))
+
+  pub section-told : _≡_ {A = PartNumbers} (record { start = start; length = size }) (partNumbers (sectionSpan n code))
+  section-told = λ j. record { start = es j; length = ez j }
+
+-- what is shown of a question is shown of an equal one
+module _ {ask asked : Ask} (same : ask ≡ asked) (table text : List ℕ) where
+  pub shown-asked : {n : ShownNumbers} {s : Shown} (size : ℕ) → n ≡ shownNumbers s → s ≡ showing table ask text size
+      → n ≡ shownNumbers (showing table asked text size)
+  shown-asked size e h = e ∙ ap shownNumbers (h ∙ ap (λ (a : Ask). showing table a text size) same)
+
+  pub room-asked : {out : List ℕ} (old : List ℕ) → out ≡ roomAfter table ask text old → out ≡ roomAfter table asked text old
+  room-asked old h = h ∙ ap (λ (a : Ask). roomAfter table a text old) same

@@ -1,0 +1,36 @@
+-- What the calls for C return: what the Rattle calls return, with the answer as its number in the answer list.
+-- Assumes nothing.
+use Prim.Native.Nat.{ℕ}
+use lib.IntN.{ℤ}
+use Rattle.answers.specs.declared.Prepared.{Prepared}
+use Rattle.answers.specs.declared.Shown.{Shown}
+use Rattle.answers.specs.Number.{numberOf}
+use Rattle.values.specs.declared.Day.{Day}
+use Rattle.values.specs.declared.Millisecond.{Millisecond}
+use Rattle.values.specs.declared.Number.{Number}
+use Rattle.values.specs.declared.Value.{Value}
+use Rattle.values.specs.declared.Value.the-variants as value
+use Rattle.values.specs.declared.Ask.{Ask}
+use Rattle.formats.specs.Accept.{Span}
+use Rattle.c_api.specs.declared.PreparedNumbers.{PreparedNumbers}
+use Rattle.c_api.specs.declared.PartNumbers.{PartNumbers}
+use Rattle.c_api.specs.declared.ShownNumbers.{ShownNumbers}
+
+abbrev pub preparedNumbers : Prepared → PreparedNumbers
+preparedNumbers p = record { answer = numberOf (p .answer); place = p .place; words = p .words }
+
+abbrev pub partNumbers : Span → PartNumbers
+partNumbers s = record { start = s .start; length = s .size }
+
+abbrev pub shownNumbers : Shown → ShownNumbers
+shownNumbers s = record { answer = numberOf (s .answer); length = s .length; colour = s .colour; section = s .section }
+
+-- what is asked for: a number, an instant, a text
+abbrev pub numberAsk : ℤ → ℕ → Ask
+numberAsk coefficient scale = record { value = value.Number (record { coefficient = coefficient; scale = scale }) }
+
+abbrev pub instantAsk : ℕ → ℕ → Ask
+instantAsk day millisecond = record { value = value.Instant (record { 0 = day }) (record { 0 = millisecond }) }
+
+abbrev pub textAsk : Ask
+textAsk = record { value = value.Text }

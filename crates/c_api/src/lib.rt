@@ -1,0 +1,125 @@
+// The calls for C and Rust, as include/numfmt.h declares them. Each is the Rattle call with the answer as its number; a slice
+// is a pointer and a length.
+ghost use mathlib.Core.Path.{_≡_};
+ghost use lib.ListN.{length};
+ghost use mathlib.Core.List.{[]};
+ghost use Rattle.formats.specs.Accept.{sectionSpan};
+ghost use Rattle.tables.specs.Calls.{prepared, tableAfter, showing, roomAfter};
+ghost use Rattle.c_api.specs.Numbers.{preparedNumbers, partNumbers, shownNumbers, numberAsk, instantAsk, textAsk};
+use answers::Shown;
+use answers::number;
+use preparing::spans::section_span;
+use showing::show;
+use values::Ask;
+use values::Day;
+use values::Millisecond;
+use values::Number;
+use values::Value;
+
+// numfmt_prepared
+#[repr(C)]
+pub struct PreparedNumbers {
+    pub answer: u16,
+    pub place: u32,
+    pub words: u32,
+}
+
+// numfmt_part
+#[repr(C)]
+pub struct PartNumbers {
+    pub start: u32,
+    pub length: u32,
+}
+
+// numfmt_shown
+#[repr(C)]
+pub struct ShownNumbers {
+    pub answer: u16,
+    pub length: u32,
+    pub colour: u16,
+    pub section: u16,
+}
+
+#[no_mangle]
+pub extern "C" fn numfmt_prepare(code: &[u16], table: &mut [u16]) -> PreparedNumbers
+    ensures answer { λ r. ⌜ r ≡ preparedNumbers (prepared (now (code .entry)) (length (now (table .entry)))) ⌝ }
+    ensures table { λ r. ⌜ now (table .exit) ≡ tableAfter (now (code .entry)) (now (table .entry)) ⌝ }
+{
+    let p = preparing::prepare(code, table);
+    let answer = p.answer;
+    PreparedNumbers {
+        answer: number(answer),
+        place: p.place,
+        words: p.words,
+    }
+}
+
+// Section n of a code: where it stands in it.
+#[no_mangle]
+pub extern "C" fn numfmt_section(code: &[u16], n: u32) -> PartNumbers
+    ensures { λ r. ⌜ r ≡ partNumbers (sectionSpan n (now (code .entry))) ⌝ }
+{
+    let s = section_span(code, n as usize);
+    PartNumbers {
+        start: s.start as u32,
+        length: s.size as u32,
+    }
+}
+
+fn shown_numbers(s: Shown) -> ShownNumbers
+    ensures { λ r. ⌜ r ≡ shownNumbers s ⌝ }
+{
+    let answer = s.answer;
+    ShownNumbers {
+        answer: number(answer),
+        length: s.length,
+        colour: s.colour,
+        section: s.section,
+    }
+}
+
+fn number_ask(coefficient: i64, scale: u32) -> Ask
+    ensures { λ r. ⌜ r ≡ numberAsk coefficient scale ⌝ }
+{
+    Ask {
+        value: Value::Number(Number { coefficient, scale }),
+    }
+}
+
+#[no_mangle]
+pub extern "C" fn numfmt_show_number(
+    table: &[u16],
+    coefficient: i64,
+    scale: u32,
+    room: &mut [u16],
+) -> ShownNumbers
+    ensures result { λ r. ⌜ r ≡ shownNumbers (showing (now (table .entry)) (numberAsk coefficient scale) [] (length (now (room .entry)))) ⌝ }
+    ensures room { λ r. ⌜ now (room .exit) ≡ roomAfter (now (table .entry)) (numberAsk coefficient scale) [] (now (room .entry)) ⌝ }
+{
+    shown_numbers(show(table, number_ask(coefficient, scale), &table[..0], room))
+}
+
+#[no_mangle]
+pub extern "C" fn numfmt_show_instant(
+    table: &[u16],
+    day: u32,
+    millisecond: u32,
+    room: &mut [u16],
+) -> ShownNumbers
+    ensures result { λ r. ⌜ r ≡ shownNumbers (showing (now (table .entry)) (instantAsk day millisecond) [] (length (now (room .entry)))) ⌝ }
+    ensures room { λ r. ⌜ now (room .exit) ≡ roomAfter (now (table .entry)) (instantAsk day millisecond) [] (now (room .entry)) ⌝ }
+{
+    let ask = Ask {
+        value: Value::Instant(Day(day), Millisecond(millisecond)),
+    };
+    shown_numbers(show(table, ask, &table[..0], room))
+}
+
+#[no_mangle]
+pub extern "C" fn numfmt_show_text(table: &[u16], text: &[u16], room: &mut [u16]) -> ShownNumbers
+    ensures result { λ r. ⌜ r ≡ shownNumbers (showing (now (table .entry)) textAsk (now (text .entry)) (length (now (room .entry)))) ⌝ }
+    ensures room { λ r. ⌜ now (room .exit) ≡ roomAfter (now (table .entry)) textAsk (now (text .entry)) (now (room .entry)) ⌝ }
+{
+    let ask = Ask { value: Value::Text };
+    shown_numbers(show(table, ask, text, room))
+}
