@@ -1,0 +1,76 @@
+//! The library's calls as the comparison sees them: lent slices in, plain results out.
+
+use crate::oracle::{self, answer, Value};
+
+#[derive(Clone, Copy, Debug, PartialEq, Eq)]
+pub struct Prepared {
+    pub answer: u16,
+    pub place: u32,
+    pub words: u32,
+}
+
+#[derive(Clone, Copy, Debug, PartialEq, Eq)]
+pub struct Shown {
+    pub answer: u16,
+    pub length: u32,
+    pub colour: u16,
+    pub section: u16,
+}
+
+#[derive(Clone, Copy, Debug, PartialEq, Eq)]
+pub struct Part {
+    pub start: u32,
+    pub length: u32,
+}
+
+pub trait Calls {
+    fn prepare(&self, code: &[u16], table: &mut [u16]) -> Prepared;
+    fn section(&self, code: &[u16], n: u32) -> Part;
+    fn show(&self, table: &[u16], value: &Value, room: &mut [u16]) -> Shown;
+}
+
+/// The oracle behind the same calls. Run against it, the comparison checks itself, and the oracle's
+/// reading of tables against its reading off codes.
+pub struct Oracle;
+
+impl Calls for Oracle {
+    fn prepare(&self, code: &[u16], table: &mut [u16]) -> Prepared {
+        let prepared = oracle::prepare(code, table.len());
+        table[..prepared.words.len()].copy_from_slice(&prepared.words);
+        Prepared {
+            answer: prepared.answer,
+            place: prepared.place,
+            words: prepared.words.len() as u32,
+        }
+    }
+
+    fn section(&self, code: &[u16], n: u32) -> Part {
+        let (start, length) = oracle::section(code, n);
+        Part { start, length }
+    }
+
+    fn show(&self, table: &[u16], value: &Value, room: &mut [u16]) -> Shown {
+        match oracle::show(table, value, room.len()) {
+            Ok(reading) => {
+                room[..reading.text.len()].copy_from_slice(&reading.text);
+                Shown {
+                    answer: answer::DONE,
+                    length: reading.text.len() as u32,
+                    colour: reading.colour,
+                    section: reading.section,
+                }
+            }
+            Err(answer) => refused(answer),
+        }
+    }
+}
+
+/// On a refusal every number but the answer is 0.
+pub fn refused(answer: u16) -> Shown {
+    Shown {
+        answer,
+        length: 0,
+        colour: 0,
+        section: 0,
+    }
+}

@@ -1,0 +1,205 @@
+//! One comparison: what is asked, what the oracle gives for it, and whether the library agrees.
+
+use crate::calls::{refused, Calls, Part, Prepared, Shown};
+use crate::oracle::{self, answer, Reading, Value, PROGRAM_TABLE_WORDS};
+
+/// Units in front of and behind a lent room, which nothing may touch.
+const GUARD: usize = 8;
+
+#[derive(Clone, Debug)]
+pub enum Case {
+    Prepare {
+        code: Vec<u16>,
+        room: usize,
+    },
+    Section {
+        code: Vec<u16>,
+        n: u32,
+    },
+    /// The library prepares the code, and the value is shown through its table.
+    ShowCode {
+        code: Vec<u16>,
+        value: Value,
+        room: usize,
+    },
+    ShowTable {
+        table: Vec<u16>,
+        value: Value,
+        room: usize,
+    },
+}
+
+/// Requests by call and by answer.
+#[derive(Default)]
+pub struct Counts {
+    pub prepare: u64,
+    pub section: u64,
+    pub number: u64,
+    pub instant: u64,
+    pub text: u64,
+    pub answers: [u64; 14],
+}
+
+impl Counts {
+    pub fn requests(&self) -> u64 {
+        self.prepare + self.section + self.number + self.instant + self.text
+    }
+
+    fn answer(&mut self, answer: u16) {
+        self.answers[usize::from(answer)] += 1;
+    }
+
+    fn show(&mut self, value: &Value) {
+        match value {
+            Value::Number { .. } => self.number += 1,
+            Value::Instant { .. } => self.instant += 1,
+            Value::Text(_) => self.text += 1,
+        }
+    }
+}
+
+impl Case {
+    /// Asks the library and compares. The error says what differs, its first line in short.
+    pub fn check(&self, calls: &dyn Calls, counts: &mut Counts) -> Result<(), String> {
+        match self {
+            Case::Prepare { code, room } => prepare(calls, counts, code, *room).map(|_| ()),
+            Case::Section { code, n } => section(calls, counts, code, *n),
+            Case::ShowCode { code, value, room } => {
+                let table = prepare(calls, counts, code, PROGRAM_TABLE_WORDS)?;
+                if table.is_empty() {
+                    return Ok(());
+                }
+                let expected = oracle::read(code, value, *room);
+                let through_table = oracle::show(&table, value, *room);
+                same("the oracle's own two readings", &through_table, &expected)?;
+                show(calls, counts, &table, value, *room, &expected)
+            }
+            Case::ShowTable { table, value, room } => {
+                let expected = oracle::show(table, value, *room);
+                show(calls, counts, table, value, *room, &expected)
+            }
+        }
+    }
+}
+
+fn same<T: PartialEq + std::fmt::Debug>(what: &str, found: &T, expected: &T) -> Result<(), String> {
+    if found == expected {
+        Ok(())
+    } else {
+        Err(format!(
+            "{what}\n  found    {found:?}\n  expected {expected:?}"
+        ))
+    }
+}
+
+/// Told apart by the two answers, so that making a case small keeps to the difference first seen.
+fn headline(call: &str, (found, expected): (u16, u16)) -> String {
+    format!("{call}: answer {found}, expected {expected}")
+}
+
+/// A lent room between guards, all filled with a pattern that changes from unit to unit.
+struct Room {
+    units: Vec<u16>,
+}
+
+fn pattern(at: usize) -> u16 {
+    0xA5C3 ^ (at as u16).wrapping_mul(257)
+}
+
+impl Room {
+    fn new(length: usize) -> Room {
+        Room {
+            units: (0..length + 2 * GUARD).map(pattern).collect(),
+        }
+    }
+
+    fn lent(&mut self) -> &mut [u16] {
+        let end = self.units.len() - GUARD;
+        &mut self.units[GUARD..end]
+    }
+
+    /// The room begins with `text`, and every other unit in it and around it is as it was.
+    fn holds(&self, text: &[u16]) -> Result<(), String> {
+        let written = GUARD..GUARD + text.len();
+        same("the units written", &&self.units[written.clone()], &text)?;
+        let touched = (0..self.units.len())
+            .filter(|at| !written.contains(at))
+            .find(|at| self.units[*at] != pattern(*at));
+        match touched {
+            None => Ok(()),
+            Some(at) => Err(format!(
+                "a unit outside the text or words reported\n  unit {} of the room was changed, {} were reported, {} lent",
+                at as i64 - GUARD as i64,
+                text.len(),
+                self.units.len() - 2 * GUARD
+            )),
+        }
+    }
+}
+
+/// Gives the words written, none on a refusal.
+fn prepare(
+    calls: &dyn Calls,
+    counts: &mut Counts,
+    code: &[u16],
+    room: usize,
+) -> Result<Vec<u16>, String> {
+    let expected = oracle::prepare(code, room);
+    let mut table = Room::new(room);
+    let lent = code.to_vec();
+    let found = calls.prepare(&lent, table.lent());
+    let wanted = Prepared {
+        answer: expected.answer,
+        place: expected.place,
+        words: expected.words.len() as u32,
+    };
+    let answers = (found.answer, wanted.answer);
+    same(&headline("preparing", answers), &found, &wanted)?;
+    table.holds(&expected.words)?;
+    same("the code lent", &lent.as_slice(), &code)?;
+    counts.prepare += 1;
+    counts.answer(found.answer);
+    Ok(expected.words)
+}
+
+fn section(calls: &dyn Calls, counts: &mut Counts, code: &[u16], n: u32) -> Result<(), String> {
+    let (start, length) = oracle::section(code, n);
+    let found = calls.section(code, n);
+    same("the section's part", &found, &Part { start, length })?;
+    counts.section += 1;
+    Ok(())
+}
+
+fn show(
+    calls: &dyn Calls,
+    counts: &mut Counts,
+    table: &[u16],
+    value: &Value,
+    room: usize,
+    expected: &Result<Reading, u16>,
+) -> Result<(), String> {
+    let mut text = Room::new(room);
+    let lent = (table.to_vec(), value.clone());
+    let found = calls.show(&lent.0, &lent.1, text.lent());
+    let (wanted, units) = match expected {
+        Ok(reading) => (shown(reading), reading.text.as_slice()),
+        Err(answer) => (refused(*answer), [].as_slice()),
+    };
+    let answers = (found.answer, wanted.answer);
+    same(&headline("showing", answers), &found, &wanted)?;
+    text.holds(units)?;
+    same("the table lent", &lent.0.as_slice(), &table)?;
+    same("the value lent", &&lent.1, &value)?;
+    counts.show(value);
+    counts.answer(found.answer);
+    Ok(())
+}
+
+fn shown(reading: &Reading) -> Shown {
+    Shown {
+        answer: answer::DONE,
+        length: reading.text.len() as u32,
+        colour: reading.colour,
+        section: reading.section,
+    }
+}

@@ -1,0 +1,145 @@
+//! Values: at the edges of their ranges, beside what conditions name, at halves, and at random.
+
+use crate::generate::LANDMARKS;
+use crate::oracle::Value;
+use crate::random::Random;
+
+const GREATEST: i64 = 999_999_999_999_999;
+
+const COEFFICIENTS: [i64; 11] = [
+    0,
+    1,
+    9,
+    GREATEST,
+    GREATEST - 1,
+    GREATEST + 1,
+    100_000_000_000,
+    99_999_999_999,
+    999_999_999_999_995,
+    100_000_000_000_000,
+    i64::MAX,
+];
+
+const DAYS: [u32; 16] = [
+    0,
+    1,
+    2,
+    7,
+    31,
+    32,
+    59,
+    60,
+    61,
+    366,
+    367,
+    36_525,
+    146_463,
+    2_958_465,
+    2_958_466,
+    u32::MAX,
+];
+
+const MILLISECONDS: [u32; 13] = [
+    0,
+    1,
+    999,
+    1000,
+    59_999,
+    60_000,
+    3_599_999,
+    3_600_000,
+    43_199_999,
+    43_200_000,
+    86_399_999,
+    86_400_000,
+    u32::MAX,
+];
+
+const TEXT_LENGTHS: [usize; 5] = [0, 1, 1023, 1024, 1025];
+
+pub fn value(random: &mut Random) -> Value {
+    match random.weighted(&[60, 28, 12]) {
+        0 => number(random),
+        1 => instant(random),
+        _ => text(random),
+    }
+}
+
+fn number(random: &mut Random) -> Value {
+    let (coefficient, scale) = match random.weighted(&[15, 25, 25, 32, 3]) {
+        0 => (random.pick(&COEFFICIENTS), random.between(0, 16) as u32),
+        1 => beside_landmark(random),
+        2 => half(random),
+        3 => (digits(random, 15), random.between(0, 15) as u32),
+        _ => (
+            random.next() as i64,
+            random.pick(&[0, 15, 16, 17, 100, u32::MAX]),
+        ),
+    };
+    let negative = random.chance(45);
+    Value::Number {
+        coefficient: if negative {
+            coefficient.wrapping_neg()
+        } else {
+            coefficient
+        },
+        scale,
+    }
+}
+
+/// A coefficient of up to `most` digits, every length as likely.
+fn digits(random: &mut Random, most: usize) -> i64 {
+    let length = random.between(0, most) as u32;
+    (random.next() % 10u64.pow(length)) as i64
+}
+
+/// A number that conditions name, perhaps written with more decimals, perhaps one unit off.
+fn beside_landmark(random: &mut Random) -> (i64, u32) {
+    let (mut coefficient, mut scale) = random.pick(&LANDMARKS);
+    while scale < 15 && coefficient <= GREATEST / 10 && random.chance(60) {
+        coefficient *= 10;
+        scale += 1;
+    }
+    let off = random.pick(&[0, 0, 1, -1]);
+    (coefficient + off, scale)
+}
+
+/// Figures that end on a half, just under one, or on nines that carry.
+fn half(random: &mut Random) -> (i64, u32) {
+    let front = digits(random, 8);
+    let tail = random.pick(&[
+        "5", "50", "500000", "49999", "4999999", "99999", "9999995", "05",
+    ]);
+    let joined = format!("{front}{tail}");
+    let scale = random.between(0, 15) as u32;
+    (joined.parse().unwrap_or(0), scale)
+}
+
+fn instant(random: &mut Random) -> Value {
+    let day = match random.weighted(&[40, 30, 30]) {
+        0 => random.pick(&DAYS),
+        1 => random.below(2_958_466) as u32,
+        _ => year_edge(random),
+    };
+    let ms = match random.weighted(&[45, 55]) {
+        0 => random.pick(&MILLISECONDS),
+        _ => random.below(86_400_000) as u32,
+    };
+    Value::Instant { day, ms }
+}
+
+/// A day around a turn of the year or the end of a February.
+fn year_edge(random: &mut Random) -> u32 {
+    let years = random.between(1, 8099) as u32;
+    let near = years * 365 + years / 4 - years / 100 + years / 400;
+    let offset = if random.chance(50) { 0 } else { 59 };
+    near + offset + random.below(5) as u32
+}
+
+fn text(random: &mut Random) -> Value {
+    let length = match random.weighted(&[30, 70]) {
+        0 => random.pick(&TEXT_LENGTHS),
+        _ => random.below(20),
+    };
+    Value::Text((0..length).map(|_| random.unit()).collect())
+}

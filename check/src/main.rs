@@ -1,0 +1,57 @@
+//! A second opinion on the library: see README.md.
+
+mod calls;
+mod case;
+mod expected;
+mod generate;
+#[cfg(library)]
+mod library;
+mod oracle;
+mod random;
+mod run;
+mod shrink;
+mod vectors;
+
+use std::process::ExitCode;
+
+const USAGE: &str = "usage:
+  check run [--count N] [--seed S] [--trace]    compare the library with the oracle
+  check self [--count N] [--seed S] [--trace]   compare the oracle's two readings
+  check vectors VALUES TABLES                   compare the oracle with lists of known rows
+  check expected-prepare < codes                what preparing gives for each line
+  check expected-show < requests                what the program gives for each three lines";
+
+fn main() -> ExitCode {
+    let arguments: Vec<String> = std::env::args().skip(1).collect();
+    let words: Vec<&str> = arguments.iter().map(String::as_str).collect();
+    match words.as_slice() {
+        ["run", options @ ..] => with_options(options, run_library),
+        ["self", options @ ..] => with_options(options, |o| run::run(&calls::Oracle, o)),
+        ["vectors", values, tables] => vectors::run(values, tables),
+        ["expected-prepare"] => expected::prepare(),
+        ["expected-show"] => expected::show(),
+        _ => misused(USAGE),
+    }
+}
+
+fn misused(message: &str) -> ExitCode {
+    eprintln!("{message}");
+    ExitCode::from(2)
+}
+
+fn with_options(words: &[&str], run: impl Fn(&run::Options) -> ExitCode) -> ExitCode {
+    match run::Options::from_words(words) {
+        Ok(options) => run(&options),
+        Err(message) => misused(&format!("{message}\n{USAGE}")),
+    }
+}
+
+#[cfg(library)]
+fn run_library(options: &run::Options) -> ExitCode {
+    run::run(&library::Linked, options)
+}
+
+#[cfg(not(library))]
+fn run_library(_: &run::Options) -> ExitCode {
+    misused("built without the library: its archive libc_api.a was not found (see README.md)")
+}

@@ -1,0 +1,77 @@
+//! Document 01, "Figures": the rounded number as digits by value, 25 before the point and 15 after.
+
+const DECIMALS: u32 = 15;
+
+/// A rounded magnitude: its whole part, and its fraction in units of 10^-15.
+pub struct Figures {
+    whole: i128,
+    fraction: i128,
+}
+
+/// |coefficient| * 10^exponent rounded to `decimals` decimals, halves away from zero.
+/// The whole part and the rest are kept apart, since together they can pass 128 bits.
+pub fn rounded(coefficient: i64, exponent: i32, decimals: u32) -> Figures {
+    let magnitude = i128::from(coefficient.unsigned_abs());
+    let above = 10i128.pow(exponent.max(0) as u32);
+    let below = 10i128.pow((-exponent).max(0) as u32);
+    let mut whole = magnitude * above / below;
+    let rest = magnitude * above % below;
+    let unit = 10i128.pow(decimals);
+    let mut fraction = (2 * rest * unit + below) / (2 * below);
+    if fraction == unit {
+        whole += 1;
+        fraction = 0;
+    }
+    fraction *= 10i128.pow(DECIMALS - decimals);
+    Figures { whole, fraction }
+}
+
+impl Figures {
+    pub fn is_zero(&self) -> bool {
+        self.whole == 0 && self.fraction == 0
+    }
+
+    /// The digit of 10^power.
+    pub fn digit(&self, power: i32) -> u8 {
+        let digit = match u32::try_from(power) {
+            Ok(power) => self.whole / 10i128.pow(power) % 10,
+            Err(_) => self.fraction / 10i128.pow((DECIMALS as i32 + power) as u32) % 10,
+        };
+        digit as u8
+    }
+
+    /// How many integer digits there are from the first nonzero one on.
+    pub fn integer_digits(&self) -> i32 {
+        let mut count = 0;
+        while self.whole / 10i128.pow(count) > 0 {
+            count += 1;
+        }
+        count as i32
+    }
+
+    /// A zero at 10^power that has no nonzero integer digit before it, or, behind the point, no
+    /// nonzero digit after it.
+    pub fn is_insignificant_zero(&self, power: i32) -> bool {
+        let zero = |power| self.digit(power) == 0;
+        if power >= 0 {
+            (power..25).all(zero)
+        } else {
+            (-(DECIMALS as i32)..=power).all(zero)
+        }
+    }
+}
+
+/// General's text without a sign, and whether it is zero; none where it reaches 10^11.
+pub fn general(coefficient: i64, scale: u32) -> Option<(String, bool)> {
+    let exponent = -(scale as i32);
+    if rounded(coefficient, exponent, 0).integer_digits() > 11 {
+        return None;
+    }
+    let magnitude = coefficient.unsigned_abs() / 10u64.pow(scale);
+    let integer_digits = magnitude.to_string().len() as u32;
+    let decimals = 10u32.saturating_sub(integer_digits);
+    let figures = rounded(coefficient, exponent, decimals);
+    let all = format!("{}.{:015}", figures.whole, figures.fraction);
+    let text = all.trim_end_matches('0').trim_end_matches('.');
+    Some((text.to_string(), figures.is_zero()))
+}

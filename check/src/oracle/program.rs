@@ -1,0 +1,115 @@
+//! Document 01's program: three lines in, four lines out.
+
+use super::answer;
+use super::prepare::prepare;
+use super::show::show;
+use super::value::Value;
+
+pub const PROGRAM_TABLE_WORDS: usize = 557;
+const TEXT_UNITS: usize = 4096;
+const LONGEST_LINE: usize = 2048;
+
+/// Sixteen digits stand for every coefficient that is too large.
+const TOO_LARGE: i64 = 1_000_000_000_000_000;
+
+/// The whole output for the whole input.
+pub fn answer_lines(input: &[u8]) -> Vec<u8> {
+    let (code, value) = match request(input) {
+        Ok(request) => request,
+        Err(line) => return lines(answer::LINE, line, 0, &[]),
+    };
+    let prepared = prepare(&code, PROGRAM_TABLE_WORDS);
+    if prepared.answer != answer::DONE {
+        return lines(prepared.answer, prepared.place, 0, &[]);
+    }
+    match show(&prepared.words, &value, TEXT_UNITS) {
+        Ok(reading) => lines(answer::DONE, 0, reading.colour, &reading.text),
+        Err(answer) => lines(answer, 0, 0, &[]),
+    }
+}
+
+fn lines(answer: u16, place: u32, colour: u16, text: &[u16]) -> Vec<u8> {
+    let mut out = format!("answer={answer}\nplace={place}\ncolour={colour}\ntext=").into_bytes();
+    let ascii = |unit: &u16| u8::try_from(*unit).expect("ASCII in, ASCII out");
+    out.extend(text.iter().map(ascii));
+    out.push(b'\n');
+    out
+}
+
+/// The code and the value asked for, or the first malformed line.
+fn request(input: &[u8]) -> Result<(Vec<u16>, Value), u32> {
+    let mut rest = input;
+    let code = field(&mut rest, "code=").ok_or(1u32)?;
+    let kind = field(&mut rest, "kind=").ok_or(2u32)?;
+    let parse = match kind {
+        b"number" => number,
+        b"instant" => instant,
+        b"text" => text,
+        _ => return Err(2),
+    };
+    let value = field(&mut rest, "value=").and_then(parse).ok_or(3u32)?;
+    if !rest.is_empty() {
+        return Err(4);
+    }
+    Ok((units(code), value))
+}
+
+fn units(bytes: &[u8]) -> Vec<u16> {
+    bytes.iter().map(|byte| u16::from(*byte)).collect()
+}
+
+/// Takes one line off the input and gives what stands behind its name.
+fn field<'a>(rest: &mut &'a [u8], name: &str) -> Option<&'a [u8]> {
+    let end = rest.iter().position(|byte| *byte == b'\n')?;
+    let line = &rest[..end];
+    *rest = &rest[end + 1..];
+    if line.len() > LONGEST_LINE || !line.is_ascii() {
+        return None;
+    }
+    line.strip_prefix(name.as_bytes())
+}
+
+fn all_digits(bytes: &[u8]) -> bool {
+    !bytes.is_empty() && bytes.iter().all(u8::is_ascii_digit)
+}
+
+/// The number that digits spell, held at `most` so that no length can overflow.
+fn held(digits: &[u8], most: u64) -> u64 {
+    digits.iter().fold(0, |sum: u64, digit| {
+        (sum * 10 + u64::from(digit - b'0')).min(most)
+    })
+}
+
+fn number(bytes: &[u8]) -> Option<Value> {
+    let magnitude = bytes.strip_prefix(b"-").unwrap_or(bytes);
+    let mut parts = magnitude.splitn(2, |byte| *byte == b'.');
+    let whole = parts.next()?;
+    let decimals = parts.next();
+    if !all_digits(whole) || !decimals.is_none_or(all_digits) {
+        return None;
+    }
+    let digits = [whole, decimals.unwrap_or_default()].concat();
+    let coefficient = held(&digits, TOO_LARGE as u64) as i64;
+    Some(Value::Number {
+        coefficient: if magnitude.len() < bytes.len() {
+            -coefficient
+        } else {
+            coefficient
+        },
+        scale: decimals.map_or(0, |decimals| decimals.len() as u32),
+    })
+}
+
+fn instant(bytes: &[u8]) -> Option<Value> {
+    let solidus = bytes.iter().position(|byte| *byte == b'/')?;
+    let (day, ms) = (&bytes[..solidus], &bytes[solidus + 1..]);
+    let held = |digits| held(digits, u64::from(u32::MAX)) as u32;
+    (all_digits(day) && all_digits(ms)).then(|| Value::Instant {
+        day: held(day),
+        ms: held(ms),
+    })
+}
+
+fn text(bytes: &[u8]) -> Option<Value> {
+    Some(Value::Text(units(bytes)))
+}

@@ -1,0 +1,219 @@
+//! Document 01, "Table rules": tested on the words alone, whether or not a code makes them.
+
+use super::code::Kind;
+use super::table::{entries, item, Entry, Item, GROUPING, NO_MINUS, TWELVE_HOUR};
+
+const MOST_ITEMS: usize = 254;
+
+const LITERAL: u16 = Kind::Literal as u16;
+const GENERAL: u16 = Kind::General as u16;
+const NUMBER: u16 = Kind::Number as u16;
+const TEXT: u16 = Kind::Text as u16;
+const DATE_TIME: u16 = Kind::DateTime as u16;
+
+/// True when the words break no table rule.
+pub fn check_table(words: &[u16]) -> bool {
+    let Some(entries) = entries(words) else {
+        return false;
+    };
+    let items: usize = entries.iter().map(|entry| entry.items.len()).sum();
+    items <= MOST_ITEMS
+        && entries.iter().all(ranges)
+        && entries.iter().all(items_fit_kind)
+        && entries.iter().all(derived_words)
+        && (0..entries.len()).all(|index| may_stand(&entries, index))
+        && (0..entries.len()).all(|index| no_minus_flag(&entries, index))
+}
+
+/// Every word in its range that needs no look at another section or item.
+fn ranges(entry: &Entry) -> bool {
+    entry.kind <= DATE_TIME
+        && entry.colour <= 56
+        && condition_ranges(entry)
+        && entry.flags <= GROUPING + NO_MINUS + TWELVE_HOUR
+        && entry.items.iter().all(|item| operand_range(*item))
+}
+
+fn condition_ranges(entry: &Entry) -> bool {
+    let is_zero = entry.whole == 0 && entry.millionths == 0;
+    entry.operator <= 6
+        && entry.negative <= 1
+        && entry.whole <= 999_999_999
+        && entry.millionths <= 999_999
+        && !(entry.negative == 1 && is_zero)
+        && (entry.operator != 0 || is_zero)
+}
+
+fn operand_range(one: Item) -> bool {
+    let run = |least, greatest| (least..=greatest).contains(&one.operand);
+    match one.number {
+        item::LITERAL | item::BLANK | item::FILL => true,
+        // Powers are followed place by place below.
+        item::ZERO_PLACE | item::HASH_PLACE | item::QUERY_PLACE => true,
+        item::POINT | item::PERCENT | item::GENERAL | item::AT => one.operand == 0,
+        item::YEAR => one.operand == 2 || one.operand == 4,
+        item::MONTH => run(1, 5),
+        item::DAY => run(1, 4),
+        item::HOUR | item::MINUTE | item::SECOND | item::HALF_DAY => run(1, 2),
+        item::PART_OF_SECOND => run(1, 3),
+        item::ELAPSED_HOURS | item::ELAPSED_MINUTES | item::ELAPSED_SECONDS => run(1, 9),
+        _ => false,
+    }
+}
+
+fn count(entry: &Entry, test: impl Fn(u16) -> bool) -> usize {
+    entry.items.iter().filter(|one| test(one.number)).count()
+}
+
+fn count_of(entry: &Entry, number: u16) -> usize {
+    count(entry, |other| other == number)
+}
+
+fn is_date_item(number: u16) -> bool {
+    (item::YEAR..=item::SECOND).contains(&number) || is_elapsed(number)
+}
+
+fn is_elapsed(number: u16) -> bool {
+    (item::ELAPSED_HOURS..=item::ELAPSED_SECONDS).contains(&number)
+}
+
+fn is_place(number: u16) -> bool {
+    (item::ZERO_PLACE..=item::QUERY_PLACE).contains(&number)
+}
+
+/// The kind's own items are there, nothing foreign is, and at most one fill.
+fn items_fit_kind(entry: &Entry) -> bool {
+    let only = |own: &dyn Fn(u16) -> bool| {
+        count(entry, |number| number <= item::FILL || own(number)) == entry.items.len()
+    };
+    let fits = match entry.kind {
+        LITERAL => only(&|_| false),
+        GENERAL => only(&|number| number == item::GENERAL) && count_of(entry, item::GENERAL) == 1,
+        TEXT => only(&|number| number == item::AT) && count_of(entry, item::AT) >= 1,
+        NUMBER => {
+            only(&|n| is_place(n) || n == item::POINT || n == item::PERCENT) && number_items(entry)
+        }
+        _ => {
+            only(&|n| is_date_item(n) || n == item::PART_OF_SECOND || n == item::HALF_DAY)
+                && date_items(entry)
+        }
+    };
+    fits && count_of(entry, item::FILL) <= 1
+}
+
+fn number_items(entry: &Entry) -> bool {
+    let places = integer_places(entry) + decimal_places(entry);
+    places >= 1
+        && integer_places(entry) <= 20
+        && decimal_places(entry) <= 15
+        && count_of(entry, item::POINT) <= 1
+        && count_of(entry, item::PERCENT) <= 5
+        && powers_run_down(entry)
+}
+
+/// Where the point stands; behind everything when there is none.
+fn point(entry: &Entry) -> usize {
+    let at = entry.items.iter().position(|i| i.number == item::POINT);
+    at.unwrap_or(entry.items.len())
+}
+
+fn places_in(items: &[Item]) -> usize {
+    items.iter().filter(|one| one.is_place()).count()
+}
+
+fn integer_places(entry: &Entry) -> usize {
+    places_in(&entry.items[..point(entry)])
+}
+
+fn decimal_places(entry: &Entry) -> usize {
+    places_in(&entry.items[point(entry)..])
+}
+
+/// Down by one from the first place; the last integer place then has power 0.
+fn powers_run_down(entry: &Entry) -> bool {
+    let first = integer_places(entry) as i32 - 1;
+    let places = entry.items.iter().filter(|one| one.is_place());
+    places
+        .zip(0..)
+        .all(|(place, index)| i32::from(place.operand) == first - index + 16)
+}
+
+fn date_items(entry: &Entry) -> bool {
+    count(entry, is_date_item) >= 1
+        && (0..entry.items.len()).all(|at| minutes_rule(&entry.items, at))
+        && (0..entry.items.len()).all(|at| follows_seconds(&entry.items, at))
+        && elapsed_stands_alone(entry)
+}
+
+/// An m run of 1 or 2 is minutes exactly when the nearest earlier date item is hours.
+fn minutes_rule(items: &[Item], at: usize) -> bool {
+    let earlier = items[..at].iter().rev().find(|i| is_date_item(i.number));
+    let hours = earlier.is_some_and(|one| matches!(one.number, item::HOUR | item::ELAPSED_HOURS));
+    match items[at].number {
+        item::MONTH => items[at].operand > 2 || !hours,
+        item::MINUTE => hours,
+        _ => true,
+    }
+}
+
+fn follows_seconds(items: &[Item], at: usize) -> bool {
+    items[at].number != item::PART_OF_SECOND
+        || (at > 0 && matches!(items[at - 1].number, item::SECOND | item::ELAPSED_SECONDS))
+}
+
+fn elapsed_stands_alone(entry: &Entry) -> bool {
+    let beside = |elapsed, plain| count_of(entry, elapsed) > 0 && count_of(entry, plain) > 0;
+    count(entry, is_elapsed) <= 1
+        && !beside(item::ELAPSED_HOURS, item::HOUR)
+        && !beside(item::ELAPSED_MINUTES, item::MINUTE)
+        && !beside(item::ELAPSED_SECONDS, item::SECOND)
+}
+
+/// Shift, decimal places and the flags that one section's items settle.
+fn derived_words(entry: &Entry) -> bool {
+    let number = entry.kind == NUMBER;
+    let decimals = if number { decimal_places(entry) } else { 0 };
+    let may_group = number && integer_places(entry) >= 2;
+    let twelve_hour = count_of(entry, item::HALF_DAY) > 0;
+    usize::from(entry.decimals) == decimals
+        && (if number {
+            tells_commas(entry)
+        } else {
+            entry.shift == 0
+        })
+        && (may_group || entry.flags & GROUPING == 0)
+        && (entry.flags & TWELVE_HOUR != 0) == twelve_hour
+}
+
+/// shift = 15 + 2 percents - 3 commas for some 0 to 5 dividing commas.
+fn tells_commas(entry: &Entry) -> bool {
+    let percents = count_of(entry, item::PERCENT);
+    (0..=5).any(|commas| usize::from(entry.shift) + 3 * commas == 15 + 2 * percents)
+}
+
+fn may_stand(entries: &[Entry], index: usize) -> bool {
+    let entry = &entries[index];
+    let condition_may = match (entries.len(), index) {
+        (1, _) => entry.kind == GENERAL,
+        (_, 0 | 1) => entry.kind != TEXT,
+        _ => false,
+    };
+    let fourth_may = matches!(entry.kind, TEXT | GENERAL | LITERAL) && entry.colour == 0;
+    (entry.kind != TEXT || index + 1 == entries.len())
+        && (entry.operator == 0 || condition_may)
+        && (index != 3 || fourth_may)
+}
+
+/// N: the sections that are neither text nor fourth.
+pub fn counted(entries: &[Entry]) -> usize {
+    let counts = |(index, entry): &(usize, &Entry)| *index < 3 && entry.kind != TEXT;
+    entries.iter().enumerate().filter(counts).count()
+}
+
+/// Flag 2 is set exactly on a second section that exception (a) names.
+fn no_minus_flag(entries: &[Entry], index: usize) -> bool {
+    let n = counted(entries);
+    let named =
+        index == 1 && entries[1].operator == 0 && (n == 3 || (n == 2 && entries[0].operator == 0));
+    (entries[index].flags & NO_MINUS != 0) == named
+}

@@ -1,0 +1,229 @@
+//! Showing a value through a table.
+
+use std::cmp::Ordering;
+
+use super::answer;
+use super::code::Kind;
+use super::days;
+use super::figures::{general, rounded, Figures};
+use super::rules::{check_table, counted};
+use super::table::{entries, item, Entry, Item, GROUPING, NO_MINUS, TWELVE_HOUR};
+use super::value::{Reading, Value};
+
+const LITERAL: u16 = Kind::Literal as u16;
+const GENERAL: u16 = Kind::General as u16;
+const NUMBER: u16 = Kind::Number as u16;
+const TEXT: u16 = Kind::Text as u16;
+const DATE_TIME: u16 = Kind::DateTime as u16;
+
+/// Shows a value through the words lent as a table, in a room of that length.
+pub fn show(table: &[u16], value: &Value, room_length: usize) -> Result<Reading, u16> {
+    if !check_table(table) {
+        return Err(answer::TABLE);
+    }
+    let entries = entries(table).expect("a table that passes has its entries");
+    if !value.in_range() {
+        return Err(answer::RANGE);
+    }
+    let reading = match value {
+        Value::Text(text) => show_text(&entries, text),
+        Value::Number { coefficient, scale } => show_number(&entries, *coefficient, *scale)?,
+        Value::Instant { day, ms } => show_instant(&entries, *day, *ms)?,
+    };
+    if reading.text.len() > room_length {
+        return Err(answer::TEXT_ROOM);
+    }
+    Ok(reading)
+}
+
+fn show_text(entries: &[Entry], text: &[u16]) -> Reading {
+    let taker = match entries {
+        [_, _, _, _] => Some(3),
+        _ => entries.iter().position(|entry| entry.kind == TEXT),
+    };
+    let Some(index) = taker else {
+        return Reading {
+            text: text.to_vec(),
+            colour: 0,
+            section: 4,
+        };
+    };
+    let shown = spelled(&entries[index], |_| text.to_vec());
+    reading(entries, index, shown)
+}
+
+fn reading(entries: &[Entry], index: usize, text: Vec<u16>) -> Reading {
+    Reading {
+        text,
+        colour: entries[index].colour,
+        section: index as u16,
+    }
+}
+
+/// Literals as they are, blanks as a space, fills as nothing, and what `shown` gives for the rest.
+fn spelled(entry: &Entry, shown: impl Fn(Item) -> Vec<u16>) -> Vec<u16> {
+    let spell = |one: &Item| match one.number {
+        item::LITERAL => vec![one.operand],
+        item::BLANK => vec![u16::from(b' ')],
+        item::FILL => vec![],
+        _ => shown(*one),
+    };
+    entry.items.iter().flat_map(spell).collect()
+}
+
+fn units(text: &str) -> Vec<u16> {
+    text.bytes().map(u16::from).collect()
+}
+
+fn show_number(entries: &[Entry], coefficient: i64, scale: u32) -> Result<Reading, u16> {
+    let index = if counted(entries) == 0 {
+        0
+    } else {
+        choose(entries, i128::from(coefficient), 10i128.pow(scale))?
+    };
+    let entry = &entries[index];
+    let (shown, rounds_to_zero) = match entry.kind {
+        LITERAL => (spelled(entry, |_| vec![]), false),
+        NUMBER => number_text(entry, coefficient, scale),
+        GENERAL | TEXT => {
+            let (text, zero) = general(coefficient, scale).ok_or(answer::GENERAL)?;
+            (spelled(entry, |_| units(&text)), zero)
+        }
+        _ => return Err(answer::SORT),
+    };
+    let has_item = !entry.items.is_empty();
+    let minus = coefficient < 0 && has_item && entry.flags & NO_MINUS == 0 && !rounds_to_zero;
+    let mut text = units(if minus { "-" } else { "" });
+    text.extend(shown);
+    Ok(reading(entries, index, text))
+}
+
+fn show_instant(entries: &[Entry], day: u32, ms: u32) -> Result<Reading, u16> {
+    if counted(entries) == 0 {
+        return Err(answer::SORT);
+    }
+    let since = i128::from(day) * 86_400_000 + i128::from(ms);
+    let index = choose(entries, since, 86_400_000)?;
+    let entry = &entries[index];
+    let text = match entry.kind {
+        LITERAL => spelled(entry, |_| vec![]),
+        DATE_TIME => {
+            let twelve = entry.flags & TWELVE_HOUR != 0;
+            spelled(entry, |one| units(&instant_piece(one, day, ms, twelve)))
+        }
+        _ => return Err(answer::SORT),
+    };
+    Ok(reading(entries, index, text))
+}
+
+/// The first section that takes top / bottom.
+fn choose(entries: &[Entry], top: i128, bottom: i128) -> Result<usize, u16> {
+    let n = counted(entries);
+    let takes = |index: &usize| {
+        let entry = &entries[*index];
+        if entry.operator != 0 {
+            return holds(entry, top, bottom);
+        }
+        match (n, *index) {
+            (2, 0) => top >= 0,
+            (3, 0) => top > 0,
+            (3, 1) => top < 0,
+            _ => true,
+        }
+    };
+    (0..n).find(takes).ok_or(answer::NO_SECTION)
+}
+
+fn holds(entry: &Entry, top: i128, bottom: i128) -> bool {
+    let magnitude = i128::from(entry.whole) * 1_000_000 + i128::from(entry.millionths);
+    let limit = if entry.negative == 1 {
+        -magnitude
+    } else {
+        magnitude
+    };
+    let order = (top * 1_000_000).cmp(&(limit * bottom));
+    match entry.operator {
+        1 => order == Ordering::Equal,
+        2 => order == Ordering::Less,
+        3 => order == Ordering::Greater,
+        4 => order != Ordering::Greater,
+        5 => order != Ordering::Less,
+        _ => order != Ordering::Equal,
+    }
+}
+
+fn instant_piece(one: Item, day: u32, ms: u32, twelve: bool) -> String {
+    let run = usize::from(one.operand);
+    match one.number {
+        item::YEAR => days::year(day, run),
+        item::MONTH => days::month(day, run),
+        item::DAY => days::day(day, run),
+        item::HOUR => days::hour(ms, run, twelve),
+        item::MINUTE => days::minute(ms, run),
+        item::SECOND => days::second(ms, run),
+        item::PART_OF_SECOND => days::part_of_second(ms, run),
+        item::ELAPSED_HOURS => days::elapsed(day, ms, b'h', run),
+        item::ELAPSED_MINUTES => days::elapsed(day, ms, b'm', run),
+        item::ELAPSED_SECONDS => days::elapsed(day, ms, b's', run),
+        _ => days::half_day(ms, run == 2).to_string(),
+    }
+}
+
+/// A number section's text without a minus, and whether its figures round to zero.
+fn number_text(entry: &Entry, coefficient: i64, scale: u32) -> (Vec<u16>, bool) {
+    let exponent = i32::from(entry.shift) - 15 - scale as i32;
+    let figures = rounded(coefficient, exponent, u32::from(entry.decimals));
+    let first_place = entry.items.iter().find(|one| one.is_place());
+    let top = first_place.map_or(0, |one| power(*one));
+    let grouping = entry.flags & GROUPING != 0;
+    let piece = |one: Item| match one.number {
+        item::PERCENT => units("%"),
+        item::POINT if top < 0 => [extra(&figures, -1, grouping), units(".")].concat(),
+        item::POINT => units("."),
+        _ if power(one) == top && top >= 0 => [
+            extra(&figures, top, grouping),
+            place(&figures, one, grouping),
+        ]
+        .concat(),
+        _ => place(&figures, one, grouping),
+    };
+    (spelled(entry, piece), figures.is_zero())
+}
+
+fn power(place: Item) -> i32 {
+    i32::from(place.operand) - 16
+}
+
+/// The integer digits above 10^top, from the first nonzero one down.
+fn extra(figures: &Figures, top: i32, grouping: bool) -> Vec<u16> {
+    let powers = (top + 1..figures.integer_digits()).rev();
+    let digit = |power| grouped(vec![figure(figures, power)], power, grouping);
+    powers.flat_map(digit).collect()
+}
+
+fn figure(figures: &Figures, power: i32) -> u16 {
+    u16::from(figures.digit(power) + b'0')
+}
+
+/// What one place shows.
+fn place(figures: &Figures, one: Item, grouping: bool) -> Vec<u16> {
+    let power = power(one);
+    let shown = match (figures.is_insignificant_zero(power), one.number) {
+        (true, item::HASH_PLACE) => vec![],
+        (true, item::QUERY_PLACE) => units(" "),
+        _ => vec![figure(figures, power)],
+    };
+    grouped(shown, power, grouping)
+}
+
+/// A digit of 10^3, 10^6 and so on is followed by a comma, a space there by a space.
+fn grouped(mut shown: Vec<u16>, power: i32, grouping: bool) -> Vec<u16> {
+    if grouping && power > 0 && power % 3 == 0 {
+        match shown.first() {
+            None => {}
+            Some(unit) if *unit == u16::from(b' ') => shown.push(u16::from(b' ')),
+            Some(_) => shown.push(u16::from(b',')),
+        }
+    }
+    shown
+}

@@ -1,0 +1,111 @@
+use super::{answer, check_table, prepare, read, section, show, units, Value};
+
+const ROOM: usize = 4096;
+
+fn number(coefficient: i64, scale: u32) -> Value {
+    Value::Number { coefficient, scale }
+}
+
+fn both_ways(code: &str, value: &Value) -> Result<String, u16> {
+    let prepared = prepare(&units(code), 557);
+    assert_eq!(prepared.answer, answer::DONE, "{code}");
+    let through_table = show(&prepared.words, value, ROOM);
+    assert_eq!(through_table, read(&units(code), value, ROOM), "{code}");
+    through_table.map(|reading| String::from_utf16(&reading.text).expect("plain text"))
+}
+
+#[test]
+fn the_twelve_cases() {
+    let cases = [
+        ("#,##0", number(12000, 0), Ok("12,000")),
+        ("0.0,,", number(12200000, 0), Ok("12.2")),
+        ("#.0#", number(123, 0), Ok("123.0")),
+        ("000-00-0000", number(123456789, 0), Ok("123-45-6789")),
+        ("0%", number(-3, 0), Ok("-300%")),
+        ("0", number(-3, 1), Ok("0")),
+        ("0.0", number(-5, 2), Ok("-0.1")),
+        ("[>100]0;0", number(-5, 0), Ok("-5")),
+        ("#,##0;(#,##0)", number(-3, 0), Ok("(3)")),
+        ("[>=10]0;[<0]0", number(5, 0), Err(answer::NO_SECTION)),
+        (
+            "h.mm AM/PM",
+            Value::Instant {
+                day: 0,
+                ms: 53_760_000,
+            },
+            Ok("2.56 PM"),
+        ),
+        (
+            "d-mmm-yy",
+            Value::Instant { day: 28086, ms: 0 },
+            Ok("22-Nov-76"),
+        ),
+    ];
+    for (code, value, expected) in cases {
+        let expected = expected.map(str::to_string);
+        assert_eq!(both_ways(code, &value), expected, "{code}");
+    }
+}
+
+#[test]
+fn the_table_of_one_place() {
+    let prepared = prepare(&units("0"), 15);
+    let words = vec![1, 2, 0, 0, 0, 0, 0, 0, 0, 15, 0, 0, 1, 4, 16];
+    assert_eq!(prepared.words, words);
+    assert!(check_table(&words));
+    assert_eq!(prepare(&units("0"), 14).answer, answer::TABLE_ROOM);
+}
+
+#[test]
+fn sections_respect_quotes() {
+    let code = units("0;\";\";;x");
+    assert_eq!(section(&code, 0), (0, 0));
+    let code = units("0;\";\";");
+    assert_eq!(section(&code, 1), (2, 3));
+    assert_eq!(section(&code, 2), (6, 0));
+    assert_eq!(section(&code, 3), (0, 0));
+}
+
+#[test]
+fn the_program_writes_four_lines() {
+    let written = super::answer_lines(b"code=#,##0\nkind=number\nvalue=12000\n");
+    assert_eq!(
+        written,
+        b"answer=0\nplace=0\ncolour=0\ntext=12,000\n".to_vec()
+    );
+}
+
+#[test]
+fn the_first_malformed_line_is_told() {
+    let long = format!("code={}\nkind=number\nvalue=1\n", "x".repeat(2044));
+    let requests: [(&[u8], u32); 12] = [
+        (b"", 1),
+        (b"code=0", 1),
+        (b"Code=0\nkind=number\nvalue=1\n", 1),
+        (b"code=\x80\nkind=none\nvalue=1\n", 1),
+        (long.as_bytes(), 1),
+        (b"code=0\nkind=numbers\nvalue=x\n", 2),
+        (b"code=0\nkind=number\nvalue=\n", 3),
+        (b"code=0\nkind=number\nvalue=1", 3),
+        (b"code=0\nkind=number\nvalue=1.\n\n", 3),
+        (b"code=0\nkind=instant\nvalue=-1/0\n", 3),
+        (b"code=0\nkind=instant\nvalue=1\n", 3),
+        (b"code=0\nkind=number\nvalue=1\n\n", 4),
+    ];
+    for (request, line) in requests {
+        let told = format!("answer=14\nplace={line}\ncolour=0\ntext=\n");
+        assert_eq!(super::answer_lines(request), told.into_bytes());
+    }
+}
+
+#[test]
+fn a_refused_code_goes_before_a_value_out_of_range() {
+    let written = |value: &str, code: &str| {
+        let request = format!("code={code}\nkind=number\nvalue={value}\n");
+        String::from_utf8(super::answer_lines(request.as_bytes())).expect("plain text")
+    };
+    assert!(written("1000000000000000", ".").starts_with("answer=4\n"));
+    assert!(written("1000000000000000", "0").starts_with("answer=9\n"));
+    assert!(written("0.0000000000000000", "0").starts_with("answer=9\n"));
+    assert!(written("000000000000000000007", "0").ends_with("text=7\n"));
+}

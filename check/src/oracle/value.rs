@@ -1,0 +1,40 @@
+//! What is shown, and what showing gives.
+
+/// Largest magnitude of fifteen digits.
+const GREATEST_COEFFICIENT: u64 = 999_999_999_999_999;
+const GREATEST_SCALE: u32 = 15;
+const GREATEST_DAY: u32 = 2_958_465;
+const GREATEST_MILLISECOND: u32 = 86_399_999;
+const GREATEST_TEXT: usize = 1024;
+
+#[derive(Clone, Debug, PartialEq, Eq)]
+pub enum Value {
+    Number { coefficient: i64, scale: u32 },
+    Instant { day: u32, ms: u32 },
+    Text(Vec<u16>),
+}
+
+impl Value {
+    pub fn in_range(&self) -> bool {
+        match self {
+            Value::Number { coefficient, scale } => {
+                coefficient.unsigned_abs() <= GREATEST_COEFFICIENT && *scale <= GREATEST_SCALE
+            }
+            Value::Instant { day, ms } => *day <= GREATEST_DAY && *ms <= GREATEST_MILLISECOND,
+            Value::Text(text) => text.len() <= GREATEST_TEXT,
+        }
+    }
+
+    /// Below 0, as the added minus asks; instants and texts never are.
+    pub fn is_negative(&self) -> bool {
+        matches!(self, Value::Number { coefficient, .. } if *coefficient < 0)
+    }
+}
+
+/// A done showing: the text, the colour and the section (4 for text shown by no section).
+#[derive(Clone, Debug, PartialEq, Eq)]
+pub struct Reading {
+    pub text: Vec<u16>,
+    pub colour: u16,
+    pub section: u16,
+}

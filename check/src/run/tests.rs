@@ -1,0 +1,94 @@
+//! The comparison has to find faults: each double below is the oracle with one fault.
+
+use super::make;
+use crate::calls::{Calls, Oracle, Part, Prepared, Shown};
+use crate::case::Counts;
+use crate::oracle::{answer, Value};
+use crate::random::Random;
+
+const CASES: u64 = 20_000;
+
+/// Whether some case tells the calls from the oracle.
+fn found(calls: &dyn Calls) -> bool {
+    let mut counts = Counts::default();
+    (0..CASES).any(|index| {
+        let case = make(&mut Random::for_case(1, index));
+        case.check(calls, &mut counts).is_err()
+    })
+}
+
+#[derive(Clone, Copy, PartialEq)]
+enum Fault {
+    None,
+    Text,
+    TextTail,
+    RefusedRoom,
+    TableTail,
+    Place,
+    Part,
+    Colour,
+    PastRoom,
+}
+
+struct Double(Fault);
+
+impl Calls for Double {
+    fn prepare(&self, code: &[u16], table: &mut [u16]) -> Prepared {
+        let mut given = Oracle.prepare(code, table);
+        let words = given.words as usize;
+        if self.0 == Fault::TableTail && words > 0 && words < table.len() {
+            table[words] ^= 1;
+        }
+        if self.0 == Fault::Place && given.answer == answer::KIND {
+            given.place += 1;
+        }
+        given
+    }
+
+    fn section(&self, code: &[u16], n: u32) -> Part {
+        let mut given = Oracle.section(code, n);
+        if self.0 == Fault::Part && given.length > 2 {
+            given.length -= 1;
+        }
+        given
+    }
+
+    fn show(&self, table: &[u16], value: &Value, room: &mut [u16]) -> Shown {
+        let mut given = Oracle.show(table, value, room);
+        let length = given.length as usize;
+        match self.0 {
+            Fault::Text if length > 3 => room[2] ^= 1,
+            Fault::TextTail if given.answer == 0 && length < room.len() => room[length] ^= 1,
+            Fault::RefusedRoom if given.answer == answer::TEXT_ROOM && !room.is_empty() => {
+                room[0] = u16::from(b'0');
+            }
+            Fault::Colour if given.answer != 0 => given.colour = 1,
+            Fault::PastRoom if given.answer == answer::TEXT_ROOM => write_past(room),
+            _ => {}
+        }
+        given
+    }
+}
+
+/// One unit behind the room, as a library in another language could.
+fn write_past(room: &mut [u16]) {
+    // Safety: the comparison lends a room with guard units behind it.
+    unsafe { *room.as_mut_ptr().add(room.len()) ^= 1 }
+}
+
+#[test]
+fn the_oracle_agrees_with_itself() {
+    assert!(!found(&Double(Fault::None)));
+}
+
+#[test]
+fn every_fault_is_found() {
+    assert!(found(&Double(Fault::Text)));
+    assert!(found(&Double(Fault::TextTail)));
+    assert!(found(&Double(Fault::RefusedRoom)));
+    assert!(found(&Double(Fault::TableTail)));
+    assert!(found(&Double(Fault::Place)));
+    assert!(found(&Double(Fault::Part)));
+    assert!(found(&Double(Fault::Colour)));
+    assert!(found(&Double(Fault::PastRoom)));
+}

@@ -1,0 +1,137 @@
+//! Compares the oracle with lists of known rows, whose paths the caller gives.
+//!
+//! A row of values is `code kind value answer place section colour text`, a row of tables is its words
+//! and what they are: `made from` a code, `passes`, or `8`. Fields are parted by tabs, the first line
+//! names the columns.
+
+use std::process::ExitCode;
+
+use crate::oracle::{
+    answer, answer_lines, check_table, prepare, read, show, units, Prepared, Reading, Value,
+    PROGRAM_TABLE_WORDS,
+};
+
+const ROOM: usize = 4096;
+
+pub fn run(values: &str, tables: &str) -> ExitCode {
+    let counted = check_rows(values, value_row).and_then(|values| {
+        let tables = check_rows(tables, table_row)?;
+        Ok((values, tables))
+    });
+    match counted {
+        Ok((values, tables)) => {
+            println!("{values} rows of values and {tables} rows of tables agree");
+            ExitCode::SUCCESS
+        }
+        Err(message) => {
+            eprintln!("{message}");
+            ExitCode::FAILURE
+        }
+    }
+}
+
+fn check_rows(path: &str, check: impl Fn(&[&str]) -> Result<(), String>) -> Result<usize, String> {
+    let text = std::fs::read_to_string(path).map_err(|error| format!("{path}: {error}"))?;
+    let mut failures = Vec::new();
+    let mut rows = 0;
+    for (index, line) in text.lines().enumerate().skip(1) {
+        let fields: Vec<&str> = line.split('\t').collect();
+        rows += 1;
+        if let Err(message) = check(&fields) {
+            failures.push(format!("{path}:{}: {message}", index + 1));
+        }
+    }
+    if failures.is_empty() {
+        Ok(rows)
+    } else {
+        Err(failures.join("\n"))
+    }
+}
+
+fn agree<T: PartialEq + std::fmt::Debug>(what: &str, found: T, expected: T) -> Result<(), String> {
+    if found == expected {
+        Ok(())
+    } else {
+        Err(format!("{what}: found {found:?}, expected {expected:?}"))
+    }
+}
+
+fn parsed<T: std::str::FromStr>(field: &str) -> Result<T, String> {
+    field.parse().map_err(|_| format!("`{field}` is no number"))
+}
+
+fn value_row(fields: &[&str]) -> Result<(), String> {
+    let [code, kind, value, answer, place, section, colour, text] = fields else {
+        return Err("a row has eight fields".to_string());
+    };
+    let expected_answer: u16 = parsed(answer)?;
+    let request = format!("code={code}\nkind={kind}\nvalue={value}\n");
+    let lines = format!("answer={answer}\nplace={place}\ncolour={colour}\ntext={text}\n");
+    let written = answer_lines(request.as_bytes());
+    agree(
+        "program",
+        String::from_utf8_lossy(&written).into_owned(),
+        lines,
+    )?;
+    let expected = if expected_answer == answer::DONE {
+        Ok(Reading {
+            text: units(text),
+            colour: parsed(colour)?,
+            section: parsed(section)?,
+        })
+    } else {
+        Err(expected_answer)
+    };
+    let value = value_of(kind, value)?;
+    let prepared = prepare(&units(code), PROGRAM_TABLE_WORDS);
+    if prepared.answer == answer::DONE {
+        agree(
+            "table",
+            show(&prepared.words, &value, ROOM),
+            expected.clone(),
+        )?;
+    }
+    agree("code", read(&units(code), &value, ROOM), expected)
+}
+
+fn value_of(kind: &str, value: &str) -> Result<Value, String> {
+    match kind {
+        "text" => Ok(Value::Text(units(value))),
+        "instant" => {
+            let (day, ms) = value.split_once('/').ok_or("an instant is day/ms")?;
+            Ok(Value::Instant {
+                day: parsed(day)?,
+                ms: parsed(ms)?,
+            })
+        }
+        _ => {
+            let scale = value
+                .split_once('.')
+                .map_or(0, |(_, decimals)| decimals.len());
+            Ok(Value::Number {
+                coefficient: parsed(&value.replace('.', ""))?,
+                scale: scale as u32,
+            })
+        }
+    }
+}
+
+fn table_row(fields: &[&str]) -> Result<(), String> {
+    let [words, verdict] = fields else {
+        return Err("a row has two fields".to_string());
+    };
+    let words: Vec<u16> = words.split(' ').map(parsed).collect::<Result<_, _>>()?;
+    agree("rules", check_table(&words), *verdict != "8")?;
+    match verdict.strip_prefix("made from ") {
+        Some(code) => agree(
+            "prepared",
+            prepare(&units(code), words.len()),
+            Prepared {
+                answer: answer::DONE,
+                place: 0,
+                words,
+            },
+        ),
+        None => Ok(()),
+    }
+}
