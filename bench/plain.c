@@ -1,0 +1,237 @@
+#include "plain.h"
+
+#include <stdbool.h>
+#include <string.h>
+
+enum { MOST = 48, RED = 3 };
+
+/* A text under way. It grows from its end to its front, as digits come. */
+typedef struct {
+    uint16_t units[MOST];
+    size_t first;
+} backward;
+
+static const uint64_t power_of_ten[] = {
+    1u,
+    10u,
+    100u,
+    1000u,
+    10000u,
+    100000u,
+    1000000u,
+    10000000u,
+    100000000u,
+    1000000000u,
+    10000000000u,
+    100000000000u,
+    1000000000000u,
+    10000000000000u,
+    100000000000000u,
+    1000000000000000u,
+};
+
+static void put(backward *text, char unit)
+{
+    text->units[--text->first] = (uint16_t)unit;
+}
+
+static void put_digits(backward *text, uint64_t number, unsigned count)
+{
+    for (; count > 0; count--, number /= 10)
+        put(text, (char)('0' + number % 10));
+}
+
+static void put_whole(backward *text, uint64_t number)
+{
+    do {
+        put(text, (char)('0' + number % 10));
+        number /= 10;
+    } while (number > 0);
+}
+
+static void put_grouped(backward *text, uint64_t number)
+{
+    while (number >= 1000) {
+        put_digits(text, number % 1000, 3);
+        put(text, ',');
+        number /= 1000;
+    }
+    put_whole(text, number);
+}
+
+static plain_text keep(const backward *text, uint16_t colour, uint16_t *room, size_t room_len)
+{
+    size_t length = MOST - text->first;
+    plain_text none = {0, 0};
+    plain_text kept = {length, colour};
+
+    if (length > room_len)
+        return none;
+    memcpy(room, text->units + text->first, length * sizeof *room);
+    return kept;
+}
+
+static uint64_t magnitude_of(int64_t coefficient)
+{
+    return coefficient < 0 ? 0 - (uint64_t)coefficient : (uint64_t)coefficient;
+}
+
+/* The number in units of 10^-decimals, halves away from zero. */
+static uint64_t rounded(int64_t coefficient, uint32_t scale, uint32_t decimals)
+{
+    uint64_t magnitude = magnitude_of(coefficient);
+    uint64_t unit;
+
+    if (scale <= decimals)
+        return magnitude * power_of_ten[decimals - scale];
+    unit = power_of_ten[scale - decimals];
+    return (magnitude + unit / 2) / unit;
+}
+
+plain_text plain_grouped(int64_t coefficient, uint32_t scale, uint16_t *room, size_t room_len)
+{
+    backward text;
+    uint64_t number = rounded(coefficient, scale, 0);
+
+    text.first = MOST;
+    put_grouped(&text, number);
+    if (coefficient < 0 && number > 0)
+        put(&text, '-');
+    return keep(&text, 0, room, room_len);
+}
+
+plain_text plain_fixed(int64_t coefficient, uint32_t scale, uint16_t *room, size_t room_len)
+{
+    backward text;
+    uint64_t hundredths = rounded(coefficient, scale, 2);
+
+    text.first = MOST;
+    put_digits(&text, hundredths % 100, 2);
+    put(&text, '.');
+    put_whole(&text, hundredths / 100);
+    if (coefficient < 0 && hundredths > 0)
+        put(&text, '-');
+    return keep(&text, 0, room, room_len);
+}
+
+plain_text plain_accounting(int64_t coefficient, uint32_t scale, uint16_t *room, size_t room_len)
+{
+    backward text;
+    uint64_t hundredths = rounded(coefficient, scale, 2);
+    bool negative = coefficient < 0;
+
+    text.first = MOST;
+    if (negative)
+        put(&text, ')');
+    put_digits(&text, hundredths % 100, 2);
+    put(&text, '.');
+    put_grouped(&text, hundredths / 100);
+    if (negative)
+        put(&text, '(');
+    return keep(&text, negative ? RED : 0, room, room_len);
+}
+
+static uint32_t digits_of(uint64_t number)
+{
+    uint32_t count = 1;
+
+    for (; number >= 10; number /= 10)
+        count++;
+    return count;
+}
+
+plain_text plain_general(int64_t coefficient, uint32_t scale, uint16_t *room, size_t room_len)
+{
+    backward text;
+    uint32_t digits = digits_of(magnitude_of(coefficient) / power_of_ten[scale]);
+    uint32_t decimals = digits < 10 ? 10 - digits : 0;
+    uint64_t number = rounded(coefficient, scale, decimals);
+    bool nought = number == 0;
+
+    for (; decimals > 0 && number % 10 == 0; decimals--)
+        number /= 10;
+    text.first = MOST;
+    if (decimals > 0) {
+        put_digits(&text, number, decimals);
+        put(&text, '.');
+    }
+    put_whole(&text, number / power_of_ten[decimals]);
+    if (coefficient < 0 && !nought)
+        put(&text, '-');
+    return keep(&text, 0, room, room_len);
+}
+
+typedef struct {
+    uint32_t year, month, day;
+} date;
+
+/*
+ * Counts from 1 March of year 0, so that the leap day is the last of its year:
+ * the month then follows from the day of the year by one division.
+ */
+static date gregorian(uint32_t since_march)
+{
+    uint32_t era = since_march / 146097;
+    uint32_t day_of_era = since_march % 146097;
+    uint32_t year_of_era =
+        (day_of_era - day_of_era / 1460 + day_of_era / 36524 - day_of_era / 146096) / 365;
+    uint32_t day_of_year = day_of_era - (365 * year_of_era + year_of_era / 4 - year_of_era / 100);
+    uint32_t month = (5 * day_of_year + 2) / 153;
+    date found;
+
+    found.day = day_of_year - (153 * month + 2) / 5 + 1;
+    found.month = month < 10 ? month + 3 : month - 9;
+    found.year = era * 400 + year_of_era + (month < 10 ? 0 : 1);
+    return found;
+}
+
+/* Day 0 is 0 January 1900, and day 60 is a 29 February that never was. */
+static date date_of(uint32_t day)
+{
+    static const date nought = {1900, 1, 0};
+    static const date never = {1900, 2, 29};
+
+    if (day == 0)
+        return nought;
+    if (day == 60)
+        return never;
+    return gregorian(day < 60 ? day + 693900 : day + 693899);
+}
+
+plain_text plain_date(uint32_t day, uint32_t millisecond, uint16_t *room, size_t room_len)
+{
+    static const char names[] = "JanFebMarAprMayJunJulAugSepOctNovDec";
+    backward text;
+    date found = date_of(day);
+    const char *name = names + 3 * (found.month - 1);
+
+    (void)millisecond;
+    text.first = MOST;
+    put_digits(&text, found.year % 100, 2);
+    put(&text, '-');
+    put(&text, name[2]);
+    put(&text, name[1]);
+    put(&text, name[0]);
+    put(&text, '-');
+    put_whole(&text, found.day);
+    return keep(&text, 0, room, room_len);
+}
+
+plain_text plain_clock(uint32_t day, uint32_t millisecond, uint16_t *room, size_t room_len)
+{
+    backward text;
+    uint32_t second = millisecond / 1000;
+    uint32_t hour = second / 3600;
+
+    (void)day;
+    text.first = MOST;
+    put(&text, 'M');
+    put(&text, hour < 12 ? 'A' : 'P');
+    put(&text, ' ');
+    put_digits(&text, second % 60, 2);
+    put(&text, ':');
+    put_digits(&text, second / 60 % 60, 2);
+    put(&text, ':');
+    put_whole(&text, hour % 12 == 0 ? 12 : hour % 12);
+    return keep(&text, 0, room, room_len);
+}

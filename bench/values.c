@@ -1,0 +1,63 @@
+#include "values.h"
+
+#include <stddef.h>
+
+int64_t coefficients[CALLS];
+uint32_t scales[CALLS];
+double doubles[CALLS];
+uint32_t days[CALLS], milliseconds[CALLS];
+
+static uint64_t random_bits(void)
+{
+    static uint64_t state = 88172645463325252u;
+
+    state ^= state << 13;
+    state ^= state >> 7;
+    state ^= state << 17;
+    return state;
+}
+
+static int64_t ten_to(uint32_t power)
+{
+    int64_t result = 1;
+
+    while (power-- > 0)
+        result *= 10;
+    return result;
+}
+
+/* Up to ten digits, at most four of them behind the point, either sign. */
+static void make_number(size_t at)
+{
+    int64_t most = ten_to(4 + (uint32_t)(random_bits() % 7));
+    int64_t magnitude = (int64_t)(random_bits() % (uint64_t)most);
+
+    coefficients[at] = random_bits() % 2 ? -magnitude : magnitude;
+    scales[at] = (uint32_t)(random_bits() % 5);
+    doubles[at] = (double)coefficients[at] / (double)ten_to(scales[at]);
+}
+
+/*
+ * Every second day lies between 1950 and 2050, the others anywhere. Each is
+ * drawn from a stretch of its own, so that no two are the same, and the
+ * stretches are taken out of order.
+ */
+static void make_instant(size_t at)
+{
+    uint64_t stretch = at * 617 % CALLS;
+    uint64_t near = 18264 + 36 * stretch + random_bits() % 36;
+    uint64_t any = 2958 * stretch + random_bits() % 2958;
+
+    days[at] = (uint32_t)(at % 2 ? near : any);
+    milliseconds[at] = (uint32_t)(random_bits() % 86400000);
+}
+
+void make_values(void)
+{
+    size_t at;
+
+    for (at = 0; at < CALLS; at++) {
+        make_number(at);
+        make_instant(at);
+    }
+}

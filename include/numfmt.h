@@ -1,0 +1,127 @@
+/*
+ * Prepares a SpreadsheetML number format code into a table, and shows a value
+ * through the table.
+ *
+ * Codes, tables, texts and rooms are lent runs of 16-bit units (UTF-16; a unit
+ * may be any number). No call keeps a pointer, allocates or needs a start or an
+ * end: calls on different memory may run side by side.
+ *
+ * What a caller owes, and nothing checks:
+ *   - each pointer is valid for the length beside it, aligned for a uint16_t;
+ *   - no pointer is null, not even with length 0;
+ *   - memory that a call may write (the table of numfmt_prepare, the room of
+ *     the others) overlaps nothing else lent in the same call.
+ * All else is checked by the call: any units at all may be lent as a code, a
+ * table or a text, and any number may be given as a value.
+ *
+ * What every call leaves: units of a table or room past the reported length
+ * keep their contents; on a refusal all of them do. On a refusal every number
+ * returned, but the answer and the place, is 0. What is lent as const is only
+ * read.
+ */
+#ifndef NUMFMT_H
+#define NUMFMT_H
+
+#include <stddef.h>
+#include <stdint.h>
+
+#ifdef __cplusplus
+extern "C" {
+#endif
+
+/* Words of table room that hold the table of every accepted code. */
+#define NUMFMT_TABLE_WORDS 557
+/* Most units of a code. */
+#define NUMFMT_CODE_MOST 254
+/* Most units of a text value. */
+#define NUMFMT_TEXT_MOST 1024
+
+/*
+ * The answers. Preparing tests 1 to 7 in that order, showing 8 to 13; the first
+ * that applies is given. Sections and units are counted from 0.
+ */
+#define NUMFMT_DONE 0
+#define NUMFMT_CODE_LENGTH 1   /* the code has 0 units, or more than 254 */
+#define NUMFMT_TOKEN 2         /* a unit starts no token, or its token is broken; place: the unit */
+#define NUMFMT_SECTION_COUNT 3 /* more than four sections; place: the fourth semicolon's unit */
+#define NUMFMT_KIND 4          /* a section fits no kind; place: the section */
+#define NUMFMT_STANDING 5      /* a section stands where it may not; place: the section */
+#define NUMFMT_LIMIT 6         /* a count limit is passed; place: the section */
+#define NUMFMT_TABLE_ROOM 7    /* the table needs more words than lent */
+#define NUMFMT_TABLE 8         /* the words lent as a table break a table rule */
+#define NUMFMT_RANGE 9         /* the value is out of range */
+#define NUMFMT_NO_SECTION 10   /* no section takes the number or instant */
+#define NUMFMT_SORT 11         /* the section chosen can't show that sort of value */
+#define NUMFMT_GENERAL 12      /* General, rounded to a whole number, reaches 10^11 */
+#define NUMFMT_TEXT_ROOM 13    /* the text is longer than the room */
+
+/* What preparing returns. The place is 0 but for answers 2 to 6. */
+typedef struct {
+    uint16_t answer;
+    uint32_t place;
+    uint32_t words;
+} numfmt_prepared;
+
+/*
+ * What showing returns. The colour is 0 for none, 1 to 8 for black, white, red,
+ * green, blue, yellow, magenta and cyan, or up to 56 for a colour by number.
+ * The section is 0 to 3, or 4 when a text is shown by no section.
+ */
+typedef struct {
+    uint16_t answer;
+    uint32_t length;
+    uint16_t colour;
+    uint16_t section;
+} numfmt_shown;
+
+/* A part of a code: `length` units from unit `start` on. */
+typedef struct {
+    uint32_t start;
+    uint32_t length;
+} numfmt_part;
+
+/*
+ * Writes the table of a code in front of the table room, and tells how many
+ * words it has. Those words, and no more, are the table to lend to the calls
+ * that show. Refuses with 1 to 7; a room of NUMFMT_TABLE_WORDS is never
+ * refused with 7.
+ */
+numfmt_prepared numfmt_prepare(const uint16_t *code, size_t code_len,
+                               uint16_t *table, size_t table_len);
+
+/*
+ * Where section n of a code stands, without semicolons. A section that is there
+ * but empty has length 0 at its own start. For a missing section, and for a
+ * code that numfmt_prepare refuses with 1 to 6, both numbers are 0. Writes
+ * nothing.
+ */
+numfmt_part numfmt_section(const uint16_t *code, size_t code_len, uint32_t n);
+
+/*
+ * Shows the number coefficient / 10^scale: at most fifteen digits, scale 0 to
+ * 15. Refuses with 8 to 13.
+ */
+numfmt_shown numfmt_show_number(const uint16_t *table, size_t table_len,
+                                int64_t coefficient, uint32_t scale,
+                                uint16_t *room, size_t room_len);
+
+/*
+ * Shows an instant: day 0 to 2,958,465 (day 1 is 1 January 1900), millisecond
+ * of the day 0 to 86,399,999. Refuses with 8, 9, 10, 11 or 13.
+ */
+numfmt_shown numfmt_show_instant(const uint16_t *table, size_t table_len,
+                                 uint32_t day, uint32_t millisecond,
+                                 uint16_t *room, size_t room_len);
+
+/*
+ * Shows a text of 0 to NUMFMT_TEXT_MOST units. Refuses with 8, 9 or 13.
+ */
+numfmt_shown numfmt_show_text(const uint16_t *table, size_t table_len,
+                              const uint16_t *text, size_t text_len,
+                              uint16_t *room, size_t room_len);
+
+#ifdef __cplusplus
+}
+#endif
+
+#endif
