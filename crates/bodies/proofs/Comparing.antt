@@ -19,7 +19,8 @@ use Rattle.formats.specs.Limits.{writtenWithin}
 use Rattle.tables.specs.Encode.{comparisonWord}
 use Rattle.bodies.specs.declared.conditions.Compared.{Compared}
 use Rattle.bodies.specs.Conditions.{wholeUnits, decimalUnits, comparisonAt, writtenOf, paddedNumber, beyondLimits, ComparedBy}
-use Rattle.bodies.proofs.Numbers.{leading-most, leading-digits, padded-number}
+use Rattle.formats.proofs.Lexing.{leading-most}
+use Rattle.bodies.proofs.Numbers.{leading-digits, padded-number}
 
 word-back : (n : ℕ) → n ≤ 6 → eqb n 0 ≡ false → n ≡ comparisonWord (comparisonAt n)
 unfolding comparisonWord comparisonAt
@@ -40,7 +41,7 @@ sign-of n w m e = by-cases (ltb 0 (w + m))
 
 module _ (us : List ℕ) (n b : ℕ) (e : n ≡ leading isDigit us) (f : b ≡ n + 1 - (n + 1 - length us)) where
   pub whole-length : n ≡ length (take n us)
-  whole-length = let m = leading-most us in sym (length-take-le n us (omega arith))
+  whole-length = let m = leading-most isDigit us in sym (length-take-le n us (omega arith))
 
   whole-part : take n us ≡ wholeUnits us
   unfolding wholeUnits

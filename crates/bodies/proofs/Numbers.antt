@@ -17,11 +17,6 @@ use Rattle.formats.specs.Tokens.{leading, isDigit, digitOf, numberFrom}
 use Rattle.bodies.specs.Conditions.{padded, digitAt, paddedNumber}
 
 -- ---- how many digits lead
-pub leading-most : (us : List ℕ) → leading isDigit us ≤ length us
-unfolding leading
-leading-most [] = omega arith
-leading-most (u ∷ us) = by-cases (isDigit u) (λ e. rw e (omega (arith, leading-most us))) (λ e. rw e (omega arith))
-
 pub leading-digits : (us : List ℕ) → every isDigit (take (leading isDigit us) us) ≡ true
 unfolding leading every
 leading-digits [] = refl

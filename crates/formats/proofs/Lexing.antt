@@ -49,12 +49,12 @@ unfolding before
 before-most u [] = omega arith
 before-most u (v ∷ vs) = cond-both (λ (n : ℕ). n ≤ suc (length vs)) (eqb v u) (omega arith) (omega (arith, before-most u vs))
 
-leading-most : (f : ℕ → Bool) (us : List ℕ) → leading f us ≤ length us
+pub leading-most : (f : ℕ → Bool) (us : List ℕ) → leading f us ≤ length us
 unfolding leading
 leading-most f [] = omega arith
 leading-most f (v ∷ vs) = cond-both (λ (n : ℕ). n ≤ suc (length vs)) (f v) (omega (arith, leading-most f vs)) (omega arith)
 
-word-most : (ws us : List ℕ) → startsWith ws us ≡ true → length ws ≤ length us
+pub word-most : (ws us : List ℕ) → startsWith ws us ≡ true → length ws ≤ length us
 unfolding startsWith
 word-most [] us e = omega arith
 word-most (w ∷ ws) [] e = absurd (true≢false (sym e))

@@ -26,7 +26,8 @@ use Rattle.lexing.specs.Scan.{member}
 use Rattle.marks.specs.Marks.{writtenOr, writtenIn, conditionOf, markToken, markRows}
 use Rattle.lexing.specs.Marks.{stepBehind, insideMeant, plainInside}
 use Rattle.lexing.specs.Brackets.{colourMeant, isRunOf, isWide, isNarrow, isPointed}
-use Rattle.lexing.proofs.Scanning.{leading-most, before-leading, every-leading, word-most}
+use Rattle.formats.proofs.Lexing.{leading-most, word-most}
+use Rattle.lexing.proofs.Scanning.{before-leading, every-leading}
 
 -- ---- named colours
 module _ (us : List ℕ) (k : ℕ) where

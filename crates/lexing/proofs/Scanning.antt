@@ -30,11 +30,6 @@ module _ (f : ℕ → Bool) (us : List ℕ) (i : ℕ) where
   unfolding leading
   leading-past h = rw drop-of-length-le
 
-pub leading-most : (f : ℕ → Bool) (us : List ℕ) → leading f us ≤ length us
-unfolding leading
-leading-most f [] = omega arith
-leading-most f (v ∷ vs) = cond-both (λ (n : ℕ). n ≤ suc (length vs)) (f v) (omega (arith, leading-most f vs)) (omega arith)
-
 -- what stands before the first u is no u
 pub before-leading : (u : ℕ) (us : List ℕ) → before u us ≡ leading (member (But u)) us
 unfolding before leading
@@ -66,13 +61,6 @@ module _ (ws us : List ℕ) (i : ℕ) where
   pub starts-done : length ws ≤ i → startsWith (drop i ws) (drop i us) ≡ true
   unfolding startsWith
   starts-done h = rw (drop-of-length-le ws h)
-
-pub word-most : (ws us : List ℕ) → startsWith ws us ≡ true → length ws ≤ length us
-unfolding startsWith
-word-most [] us e = omega arith
-word-most (w ∷ ws) [] e = absurd (true≢false (sym e))
-word-most (w ∷ ws) (u ∷ us) e =
-    by-cases (eqb w u) (λ t. omega (arith, word-most ws us (rw t at e))) (λ t. absurd (true≢false (sym (rw t at e))))
 
 -- ---- parts
 -- all that is behind a place

@@ -19,7 +19,8 @@ use Rattle.writing.specs.Put.{Put, Rest}
 use Rattle.writing.proofs.Laws.{rest-put, rest-done, drop-first, sets-append, sets-out, sets-overlay}
 use Rattle.lexing.specs.declared.scan.Set.the-variants.{But}
 use Rattle.lexing.specs.Scan.{member}
-use Rattle.lexing.proofs.Scanning.{before-leading, rest-all, word-most}
+use Rattle.formats.proofs.Lexing.{word-most}
+use Rattle.lexing.proofs.Scanning.{before-leading, rest-all}
 use Rattle.requests.specs.Lines.{isAscii, isLine, missing, fieldOf}
 use Rattle.requests.specs.Reads.{partOf, Content}
 

@@ -2,7 +2,8 @@
 -- Assumes nothing.
 use borrow.Author.Needs.{needs}
 use Rattle.bodies.proofs.Comparing.{whole-length, whole-digits, decimals-part, beyond-whole, beyond-decimals, whole-room, compared}
-use Rattle.bodies.proofs.Numbers.{leading-most}
+use Rattle.formats.specs.Tokens.{isDigit}
+use Rattle.formats.proofs.Lexing.{leading-most}
 use denote.Ref.{now}
 use native.Mathlib.Omega.{arith}
 use Rattle.bodies.proofs.conditions.compared_number.Statement.{statement}
@@ -12,7 +13,7 @@ digits-requires : tie.Need-digits-requires
 digits-requires c κs = search needs
 
 add-least : tie.Need-add-least
-add-least c = omega (arith, leading-most (now (c .before .before .args .us)), c .digits .ensures)
+add-least c = omega (arith, leading-most isDigit (now (c .before .before .args .us)), c .digits .ensures)
 
 least-requires : tie.Need-least-requires
 least-requires c κs = search needs

@@ -4,7 +4,8 @@ use mathlib.Core.Path.{sym, _∙_}
 use borrow.Author.Needs.{needs}
 use denote.Ref.{now}
 use Rattle.calendar.specs.Names.{units}
-use Rattle.lexing.proofs.Scanning.{word-most, rest-all}
+use Rattle.formats.proofs.Lexing.{word-most}
+use Rattle.lexing.proofs.Scanning.{rest-all}
 use Rattle.lexing.proofs.Bracketing.{signed-minus, signed-plain}
 use Rattle.lexing.proofs.brackets.is_signed.Statement.{statement}
 use Rattle.lexing.proofs.brackets.is_signed.Tie as tie

@@ -5,7 +5,8 @@ use borrow.Author.Needs.{needs}
 use denote.Ref.{now}
 use Rattle.calendar.specs.Names.{units}
 use Rattle.formats.specs.Tokens.{colourDigits}
-use Rattle.lexing.proofs.Scanning.{word-most, rest-all}
+use Rattle.formats.proofs.Lexing.{word-most}
+use Rattle.lexing.proofs.Scanning.{rest-all}
 use Rattle.lexing.proofs.Bracketing.{numbered-read, numbered-none}
 use Rattle.lexing.proofs.brackets.numbered_colour.Statement.{statement}
 use Rattle.lexing.proofs.brackets.numbered_colour.Tie as tie

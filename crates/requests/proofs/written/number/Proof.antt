@@ -7,7 +7,8 @@ use borrow.Author.Needs.{needs}
 use denote.Ref.{now}
 use lib.ListN.{length-drop}
 use Rattle.calendar.specs.Names.{units}
-use Rattle.lexing.proofs.Scanning.{rest-all, word-most}
+use Rattle.formats.proofs.Lexing.{word-most}
+use Rattle.lexing.proofs.Scanning.{rest-all}
 use Rattle.requests.proofs.Valuing.{number-minus, number-plain}
 use Rattle.requests.proofs.written.number.Statement.{statement}
 use Rattle.requests.proofs.written.number.Tie as tie
