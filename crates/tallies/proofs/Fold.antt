@@ -1,108 +1,85 @@
 -- What the pass has kept at its end, field by field: it is the tally.
 -- Assumes nothing.
-use Prim.Native.Nat.{ℕ, suc, _+_}
+use Prim.Native.Nat.{ℕ, suc, _+_, _*_, _/_, _%_, _^_, _≤_, _<_}
 use native.Mathlib.Omega.{arith}
 use native.Mathlib.Nat.{zero-add}
 use mathlib.Core.Path.{_≡_, refl, sym, _∙_, ap}
-use mathlib.Core.Bool.{Bool, true, false, cond, _&&_, _||_, and-false, and-true, or-true, or-false}
+use mathlib.Core.Bool.{Bool, true, false, cond, _&&_, _||_, and-false, and-true}
 use mathlib.Core.List.{List, [], _∷_}
-use lib.Dec.{eqb}
+use lib.Dec.{ltb, eqb, eqb·suc-zero}
+use lib.ListN.{length, getD}
 use borrow.Author.Tests.{eqb-true, ne-eqb}
-use Rattle.lists.specs.Lists.{every, any, count}
+use Rattle.lists.specs.Lists.{every, any, count, All}
 use Rattle.lists.proofs.Bools.{by-cases}
+use Rattle.lists.proofs.Counts.{count-least}
 use Rattle.formats.specs.Tokens.{hours, minutes, seconds}
-use Rattle.formats.specs.Items.{Item, literal, blank, fill, place, point, percent, general, at, year, month, day, hour, minute, second, part, elapsed, half, isFill, isPlace, isPoint, isPercent, isGeneral, isHour, isMinute, isSecond, isPart, isElapsed, isHalf, sortOf, integerPlaces, decimalPlaces, Run, hourRun, secondRun, otherRun, noRun, runOf, nearer, firstRun, meansMinutes, settledItem}
+use Rattle.formats.specs.Items.{Item, literal, blank, fill, place, point, percent, general, at, year, month, day, hour, minute, second, part, elapsed, half, isFill, isPlace, isPoint, isPercent, isGeneral, isHour, isMinute, isSecond, isPart, isElapsed, isHalf, itemMakes, itemBelongs, sortOf, integerPlaces, decimalPlaces, Run, hourRun, secondRun, otherRun, noRun, runOf, nearer, firstRun, meansMinutes, settledItem}
 use Rattle.formats.specs.Where.{implies}
 use Rattle.formats.specs.Limits.{elapsedShort}
 use Rattle.formats.specs.WellFormed.{isSeconds, partsFrom, partsFollow, settledTest, isSettled}
 use Rattle.tables.specs.Words.{Entry}
+use Rattle.tables.specs.Encode.{bit}
 use Rattle.tables.specs.Decode.{itemAt, itemsAt}
-use Rattle.tables.specs.Rules.{entryInRange, powersRunDown}
 use Rattle.tallies.specs.declared.Walk.{Walk}
 use Rattle.tallies.specs.Tally.{makesText, makesDate, belongsDate, isElapsedOf, soundEntries, tallyOf}
-use Rattle.tallies.specs.Walk.{runAt, runAfter, settles, nextAfter, powerTest, entrySound, more, integersWith, decimalsWith, seenAfter, stepOf, walkFrom, startOf, topTold, finishedOf}
-use Rattle.tallies.proofs.Powers.{chainFrom, nextFrom, topFrom, chain-start}
+use Rattle.tallies.specs.Walk.{packed, tallies, weight, isLong, otherTests, dateTests, markTests, numberWeight, unitAfter, runAt, runAfter, settles, nextAfter, ended, powerTest, entrySound, faultOf, stepOf, walkFrom, startOf, soundTold, finishedOf}
+use Rattle.tallies.proofs.Lists.{any-same, any-either, positive-count}
+use Rattle.tallies.proofs.Packed.{tallies-none, tallies-turn, first-dropped, first-digit, later-digits, digit-at, tallies-small, packed-positive}
+use Rattle.tallies.proofs.Powers.{place-no-point, places-counted, chainFrom, rangeTest, chain-start}
 
--- ---- counts and flags
-module _ (f : Walk → ℕ) (p : Item → Bool) (turn : (w : Walk) (e : Entry) → f (stepOf w e) ≡ more (p (itemAt e)) (f w)) where
-  counted : (w : Walk) (es : List Entry) → f (walkFrom w es) ≡ f w + count p (itemsAt es)
-  unfolding walkFrom count itemsAt
-  counted w [] = omega arith
-  counted w (e ∷ es) =
-      let h = counted (stepOf w e) es in
-      by-cases (p (itemAt e)) (λ g. let s : f (stepOf w e) ≡ f w + 1 = turn w e ∙ rw g in rw g (omega arith))
-      (λ g. let s : f (stepOf w e) ≡ f w = turn w e ∙ rw g in rw g (omega arith))
+-- ---- sums of weights
+module _ (f : Walk → ℕ) (b : ℕ) (ps : List (Item → Bool)) (turn : (w : Walk) (e : Entry) → f (stepOf w e) ≡ f w + weight b ps (itemAt e)) where
+  pub summed : (w : Walk) (es : List Entry) → f (walkFrom w es) ≡ f w + packed b (tallies ps (itemsAt es))
+  unfolding walkFrom itemsAt
+  summed w [] = rw (tallies-none b ps) (omega arith)
+  summed w (e ∷ es) = omega (arith, summed (stepOf w e) es, turn w e, tallies-turn b ps (itemAt e) (itemsAt es))
 
-  pub counted-all : (es : List Entry) → f startOf ≡ 0 → f (walkFrom startOf es) ≡ count p (itemsAt es)
-  counted-all es z = let h = counted startOf es in omega arith
+-- ---- the places before and behind the point, points and percents
+abbrev pointTests : List (Item → Bool)
+pointTests = isPoint ∷ isPercent ∷ []
 
-module _ (f : Walk → Bool) (p : Item → Bool) (turn : (w : Walk) (e : Entry) → f (stepOf w e) ≡ (p (itemAt e) || f w)) where
-  flagged : (w : Walk) (es : List Entry) → f (walkFrom w es) ≡ (any p (itemsAt es) || f w)
-  unfolding walkFrom any itemsAt
-  flagged w [] = refl
-  flagged w (e ∷ es) =
-      flagged (stepOf w e) es ∙ rw (turn w e)
-      (by-cases (p (itemAt e)) (λ g. rw g (or-true (any p (itemsAt es)))) (λ g. rw g))
+-- what is still to be added
+numbersLeft : ℕ → List Item → ℕ
+numbersLeft unit [] = 0
+numbersLeft unit (i ∷ is) = numberWeight unit i + numbersLeft (unitAfter unit i) is
 
-  pub flagged-all : (es : List Entry) → f startOf ≡ false → f (walkFrom startOf es) ≡ any p (itemsAt es)
-  flagged-all es z = flagged startOf es ∙ rw z (or-false (any p (itemsAt es)))
+numbers-walked : (w : Walk) (es : List Entry) → walkFrom w es .numbers ≡ w .numbers + numbersLeft (w .unit) (itemsAt es)
+unfolding walkFrom stepOf itemsAt numbersLeft
+numbers-walked w [] = omega arith
+numbers-walked w (e ∷ es) = omega (arith, numbers-walked (stepOf w e) es)
 
-module _ (f : Walk → Bool) (p : Item → Bool) (turn : (w : Walk) (e : Entry) → f (stepOf w e) ≡ (p (itemAt e) && f w)) where
-  kept : (w : Walk) (es : List Entry) → f (walkFrom w es) ≡ (every p (itemsAt es) && f w)
-  unfolding walkFrom every itemsAt
-  kept w [] = refl
-  kept w (e ∷ es) =
-      kept (stepOf w e) es ∙ rw (turn w e)
-      (by-cases (p (itemAt e)) (λ g. rw g) (λ g. rw g (and-false (every p (itemsAt es)))))
+place-weight : (i : Item) → isPlace i ≡ true → weight 65536 pointTests i ≡ 0
+unfolding weight bit
+place-weight i h = rw (eqb-true (sortOf i) 3 h)
 
-  pub kept-all : (es : List Entry) → f startOf ≡ true → f (walkFrom startOf es) ≡ every p (itemsAt es)
-  kept-all es z = kept startOf es ∙ rw z (and-true (every p (itemsAt es)))
+point-weight : (i : Item) → isPoint i ≡ true → weight 65536 pointTests i ≡ 1
+unfolding weight bit
+point-weight i h = rw (eqb-true (sortOf i) 4 h)
 
--- ---- the places before and behind the point
-pub point-no-place : (i : Item) → isPoint i ≡ true → isPlace i ≡ false
-point-no-place i h = rw (eqb-true (sortOf i) 4 h)
+closed-numbers : (is : List Item)
+    → numbersLeft 65536 is ≡ 65536 * count isPlace is + 4294967296 * packed 65536 (tallies pointTests is)
+unfolding numbersLeft numberWeight unitAfter count
+closed-numbers [] = rw (tallies-none 65536 pointTests)
+closed-numbers (i ∷ is) =
+    let h = closed-numbers is in
+    rw (tallies-turn 65536 pointTests i is, and-false (isPoint i))
+    (by-cases (isPlace i)
+    (λ g. rw (place-weight i g, g) (omega arith))
+    (λ g. rw g (omega arith)))
 
-positive : (n : ℕ) → eqb (n + 1) 0 ≡ false
-positive n = ne-eqb (n + 1) 0 (λ e. absurd (omega arith))
-
-integers-turn : (i : Item) (points n r : ℕ)
-    → let m = cond (isPlace i) (integersWith points n) n in
-    cond (eqb (more (isPoint i) points) 0) (m + r) m ≡ cond (eqb points 0) (n + cond (isPoint i) 0 (cond (isPlace i) (suc r) r)) n
-integers-turn i points n r =
-    by-cases (isPoint i)
-    (λ h. rw (h, point-no-place i h, positive points) (by-cases (eqb points 0) (λ z. rw z (omega arith)) (λ z. rw z)))
-    (λ h. rw h (by-cases (isPlace i)
-    (λ g. rw g (by-cases (eqb points 0) (λ z. rw z (omega arith)) (λ z. rw z)))
-    (λ g. rw g)))
-
-decimals-turn : (i : Item) (points d r k : ℕ)
-    → let m = cond (isPlace i) (decimalsWith points d) d in
-    cond (eqb (more (isPoint i) points) 0) (m + r) (m + k)
-    ≡ cond (eqb points 0) (d + cond (isPoint i) k r) (d + cond (isPlace i) (suc k) k)
-decimals-turn i points d r k =
-    by-cases (isPoint i)
-    (λ h. rw (h, point-no-place i h, positive points) (by-cases (eqb points 0) (λ z. rw z) (λ z. rw z)))
-    (λ h. rw h (by-cases (isPlace i)
-    (λ g. rw g (by-cases (eqb points 0) (λ z. rw z) (λ z. rw z (omega arith))))
-    (λ g. rw g)))
-
-integers-walked : (w : Walk) (es : List Entry)
-    → walkFrom w es .seen .integers
-    ≡ cond (eqb (w .seen .points) 0) (w .seen .integers + integerPlaces (itemsAt es)) (w .seen .integers)
-unfolding walkFrom stepOf seenAfter integerPlaces itemsAt
-integers-walked w [] = by-cases (eqb (w .seen .points) 0) (λ z. rw z (omega arith)) (λ z. rw z)
-integers-walked w (e ∷ es) =
-    integers-walked (stepOf w e) es
-    ∙ integers-turn (itemAt e) (w .seen .points) (w .seen .integers) (integerPlaces (itemsAt es))
-
-decimals-walked : (w : Walk) (es : List Entry)
-    → walkFrom w es .seen .decimals
-    ≡ cond (eqb (w .seen .points) 0) (w .seen .decimals + decimalPlaces (itemsAt es)) (w .seen .decimals + count isPlace (itemsAt es))
-unfolding walkFrom stepOf seenAfter decimalPlaces count itemsAt
-decimals-walked w [] = by-cases (eqb (w .seen .points) 0) (λ z. rw z (omega arith)) (λ z. rw z (omega arith))
-decimals-walked w (e ∷ es) =
-    decimals-walked (stepOf w e) es
-    ∙ decimals-turn (itemAt e) (w .seen .points) (w .seen .decimals) (decimalPlaces (itemsAt es)) (count isPlace (itemsAt es))
+opened-numbers : (is : List Item)
+    → numbersLeft 1 is ≡ integerPlaces is + 65536 * decimalPlaces is + 4294967296 * packed 65536 (tallies pointTests is)
+unfolding numbersLeft numberWeight unitAfter integerPlaces decimalPlaces
+opened-numbers [] = rw (tallies-none 65536 pointTests)
+opened-numbers (i ∷ is) =
+    let h = opened-numbers is in
+    let k = closed-numbers is in
+    rw (tallies-turn 65536 pointTests i is)
+    (by-cases (isPlace i)
+    (λ g. rw (place-weight i g, g, place-no-point i g) (omega arith))
+    (λ g. rw g (by-cases (isPoint i)
+    (λ j. rw (point-weight i j, j) (omega arith))
+    (λ j. rw j (omega arith)))))
 
 -- ---- the rule for m: no later run changes it
 means-later : (r l : Run) → meansMinutes r l ≡ meansMinutes r noRun
@@ -145,12 +122,6 @@ and-four true b true d = refl
 and-four true b false d = and-false b
 and-four false b c d = refl
 
-and-behind : (a b c : Bool) → (a && (b && c)) ≡ ((b && a) && c)
-and-behind true true c = refl
-and-behind true false c = refl
-and-behind false true c = refl
-and-behind false false c = refl
-
 gathered : (P S C R p s c r : Bool)
     → ((p && (s && (c && r))) && (P && (S && (C && R)))) ≡ ((p && P) && ((s && S) && ((c && C) && (r && R))))
 gathered P S C R p s c r =
@@ -161,87 +132,259 @@ cond-and : (a b : Bool) → cond a b false ≡ (a && b)
 cond-and true b = refl
 cond-and false b = refl
 
+bit-one : (b : Bool) → eqb (bit b) 1 ≡ b
+unfolding bit
+bit-one true = refl
+bit-one false = refl
+
 -- the tests of all entries, from what the earlier ones left
 testsFrom : Walk → List Entry → Bool
 testsFrom w es =
     let is = itemsAt es in
-    partsFrom (w .behind) is && (settledTest (runAt (w .earlier)) is && (chainFrom (w .next) es && every entryInRange es))
+    partsFrom (eqb (w .behind) 1) is
+    && (settledTest (runAt (w .earlier)) is && (chainFrom (w .unit) (w .next) es && every rangeTest es))
 
 tests-front : (w : Walk) (e : Entry) (es : List Entry) → testsFrom w (e ∷ es) ≡ (entrySound w e && testsFrom (stepOf w e) es)
 unfolding testsFrom entrySound stepOf partsFrom settledTest settles chainFrom every itemsAt
 tests-front w e es =
     let i = itemAt e in
     let is = itemsAt es in
-    rw (settled-later (runAt (w .earlier)) (firstRun is) i, run-after (runOf i) (w .earlier), cond-and (entryInRange e) (every entryInRange es))
-    (sym (gathered (partsFrom (isSeconds i) is) (settledTest (nearer (runOf i) (runAt (w .earlier))) is) (chainFrom (nextAfter (w .next) e) es) (every entryInRange es)
-    (implies (isPart i) (w .behind)) (settles (runAt (w .earlier)) i) (powerTest (w .next) e) (entryInRange e)))
+    rw (
+      settled-later (runAt (w .earlier)) (firstRun is) i,
+      run-after (runOf i) (w .earlier),
+      bit-one (isSeconds i),
+      cond-and (rangeTest e) (every rangeTest es),
+    )
+    (sym (gathered (partsFrom (isSeconds i) is) (settledTest (nearer (runOf i) (runAt (w .earlier))) is)
+    (chainFrom (unitAfter (w .unit) i) (nextAfter (w .unit) (w .next) e) es) (every rangeTest es)
+    (implies (isPart i) (eqb (w .behind) 1)) (settles (runAt (w .earlier)) i) (powerTest (w .unit) (w .next) e) (rangeTest e)))
 
-tests-walked : (w : Walk) (es : List Entry) → walkFrom w es .seen .sound ≡ (testsFrom w es && w .seen .sound)
-unfolding walkFrom
-tests-walked w [] = unfold testsFrom partsFrom settledTest chainFrom every itemsAt in refl
-tests-walked w (e ∷ es) =
-    tests-walked (stepOf w e) es
-    ∙ unfold stepOf seenAfter in (and-behind (testsFrom (stepOf w e) es) (entrySound w e) (w .seen .sound))
-    ∙ ap (λ (x : Bool). x && w .seen .sound) (sym (tests-front w e es))
+-- the entries that fail
+faultsFrom : Walk → List Entry → ℕ
+faultsFrom w [] = 0
+faultsFrom w (e ∷ es) = faultOf (entrySound w e) + faultsFrom (stepOf w e) es
 
-next-walked : (w : Walk) (es : List Entry) → walkFrom w es .next ≡ nextFrom (w .next) es
-unfolding walkFrom nextFrom stepOf
-next-walked w [] = refl
-next-walked w (e ∷ es) = next-walked (stepOf w e) es
+pub fault-most : (b : Bool) → faultOf b ≤ 1
+fault-most true = omega arith
+fault-most false = omega arith
 
-top-walked : (w : Walk) (es : List Entry) → walkFrom w es .top ≡ topFrom (w .next) (w .top) es
-unfolding walkFrom topFrom stepOf
-top-walked w [] = refl
-top-walked w (e ∷ es) = top-walked (stepOf w e) es
+faults-few : (w : Walk) (es : List Entry) → faultsFrom w es ≤ length es
+unfolding faultsFrom
+faults-few w [] = omega arith
+faults-few w (e ∷ es) = omega (arith, faults-few (stepOf w e) es, fault-most (entrySound w e))
+
+endTest : Walk → Bool
+endTest w = eqb (w .unit) 65536 || ended (w .next)
+
+none-fails : (w : Walk) (es : List Entry) → (eqb (faultsFrom w es) 0 && endTest (walkFrom w es)) ≡ testsFrom w es
+unfolding faultsFrom walkFrom
+none-fails w [] = unfold testsFrom endTest partsFrom settledTest chainFrom every itemsAt in (sym (and-true (eqb (w .unit) 65536 || ended (w .next))))
+none-fails w (e ∷ es) =
+    rw (tests-front w e es)
+    (by-cases (entrySound w e)
+    (λ h. rw (h, zero-add (faultsFrom (stepOf w e) es)) (none-fails (stepOf w e) es))
+    (λ h. rw (h, ne-eqb (1 + faultsFrom (stepOf w e) es) 0 (λ x. absurd (omega arith)))))
+
+marks-turn : (w : Walk) (e : Entry)
+    → stepOf w e .marks ≡ w .marks + (faultOf (entrySound w e) + 65536 * weight 65536 markTests (itemAt e))
+unfolding stepOf
+marks-turn w e = refl
+
+marks-walked : (w : Walk) (es : List Entry)
+    → walkFrom w es .marks ≡ w .marks + (faultsFrom w es + 65536 * packed 65536 (tallies markTests (itemsAt es)))
+unfolding walkFrom faultsFrom itemsAt
+marks-walked w [] = rw (tallies-none 65536 markTests) (omega arith)
+marks-walked w (e ∷ es) =
+    omega (arith, marks-walked (stepOf w e) es, marks-turn w e, tallies-turn 65536 markTests (itemAt e) (itemsAt es))
+
+-- ---- what an item's weight says
+date-weight : (i : Item) → ltb 0 (weight 256 dateTests i) ≡ makesDate i
+unfolding weight bit itemMakes isElapsedOf
+date-weight (literal u) = refl
+date-weight (blank u) = refl
+date-weight (fill u) = refl
+date-weight (place p) = refl
+date-weight point = refl
+date-weight percent = refl
+date-weight general = refl
+date-weight at = refl
+date-weight (year n) = refl
+date-weight (month n) = refl
+date-weight (day n) = refl
+date-weight (hour n) = refl
+date-weight (minute n) = refl
+date-weight (second n) = refl
+date-weight (part n) = refl
+date-weight (elapsed hours n) = refl
+date-weight (elapsed minutes n) = refl
+date-weight (elapsed seconds n) = refl
+date-weight (half h) = refl
+
+-- a half-day mark or a part of a second
+abbrev besideTests : List (Item → Bool)
+besideTests = isHalf ∷ isPart ∷ []
+
+date-belongs : (i : Item) → (makesDate i || ltb 0 (weight 65536 besideTests i)) ≡ belongsDate i
+unfolding weight bit itemMakes itemBelongs
+date-belongs (literal u) = refl
+date-belongs (blank u) = refl
+date-belongs (fill u) = refl
+date-belongs (place p) = refl
+date-belongs point = refl
+date-belongs percent = refl
+date-belongs general = refl
+date-belongs at = refl
+date-belongs (year n) = refl
+date-belongs (month n) = refl
+date-belongs (day n) = refl
+date-belongs (hour n) = refl
+date-belongs (minute n) = refl
+date-belongs (second n) = refl
+date-belongs (part n) = refl
+date-belongs (elapsed e n) = refl
+date-belongs (half h) = refl
+
+none-long : (is : List Item) → eqb (count isLong is) 0 ≡ every elapsedShort is
+unfolding count every
+none-long [] = refl
+none-long (i ∷ is) = by-cases (elapsedShort i) (λ h. rw h (none-long is)) (λ h. rw h (eqb·suc-zero (count isLong is)))
+
+items-length : (es : List Entry) → length (itemsAt es) ≡ length es
+unfolding itemsAt
+items-length [] = refl
+items-length (e ∷ es) = ap suc (items-length es)
 
 -- ---- the end
-and-told : (p s c r t : Bool) → (t && ((p && (s && (c && r))) && true)) ≡ (p && (s && ((c && t) && r)))
-and-told true true true r true = and-true r
-and-told true true true r false = refl
-and-told true true false r true = refl
-and-told true true false r false = refl
-and-told true false c r true = refl
-and-told true false c r false = refl
-and-told false s c r true = refl
-and-told false s c r false = refl
+module _ (es : List Entry) (few : length es ≤ 254) where
+  abbrev is : List Item
+  is = itemsAt es
 
-module _ (es : List Entry) where
-  integers-told : walkFrom startOf es .seen .integers ≡ integerPlaces (itemsAt es)
-  integers-told = integers-walked startOf es ∙ zero-add _
+  abbrev end : Walk
+  end = walkFrom startOf es
 
-  decimals-told : walkFrom startOf es .seen .decimals ≡ decimalPlaces (itemsAt es)
-  decimals-told = decimals-walked startOf es ∙ zero-add _
+  few-items : length is ≤ 254
+  few-items = rw (items-length es) few
 
-  sound-told : (topTold (walkFrom startOf es) && walkFrom startOf es .seen .sound) ≡ soundEntries es
-  unfolding soundEntries testsFrom partsFollow isSettled powersRunDown runAt
+  -- the numbers
+  abbrev numberCounts : List ℕ
+  numberCounts = integerPlaces is ∷ decimalPlaces is ∷ count isPoint is ∷ count isPercent is ∷ []
+
+  numbers-are : end .numbers ≡ packed 65536 numberCounts
+  unfolding packed tallies
+  numbers-are = omega (arith, numbers-walked startOf es, opened-numbers is)
+
+  numbers-small : All (λ (c : ℕ). c < 65536) numberCounts
+  numbers-small =
+      let l = few-items in
+      let p = places-counted is in
+      let c = count-least isPlace is in
+      (omega arith, (omega arith, (omega (arith, count-least isPoint is), (omega (arith, count-least isPercent is), tt))))
+
+  others-are : end .others ≡ packed 65536 (tallies otherTests is)
+  unfolding stepOf
+  others-are = summed (λ (w : Walk). w .others) 65536 otherTests (λ w e. refl) startOf es ∙ zero-add _
+
+  dates-are : end .dates ≡ packed 256 (tallies dateTests is)
+  unfolding stepOf
+  dates-are = summed (λ (w : Walk). w .dates) 256 dateTests (λ w e. refl) startOf es ∙ zero-add _
+
+  marks-are : end .marks ≡ faultsFrom startOf es + 65536 * packed 65536 (tallies markTests is)
+  marks-are = marks-walked startOf es ∙ zero-add _
+
+  small : (b : ℕ) (ps : List (Item → Bool)) → 254 < b → All (λ (c : ℕ). c < b) (tallies ps is)
+  small b ps h = tallies-small b ps is (omega (arith, few-items))
+
+  number-digit : (j : ℕ) → end .numbers / 65536 ^ j % 65536 ≡ getD numberCounts j 0
+  number-digit j = rw numbers-are (digit-at 65536 numberCounts j numbers-small)
+
+  other-digit : (j : ℕ) → end .others / 65536 ^ j % 65536 ≡ getD (tallies otherTests is) j 0
+  other-digit j = rw others-are (digit-at 65536 (tallies otherTests is) j (small 65536 otherTests (omega arith)))
+
+  date-digit : (j : ℕ) → end .dates / 256 ^ j % 256 ≡ getD (tallies dateTests is) j 0
+  date-digit j = rw dates-are (digit-at 256 (tallies dateTests is) j (small 256 dateTests (omega arith)))
+
+  few-faults : faultsFrom startOf es < 65536
+  few-faults = omega (arith, faults-few startOf es)
+
+  marks-behind : end .marks / 65536 ≡ packed 65536 (tallies markTests is)
+  marks-behind = rw marks-are (first-dropped 65536 (faultsFrom startOf es) (packed 65536 (tallies markTests is)) few-faults)
+
+  few-long : count isLong is < 65536
+  few-long = omega (arith, count-least isLong is, few-items)
+
+  marks-beside : end .marks / 4294967296 ≡ packed 65536 (tallies besideTests is)
+  unfolding packed tallies
+  marks-beside =
+      rw marks-are
+      (later-digits 65536 (faultsFrom startOf es) (packed 65536 (tallies markTests is)) few-faults 65536
+      ∙ first-dropped 65536 (count isLong is) (packed 65536 (tallies besideTests is)) few-long)
+
+  sound-told : soundTold end ≡ soundEntries es
+  unfolding soundEntries partsFollow isSettled runAt testsFrom endTest
   sound-told =
-      let is = itemsAt es in
-      let q = 14 + integerPlaces is in
-      let s : 15 + integerPlaces is ≡ suc q = omega arith in
-      rw (tests-walked startOf es, next-walked startOf es, top-walked startOf es, integers-told, s)
-      (and-told (partsFrom false is) (settledTest noRun is) (chainFrom 0 es) (every entryInRange es) (eqb (nextFrom 0 es) 0 || eqb (topFrom 0 0 es) (suc q))
-      ∙ ap (λ (x : Bool). partsFrom false is && (settledTest noRun is && (x && every entryInRange es))) (chain-start q 0 es))
+      rw (marks-are, first-digit 65536 (faultsFrom startOf es) (packed 65536 (tallies markTests is)) few-faults)
+      (none-fails startOf es ∙ ap (λ (x : Bool). partsFrom false is && (settledTest noRun is && x)) (chain-start es))
 
-  pub finished-is : finishedOf (walkFrom startOf es) ≡ tallyOf es
-  unfolding tallyOf stepOf seenAfter
+  short-told : eqb (end .marks / 65536 % 65536) 0 ≡ every elapsedShort is
+  unfolding packed tallies
+  short-told =
+      rw (marks-behind, first-digit 65536 (count isLong is) (packed 65536 (tallies besideTests is)) few-long) (none-long is)
+
+  halves-told : ltb 0 (end .marks / 4294967296 % 65536) ≡ any isHalf is
+  unfolding packed tallies
+  halves-told =
+      rw (marks-beside, first-digit 65536 (count isHalf is) (packed 65536 (tallies (isPart ∷ []) is)) (omega (arith, count-least isHalf is, few-items)))
+      (positive-count isHalf is)
+
+  dating-told : ltb 0 (end .dates) ≡ any makesDate is
+  dating-told =
+      rw dates-are
+      (packed-positive 256 dateTests is ∙ any-same (λ (i : Item). ltb 0 (weight 256 dateTests i)) makesDate date-weight is)
+
+  dates-told : (ltb 0 (end .dates) || ltb 0 (end .marks / 4294967296)) ≡ any belongsDate is
+  dates-told =
+      let beside : Item → Bool = λ i. ltb 0 (weight 65536 besideTests i) in
+      rw (dating-told, marks-beside, packed-positive 65536 besideTests is)
+      (sym (any-either makesDate beside is) ∙ any-same (λ (i : Item). makesDate i || beside i) belongsDate date-belongs is)
+
+  integers-told : end .numbers % 65536 ≡ integerPlaces is
+  unfolding packed
+  integers-told = rw numbers-are (first-digit 65536 (integerPlaces is) (packed 65536 (decimalPlaces is ∷ count isPoint is ∷ count isPercent is ∷ [])) (numbers-small .0))
+
+  generals-told : end .others % 65536 ≡ count isGeneral is
+  unfolding packed tallies
+  generals-told =
+      rw others-are
+      (first-digit 65536 (count isGeneral is) (packed 65536 (tallies (isFill ∷ isElapsed ∷ makesText ∷ []) is)) (omega (arith, count-least isGeneral is, few-items)))
+
+  texts-told : ltb 0 (end .others / 281474976710656 % 65536) ≡ any makesText is
+  unfolding tallies
+  texts-told = ap (λ (n : ℕ). ltb 0 n) (other-digit 3) ∙ positive-count makesText is
+
+  -- the flag of a digit of the dates
+  date-flag : (j : ℕ) (p : Item → Bool) → getD (tallies dateTests is) j 0 ≡ count p is → ltb 0 (end .dates / 256 ^ j % 256) ≡ any p is
+  date-flag j p h = ap (λ (n : ℕ). ltb 0 n) (date-digit j ∙ h) ∙ positive-count p is
+
+  pub finished-is : finishedOf end ≡ tallyOf es
+  unfolding tallyOf tallies
   finished-is = λ i. record {
     integers = integers-told i;
-    decimals = decimals-told i;
-    points = counted-all (λ (w : Walk). w .seen .points) isPoint (λ w e. refl) es refl i;
-    percents = counted-all (λ (w : Walk). w .seen .percents) isPercent (λ w e. refl) es refl i;
-    generals = counted-all (λ (w : Walk). w .seen .generals) isGeneral (λ w e. refl) es refl i;
-    fills = counted-all (λ (w : Walk). w .seen .fills) isFill (λ w e. refl) es refl i;
-    elapsed = counted-all (λ (w : Walk). w .seen .elapsed) isElapsed (λ w e. refl) es refl i;
-    texts = flagged-all (λ (w : Walk). w .seen .texts) makesText (λ w e. refl) es refl i;
-    dating = flagged-all (λ (w : Walk). w .seen .dating) makesDate (λ w e. refl) es refl i;
-    dates = flagged-all (λ (w : Walk). w .seen .dates) belongsDate (λ w e. refl) es refl i;
-    hours = flagged-all (λ (w : Walk). w .seen .hours) isHour (λ w e. refl) es refl i;
-    minutes = flagged-all (λ (w : Walk). w .seen .minutes) isMinute (λ w e. refl) es refl i;
-    seconds = flagged-all (λ (w : Walk). w .seen .seconds) isSecond (λ w e. refl) es refl i;
-    «elapsed_hours» = flagged-all (λ (w : Walk). w .seen .«elapsed_hours») (isElapsedOf hours) (λ w e. refl) es refl i;
-    «elapsed_minutes» = flagged-all (λ (w : Walk). w .seen .«elapsed_minutes») (isElapsedOf minutes) (λ w e. refl) es refl i;
-    «elapsed_seconds» = flagged-all (λ (w : Walk). w .seen .«elapsed_seconds») (isElapsedOf seconds) (λ w e. refl) es refl i;
-    halves = flagged-all (λ (w : Walk). w .seen .halves) isHalf (λ w e. refl) es refl i;
-    short = kept-all (λ (w : Walk). w .seen .short) elapsedShort (λ w e. refl) es refl i;
+    decimals = number-digit 1 i;
+    points = number-digit 2 i;
+    percents = number-digit 3 i;
+    generals = generals-told i;
+    fills = other-digit 1 i;
+    elapsed = other-digit 2 i;
+    texts = texts-told i;
+    dating = dating-told i;
+    dates = dates-told i;
+    hours = date-flag 1 isHour refl i;
+    minutes = date-flag 2 isMinute refl i;
+    seconds = date-flag 3 isSecond refl i;
+    «elapsed_hours» = date-flag 4 (isElapsedOf hours) refl i;
+    «elapsed_minutes» = date-flag 5 (isElapsedOf minutes) refl i;
+    «elapsed_seconds» = date-flag 6 (isElapsedOf seconds) refl i;
+    halves = halves-told i;
+    short = short-told i;
     sound = sound-told i;
   }

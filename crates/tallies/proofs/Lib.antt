@@ -1,4 +1,5 @@
 pub mod Lists
+pub mod Packed
 pub mod Steps
 pub mod Powers
 pub mod Fold

@@ -1,60 +1,59 @@
 -- The loop over the words: what was kept, and the entries that are left.
 -- Assumes nothing.
-use Prim.Native.Nat.{ℕ, suc, _+_, _-_, _*_, _/_, _≤_, _<_}
+use Prim.Native.Nat.{ℕ, zero, suc, _+_, _-_, _*_, _/_, _≤_, _<_}
 use native.Mathlib.Omega.{arith}
 use native.Mathlib.Nat.{sub-zero}
 use mathlib.Core.Path.{_≡_, sym, _∙_, ap}
-use mathlib.Core.Bool.{Bool, true, false, cond, not}
-use mathlib.Core.List.{List, _∷_}
-use lib.Dec.{eqb}
+use mathlib.Core.List.{List, [], _∷_}
 use lib.ListN.{length, drop, getD}
 use lib.Seq.{getD-drop, drop-drop}
-use Rattle.formats.specs.Items.{isFill, isPlace, isPoint, isPercent, isGeneral, isElapsed}
+use Rattle.lists.proofs.Bools.{by-cases}
+use Rattle.formats.specs.Items.{Item, isPlace, isPoint, isPercent}
 use Rattle.tables.specs.Words.{Entry, entriesAt}
 use Rattle.tables.specs.Encode.{entry}
 use Rattle.tables.specs.Decode.{itemAt}
 use Rattle.tallies.specs.declared.Tally.{Tally}
 use Rattle.tallies.specs.declared.Walk.{Walk}
 use Rattle.tallies.specs.Tally.{entriesIn, tallyOf}
-use Rattle.tallies.specs.Walk.{more, seenAfter, stepOf, walkFrom, nothingSeen, startOf, finishedOf, Few}
-use Rattle.tallies.proofs.Fold.{finished-is}
+use Rattle.tallies.specs.Walk.{weight, otherTests, dateTests, markTests, numberWeight, isFirstPoint, unitAfter, entrySound, stepOf, walkFrom, startOf, finishedOf, Few}
+use Rattle.tallies.proofs.Packed.{ones, weight-most}
+use Rattle.tallies.proofs.Fold.{fault-most, finished-is}
 
--- ---- no count passes the number of items
-more-few : (b : Bool) (n m : ℕ) → n ≤ m → more b n ≤ m + 1
-more-few true n m h = omega arith
-more-few false n m h = omega arith
+-- ---- no weight is too large
+number-most : (unit : ℕ) (i : Item) → unit ≤ 65536 → numberWeight unit i ≤ 562949953421312
+unfolding numberWeight ones
+number-most unit i h =
+    let m = weight-most 65536 (isPoint ∷ isPercent ∷ []) i in
+    by-cases (isPlace i) (λ g. rw g (omega arith)) (λ g. rw g (omega arith))
 
-cond-few : (b d : Bool) (n m : ℕ) → n ≤ m → cond b (more d n) n ≤ m + 1
-cond-few true d n m h = more-few d n m h
-cond-few false d n m h = omega arith
+unit-most : (unit : ℕ) (i : Item) → unit ≤ 65536 → unitAfter unit i ≤ 65536
+unfolding unitAfter
+unit-most unit i h = by-cases (isFirstPoint unit i) (λ g. rw g (omega arith)) (λ g. rw g h)
 
-few-start : Few 0 nothingSeen
+few-start : Few 0 startOf
 few-start = omega arith
 
-few-step : (w : Walk) (e : Entry) (n : ℕ) → Few n (w .seen) → Few (n + 1) (stepOf w e .seen)
-unfolding stepOf seenAfter
+few-step : (w : Walk) (e : Entry) (n : ℕ) → Few n w → Few (n + 1) (stepOf w e)
+unfolding stepOf ones
 few-step w e n h =
-    let t = w .seen in
     let i = itemAt e in
     record {
-      integers = cond-few (isPlace i) (eqb (t .points) 0) (t .integers) n (h .integers);
-      decimals = cond-few (isPlace i) (not (eqb (t .points) 0)) (t .decimals) n (h .decimals);
-      points = more-few (isPoint i) (t .points) n (h .points);
-      percents = more-few (isPercent i) (t .percents) n (h .percents);
-      generals = more-few (isGeneral i) (t .generals) n (h .generals);
-      fills = more-few (isFill i) (t .fills) n (h .fills);
-      elapsed = more-few (isElapsed i) (t .elapsed) n (h .elapsed);
+      numbers = omega (arith, h .numbers, number-most (w .unit) i (h .unit));
+      others = omega (arith, h .others, weight-most 65536 otherTests i);
+      dates = omega (arith, h .dates, weight-most 256 dateTests i);
+      marks = omega (arith, h .marks, weight-most 65536 markTests i, fault-most (entrySound w e));
+      unit = unit-most (w .unit) i (h .unit);
     }
 
-pub few-most : (t : Tally) (n : ℕ) → Few n t → n ≤ 254 → Few 254 t
-few-most t n h g = omega arith
+few-most : (w : Walk) (n : ℕ) → Few n w → n ≤ 253 → Few 253 w
+few-most w n h g = omega arith
 
 -- ---- what the loop keeps after k of n items
 pub record Walking (words : List ℕ) (n k : ℕ) (w : Walk) : Type 0 where
   pub small : length words ≤ 508
   pub items : n ≡ length words / 2
   pub inside : k ≤ n
-  pub few : Few k (w .seen)
+  pub few : Few k w
   pub same : walkFrom startOf (entriesIn words) ≡ walkFrom w (entriesAt (n - k) (drop (2 * k) words))
 
 pub walking-start : (words : List ℕ) (n : ℕ) (w : Walk) → length words ≤ 508 → n ≡ length words / 2 → w ≡ startOf → Walking words n 0 w
@@ -77,6 +76,11 @@ entries-front words n k h =
     let nought : 2 * k + 0 ≡ 2 * k = omega arith in
     rw (one, two, getD-drop (2 * k) words 0 0, getD-drop (2 * k) words 1 0, drop-drop 2 (2 * k) words, nought)
 
+entries-length : (n : ℕ) (ws : List ℕ) → length (entriesAt n ws) ≤ n
+unfolding entriesAt
+entries-length zero ws = omega arith
+entries-length (suc n) ws = let h = entries-length n (drop 2 ws) in omega arith
+
 module _ (words : List ℕ) (n k : ℕ) (w : Walk) (inv : Walking words n k w) where
   pub walking-step : (v : Walk) → k < n → v ≡ stepOf w (entry (getD words (2 * k) 0) (getD words (2 * k + 1) 0)) → Walking words n (k + 1) v
   unfolding walkFrom
@@ -90,16 +94,17 @@ module _ (words : List ℕ) (n k : ℕ) (w : Walk) (inv : Walking words n k w) w
         same = inv .same ∙ ap (walkFrom w) (entries-front words n k h);
       })
 
-  pub walking-few : Few 254 (w .seen)
-  walking-few =
+  pub walking-few : k < n → Few 253 w
+  walking-few h =
       let s = inv .small in
       let i = inv .items in
-      let j = inv .inside in
-      few-most (w .seen) k (inv .few) (omega arith)
+      few-most w k (inv .few) (omega arith)
 
   pub walking-end : (t : Tally) → n ≤ k → t ≡ finishedOf w → t ≡ tallyOf (entriesIn words)
-  unfolding walkFrom entriesAt
+  unfolding walkFrom entriesAt entriesIn
   walking-end t h e =
       let none : n - k ≡ 0 = omega arith in
       let whole : walkFrom startOf (entriesIn words) ≡ w = inv .same ∙ rw none in
-      e ∙ ap finishedOf (sym whole) ∙ finished-is (entriesIn words)
+      let s = inv .small in
+      let few : length (entriesIn words) ≤ 254 = omega (arith, entries-length (length words / 2) words) in
+      e ∙ ap finishedOf (sym whole) ∙ finished-is (entriesIn words) few

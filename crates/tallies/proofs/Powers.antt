@@ -1,33 +1,67 @@
--- The powers of the places in one pass: the first place's argument tells all others, and the integer places at the end.
+-- The powers of the places in one pass: the first place's argument tells all others, and the point or the end tests it.
 -- Assumes nothing.
-use Prim.Native.Nat.{ℕ, suc, _-_}
+use Prim.Native.Nat.{ℕ, suc, _+_, _-_, _≤_}
 use native.Mathlib.Omega.{arith}
-use mathlib.Core.Path.{_≡_, refl, _∙_}
-use mathlib.Core.Bool.{Bool, true, false, _&&_, _||_, and-false, and-true}
+use mathlib.Core.Path.{_≡_, refl, sym, _∙_, ap}
+use mathlib.Core.Bool.{Bool, true, false, false≢true, cond, _&&_, _||_, and-false}
 use mathlib.Core.List.{List, [], _∷_}
-use lib.Dec.{ltb, eqb, eqb·suc-zero}
-use borrow.Author.Tests.{ltb-true, ltb-false, eqb-true}
-use Rattle.formats.specs.Items.{isPlace}
+use lib.Dec.{ltb, eqb}
+use borrow.Author.Tests.{ltb-true, ltb-false, eqb-true, eqb-false, eq-eqb, ne-eqb, le-leb}
+use Rattle.values.specs.Ranges.{between}
+use Rattle.lists.specs.Lists.{every, count}
+use Rattle.lists.proofs.Bools.{by-cases, cond-case, true-T}
+use Rattle.tables.proofs.BackEntries.{between-facts}
+use Rattle.formats.specs.Items.{Item, sortOf, isPlace, isPoint, integerPlaces, decimalPlaces}
 use Rattle.formats.specs.Text.{digitAfter}
 use Rattle.tables.specs.Words.{Entry}
-use Rattle.tables.specs.Decode.{itemAt}
-use Rattle.tables.specs.Rules.{powersFrom}
-use Rattle.tallies.specs.Walk.{lower, nextAfter, topAfter, powerTest}
-use Rattle.lists.proofs.Bools.{by-cases}
+use Rattle.tables.specs.Encode.{entry}
+use Rattle.tables.specs.Decode.{itemAt, itemsAt}
+use Rattle.tables.specs.Rules.{entryInRange, powersFrom, powersRunDown}
+use Rattle.tallies.specs.Walk.{lower, unitAfter, nextAfter, ended, powerTest}
 
--- what the pass keeps of the powers
-unfoldable pub chainFrom : ℕ → List Entry → Bool
-chainFrom next [] = true
-chainFrom next (e ∷ es) = powerTest next e && chainFrom (nextAfter next e) es
+point-no-place : (i : Item) → isPoint i ≡ true → isPlace i ≡ false
+point-no-place i h = rw (eqb-true (sortOf i) 4 h)
 
-unfoldable pub nextFrom : ℕ → List Entry → ℕ
-nextFrom next [] = next
-nextFrom next (e ∷ es) = nextFrom (nextAfter next e) es
+pub places-counted : (is : List Item) → integerPlaces is + decimalPlaces is ≡ count isPlace is
+unfolding integerPlaces decimalPlaces count
+places-counted [] = refl
+places-counted (i ∷ is) =
+    let h = places-counted is in
+    by-cases (isPoint i)
+    (λ g. rw (g, point-no-place i g) (omega arith))
+    (λ g. rw g (by-cases (isPlace i) (λ k. rw k (omega arith)) (λ k. rw k (omega arith))))
 
-unfoldable pub topFrom : ℕ → ℕ → List Entry → ℕ
-topFrom next top [] = top
-topFrom next top (e ∷ es) = topFrom (nextAfter next e) (topAfter next top e) es
+-- the tests of the powers from here to the end
+unfoldable pub chainFrom : ℕ → ℕ → List Entry → Bool
+chainFrom unit next [] = eqb unit 65536 || ended next
+chainFrom unit next (e ∷ es) =
+    powerTest unit next e && chainFrom (unitAfter unit (itemAt e)) (nextAfter unit next e) es
 
+-- the range of an entry that is no place
+abbrev pub rangeTest : Entry → Bool
+rangeTest e = isPlace (itemAt e) || entryInRange e
+
+-- ---- a place's range is that of its argument
+place-range : (t a : ℕ) → isPlace (itemAt (entry t a)) ≡ true → entryInRange (entry t a) ≡ between 1 35 a
+unfolding itemAt entryInRange
+place-range t a =
+    cond-case Q (eqb t 1) none (λ _. cond-case Q (eqb t 2) none (λ _. cond-case Q (eqb t 3) none
+    (λ _. cond-case Q (eqb t 4) (λ h _. rw (eqb-true t 4 h))
+    (λ _. cond-case Q (eqb t 5) (λ h _. rw (eqb-true t 5 h))
+    (λ _. cond-case Q (eqb t 6) (λ h _. rw (eqb-true t 6 h))
+    (λ _. cond-case Q (eqb t 7) none (λ _. cond-case Q (eqb t 8) none (λ _. cond-case Q (eqb t 9) none
+    (λ _. cond-case Q (eqb t 10) none (λ _. cond-case Q (eqb t 11) none (λ _. cond-case Q (eqb t 12) none
+    (λ _. cond-case Q (eqb t 13) none (λ _. cond-case Q (eqb t 14) none (λ _. cond-case Q (eqb t 15) none
+    (λ _. cond-case Q (eqb t 16) none (λ _. cond-case Q (eqb t 17) none (λ _. cond-case Q (eqb t 18) none
+    (λ _. cond-case Q (eqb t 19) none (λ _. cond-case Q (eqb t 20) none (λ _. λ g. absurd (false≢true g)))))))))))))))))))))
+  where
+    Q : Item → Type 0
+    Q i = isPlace i ≡ true → entryInRange (entry t a) ≡ between 1 35 a
+
+    none : {b : Bool} → b ≡ true → false ≡ true → entryInRange (entry t a) ≡ between 1 35 a
+    none h g = absurd (false≢true g)
+
+-- ---- numbers
 lower-is : (a : ℕ) → lower a ≡ suc (a - 2)
 lower-is a =
     by-cases (ltb 1 a) (λ h. let g = ltb-true 1 a h in rw h (omega arith)) (λ h. let g = ltb-false 1 a h in rw h (omega arith))
@@ -35,49 +69,99 @@ lower-is a =
 lower-suc : (q : ℕ) → lower (suc q) ≡ suc (q - 1)
 lower-suc q = let e : suc (suc q - 2) ≡ suc (q - 1) = omega arith in lower-is (suc q) ∙ e
 
--- the next place's argument behind a place
-next-place : (q : ℕ) (e : Entry) → isPlace (itemAt e) ≡ true → nextAfter (suc q) e ≡ suc (q - 1)
-unfolding nextAfter
-next-place q e h = rw (h, eqb·suc-zero q) (lower-suc q)
+started : (q : ℕ) → q ≤ 34 → eqb (suc q) 65536 ≡ false
+started q h = ne-eqb (suc q) 65536 (λ e. absurd (omega arith))
 
-next-other : (n : ℕ) (e : Entry) → isPlace (itemAt e) ≡ false → nextAfter n e ≡ n
-unfolding nextAfter
-next-other n e h = rw h
+inside : (q : ℕ) → q ≤ 34 → between 1 35 (suc q) ≡ true
+inside q h = rw (le-leb 1 (suc q) (omega arith), le-leb (suc q) 35 (omega arith))
 
-chain-suc : (q : ℕ) (es : List Entry) → chainFrom (suc q) es ≡ powersFrom q es
-unfolding chainFrom powersFrom powerTest digitAfter
-chain-suc q [] = refl
-chain-suc q (e ∷ es) =
+same-test : (a b c d : ℕ) → (a ≡ b → c ≡ d) → (c ≡ d → a ≡ b) → eqb a b ≡ eqb c d
+same-test a b c d f g =
+    by-cases (eqb a b) (λ h. rw h (sym (eq-eqb c d (f (eqb-true a b h)))))
+    (λ h. rw h (sym (ne-eqb c d (λ e. eqb-false a b h (g e)))))
+
+-- an entry that is no place tests its range alone
+range-beside : (x c r p e : Bool) → (c && r) ≡ (p && e) → (c && cond x r false) ≡ (p && cond x e false)
+range-beside true c r p e h = h
+range-beside false c r p e h = and-false c ∙ sym (and-false p)
+
+range-behind : (x c r b p e : Bool) → (c && r) ≡ (b && (p && e)) → (c && cond x r false) ≡ (b && (p && cond x e false))
+range-behind true c r b p e h = h
+range-behind false c r b p e h = rw (and-false c, and-false p) (sym (and-false b))
+
+-- ---- behind the point
+unit-closed : (i : Item) → unitAfter 65536 i ≡ 65536
+unfolding unitAfter
+unit-closed i = by-cases (isPoint i) (λ h. rw h) (λ h. rw h)
+
+pub closed-chain : (q : ℕ) → q ≤ 34 → (es : List Entry)
+    → (chainFrom 65536 (suc q) es && every rangeTest es) ≡ (powersFrom q es && every entryInRange es)
+unfolding chainFrom powersFrom powerTest nextAfter digitAfter every
+closed-chain q m [] = refl
+closed-chain q m (e ∷ es) =
+    let a = e .argument in
     by-cases (isPlace (itemAt e))
-    (λ h. rw (next-place q e h, h, eqb·suc-zero q, chain-suc (q - 1) es))
-    (λ h. rw (next-other (suc q) e h, h, chain-suc q es))
-
-next-positive : (q : ℕ) (es : List Entry) → eqb (nextFrom (suc q) es) 0 ≡ false
-unfolding nextFrom
-next-positive q [] = eqb·suc-zero q
-next-positive q (e ∷ es) =
-    by-cases (isPlace (itemAt e))
-    (λ h. rw (next-place q e h) (next-positive (q - 1) es))
-    (λ h. rw (next-other (suc q) e h) (next-positive q es))
-
-top-kept : (q top : ℕ) (es : List Entry) → topFrom (suc q) top es ≡ top
-unfolding topFrom topAfter
-top-kept q top [] = refl
-top-kept q top (e ∷ es) =
-    by-cases (isPlace (itemAt e))
-    (λ h. rw (next-place q e h, h, eqb·suc-zero q) (top-kept (q - 1) top es))
-    (λ h. rw (next-other (suc q) e h, h) (top-kept q top es))
-
--- "powers run down by one", whatever the first must be
-pub chain-start : (q top : ℕ) (es : List Entry)
-    → (chainFrom 0 es && (eqb (nextFrom 0 es) 0 || eqb (topFrom 0 top es) (suc q))) ≡ powersFrom q es
-unfolding chainFrom nextFrom topFrom powersFrom powerTest nextAfter topAfter digitAfter
-chain-start q top [] = refl
-chain-start q top (e ∷ es) =
-    by-cases (isPlace (itemAt e))
-    (λ h. let a = e .argument in
-    rw (h, lower-is a, chain-suc (a - 2) es, next-positive (a - 2) es, top-kept (a - 2) a es)
+    (λ h. rw (unit-closed (itemAt e), h, started q m)
     (by-cases (eqb a (suc q))
-    (λ g. let m : a - 2 ≡ q - 1 = omega (arith, eqb-true a (suc q) g) in rw (g, m) (and-true (powersFrom (q - 1) es)))
-    (λ g. rw g (and-false (powersFrom (a - 2) es)))))
-    (λ h. rw h (chain-start q top es))
+    (λ g. let s : a ≡ suc q = eqb-true a (suc q) g in
+    let l : lower a ≡ suc (q - 1) = ap (λ (n : ℕ). lower n) s ∙ lower-suc q in
+    let r : entryInRange e ≡ true = place-range (e .tag) a h ∙ ap (λ (n : ℕ). between 1 35 n) s ∙ inside q m in
+    rw (l, r, g) (closed-chain (q - 1) (omega arith) es))
+    (λ g. rw g)))
+    (λ h. rw (unit-closed (itemAt e), h, and-false (isPoint (itemAt e)))
+    (range-beside (entryInRange e) (chainFrom 65536 (suc q) es) (every rangeTest es) (powersFrom q es) (every entryInRange es) (closed-chain q m es)))
+
+-- ---- up to the point, with a place met
+pub place-no-point : (i : Item) → isPlace i ≡ true → isPoint i ≡ false
+place-no-point i h = rw (eqb-true (sortOf i) 3 h)
+
+ended-is : (q : ℕ) → q ≤ 34 → ended (suc q) ≡ eqb q 14
+ended-is q m = rw (started q m) (same-test (suc q) 15 q 14 (λ e. omega arith) (λ e. omega arith))
+
+opened-chain : (q : ℕ) → q ≤ 34 → (es : List Entry)
+    → (chainFrom 1 (suc q) es && every rangeTest es)
+    ≡ (eqb q (14 + integerPlaces (itemsAt es)) && (powersFrom q es && every entryInRange es))
+unfolding chainFrom powersFrom powerTest nextAfter unitAfter digitAfter integerPlaces itemsAt every
+opened-chain q m [] = rw (ended-is q m)
+opened-chain q m (e ∷ es) =
+    let a = e .argument in
+    let i = itemAt e in
+    let n = integerPlaces (itemsAt es) in
+    by-cases (isPlace i)
+    (λ h. rw (h, place-no-point i h, started q m)
+    (by-cases (eqb a (suc q))
+    (λ g. let s : a ≡ suc q = eqb-true a (suc q) g in
+    let l : lower a ≡ suc (q - 1) = ap (λ (n : ℕ). lower n) s ∙ lower-suc q in
+    let r : entryInRange e ≡ true = place-range (e .tag) a h ∙ ap (λ (n : ℕ). between 1 35 n) s ∙ inside q m in
+    let b : eqb (q - 1) (14 + n) ≡ eqb q (14 + suc n) = same-test (q - 1) (14 + n) q (14 + suc n) (λ x. omega arith) (λ x. omega arith) in
+    rw (l, r, g, ← b) (opened-chain (q - 1) (omega arith) es))
+    (λ g. rw g (sym (and-false (eqb q (14 + suc n)))))))
+    (λ h. rw h (by-cases (isPoint i)
+    (λ g. rw (g, ended-is q m) (by-cases (eqb q 14)
+    (λ k. rw (k, eqb-true q 14 k)
+    (range-beside (entryInRange e) (chainFrom 65536 15 es) (every rangeTest es) (powersFrom 14 es) (every entryInRange es) (closed-chain 14 (omega arith) es)))
+    (λ k. rw k)))
+    (λ g. rw g (range-behind (entryInRange e) (chainFrom 1 (suc q) es) (every rangeTest es) (eqb q (14 + n)) (powersFrom q es) (every entryInRange es) (opened-chain q m es)))))
+
+-- ---- from the start: "powers run down by one", and every range
+pub chain-start : (es : List Entry) → (chainFrom 1 65536 es && every rangeTest es) ≡ (powersRunDown es && every entryInRange es)
+unfolding chainFrom powersRunDown powersFrom powerTest nextAfter unitAfter digitAfter integerPlaces itemsAt every
+chain-start [] = refl
+chain-start (e ∷ es) =
+    let a = e .argument in
+    let i = itemAt e in
+    let n = integerPlaces (itemsAt es) in
+    by-cases (isPlace i)
+    (λ h. let r = place-range (e .tag) a h in
+    rw (h, place-no-point i h, r)
+    (by-cases (between 1 35 a)
+    (λ g. let f : (1 ≤ a) × (a ≤ 35) = between-facts 1 35 a (true-T g) in
+    let b : eqb (a - 2) (14 + n) ≡ eqb a (suc (14 + suc n)) = same-test (a - 2) (14 + n) a (suc (14 + suc n)) (λ x. omega arith) (λ x. omega arith) in
+    rw (g, lower-is a) (opened-chain (a - 2) (omega arith) es
+    ∙ rw b (by-cases (eqb a (suc (14 + suc n)))
+    (λ k. let s : a - 2 ≡ 14 + suc n - 1 = omega (arith, eqb-true a (suc (14 + suc n)) k) in rw (k, s))
+    (λ k. rw k))))
+    (λ g. rw g (sym (and-false (eqb a (suc (14 + suc n)) && powersFrom (14 + suc n - 1) es))))))
+    (λ h. rw h (by-cases (isPoint i)
+    (λ g. rw g (range-beside (entryInRange e) (chainFrom 65536 15 es) (every rangeTest es) (powersFrom 14 es) (every entryInRange es) (closed-chain 14 (omega arith) es)))
+    (λ g. rw g (range-beside (entryInRange e) (chainFrom 1 65536 es) (every rangeTest es) (powersFrom (14 + n) es) (every entryInRange es) (chain-start es)))))

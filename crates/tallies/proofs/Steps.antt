@@ -1,14 +1,14 @@
 -- One step of the pass, computed at a known tag.
 -- Assumes nothing.
-use Prim.Native.Nat.{ℕ, zero, suc, _<_}
-use mathlib.Core.Path.{_≡_, refl}
-use mathlib.Core.Bool.{Bool, true, false, not, _&&_}
+use Prim.Native.Nat.{ℕ, zero, suc, _+_, _<_}
+use mathlib.Core.Path.{_≡_, refl, sym, _∙_}
+use mathlib.Core.Bool.{Bool, true, false, true≢false, not, _&&_, _||_, and-true}
 use lib.Dec.{leb, eqb}
 use native.Mathlib.Omega.{arith}
-use borrow.Author.Tests.{eqb-true, ne-eqb, le-leb, lt-leb}
+use borrow.Author.Tests.{eqb-true, eq-eqb, ne-eqb, le-leb, lt-leb, leb-false, lt-ltb}
 use Rattle.values.specs.Ranges.{between}
-use Rattle.tables.specs.Encode.{entry}
-use Rattle.formats.specs.Items.{itemMakes, itemBelongs, runOf, runOfElapsed, noRun, meansMinutes, monthOrMinute, settledItem, sortOf, isSecondsElapsed}
+use Rattle.tables.specs.Encode.{entry, bit}
+use Rattle.formats.specs.Items.{itemMakes, runOf, runOfElapsed, noRun, meansMinutes, monthOrMinute, settledItem, sortOf, isSecondsElapsed}
 use Rattle.formats.specs.Limits.{elapsedShort}
 use Rattle.formats.specs.WellFormed.{isSeconds}
 use Rattle.tables.specs.Words.{Entry}
@@ -16,12 +16,13 @@ use Rattle.tables.specs.Decode.{itemAt}
 use Rattle.tables.specs.Rules.{entryInRange}
 use Rattle.tallies.specs.declared.Walk.{Walk}
 use Rattle.tallies.specs.Tally.{isElapsedOf}
-use Rattle.tallies.specs.Walk.{runAt, runAfter, settles, nextAfter, topAfter, powerTest, entrySound, seenAfter, halfOf, stepOf}
-use Rattle.lists.proofs.Bools.{by-cases}
+use Rattle.tallies.specs.Walk.{runAt, runAfter, settles, weight, numberWeight, unitAfter, nextAfter, placeTest, powerTest, entrySound, tooLong, countedOf, placedOf, datedOf, stepOf}
+use Rattle.lists.proofs.Bools.{by-cases, true-T}
+use Rattle.tables.proofs.BackEntries.{between-facts, span-at}
 
 -- opens all that a step at a known tag computes by; the rule for m stays shut
 unfoldable pub computed : Walk → Entry → Walk
-unfolding stepOf seenAfter entrySound powerTest settles settledItem nextAfter topAfter runAfter runOf runOfElapsed itemAt itemMakes itemBelongs isElapsedOf elapsedShort entryInRange isSeconds isSecondsElapsed
+unfolding stepOf numberWeight weight bit unitAfter nextAfter powerTest entrySound settles settledItem runAfter runOf runOfElapsed itemAt itemMakes isElapsedOf elapsedShort entryInRange isSeconds isSecondsElapsed
 computed w e = stepOf w e
 
 -- the rule for m keeps a month, keeps minutes
@@ -39,76 +40,154 @@ means-by-number n =
     by-cases (eqb n 1) (λ e. rw (eqb-true n 1 e))
     (λ e. rw e (by-cases (eqb n 0) (λ f. rw f) (λ f. rw f (by-cases (eqb n 2) (λ g. rw g) (λ g. rw g)))))
 
--- tags that are read alike
-pub blank-step : (w : Walk) (a : ℕ) → stepOf w (entry 1 a) ≡ stepOf w (entry 2 a)
-unfolding computed
-blank-step w a = refl
+-- ---- each tag by its weights
+module _ (w : Walk) (a : ℕ) where
+  pub literal-step : a < 65536 → countedOf w 0 0 0 true 0 ≡ stepOf w (entry 1 a)
+  unfolding computed
+  literal-step h = rw (lt-ltb a 65536 h)
 
-pub hash-step : (w : Walk) (a : ℕ) → stepOf w (entry 4 a) ≡ stepOf w (entry 5 a)
-unfolding computed
-hash-step w a = refl
+  pub blank-step : a < 65536 → countedOf w 0 0 0 true 0 ≡ stepOf w (entry 2 a)
+  unfolding computed
+  blank-step h = rw (lt-ltb a 65536 h)
 
-pub space-step : (w : Walk) (a : ℕ) → stepOf w (entry 4 a) ≡ stepOf w (entry 6 a)
-unfolding computed
-space-step w a = refl
+  pub fill-step : a < 65536 → countedOf w 0 65536 0 true 0 ≡ stepOf w (entry 3 a)
+  unfolding computed
+  fill-step h = rw (lt-ltb a 65536 h)
 
--- a half-day mark, and an unknown tag
-pub half-step : (w : Walk) (a : ℕ) → halfOf w (between 1 2 a) ≡ stepOf w (entry 21 a)
-unfolding computed
-half-step w a = refl
+  expected : a < 65536 → w .next ≡ a → placeTest (w .next) a ≡ true
+  expected h e = rw (ne-eqb (w .next) 65536 (λ f. absurd (omega arith))) (eq-eqb a (w .next) (sym e))
 
-pub nought-step : (w : Walk) (a : ℕ) → halfOf w false ≡ stepOf w (entry 0 a)
-unfolding computed
-nought-step w a = refl
+  unexpected : (w .next ≡ a → ⊥) → (eqb (w .next) 65536 && between 1 35 a) ≡ placeTest (w .next) a
+  unexpected n =
+      by-cases (eqb (w .next) 65536) (λ h. rw h)
+      (λ h. rw (h, ne-eqb a (w .next) (λ e. n (sym e))))
 
-pub unknown-step : (w : Walk) (t a : ℕ) → 21 < t → halfOf w false ≡ stepOf w (entry t a)
-unfolding computed
-unknown-step w t a h =
-    let other : (k : ℕ) → k < 22 → eqb t k ≡ false = λ k g. ne-eqb t k (λ e. absurd (omega arith)) in
-    let above : (k : ℕ) → k < 22 → leb t k ≡ false = λ k g. lt-leb t k (omega arith) in
-    let from : (k : ℕ) → k < 22 → leb k t ≡ true = λ k g. le-leb k t (omega arith) in
-    simp (
-      other 1 (omega arith),
-      other 2 (omega arith),
-      other 3 (omega arith),
-      other 4 (omega arith),
-      other 5 (omega arith),
-      other 6 (omega arith),
-      other 7 (omega arith),
-      other 8 (omega arith),
-      other 9 (omega arith),
-      other 10 (omega arith),
-      other 11 (omega arith),
-      other 12 (omega arith),
-      other 13 (omega arith),
-      other 14 (omega arith),
-      other 15 (omega arith),
-      other 16 (omega arith),
-      other 17 (omega arith),
-      other 18 (omega arith),
-      other 19 (omega arith),
-      other 20 (omega arith),
-      other 21 (omega arith),
-      above 3 (omega arith),
-      above 6 (omega arith),
-      above 10 (omega arith),
-      above 16 (omega arith),
-      above 20 (omega arith),
-      from 1 (omega arith),
-      from 4 (omega arith),
-      from 7 (omega arith),
-      from 14 (omega arith),
-      from 18 (omega arith),
-    )
+  pub place-expected : a < 65536 → w .next ≡ a → placedOf w true a ≡ stepOf w (entry 4 a)
+  unfolding computed
+  place-expected h e = rw (expected h e)
 
--- a number is none of 1 to k, as the last arm of a `match` tells it
-abbrev pub Others : ℕ → ℕ → Type 0
-Others t zero = Unit {0}
-Others t (suc k) = Others t k × (t ≡ suc k → ⊥)
+  pub place-other : (w .next ≡ a → ⊥) → placedOf w (eqb (w .next) 65536 && between 1 35 a) a ≡ stepOf w (entry 4 a)
+  unfolding computed
+  place-other n = rw (unexpected n, and-true (placeTest (w .next) a))
 
-pub beyond : (t k : ℕ) → Others t k → (t ≡ 0 → ⊥) → k < t
-beyond t zero o z = omega arith
-beyond t (suc k) o z =
-    let h = beyond t k (o .0) z in
+  hash-step : stepOf w (entry 4 a) ≡ stepOf w (entry 5 a)
+  unfolding computed
+  hash-step = refl
+
+  space-step : stepOf w (entry 4 a) ≡ stepOf w (entry 6 a)
+  unfolding computed
+  space-step = refl
+
+  pub places-alike : (t : ℕ) → between 4 6 t ≡ true → stepOf w (entry 4 a) ≡ stepOf w (entry t a)
+  places-alike t h =
+      let f = between-facts 4 6 t (true-T h) in
+      span-at (λ (k : ℕ). stepOf w (entry 4 a) ≡ stepOf w (entry k a)) 4 3 t (refl, (hash-step, (space-step, tt))) (f .0) (omega arith)
+
+  pub percent-step : countedOf w 281474976710656 0 0 (eqb a 0) 0 ≡ stepOf w (entry 8 a)
+  unfolding computed
+  percent-step = refl
+
+  pub general-step : countedOf w 0 1 0 (eqb a 0) 0 ≡ stepOf w (entry 9 a)
+  unfolding computed
+  general-step = refl
+
+  pub text-step : countedOf w 0 281474976710656 0 (eqb a 0) 0 ≡ stepOf w (entry 10 a)
+  unfolding computed
+  text-step = refl
+
+  pub year-step : datedOf w 0 1 (eqb a 2 || eqb a 4) 0 3 0 ≡ stepOf w (entry 11 a)
+  unfolding computed
+  year-step = refl
+
+  pub day-step : datedOf w 0 1 (between 1 4 a) 0 3 0 ≡ stepOf w (entry 13 a)
+  unfolding computed
+  day-step = refl
+
+  pub hour-step : datedOf w 0 256 (between 1 2 a) 0 1 0 ≡ stepOf w (entry 14 a)
+  unfolding computed
+  hour-step = refl
+
+  pub second-step : datedOf w 0 16777216 (between 1 2 a) 0 2 1 ≡ stepOf w (entry 16 a)
+  unfolding computed
+  second-step = refl
+
+  pub elapsed-hours-step : datedOf w 4294967296 4294967296 (between 1 9 a) (tooLong a) 1 0 ≡ stepOf w (entry 18 a)
+  unfolding computed
+  elapsed-hours-step = by-cases (leb a 9) (λ h. rw h) (λ h. rw h)
+
+  pub elapsed-minutes-step : datedOf w 4294967296 1099511627776 (between 1 9 a) (tooLong a) 3 0 ≡ stepOf w (entry 19 a)
+  unfolding computed
+  elapsed-minutes-step = by-cases (leb a 9) (λ h. rw h) (λ h. rw h)
+
+  pub elapsed-seconds-step : datedOf w 4294967296 281474976710656 (between 1 9 a) (tooLong a) 2 1 ≡ stepOf w (entry 20 a)
+  unfolding computed
+  elapsed-seconds-step = by-cases (leb a 9) (λ h. rw h) (λ h. rw h)
+
+  pub half-step : countedOf w 0 0 0 (between 1 2 a) 4294967296 ≡ stepOf w (entry 21 a)
+  unfolding computed
+  half-step = refl
+
+  pub nought-step : countedOf w 0 0 0 false 4294967296 ≡ stepOf w (entry 0 a)
+  unfolding computed
+  nought-step = refl
+
+  pub unknown-step : (t : ℕ) → 21 < t → countedOf w 0 0 0 false 4294967296 ≡ stepOf w (entry t a)
+  unfolding computed
+  unknown-step t h =
+      let other : (k : ℕ) → k < 22 → eqb t k ≡ false = λ k g. ne-eqb t k (λ e. absurd (omega arith)) in
+      let above : (k : ℕ) → k < 22 → leb t k ≡ false = λ k g. lt-leb t k (omega arith) in
+      let from : (k : ℕ) → k < 22 → leb k t ≡ true = λ k g. le-leb k t (omega arith) in
+      simp (
+        other 1 (omega arith),
+        other 2 (omega arith),
+        other 3 (omega arith),
+        other 4 (omega arith),
+        other 5 (omega arith),
+        other 6 (omega arith),
+        other 7 (omega arith),
+        other 8 (omega arith),
+        other 9 (omega arith),
+        other 10 (omega arith),
+        other 11 (omega arith),
+        other 12 (omega arith),
+        other 13 (omega arith),
+        other 14 (omega arith),
+        other 15 (omega arith),
+        other 16 (omega arith),
+        other 17 (omega arith),
+        other 18 (omega arith),
+        other 19 (omega arith),
+        other 20 (omega arith),
+        other 21 (omega arith),
+        above 3 (omega arith),
+        above 6 (omega arith),
+        above 10 (omega arith),
+        above 16 (omega arith),
+        above 20 (omega arith),
+        from 1 (omega arith),
+        from 4 (omega arith),
+        from 7 (omega arith),
+        from 14 (omega arith),
+        from 18 (omega arith),
+      )
+
+-- a number is none of m + 1 to m + j, behind what else is known of it, as the last arm of a `match` tells it
+abbrev pub Others : Type 0 → ℕ → ℕ → ℕ → Type 0
+Others P t m zero = P
+Others P t m (suc j) = Others P t m j × (t ≡ m + suc j → ⊥)
+
+pub earlier-known : (P : Type 0) (t m j : ℕ) → Others P t m j → P
+earlier-known P t m zero o = o
+earlier-known P t m (suc j) o = earlier-known P t m j (o .0)
+
+pub beyond : (P : Type 0) (t m j : ℕ) → Others P t m j → m < t → m + j < t
+beyond P t m zero o h = omega arith
+beyond P t m (suc j) o h =
+    let k = beyond P t m j (o .0) h in
     let n = o .1 in
     omega arith
+
+pub no-place-beyond : (t : ℕ) → 3 < t → between 4 6 t ≡ false → 6 < t
+no-place-beyond t h b =
+    by-cases (leb t 6) (λ e. absurd (true≢false (sym (rw (le-leb 4 t h, e)) ∙ b)))
+    (λ e. leb-false t 6 e)

@@ -1,13 +1,11 @@
 -- What the tests on a tally say of a section with these items.
 -- Assumes nothing.
-use Prim.Native.Nat.{_+_}
-use native.Mathlib.Omega.{arith}
 use mathlib.Core.Path.{_≡_, refl, sym, _∙_, ap}
 use mathlib.Core.Bool.{Bool, true, false, cond, not, _&&_, _||_, and-false, and-true}
 use mathlib.Core.List.{List, [], _∷_}
 use lib.Dec.{T, leb, ltb, eqb}
 use Rattle.lists.specs.Lists.{every, any, count}
-use Rattle.lists.proofs.Bools.{by-cases, and-left, and-right}
+use Rattle.lists.proofs.Bools.{and-left, and-right}
 use Rattle.lists.proofs.Counts.{any-map}
 use Rattle.formats.specs.Tokens.{Elapsed, hours, minutes, seconds}
 use Rattle.formats.specs.Items.{Item, literal, blank, fill, place, point, percent, general, at, year, month, day, hour, minute, second, part, elapsed, half, Section, Kind, textKind, generalKind, dateKind, numberKind, literalKind, sameKind, kindFrom, itemMakes, itemsKind, kindOf, itemBelongs, itemAllowed, isPlace, isPoint, isPercent, isGeneral, isHour, isMinute, isSecond, isElapsed, isPlain, noPlain, itemsFit, integerPlaces, decimalPlaces}
@@ -18,7 +16,7 @@ use Rattle.tables.specs.Encode.{kindWord, hasHalf, decimalsWord}
 use Rattle.tables.specs.Decode.{itemsAt}
 use Rattle.tables.specs.Rules.{entryInRange, powersRunDown}
 use Rattle.tallies.specs.Tally.{makesText, makesDate, belongsDate, isElapsedOf, soundEntries, tallyOf, hasPlaces, hasNumberItems, kindTold, allowedTold, itemsFitTold, oneFillTold, withinTold, groupingTold, decimalsTold}
-use Rattle.tallies.proofs.Fold.{point-no-place}
+use Rattle.tallies.proofs.Powers.{places-counted}
 use Rattle.tallies.proofs.Lists.{either-positive, any-same, every-same, any-either, every-and, every-not-beside, positive-count}
 
 -- ---- what each item makes of its section, and where it belongs
@@ -123,15 +121,6 @@ belongs-number (elapsed e n) = refl
 belongs-number (half h) = refl
 
 -- ---- the places
-places-counted : (is : List Item) → integerPlaces is + decimalPlaces is ≡ count isPlace is
-unfolding integerPlaces decimalPlaces count
-places-counted [] = refl
-places-counted (i ∷ is) =
-    let h = places-counted is in
-    by-cases (isPoint i)
-    (λ g. rw (g, point-no-place i g) (omega arith))
-    (λ g. rw g (by-cases (isPlace i) (λ k. rw k (omega arith)) (λ k. rw k (omega arith))))
-
 module _ (es : List Entry) where
   places-told : hasPlaces (tallyOf es) ≡ any isPlace (itemsAt es)
   unfolding tallyOf

@@ -1,22 +1,67 @@
 -- The pass over the entries: what is kept from one to the next, and how it ends.
 -- Assumes nothing.
-use Prim.Native.Nat.{ℕ, _+_, _-_, _≤_}
+use Prim.Native.Nat.{ℕ, _+_, _-_, _*_, _/_, _%_, _≤_}
 use mathlib.Core.Bool.{Bool, true, false, cond, not, _&&_, _||_}
 use mathlib.Core.List.{List, [], _∷_}
 use lib.Dec.{leb, ltb, eqb}
 use Rattle.values.specs.Ranges.{between}
+use Rattle.lists.specs.Lists.{count}
 use Rattle.formats.specs.Tokens.{hours, minutes, seconds}
 use Rattle.formats.specs.Items.{Item, sortOf, isFill, isPlace, isPoint, isPercent, isGeneral, isHour, isMinute, isSecond, isPart, isElapsed, isHalf, Run, hourRun, secondRun, otherRun, noRun, runOf, settledItem}
 use Rattle.formats.specs.Where.{implies}
 use Rattle.formats.specs.Limits.{elapsedShort}
 use Rattle.formats.specs.WellFormed.{isSeconds}
 use Rattle.tables.specs.Words.{Entry}
+use Rattle.tables.specs.Encode.{bit}
 use Rattle.tables.specs.Decode.{itemAt}
 use Rattle.tables.specs.Rules.{entryInRange}
 use Rattle.tallies.specs.declared.Tally.{Tally}
 use Rattle.tallies.specs.declared.Walk.{Walk}
-use Rattle.tallies.specs.Tally.{makesText, makesDate, belongsDate, isElapsedOf}
+use Rattle.tallies.specs.Tally.{makesText, isElapsedOf}
 
+-- ---- counts as the digits of a number, lowest first
+unfoldable pub packed : ℕ → List ℕ → ℕ
+packed base [] = 0
+packed base (c ∷ cs) = c + base * packed base cs
+
+-- how many items pass each test
+unfoldable pub tallies : List (Item → Bool) → List Item → List ℕ
+tallies [] is = []
+tallies (p ∷ ps) is = count p is ∷ tallies ps is
+
+-- what one item adds to them
+unfoldable pub weight : ℕ → List (Item → Bool) → Item → ℕ
+weight base [] i = 0
+weight base (p ∷ ps) i = bit (p i) + base * weight base ps i
+
+-- a year, a month or a day
+abbrev pub isDay : Item → Bool
+isDay i = between 8 10 (sortOf i)
+
+abbrev pub isLong : Item → Bool
+isLong i = not (elapsedShort i)
+
+abbrev pub otherTests : List (Item → Bool)
+otherTests = isGeneral ∷ isFill ∷ isElapsed ∷ makesText ∷ []
+
+abbrev pub dateTests : List (Item → Bool)
+dateTests = isDay ∷ isHour ∷ isMinute ∷ isSecond ∷ isElapsedOf hours ∷ isElapsedOf minutes ∷ isElapsedOf seconds ∷ []
+
+abbrev pub markTests : List (Item → Bool)
+markTests = isLong ∷ isHalf ∷ isPart ∷ []
+
+-- a place adds the unit, which is 1 up to the first point and 65536 from there
+unfoldable pub numberWeight : ℕ → Item → ℕ
+numberWeight unit i = cond (isPlace i) unit (4294967296 * weight 65536 (isPoint ∷ isPercent ∷ []) i)
+
+-- the first point, behind which the powers go on from -1
+abbrev pub isFirstPoint : ℕ → Item → Bool
+isFirstPoint unit i = isPoint i && eqb unit 1
+
+unfoldable pub unitAfter : ℕ → Item → ℕ
+unitAfter unit i = cond (isFirstPoint unit i) 65536 unit
+
+-- ---- the rule for m
 -- the nearest earlier run as a number
 unfoldable pub runAt : ℕ → Run
 runAt n = cond (eqb n 0) noRun (cond (eqb n 1) hourRun (cond (eqb n 2) secondRun otherRun))
@@ -31,119 +76,90 @@ runAfter otherRun n = 3
 unfoldable pub settles : Run → Item → Bool
 settles earlier i = eqb (sortOf (settledItem earlier noRun i)) (sortOf i)
 
--- the argument that the next place must have; 0 before the first place, whose argument tells all others
+-- ---- the powers
+-- the argument that the next place must have; 65536 before the first place, whose argument tells all others
 abbrev pub lower : ℕ → ℕ
 lower n = cond (ltb 1 n) (n - 1) 1
 
-abbrev pub nextWith : ℕ → ℕ → ℕ
-nextWith next a = cond (eqb next 0) (lower a) (lower next)
+unfoldable pub nextAfter : ℕ → ℕ → Entry → ℕ
+nextAfter unit next e =
+    cond (isPlace (itemAt e)) (lower (e .argument)) (cond (isFirstPoint unit (itemAt e)) 15 next)
 
-abbrev pub topWith : ℕ → ℕ → ℕ → ℕ
-topWith next top a = cond (eqb next 0) a top
+-- "the last integer place having 0": no place was met, or the next argument is that of -1
+abbrev pub ended : ℕ → Bool
+ended next = eqb next 65536 || eqb next 15
 
-abbrev pub powerFits : ℕ → ℕ → Bool
-powerFits next a = eqb next 0 || eqb a next
+abbrev pub placeTest : ℕ → ℕ → Bool
+placeTest next a = cond (eqb next 65536) (between 1 35 a) (eqb a next)
 
-unfoldable pub nextAfter : ℕ → Entry → ℕ
-nextAfter next e = cond (isPlace (itemAt e)) (nextWith next (e .argument)) next
+unfoldable pub powerTest : ℕ → ℕ → Entry → Bool
+powerTest unit next e =
+    cond (isPlace (itemAt e)) (placeTest next (e .argument)) (cond (isFirstPoint unit (itemAt e)) (ended next) true)
 
-unfoldable pub topAfter : ℕ → ℕ → Entry → ℕ
-topAfter next top e = cond (isPlace (itemAt e)) (topWith next top (e .argument)) top
-
-unfoldable pub powerTest : ℕ → Entry → Bool
-powerTest next e = not (isPlace (itemAt e)) || powerFits next (e .argument)
-
--- the tests of one entry, beside what the earlier ones left
+-- ---- one entry
+-- the tests of one entry, beside what the earlier ones left; a place's range is in its power's test
 unfoldable pub entrySound : Walk → Entry → Bool
 entrySound w e =
-    implies (isPart (itemAt e)) (w .behind)
-    && (settles (runAt (w .earlier)) (itemAt e) && (powerTest (w .next) e && entryInRange e))
+    implies (isPart (itemAt e)) (eqb (w .behind) 1)
+    && (settles (runAt (w .earlier)) (itemAt e)
+    && (powerTest (w .unit) (w .next) e && (isPlace (itemAt e) || entryInRange e)))
 
--- one more where the test passes
-abbrev pub more : Bool → ℕ → ℕ
-more b n = cond b (n + 1) n
-
--- a place counts as an integer place up to the first point, as a decimal place from there
-abbrev pub integersWith : ℕ → ℕ → ℕ
-integersWith points n = more (eqb points 0) n
-
-abbrev pub decimalsWith : ℕ → ℕ → ℕ
-decimalsWith points n = more (not (eqb points 0)) n
-
-unfoldable pub seenAfter : Walk → Entry → Tally
-seenAfter w e =
-    let t = w .seen in
-    let i = itemAt e in
-    record {
-      integers = cond (isPlace i) (integersWith (t .points) (t .integers)) (t .integers);
-      decimals = cond (isPlace i) (decimalsWith (t .points) (t .decimals)) (t .decimals);
-      points = more (isPoint i) (t .points);
-      percents = more (isPercent i) (t .percents);
-      generals = more (isGeneral i) (t .generals);
-      fills = more (isFill i) (t .fills);
-      elapsed = more (isElapsed i) (t .elapsed);
-      texts = makesText i || t .texts;
-      dating = makesDate i || t .dating;
-      dates = belongsDate i || t .dates;
-      hours = isHour i || t .hours;
-      minutes = isMinute i || t .minutes;
-      seconds = isSecond i || t .seconds;
-      «elapsed_hours» = isElapsedOf hours i || t .«elapsed_hours»;
-      «elapsed_minutes» = isElapsedOf minutes i || t .«elapsed_minutes»;
-      «elapsed_seconds» = isElapsedOf seconds i || t .«elapsed_seconds»;
-      halves = isHalf i || t .halves;
-      short = elapsedShort i && t .short;
-      sound = entrySound w e && t .sound;
-    }
+abbrev pub faultOf : Bool → ℕ
+faultOf fits = cond fits 0 1
 
 unfoldable pub stepOf : Walk → Entry → Walk
 stepOf w e =
+    let i = itemAt e in
     record {
-      seen = seenAfter w e;
-      earlier = runAfter (runOf (itemAt e)) (w .earlier);
-      behind = isSeconds (itemAt e);
-      next = nextAfter (w .next) e;
-      top = topAfter (w .next) (w .top) e;
+      numbers = w .numbers + numberWeight (w .unit) i;
+      others = w .others + weight 65536 otherTests i;
+      dates = w .dates + weight 256 dateTests i;
+      marks = w .marks + (faultOf (entrySound w e) + 65536 * weight 65536 markTests i);
+      unit = unitAfter (w .unit) i;
+      next = nextAfter (w .unit) (w .next) e;
+      earlier = runAfter (runOf i) (w .earlier);
+      behind = bit (isSeconds i);
     }
 
 unfoldable pub walkFrom : Walk → List Entry → Walk
 walkFrom w [] = w
 walkFrom w (e ∷ es) = walkFrom (stepOf w e) es
 
-abbrev pub nothingSeen : Tally
-nothingSeen =
+abbrev pub startOf : Walk
+startOf = record { numbers = 0; others = 0; dates = 0; marks = 0; unit = 1; next = 65536; earlier = 0; behind = 0 }
+
+-- ---- the end
+abbrev pub soundTold : Walk → Bool
+soundTold w = eqb (w .marks % 65536) 0 && (eqb (w .unit) 65536 || ended (w .next))
+
+-- where no date or time run is
+abbrev pub withoutDates : Walk → Tally
+withoutDates w =
     record {
-      integers = 0;
-      decimals = 0;
-      points = 0;
-      percents = 0;
-      generals = 0;
-      fills = 0;
-      elapsed = 0;
-      texts = false;
+      integers = w .numbers % 65536;
+      decimals = w .numbers / 65536 % 65536;
+      points = w .numbers / 4294967296 % 65536;
+      percents = w .numbers / 281474976710656 % 65536;
+      generals = w .others % 65536;
+      fills = w .others / 65536 % 65536;
+      elapsed = w .others / 4294967296 % 65536;
+      texts = ltb 0 (w .others / 281474976710656 % 65536);
       dating = false;
-      dates = false;
+      dates = ltb 0 (w .marks / 4294967296);
       hours = false;
       minutes = false;
       seconds = false;
       «elapsed_hours» = false;
       «elapsed_minutes» = false;
       «elapsed_seconds» = false;
-      halves = false;
-      short = true;
-      sound = true;
+      halves = ltb 0 (w .marks / 4294967296 % 65536);
+      short = eqb (w .marks / 65536 % 65536) 0;
+      sound = soundTold w;
     }
 
-abbrev pub startOf : Walk
-startOf = record { seen = nothingSeen; earlier = 0; behind = false; next = 0; top = 0 }
-
--- "the last integer place having 0": the first place's argument tells as many integer places as there are
-abbrev pub topTold : Walk → Bool
-topTold w = eqb (w .next) 0 || eqb (w .top) (15 + w .seen .integers)
-
-abbrev pub finishedOf : Walk → Tally
-finishedOf w =
-    let t = w .seen in
+-- with the number of the dates
+abbrev pub withDates : Tally → ℕ → Tally
+withDates t n =
     record {
       integers = t .integers;
       decimals = t .decimals;
@@ -153,150 +169,76 @@ finishedOf w =
       fills = t .fills;
       elapsed = t .elapsed;
       texts = t .texts;
-      dating = t .dating;
-      dates = t .dates;
-      hours = t .hours;
-      minutes = t .minutes;
-      seconds = t .seconds;
-      «elapsed_hours» = t .«elapsed_hours»;
-      «elapsed_minutes» = t .«elapsed_minutes»;
-      «elapsed_seconds» = t .«elapsed_seconds»;
+      dating = ltb 0 n;
+      dates = ltb 0 n || t .dates;
+      hours = ltb 0 (n / 256 % 256);
+      minutes = ltb 0 (n / 65536 % 256);
+      seconds = ltb 0 (n / 16777216 % 256);
+      «elapsed_hours» = ltb 0 (n / 4294967296 % 256);
+      «elapsed_minutes» = ltb 0 (n / 1099511627776 % 256);
+      «elapsed_seconds» = ltb 0 (n / 281474976710656 % 256);
       halves = t .halves;
       short = t .short;
-      sound = topTold w && t .sound;
+      sound = t .sound;
     }
 
--- an item that belongs to no date-time section, and one that makes one, with its tests and the run that it is
-abbrev pub plainOf : Walk → Bool → Walk
-plainOf w fits =
-    let t = w .seen in
+abbrev pub finishedOf : Walk → Tally
+finishedOf w = withDates (withoutDates w) (w .dates)
+
+-- ---- one step by its weights
+abbrev pub tooLong : ℕ → ℕ
+tooLong a = cond (leb a 9) 0 65536
+
+abbrev pub countedOf : Walk → ℕ → ℕ → ℕ → Bool → ℕ → Walk
+countedOf w number other date fits mark =
     record {
-      seen = record {
-        integers = t .integers;
-        decimals = t .decimals;
-        points = t .points;
-        percents = t .percents;
-        generals = t .generals;
-        fills = t .fills;
-        elapsed = t .elapsed;
-        texts = t .texts;
-        dating = t .dating;
-        dates = t .dates;
-        hours = t .hours;
-        minutes = t .minutes;
-        seconds = t .seconds;
-        «elapsed_hours» = t .«elapsed_hours»;
-        «elapsed_minutes» = t .«elapsed_minutes»;
-        «elapsed_seconds» = t .«elapsed_seconds»;
-        halves = t .halves;
-        short = t .short;
-        sound = fits && t .sound;
-      };
+      numbers = w .numbers + number;
+      others = w .others + other;
+      dates = w .dates + date;
+      marks = w .marks + (faultOf fits + mark);
+      unit = w .unit;
+      next = w .next;
       earlier = w .earlier;
-      behind = false;
-      next = w .next;
-      top = w .top;
+      behind = 0;
     }
 
-abbrev pub datedOf : Walk → Bool → ℕ → Walk
-datedOf w fits run =
-    let t = w .seen in
+abbrev pub placedOf : Walk → Bool → ℕ → Walk
+placedOf w fits a =
     record {
-      seen = record {
-        integers = t .integers;
-        decimals = t .decimals;
-        points = t .points;
-        percents = t .percents;
-        generals = t .generals;
-        fills = t .fills;
-        elapsed = t .elapsed;
-        texts = t .texts;
-        dating = true;
-        dates = true;
-        hours = t .hours;
-        minutes = t .minutes;
-        seconds = t .seconds;
-        «elapsed_hours» = t .«elapsed_hours»;
-        «elapsed_minutes» = t .«elapsed_minutes»;
-        «elapsed_seconds» = t .«elapsed_seconds»;
-        halves = t .halves;
-        short = t .short;
-        sound = fits && t .sound;
-      };
-      earlier = run;
-      behind = false;
-      next = w .next;
-      top = w .top;
-    }
-
-abbrev pub elapsedOf : Walk → ℕ → ℕ → Walk
-elapsedOf w a run =
-    let t = w .seen in
-    record {
-      seen = record {
-        integers = t .integers;
-        decimals = t .decimals;
-        points = t .points;
-        percents = t .percents;
-        generals = t .generals;
-        fills = t .fills;
-        elapsed = t .elapsed + 1;
-        texts = t .texts;
-        dating = true;
-        dates = true;
-        hours = t .hours;
-        minutes = t .minutes;
-        seconds = t .seconds;
-        «elapsed_hours» = t .«elapsed_hours»;
-        «elapsed_minutes» = t .«elapsed_minutes»;
-        «elapsed_seconds» = t .«elapsed_seconds»;
-        halves = t .halves;
-        short = leb a 9 && t .short;
-        sound = between 1 9 a && t .sound;
-      };
-      earlier = run;
-      behind = false;
-      next = w .next;
-      top = w .top;
-    }
-
-abbrev pub halfOf : Walk → Bool → Walk
-halfOf w fits =
-    let t = w .seen in
-    record {
-      seen = record {
-        integers = t .integers;
-        decimals = t .decimals;
-        points = t .points;
-        percents = t .percents;
-        generals = t .generals;
-        fills = t .fills;
-        elapsed = t .elapsed;
-        texts = t .texts;
-        dating = t .dating;
-        dates = true;
-        hours = t .hours;
-        minutes = t .minutes;
-        seconds = t .seconds;
-        «elapsed_hours» = t .«elapsed_hours»;
-        «elapsed_minutes» = t .«elapsed_minutes»;
-        «elapsed_seconds» = t .«elapsed_seconds»;
-        halves = true;
-        short = t .short;
-        sound = fits && t .sound;
-      };
+      numbers = w .numbers + w .unit;
+      others = w .others + 0;
+      dates = w .dates + 0;
+      marks = w .marks + (faultOf fits + 0);
+      unit = w .unit;
+      next = lower a;
       earlier = w .earlier;
-      behind = false;
-      next = w .next;
-      top = w .top;
+      behind = 0;
     }
 
--- n items or fewer were counted, so that no count is too large for its field
-pub record Few (n : ℕ) (t : Tally) : Type 0 where
-  pub integers : t .integers ≤ n
-  pub decimals : t .decimals ≤ n
-  pub points : t .points ≤ n
-  pub percents : t .percents ≤ n
-  pub generals : t .generals ≤ n
-  pub fills : t .fills ≤ n
-  pub elapsed : t .elapsed ≤ n
+abbrev pub datedOf : Walk → ℕ → ℕ → Bool → ℕ → ℕ → ℕ → Walk
+datedOf w other date fits mark run behind =
+    record {
+      numbers = w .numbers + 0;
+      others = w .others + other;
+      dates = w .dates + date;
+      marks = w .marks + (faultOf fits + mark);
+      unit = w .unit;
+      next = w .next;
+      earlier = run;
+      behind = behind;
+    }
+
+-- ---- no number is too large for its field
+-- the numbers after n items or fewer; a weight is below 2^49
+pub record Few (n : ℕ) (w : Walk) : Type 0 where
+  pub numbers : w .numbers ≤ n * 562949953421312
+  pub others : w .others ≤ n * 562949953421312
+  pub dates : w .dates ≤ n * 562949953421312
+  pub marks : w .marks ≤ n * 562949953421312
+  pub unit : w .unit ≤ 65536
+
+pub record Weights (n o d m : ℕ) : Type 0 where
+  pub number : n ≤ 562949953421312
+  pub other : o ≤ 562949953421312
+  pub date : d ≤ 562949953421312
+  pub mark : m ≤ 562949953421312

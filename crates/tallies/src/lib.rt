@@ -6,7 +6,7 @@ ghost use Rattle.values.specs.Ranges.{between};
 ghost use Rattle.formats.specs.Items.{meansMinutes, noRun};
 ghost use Rattle.tables.specs.Encode.{entry};
 ghost use Rattle.tallies.specs.Tally.{entriesIn, tallyOf, hasPlaces, hasNumberItems, kindTold, allowedTold, noPlainTold, itemsFitTold, oneFillTold, withinTold, groupingTold, decimalsTold};
-ghost use Rattle.tallies.specs.Walk.{runAt, lower, nextWith, topWith, powerFits, integersWith, decimalsWith, plainOf, datedOf, elapsedOf, halfOf, stepOf, startOf, finishedOf, Few};
+ghost use Rattle.tallies.specs.Walk.{runAt, lower, faultOf, tooLong, countedOf, datedOf, stepOf, startOf, finishedOf, withoutDates, Few, Weights};
 
 // What the items of a section tell together.
 pub struct Tally {
@@ -35,48 +35,82 @@ pub struct Tally {
     pub halves: bool,
 }
 
-// What is kept from one item to the next.
+// What one item adds to the numbers of a walk: one to its digit, by base 65536.
+const INTEGERS: u64 = 1;
+
+const DECIMALS: u64 = 65536;
+
+const POINTS: u64 = 4294967296;
+
+const PERCENTS: u64 = 281474976710656;
+
+// To the others, by base 65536.
+const GENERALS: u64 = 1;
+
+const FILLS: u64 = 65536;
+
+const ELAPSED_RUNS: u64 = 4294967296;
+
+const TEXTS: u64 = 281474976710656;
+
+// To the dates, by base 256. Years, months and days share a digit.
+const DAYS: u64 = 1;
+
+const HOURS: u64 = 256;
+
+const MINUTES: u64 = 65536;
+
+const SECONDS: u64 = 16777216;
+
+const ELAPSED_HOURS: u64 = 4294967296;
+
+const ELAPSED_MINUTES: u64 = 1099511627776;
+
+const ELAPSED_SECONDS: u64 = 281474976710656;
+
+// To the marks, by base 65536, whose lowest digit counts the faults.
+const LONG_RUNS: u64 = 65536;
+
+const HALVES: u64 = 4294967296;
+
+const PARTS: u64 = 281474976710656;
+
+// What the next place must have before the first place: no argument is as large.
+const ANY_POWER: u64 = 65536;
+
+// What is kept from one item to the next. Counts stand in numbers, a digit each: no section has more than 254 items. All
+// fields are of one width, and few, so that the compiler keeps them in registers.
 struct Walk {
-    seen: Tally,
+    // places, points and percents
+    numbers: u64,
+    // Generals, fills, elapsed and text items
+    others: u64,
+    // the runs of a date-time section
+    dates: u64,
+    // items that fail a test of order, argument or power; too long elapsed runs; half-day marks; parts of a second
+    marks: u64,
+    // what a place adds: INTEGERS up to the first point, DECIMALS from there
+    unit: u64,
+    // the argument that the next place must have
+    next: u64,
     // the nearest earlier run: 0 none, 1 hours, 2 seconds, 3 another
-    earlier: u16,
-    // the item just before is seconds
-    behind: bool,
-    // the argument that the next place must have, 0 before the first place; the first place's argument
-    next: u16,
-    top: u16,
+    earlier: u64,
+    // 1: the item just before is seconds
+    behind: u64,
 }
 
 fn start() -> Walk
     ensures { λ r. ⌜ r ≡ startOf ⌝ }
 {
-    let seen = Tally {
-        integers: 0,
-        decimals: 0,
-        points: 0,
-        percents: 0,
-        generals: 0,
-        fills: 0,
-        elapsed: 0,
-        texts: false,
-        dating: false,
-        dates: false,
-        hours: false,
-        minutes: false,
-        seconds: false,
-        elapsed_hours: false,
-        elapsed_minutes: false,
-        elapsed_seconds: false,
-        halves: false,
-        short: true,
-        sound: true,
-    };
     Walk {
-        seen,
+        numbers: 0,
+        others: 0,
+        dates: 0,
+        marks: 0,
+        unit: INTEGERS,
+        next: ANY_POWER,
         earlier: 0,
-        behind: false,
-        next: 0,
-        top: 0,
+        behind: 0,
     }
 }
 
@@ -86,311 +120,222 @@ fn is_between(least: u16, greatest: u16, n: u16) -> bool
     (least <= n) & (n <= greatest)
 }
 
-// An item that is no date or time run, by the answer of its own tests.
-fn plain(mut w: Walk, fits: bool) -> Walk
-    ensures { λ r. ⌜ r ≡ plainOf w fits ⌝ }
+fn fault(fits: bool) -> u64
+    ensures { λ r. ⌜ (r ≡ faultOf fits) × (r ≤ 1) ⌝ }
 {
-    w.behind = false;
-    let sound = fits & w.seen.sound;
-    w.seen.sound = sound;
-    w
+    if fits { 0 } else { 1 }
 }
 
-// A date or time run, by the answer of its own tests and its number.
-fn dated(mut w: Walk, fits: bool, run: u16) -> Walk
-    ensures { λ r. ⌜ r ≡ datedOf w fits run ⌝ }
+// What every item does: it adds its weights, and a fault where it does not fit.
+fn counted(w: Walk, number: u64, other: u64, date: u64, fits: bool, mark: u64) -> Walk
+    requires { ⌜ Few 253 w × Weights number other date mark ⌝ }
+    ensures { λ r. ⌜ r ≡ countedOf w number other date fits mark ⌝ }
 {
-    w.behind = false;
-    w.earlier = run;
-    w.seen.dating = true;
-    w.seen.dates = true;
-    let sound = fits & w.seen.sound;
-    w.seen.sound = sound;
-    w
-}
-
-// A literal or a blank: its unit may be any.
-fn literal(w: Walk, a: u16) -> Walk
-    ensures { λ r. ⌜ r ≡ stepOf w (entry 1 a) ⌝ }
-{
-    plain(w, true)
-}
-
-fn fill(w: Walk, a: u16) -> Walk
-    requires { ⌜ Few 254 (w .seen) ⌝ }
-    ensures { λ r. ⌜ r ≡ stepOf w (entry 3 a) ⌝ }
-{
-    let mut p = plain(w, true);
-    let count = w.seen.fills + 1;
-    p.seen.fills = count;
-    p
+    let wrong = fault(fits);
+    Walk {
+        numbers: w.numbers + number,
+        others: w.others + other,
+        dates: w.dates + date,
+        marks: w.marks + (wrong + mark),
+        unit: w.unit,
+        next: w.next,
+        earlier: w.earlier,
+        behind: 0,
+    }
 }
 
 // An argument is at least 1.
-fn lowered(n: u16) -> u16
+fn lowered(n: u64) -> u64
     ensures { λ r. ⌜ r ≡ lower n ⌝ }
 {
     if 1 < n { n - 1 } else { 1 }
 }
 
-// The argument that the place behind one with the argument a must have.
-fn next_with(next: u16, a: u16) -> u16
-    ensures { λ r. ⌜ r ≡ nextWith next a ⌝ }
-{
-    if next == 0 { lowered(a) } else { lowered(next) }
-}
-
-// The first place's argument.
-fn top_with(next: u16, top: u16, a: u16) -> u16
-    ensures { λ r. ⌜ r ≡ topWith next top a ⌝ }
-{
-    if next == 0 { a } else { top }
-}
-
-// The first place may have any power.
-fn power_fits(next: u16, a: u16) -> bool
-    ensures { λ r. ⌜ r ≡ powerFits next a ⌝ }
-{
-    (next == 0) | (a == next)
-}
-
-// A place counts as an integer place up to the first point, as a decimal place from there.
-fn integers_with(points: u16, n: u16) -> u16
-    requires { ⌜ n ≤ 254 ⌝ }
-    ensures { λ r. ⌜ r ≡ integersWith points n ⌝ }
-{
-    if points == 0 { n + 1 } else { n }
-}
-
-fn decimals_with(points: u16, n: u16) -> u16
-    requires { ⌜ n ≤ 254 ⌝ }
-    ensures { λ r. ⌜ r ≡ decimalsWith points n ⌝ }
-{
-    if points == 0 { n } else { n + 1 }
-}
-
+// The first place may have any power; each other place has the power below. A place that has the power expected is in
+// range where the first is.
 fn place(w: Walk, a: u16) -> Walk
-    requires { ⌜ Few 254 (w .seen) ⌝ }
+    requires { ⌜ Few 253 w ⌝ }
     ensures { λ r. ⌜ r ≡ stepOf w (entry 4 a) ⌝ }
 {
-    let mut p = plain(w, power_fits(w.next, a) & is_between(1, 35, a));
-    let integers = integers_with(w.seen.points, w.seen.integers);
-    p.seen.integers = integers;
-    let decimals = decimals_with(w.seen.points, w.seen.decimals);
-    p.seen.decimals = decimals;
-    p.next = next_with(w.next, a);
-    p.top = top_with(w.next, w.top, a);
+    let power = a as u64;
+    if w.next == power {
+        let mut p = counted(w, w.unit, 0, 0, true, 0);
+        p.next = lowered(w.next);
+        return p;
+    }
+    let mut p = counted(
+        w,
+        w.unit,
+        0,
+        0,
+        (w.next == ANY_POWER) & is_between(1, 35, a),
+        0,
+    );
+    p.next = lowered(power);
     p
 }
 
+// Behind the first point the powers go on from -1, which the last integer place must have led to.
 fn point(w: Walk, a: u16) -> Walk
-    requires { ⌜ Few 254 (w .seen) ⌝ }
+    requires { ⌜ Few 253 w ⌝ }
     ensures { λ r. ⌜ r ≡ stepOf w (entry 7 a) ⌝ }
 {
-    let mut p = plain(w, a == 0);
-    let count = w.seen.points + 1;
-    p.seen.points = count;
-    p
+    if w.unit == INTEGERS {
+        let mut p = counted(
+            w,
+            POINTS,
+            0,
+            0,
+            ((w.next == ANY_POWER) | (w.next == 15)) & (a == 0),
+            0,
+        );
+        p.unit = DECIMALS;
+        p.next = 15;
+        return p;
+    }
+    counted(w, POINTS, 0, 0, a == 0, 0)
 }
 
-fn percent(w: Walk, a: u16) -> Walk
-    requires { ⌜ Few 254 (w .seen) ⌝ }
-    ensures { λ r. ⌜ r ≡ stepOf w (entry 8 a) ⌝ }
+// A date or time run, by its weight, the answer of its own tests, its number, and whether it is seconds.
+fn dated(w: Walk, date: u64, fits: bool, run: u64, behind: u64) -> Walk
+    requires { ⌜ Few 253 w × Weights 0 0 date 0 ⌝ }
+    ensures { λ r. ⌜ r ≡ datedOf w 0 date fits 0 run behind ⌝ }
 {
-    let mut p = plain(w, a == 0);
-    let count = w.seen.percents + 1;
-    p.seen.percents = count;
-    p
-}
-
-fn general(w: Walk, a: u16) -> Walk
-    requires { ⌜ Few 254 (w .seen) ⌝ }
-    ensures { λ r. ⌜ r ≡ stepOf w (entry 9 a) ⌝ }
-{
-    let mut p = plain(w, a == 0);
-    let count = w.seen.generals + 1;
-    p.seen.generals = count;
-    p
-}
-
-fn text(w: Walk, a: u16) -> Walk
-    ensures { λ r. ⌜ r ≡ stepOf w (entry 10 a) ⌝ }
-{
-    let mut p = plain(w, a == 0);
-    p.seen.texts = true;
-    p
-}
-
-fn year(w: Walk, a: u16) -> Walk
-    ensures { λ r. ⌜ r ≡ stepOf w (entry 11 a) ⌝ }
-{
-    dated(w, (a == 2) | (a == 4), 3)
+    let mut d = counted(w, 0, 0, date, fits, 0);
+    d.earlier = run;
+    d.behind = behind;
+    d
 }
 
 // The rule for m, by the nearest earlier run.
-fn means_minutes(earlier: u16) -> bool
+fn means_minutes(earlier: u64) -> bool
     ensures { λ r. ⌜ r ≡ meansMinutes (runAt earlier) noRun ⌝ }
 {
     earlier == 1
 }
 
 fn month(w: Walk, a: u16) -> Walk
+    requires { ⌜ Few 253 w ⌝ }
     ensures { λ r. ⌜ r ≡ stepOf w (entry 12 a) ⌝ }
 {
     let minutes = means_minutes(w.earlier) & (a <= 2);
-    dated(w, !minutes & is_between(1, 5, a), 3)
-}
-
-fn day(w: Walk, a: u16) -> Walk
-    ensures { λ r. ⌜ r ≡ stepOf w (entry 13 a) ⌝ }
-{
-    dated(w, is_between(1, 4, a), 3)
-}
-
-fn hour(w: Walk, a: u16) -> Walk
-    ensures { λ r. ⌜ r ≡ stepOf w (entry 14 a) ⌝ }
-{
-    let mut d = dated(w, is_between(1, 2, a), 1);
-    d.seen.hours = true;
-    d
+    dated(w, DAYS, !minutes & is_between(1, 5, a), 3, 0)
 }
 
 fn minute(w: Walk, a: u16) -> Walk
+    requires { ⌜ Few 253 w ⌝ }
     ensures { λ r. ⌜ r ≡ stepOf w (entry 15 a) ⌝ }
 {
     let minutes = means_minutes(w.earlier) & (a <= 2);
-    let mut d = dated(w, minutes & is_between(1, 2, a), 3);
-    d.seen.minutes = true;
-    d
-}
-
-fn second(w: Walk, a: u16) -> Walk
-    ensures { λ r. ⌜ r ≡ stepOf w (entry 16 a) ⌝ }
-{
-    let mut d = dated(w, is_between(1, 2, a), 2);
-    d.behind = true;
-    d.seen.seconds = true;
-    d
+    dated(w, MINUTES, minutes & is_between(1, 2, a), 3, 0)
 }
 
 // A part of a second stands directly behind seconds.
 fn part(w: Walk, a: u16) -> Walk
+    requires { ⌜ Few 253 w ⌝ }
     ensures { λ r. ⌜ r ≡ stepOf w (entry 17 a) ⌝ }
 {
-    let mut p = plain(w, w.behind & is_between(1, 3, a));
-    p.seen.dates = true;
-    p
+    counted(w, 0, 0, 0, (w.behind == 1) & is_between(1, 3, a), PARTS)
 }
 
-fn elapsed(w: Walk, a: u16, run: u16) -> Walk
-    requires { ⌜ Few 254 (w .seen) ⌝ }
-    ensures { λ r. ⌜ r ≡ elapsedOf w a run ⌝ }
+fn too_long(a: u16) -> u64
+    ensures { λ r. ⌜ (r ≡ tooLong a) × (r ≤ 65536) ⌝ }
 {
-    let mut d = dated(w, is_between(1, 9, a), run);
-    let count = w.seen.elapsed + 1;
-    d.seen.elapsed = count;
-    let short = (a <= 9) & w.seen.short;
-    d.seen.short = short;
+    if 9 < a { LONG_RUNS } else { 0 }
+}
+
+fn elapsed(w: Walk, date: u64, a: u16, run: u64, behind: u64) -> Walk
+    requires { ⌜ Few 253 w × Weights 0 0 date 0 ⌝ }
+    ensures { λ r. ⌜ r ≡ datedOf w 4294967296 date (between 1 9 a) (tooLong a) run behind ⌝ }
+{
+    let mark = too_long(a);
+    let mut d = counted(w, 0, ELAPSED_RUNS, date, is_between(1, 9, a), mark);
+    d.earlier = run;
+    d.behind = behind;
     d
 }
 
-fn elapsed_hours(w: Walk, a: u16) -> Walk
-    requires { ⌜ Few 254 (w .seen) ⌝ }
-    ensures { λ r. ⌜ r ≡ stepOf w (entry 18 a) ⌝ }
-{
-    let mut d = elapsed(w, a, 1);
-    d.seen.elapsed_hours = true;
-    d
-}
-
-fn elapsed_minutes(w: Walk, a: u16) -> Walk
-    requires { ⌜ Few 254 (w .seen) ⌝ }
-    ensures { λ r. ⌜ r ≡ stepOf w (entry 19 a) ⌝ }
-{
-    let mut d = elapsed(w, a, 3);
-    d.seen.elapsed_minutes = true;
-    d
-}
-
-fn elapsed_seconds(w: Walk, a: u16) -> Walk
-    requires { ⌜ Few 254 (w .seen) ⌝ }
-    ensures { λ r. ⌜ r ≡ stepOf w (entry 20 a) ⌝ }
-{
-    let mut d = elapsed(w, a, 2);
-    d.behind = true;
-    d.seen.elapsed_seconds = true;
-    d
-}
-
-// A half-day mark, as which an unknown tag is read too.
-fn half(w: Walk, fits: bool) -> Walk
-    ensures { λ r. ⌜ r ≡ halfOf w fits ⌝ }
-{
-    let mut p = plain(w, fits);
-    p.seen.dates = true;
-    p.seen.halves = true;
-    p
-}
-
-// The pass by one item, with its tag and its argument.
+// The pass by one item, with its tag and its argument. Places are most items, so they are told first. An unknown tag is
+// read as a half-day mark.
 fn step(w: Walk, tag: u16, a: u16) -> Walk
-    requires { ⌜ Few 254 (w .seen) ⌝ }
+    requires { ⌜ Few 253 w ⌝ }
     ensures { λ r. ⌜ r ≡ stepOf w (entry tag a) ⌝ }
 {
+    if is_between(4, 6, tag) {
+        return place(w, a);
+    }
     match tag {
-        1 => literal(w, a),
-        2 => literal(w, a),
-        3 => fill(w, a),
-        4 => place(w, a),
-        5 => place(w, a),
-        6 => place(w, a),
+        1 => counted(w, 0, 0, 0, true, 0),
+        2 => counted(w, 0, 0, 0, true, 0),
+        3 => counted(w, 0, FILLS, 0, true, 0),
         7 => point(w, a),
-        8 => percent(w, a),
-        9 => general(w, a),
-        10 => text(w, a),
-        11 => year(w, a),
+        8 => counted(w, PERCENTS, 0, 0, a == 0, 0),
+        9 => counted(w, 0, GENERALS, 0, a == 0, 0),
+        10 => counted(w, 0, TEXTS, 0, a == 0, 0),
+        11 => dated(w, DAYS, (a == 2) | (a == 4), 3, 0),
         12 => month(w, a),
-        13 => day(w, a),
-        14 => hour(w, a),
+        13 => dated(w, DAYS, is_between(1, 4, a), 3, 0),
+        14 => dated(w, HOURS, is_between(1, 2, a), 1, 0),
         15 => minute(w, a),
-        16 => second(w, a),
+        16 => dated(w, SECONDS, is_between(1, 2, a), 2, 1),
         17 => part(w, a),
-        18 => elapsed_hours(w, a),
-        19 => elapsed_minutes(w, a),
-        20 => elapsed_seconds(w, a),
-        21 => half(w, is_between(1, 2, a)),
-        _ => half(w, false),
+        18 => elapsed(w, ELAPSED_HOURS, a, 1, 0),
+        19 => elapsed(w, ELAPSED_MINUTES, a, 3, 0),
+        20 => elapsed(w, ELAPSED_SECONDS, a, 2, 1),
+        21 => counted(w, 0, 0, 0, is_between(1, 2, a), HALVES),
+        _ => counted(w, 0, 0, 0, false, HALVES),
     }
 }
 
-// The first place's argument tells as many integer places as there are. The tally is made field by field: where it is
-// copied whole, the compiler keeps it in memory through the pass, which then takes four times as long.
+// The tally of items among which no date or time run is.
+fn without_dates(w: Walk) -> Tally
+    ensures { λ r. ⌜ r ≡ withoutDates w ⌝ }
+{
+    Tally {
+        sound: (w.marks % 65536 == 0)
+            & ((w.unit == DECIMALS) | ((w.next == ANY_POWER) | (w.next == 15))),
+        short: w.marks / LONG_RUNS % 65536 == 0,
+        integers: (w.numbers % 65536) as u16,
+        decimals: (w.numbers / DECIMALS % 65536) as u16,
+        points: (w.numbers / POINTS % 65536) as u16,
+        percents: (w.numbers / PERCENTS % 65536) as u16,
+        generals: (w.others % 65536) as u16,
+        fills: (w.others / FILLS % 65536) as u16,
+        elapsed: (w.others / ELAPSED_RUNS % 65536) as u16,
+        texts: 0 < w.others / TEXTS % 65536,
+        dating: false,
+        dates: 0 < w.marks / HALVES,
+        hours: false,
+        minutes: false,
+        seconds: false,
+        elapsed_hours: false,
+        elapsed_minutes: false,
+        elapsed_seconds: false,
+        halves: 0 < w.marks / HALVES % 65536,
+    }
+}
+
+// The digits of the numbers. Most sections have no date or time run, and few an elapsed one: those digits are not read then.
 fn finished(w: Walk) -> Tally
-    requires { ⌜ Few 254 (w .seen) ⌝ }
     ensures { λ r. ⌜ r ≡ finishedOf w ⌝ }
 {
-    let told = (w.next == 0) | (w.top == 15 + w.seen.integers);
-    Tally {
-        integers: w.seen.integers,
-        decimals: w.seen.decimals,
-        points: w.seen.points,
-        percents: w.seen.percents,
-        generals: w.seen.generals,
-        fills: w.seen.fills,
-        elapsed: w.seen.elapsed,
-        texts: w.seen.texts,
-        dating: w.seen.dating,
-        dates: w.seen.dates,
-        hours: w.seen.hours,
-        minutes: w.seen.minutes,
-        seconds: w.seen.seconds,
-        elapsed_hours: w.seen.elapsed_hours,
-        elapsed_minutes: w.seen.elapsed_minutes,
-        elapsed_seconds: w.seen.elapsed_seconds,
-        halves: w.seen.halves,
-        short: w.seen.short,
-        sound: told & w.seen.sound,
+    let mut t = without_dates(w);
+    let n = w.dates;
+    if n == 0 {
+        return t;
     }
+    t.dating = true;
+    t.dates = true;
+    t.hours = 0 < n / HOURS % 256;
+    t.minutes = 0 < n / MINUTES % 256;
+    t.seconds = 0 < n / SECONDS % 256;
+    if n < ELAPSED_HOURS {
+        return t;
+    }
+    t.elapsed_hours = 0 < n / ELAPSED_HOURS % 256;
+    t.elapsed_minutes = 0 < n / ELAPSED_MINUTES % 256;
+    t.elapsed_seconds = 0 < n / ELAPSED_SECONDS % 256;
+    t
 }
 
 // What the items of a section tell, whose words these are.
@@ -465,8 +410,11 @@ fn allowed(t: Tally) -> bool
 fn no_plain(t: Tally) -> bool
     ensures { λ r. ⌜ r ≡ noPlainTold t ⌝ }
 {
-    !(t.elapsed_hours & t.hours)
-        & (!(t.elapsed_minutes & t.minutes) & !(t.elapsed_seconds & t.seconds))
+    if t.elapsed_hours | (t.elapsed_minutes | t.elapsed_seconds) {
+        return !(t.elapsed_hours & t.hours)
+            & (!(t.elapsed_minutes & t.minutes) & !(t.elapsed_seconds & t.seconds));
+    }
+    true
 }
 
 pub fn items_fit(t: Tally) -> bool

@@ -1,7 +1,7 @@
 -- `tallies::minute` meets its contract.
 -- Assumes nothing.
-use Rattle.formats.specs.Items.{meansMinutes, noRun}
 use Rattle.tallies.specs.Walk.{runAt}
+use Rattle.formats.specs.Items.{meansMinutes, noRun}
 use Rattle.tallies.proofs.Steps.{computed, minute-stays}
 use borrow.Author.Needs.{needs}
 use Rattle.tallies.proofs.minute.Statement.{statement}
@@ -19,8 +19,8 @@ dated-requires c κs = search needs
 returns : tie.Need-returns
 unfolding computed
 returns c =
-    let a = c .before .before .before .before .args in
-    rw (c .before .dated .ensures, c .before .before .is-between .ensures, c .before .before .before .means-minutes .ensures, minute-stays (meansMinutes (runAt (a .w .earlier)) noRun) (a .a))
+    let a = c .before .before .before .args in
+    rw (c .dated .ensures, c .before .is-between .ensures, c .before .before .means-minutes .ensures, minute-stays (meansMinutes (runAt (a .w .earlier)) noRun) (a .a))
 
 pub minute-spec : {M : Type 1} → statement M
 minute-spec =

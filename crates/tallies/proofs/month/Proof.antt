@@ -1,7 +1,7 @@
 -- `tallies::month` meets its contract.
 -- Assumes nothing.
-use Rattle.formats.specs.Items.{meansMinutes, noRun}
 use Rattle.tallies.specs.Walk.{runAt}
+use Rattle.formats.specs.Items.{meansMinutes, noRun}
 use Rattle.tallies.proofs.Steps.{computed, month-stays}
 use borrow.Author.Needs.{needs}
 use Rattle.tallies.proofs.month.Statement.{statement}

@@ -8,12 +8,12 @@ use Rattle.tallies.proofs.part.Tie as tie
 is-between-requires : tie.Need-is-between-requires
 is-between-requires c κs = search needs
 
-plain-requires : tie.Need-plain-requires
-plain-requires c κs = search needs
+counted-requires : tie.Need-counted-requires
+counted-requires c κs = search needs
 
 returns : tie.Need-returns
 unfolding computed
-returns c = rw (c .before .plain .ensures, c .before .before .before .is-between .ensures)
+returns c = rw (c .counted .ensures, c .before .is-between .ensures)
 
 pub part-spec : {M : Type 1} → statement M
-part-spec = tie.close (tie.spec is-between-requires plain-requires returns)
+part-spec = tie.close (tie.spec is-between-requires counted-requires returns)

@@ -1,44 +1,47 @@
--- `tallies::place` meets its contract.
+-- `tallies::place` meets its contract. A place with the argument expected, and any other.
 -- Assumes nothing.
-use Rattle.tallies.proofs.Steps.{computed}
+use Prim.Native.Nat.{ℕ}
+use mathlib.Core.Path.{_≡_, _∙_, ap}
+use Rattle.tallies.specs.Walk.{lower}
+use Rattle.tallies.proofs.Steps.{place-expected, place-other}
 use borrow.Author.Needs.{needs}
 use Rattle.tallies.proofs.place.Statement.{statement}
 use Rattle.tallies.proofs.place.Tie as tie
 
-power-fits-requires : tie.Need-power-fits-requires
-power-fits-requires c κs = search needs
+counted-requires : tie.Need-counted-requires
+counted-requires c κs = search needs
+
+lowered-requires : tie.Need-lowered-requires
+lowered-requires c κs = search needs
+
+returns : tie.Need-returns
+returns c =
+    let a = c .before .before .before .before .args in
+    let s : a .w .next ≡ a .a = search needs in
+    rw (c .lowered .ensures ∙ ap (λ (n : ℕ). lower n) s, c .before .counted .ensures) (place-expected (a .w) (a .a) (search needs) s)
 
 is-between-requires : tie.Need-is-between-requires
 is-between-requires c κs = search needs
 
-plain-requires : tie.Need-plain-requires
-plain-requires c κs = search needs
+counted-requires-2 : tie.Need-counted-requires-2
+counted-requires-2 c κs = search needs
 
-integers-with-requires : tie.Need-integers-with-requires
-integers-with-requires c κs = search needs
+lowered-requires-2 : tie.Need-lowered-requires-2
+lowered-requires-2 c κs = search needs
 
-decimals-with-requires : tie.Need-decimals-with-requires
-decimals-with-requires c κs = search needs
-
-next-with-requires : tie.Need-next-with-requires
-next-with-requires c κs = search needs
-
-top-with-requires : tie.Need-top-with-requires
-top-with-requires c κs = search needs
-
-returns : tie.Need-returns
-unfolding computed
-returns c = rw (c .top-with .ensures, c .before .next-with .ensures, c .before .before .before .decimals-with .ensures, c .before .before .before .before .before .integers-with .ensures, c .before .before .before .before .before .before .plain .ensures, c .before .before .before .before .before .before .before .is-between .ensures, c .before .before .before .before .before .before .before .before .power-fits .ensures)
+returns-2 : tie.Need-returns-2
+returns-2 c =
+    let a = c .before .before .before .before .before .before .args in
+    rw (c .lowered2 .ensures, c .before .counted2 .ensures, c .before .before .is-between .ensures) (place-other (a .w) (a .a) (search needs))
 
 pub place-spec : {M : Type 1} → statement M
 place-spec =
     tie.close
     (tie.spec
-    power-fits-requires
+    counted-requires
+    lowered-requires
+    returns
     is-between-requires
-    plain-requires
-    integers-with-requires
-    decimals-with-requires
-    next-with-requires
-    top-with-requires
-    returns)
+    counted-requires-2
+    lowered-requires-2
+    returns-2)

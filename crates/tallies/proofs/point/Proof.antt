@@ -1,19 +1,28 @@
--- `tallies::point` meets its contract.
+-- `tallies::point` meets its contract. The first point, and a later one.
 -- Assumes nothing.
+use borrow.Author.Tests.{eq-eqb, ne-eqb}
 use Rattle.tallies.proofs.Steps.{computed}
 use borrow.Author.Needs.{needs}
 use Rattle.tallies.proofs.point.Statement.{statement}
 use Rattle.tallies.proofs.point.Tie as tie
 
-plain-requires : tie.Need-plain-requires
-plain-requires c κs = search needs
-
-add-count : tie.Need-add-count
-add-count c = search needs
+counted-requires : tie.Need-counted-requires
+counted-requires c κs = search needs
 
 returns : tie.Need-returns
 unfolding computed
-returns c = rw (c .before .before .plain .ensures)
+returns c =
+    let w = c .before .before .before .before .before .args .w in
+    rw (c .counted .ensures, eq-eqb (w .unit) 1 (search needs))
+
+counted-requires-2 : tie.Need-counted-requires-2
+counted-requires-2 c κs = search needs
+
+returns-2 : tie.Need-returns-2
+unfolding computed
+returns-2 c =
+    let w = c .before .before .before .args .w in
+    rw (c .counted2 .ensures, ne-eqb (w .unit) 1 (search needs))
 
 pub point-spec : {M : Type 1} → statement M
-point-spec = tie.close (tie.spec plain-requires add-count returns)
+point-spec = tie.close (tie.spec counted-requires returns counted-requires-2 returns-2)

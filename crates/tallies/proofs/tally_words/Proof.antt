@@ -38,7 +38,7 @@ shared-slice-read-step-2 : tie.Need-shared-slice-read-step-2 Inv-loop μ-loop
 shared-slice-read-step-2 c = search needs
 
 step-requires : tie.Need-step-requires Inv-loop μ-loop
-step-requires c κs = walking-few _ _ _ _ (c .before .before .before .loop .inv)
+step-requires c κs = walking-few _ _ _ _ (c .before .before .before .loop .inv) (search needs)
 
 add-k : tie.Need-add-k Inv-loop μ-loop
 add-k c = search needs
@@ -50,7 +50,7 @@ loop-again : tie.Need-loop-again Inv-loop μ-loop
 loop-again c = walking-step _ _ _ _ (c .before .before .before .before .loop .inv) _ (search needs) (c .step .ensures)
 
 finished-requires : tie.Need-finished-requires Inv-loop μ-loop
-finished-requires c κs = walking-few _ _ _ _ (c .before .loop .inv)
+finished-requires c κs = search needs
 
 returns : tie.Need-returns Inv-loop μ-loop
 returns c = walking-end _ _ _ _ (c .before .before .loop .inv) _ (search needs) (c .finished .ensures)
