@@ -1,0 +1,4 @@
+pub mod Whole
+pub mod Telling
+pub mod Bounds
+pub mod Cases

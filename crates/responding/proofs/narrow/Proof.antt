@@ -1,0 +1,75 @@
+-- `responding::narrow` meets its contract.
+-- Assumes nothing.
+use Prim.Native.Nat.{_≤_, _-_}
+use mathlib.Core.Path.{refl}
+use mathlib.Core.List.{[], _∷_, map}
+use native.Mathlib.Omega.{arith}
+use lib.ListN.{drop-of-length-le, length, drop}
+use Rattle.writing.specs.Put.{Rest}
+use Rattle.writing.proofs.Laws.{rest-start, rest-put, rest-done}
+use Rattle.responding.specs.Respond.{lowByte}
+use Rattle.responding.proofs.Whole.{low-first, narrow-none, narrow-whole}
+use borrow.Author.Needs.{needs}
+use Rattle.responding.proofs.narrow.Statement.{statement}
+use Rattle.responding.proofs.narrow.Tie as tie
+
+abbrev Inv-loop : tie.InvT-loop
+Inv-loop units room₀ i₀ room i = Rest room₀ 0 (map lowByte units) room i (map lowByte (drop i units)) × (i ≤ length units)
+
+abbrev μ-loop : tie.MeasureT-loop
+μ-loop units room₀ i₀ room i = length units - i
+
+returns : tie.Need-returns Inv-loop μ-loop
+returns c = narrow-none _ _ (omega arith)
+
+loop-holds : tie.Need-loop-holds Inv-loop μ-loop
+loop-holds c = (rest-start _ _ _, search needs)
+
+mul-room : tie.Need-mul-room Inv-loop μ-loop
+mul-room c = search needs
+
+shared-slice-read-room : tie.Need-shared-slice-read-room Inv-loop μ-loop
+shared-slice-read-room c = search needs
+
+cast-room : tie.Need-cast-room Inv-loop μ-loop
+cast-room c = search needs
+
+slice-write-room : tie.Need-slice-write-room Inv-loop μ-loop
+slice-write-room c = search needs
+
+add-i : tie.Need-add-i Inv-loop μ-loop
+add-i c = search needs
+
+loop-less : tie.Need-loop-less Inv-loop μ-loop
+loop-less c = search needs
+
+loop-again : tie.Need-loop-again Inv-loop μ-loop
+loop-again c =
+    let l = c .before .before .loop in
+    (rest-put {p = _ ∷ []} (rw (low-first _ _ (c .before .loop-test .taken)) at (l .inv .0)) (record { next = refl; room = refl }), search needs)
+
+same-length : tie.Need-same-length Inv-loop μ-loop
+same-length c = c .before .loop .inv .0 .size
+
+returns-2 : tie.Need-returns-2 Inv-loop μ-loop
+returns-2 c =
+    let l = c .before .loop in
+    narrow-whole _ _ (rest-done (rw (drop-of-length-le _ (c .loop-test .left)) at (l .inv .0))) (omega arith)
+
+pub narrow-spec : {M : Type 1} → statement M
+narrow-spec =
+    tie.close
+    (tie.spec
+    Inv-loop
+    μ-loop
+    returns
+    loop-holds
+    mul-room
+    shared-slice-read-room
+    cast-room
+    slice-write-room
+    add-i
+    loop-less
+    loop-again
+    same-length
+    returns-2)
