@@ -28,10 +28,10 @@ nothing-shows g q = cond-both (λ (us : List ℕ). us ≡ []) (g && endsGroup q)
 
 -- the figures that `figures_of` makes are those of the number that the digits are
 pub digits-are : {f : Figures} (digits : List ℕ) (integers : ℕ) (grouped : Bool) (n : ℕ)
-    → f ≡ figuresWith digits integers grouped → digits ≡ figures n → n < 10 ^ 40 → DigitsAre f n
+    → f ≡ figuresWith digits integers grouped → digits ≡ figures n → n < 10 ^ 40 → DigitsAre digits f n
 unfolding figuresWith
 digits-are digits integers grouped n e d h = record {
-  digits = ap (λ (g : Figures). g .digits) e ∙ d;
+  number = d;
   small = h;
   used = ap (λ (g : Figures). g .used) e ∙ ap (placesUsed 40) d;
   lowest = ap (λ (g : Figures). g .lowest) e ∙ ap lowestPlace d;
@@ -39,12 +39,12 @@ digits-are digits integers grouped n e d h = record {
 
 -- and of every context with this number, these integer places and this grouping
 pub figures-are : {f : Figures} (digits : List ℕ) (c : Context)
-    → f ≡ figuresWith digits (c .integerPlaces) (c .grouped) → digits ≡ figures (c .figures) → c .figures < 10 ^ 40 → FiguresAre f c
+    → f ≡ figuresWith digits (c .integerPlaces) (c .grouped) → digits ≡ figures (c .figures) → c .figures < 10 ^ 40 → FiguresAre digits f c
 unfolding figuresWith
 figures-are digits c e d h =
     let are = digits-are digits (c .integerPlaces) (c .grouped) (c .figures) e d h in
     record {
-      digits = are .digits;
+      number = d;
       small = h;
       used = are .used;
       lowest = are .lowest;
@@ -52,7 +52,7 @@ figures-are digits c e d h =
       grouped = ap (λ (g : Figures). g .grouped) e;
     }
 
-module _ {f : Figures} {c : Context} (are : FiguresAre f c) where
+module _ {digits : List ℕ} {f : Figures} {c : Context} (are : FiguresAre digits f c) where
   -- the index bound that the writers ask for
   pub figures-used : f .used ≤ 40
   figures-used = rw (are .used) (used-most 40 (figures (c .figures)))
@@ -66,8 +66,8 @@ module _ {f : Figures} {c : Context} (are : FiguresAre f c) where
       (sym (used-test n (are .small) q) ∙ ap (λ (x : ℕ). leb x q) (sym (are .used)))
       (ap (λ (x : ℕ). eqb (n % 10 ^ x) 0) (sym (add-one q)) ∙ sym (lowest-test n q h) ∙ ap (λ (x : ℕ). ltb q x) (sym (are .lowest)))
 
-  pub digit-is : (q : ℕ) → q < 40 → getD (f .digits) q 0 ≡ digit (c .figures) q
-  digit-is q h = ap (λ (l : List ℕ). getD l q 0) (are .digits) ∙ figures-at (c .figures) q h
+  pub digit-is : (q : ℕ) → q < 40 → getD digits q 0 ≡ digit (c .figures) q
+  digit-is q h = ap (λ (l : List ℕ). getD l q 0) (are .number) ∙ figures-at (c .figures) q h
 
   -- what a place shows of an insignificant zero, and of another digit
   pub figure-idle : (p : Place) (q : ℕ) → q < 40 → idle (f .used) (f .lowest) q ≡ true
@@ -76,7 +76,7 @@ module _ {f : Figures} {c : Context} (are : FiguresAre f c) where
   figure-idle p q h t = rw (idle-is q h ∙ t, are .grouped)
 
   pub figure-digit : (p : Place) (q : ℕ) → q < 40 → idle (f .used) (f .lowest) q ≡ false
-      → figureUnits (c .figures) (c .grouped) p q ≡ separated (f .grouped) q (digitUnit (getD (f .digits) q 0) ∷ [])
+      → figureUnits (c .figures) (c .grouped) p q ≡ separated (f .grouped) q (digitUnit (getD digits q 0) ∷ [])
   unfolding figureUnits
   figure-digit p q h t = rw (idle-is q h ∙ t, are .grouped, digit-is q h)
 

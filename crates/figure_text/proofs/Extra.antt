@@ -41,7 +41,7 @@ before-other q i d =
 before-not : (c : Context) (q : ℕ) → due q (c .integerPlaces) ≡ false → unitsBefore c q ≡ []
 before-not c q e = rw e
 
-module _ {f : Figures} {c : Context} (are : FiguresAre f c) where
+module _ {digits : List ℕ} {f : Figures} {c : Context} (are : FiguresAre digits f c) where
   abbrev extra : ℕ → ℕ → List ℕ
   extra q count = extraUnits (c .figures) (c .grouped) q count
 
@@ -72,7 +72,7 @@ module _ {f : Figures} {c : Context} (are : FiguresAre f c) where
 
   -- the highest of them
   pub extra-next : (q k : ℕ) → 15 ≤ q → q < k → k ≤ f .used
-      → extra q (k - q) ≡ separated (f .grouped) (k - 1) (digitUnit (getD (f .digits) (k - 1) 0) ∷ []) ++ extra q (k - 1 - q)
+      → extra q (k - q) ≡ separated (f .grouped) (k - 1) (digitUnit (getD digits (k - 1) 0) ∷ []) ++ extra q (k - 1 - q)
   unfolding extraUnits
   extra-next q k low h u =
       let most : f .used ≤ 40 = figures-used are in
@@ -88,7 +88,7 @@ module _ {f : Figures} {c : Context} (are : FiguresAre f c) where
   extra-end q k h = let e : k - q ≡ 0 = omega arith in ap (extra q) e
 
   -- a turn of the loop, and its end
-  pub extra-turn : {l m o t : List ℕ} {s at a u : ℕ} (q k : ℕ) → 15 ≤ q → q < k → k ≤ f .used → u ≡ digitUnit (getD (f .digits) (k - 1) 0)
+  pub extra-turn : {l m o t : List ℕ} {s at a u : ℕ} (q k : ℕ) → 15 ≤ q → q < k → k ≤ f .used → u ≡ digitUnit (getD digits (k - 1) 0)
       → Rest l s t m at (extraUnits (c .figures) (c .grouped) q (k - q))
       → Put m at (separated (f .grouped) (k - 1) (u ∷ [])) a o
       → Rest l s t o a (extraUnits (c .figures) (c .grouped) q (k - 1 - q))

@@ -78,9 +78,9 @@ unfolding pointed
 decimals-none n low h = let e : 15 - low ≡ 0 = omega arith in ap (λ (k : ℕ). pointed (take k (digitUnits 15 n))) e
 
 -- what General shows, in the code's words
-pub general-runs : {f : Figures} {n : ℕ} → DigitsAre f n
+pub general-runs : {digits : List ℕ} {f : Figures} {n : ℕ} → DigitsAre digits f n
     → generalUnits n ≡ run n (max 16 (f .used)) 15 ++ pointed (take (15 - f .lowest) (digitUnits 15 n))
-general-runs {f} {n} are =
+general-runs {digits} {f} {n} are =
     let w : max 1 (placesUsed 40 (figures n) - 15) ≡ max 16 (f .used) - 15 = omega (arith, are .used) in
     general-text n (are .small)
     ∙ ap₂ (λ (k l : ℕ). digitUnits k (n / 10 ^ 15) ++ pointed (take (15 - l) (digitUnits 15 n))) w (sym (are .lowest))

@@ -11,16 +11,16 @@ use Rattle.formats.specs.Tokens.{Place, zeroPlace, hashPlace, spacePlace}
 use Rattle.formats.specs.Text.{Context, endsGroup, withSeparator, extraUnits}
 use Rattle.figure_text.specs.declared.Figures.{Figures}
 
--- the digits are those of a number
-pub record DigitsAre (f : Figures) (n : ℕ) : Type 0 where
-  pub digits : f .digits ≡ figures n
+-- the digits, and the figures beside them, are those of a number
+pub record DigitsAre (digits : List ℕ) (f : Figures) (n : ℕ) : Type 0 where
+  pub number : digits ≡ figures n
   pub small : n < 10 ^ 40
   pub used : f .used ≡ placesUsed 40 (figures n)
   pub lowest : f .lowest ≡ lowestPlace (figures n)
 
--- the figures are those of a context
-pub record FiguresAre (f : Figures) (c : Context) : Type 0 where
-  pub digits : f .digits ≡ figures (c .figures)
+-- the digits, and the figures beside them, are those of a context
+pub record FiguresAre (digits : List ℕ) (f : Figures) (c : Context) : Type 0 where
+  pub number : digits ≡ figures (c .figures)
   pub small : c .figures < 10 ^ 40
   pub used : f .used ≡ placesUsed 40 (figures (c .figures))
   pub lowest : f .lowest ≡ lowestPlace (figures (c .figures))
@@ -30,7 +30,6 @@ pub record FiguresAre (f : Figures) (c : Context) : Type 0 where
 -- the figures of forty digits
 unfoldable pub figuresWith : List ℕ → ℕ → Bool → Figures
 figuresWith digits integers grouped = record {
-  digits = digits;
   used = placesUsed 40 digits;
   lowest = lowestPlace digits;
   integers = integers;

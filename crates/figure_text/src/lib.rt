@@ -12,10 +12,10 @@ ghost use Rattle.writing.specs.Put.{Put};
 ghost use Rattle.figure_text.specs.Shown.{DigitsAre, FiguresAre, placeOfTag, idle, separated, figuresWith, unitsBefore};
 use writing::put_unit;
 
-// A rounded number's digits, that of 10^-15 first, how many places are used, the lowest place whose digit is not 0,
-// and how the section shows them: its integer places, and whether it groups.
+// How a rounded number's digits, that of 10^-15 first, are shown: how many places are used, the lowest place whose digit is
+// not 0, the section's integer places, and whether it groups. The digits are lent beside it: copied, they would be copied at
+// each place.
 pub struct Figures {
-    pub digits: [u8; 40],
     pub used: usize,
     pub lowest: usize,
     pub integers: u32,
@@ -28,7 +28,6 @@ pub fn figures_of(digits: [u8; 40], integers: u32, grouped: bool) -> Figures
     ensures most { λ r. ⌜ r .used ≤ 40 ⌝ }
 {
     Figures {
-        digits,
         used: figures::places_used(digits),
         lowest: figures::lowest_place(digits),
         integers,
@@ -103,39 +102,46 @@ fn put_idle(room: &mut [u16], at: usize, place: u16, grouped: bool, q: usize) ->
 }
 
 // Puts what a place, told by its tag, shows of the digit at q.
-pub fn put_figure(room: &mut [u16], at: usize, f: Figures, place: u16, q: usize) -> usize
+pub fn put_figure(
+    room: &mut [u16],
+    at: usize,
+    digits: &[u8; 40],
+    f: Figures,
+    place: u16,
+    q: usize,
+) -> usize
     requires { ⌜ (at + 2 < 2 ^ 63) × (q < 40) ⌝ }
     ensures within { λ r. ⌜ r ≤ at + 2 ⌝ }
-    ensures put { λ r. ⌜ ((c : Context) → FiguresAre f c
+    ensures put { λ r. ⌜ ((c : Context) → FiguresAre (now (digits .entry)) f c
         → Put (now (room .entry)) at (figureUnits (c .figures) (c .grouped) (placeOfTag place) q) r (now (room .exit))) ⌝ }
 {
     if is_idle(f.used, f.lowest, q) {
         return put_idle(room, at, place, f.grouped, q);
     }
-    put_shown(room, at, digit_unit(f.digits[q]), f.grouped, q)
+    put_shown(room, at, digit_unit(digits[q]), f.grouped, q)
 }
 
 // Puts the digits beyond the places: from the highest one used down to q.
-fn put_extra(room: &mut [u16], at: usize, f: Figures, q: usize) -> usize
+fn put_extra(room: &mut [u16], at: usize, digits: &[u8; 40], f: Figures, q: usize) -> usize
     requires { ⌜ (at < 2 ^ 62) × (f .used ≤ 40) × (15 ≤ q) × (q ≤ 40) ⌝ }
     ensures within { λ r. ⌜ r ≤ at + 80 ⌝ }
-    ensures put { λ r. ⌜ ((c : Context) → FiguresAre f c
+    ensures put { λ r. ⌜ ((c : Context) → FiguresAre (now (digits .entry)) f c
         → Put (now (room .entry)) at (extraUnits (c .figures) (c .grouped) q (40 - q)) r (now (room .exit))) ⌝ }
 {
     let mut k = f.used;
     let mut o = at;
     while q < k {
         k -= 1;
-        o = put_shown(room, o, digit_unit(f.digits[k]), f.grouped, k);
+        o = put_shown(room, o, digit_unit(digits[k]), f.grouped, k);
     }
     o
 }
 
 // Puts the digits beyond the places that go in before the digit at q: where it is the first integer place's.
-fn put_before(room: &mut [u16], at: usize, f: Figures, q: usize) -> usize
+fn put_before(room: &mut [u16], at: usize, digits: &[u8; 40], f: Figures, q: usize) -> usize
     requires { ⌜ (at < 2 ^ 62) × (f .used ≤ 40) × (q < 40) ⌝ }
     ensures within { λ r. ⌜ r ≤ at + 80 ⌝ }
-    ensures put { λ r. ⌜ ((c : Context) → FiguresAre f c → Put (now (room .entry)) at (unitsBefore c q) r (now (room .exit))) ⌝ }
+    ensures put { λ r. ⌜ ((c : Context) → FiguresAre (now (digits .entry)) f c → Put (now (room .entry)) at (unitsBefore c q) r (now (room .exit))) ⌝ }
 {
     if f.used <= q + 1 {
         return at;
@@ -146,38 +152,45 @@ fn put_before(room: &mut [u16], at: usize, f: Figures, q: usize) -> usize
     if q - 14 != f.integers as usize {
         return at;
     }
-    put_extra(room, at, f, q + 1)
+    put_extra(room, at, digits, f, q + 1)
 }
 
 // Puts what a place, told by its tag, shows of the digit at q, with the digits beyond the places where they go in.
-pub fn put_place(room: &mut [u16], at: usize, f: Figures, place: u16, q: usize) -> usize
+pub fn put_place(
+    room: &mut [u16],
+    at: usize,
+    digits: &[u8; 40],
+    f: Figures,
+    place: u16,
+    q: usize,
+) -> usize
     requires { ⌜ (at < 2 ^ 62) × (f .used ≤ 40) × (q < 40) ⌝ }
     ensures within { λ r. ⌜ r ≤ at + 82 ⌝ }
-    ensures put { λ r. ⌜ ((c : Context) → FiguresAre f c
+    ensures put { λ r. ⌜ ((c : Context) → FiguresAre (now (digits .entry)) f c
         → Put (now (room .entry)) at (placeUnits c (placeOfTag place) q) r (now (room .exit))) ⌝ }
 {
-    let a = put_before(room, at, f, q);
-    put_figure(room, a, f, place, q)
+    let a = put_before(room, at, digits, f, q);
+    put_figure(room, a, digits, f, place, q)
 }
 
 // Puts the point, with the integer digits before it where the section has no integer place.
-pub fn put_point(room: &mut [u16], at: usize, f: Figures) -> usize
+pub fn put_point(room: &mut [u16], at: usize, digits: &[u8; 40], f: Figures) -> usize
     requires { ⌜ (at < 2 ^ 62) × (f .used ≤ 40) ⌝ }
     ensures within { λ r. ⌜ r ≤ at + 81 ⌝ }
-    ensures put { λ r. ⌜ ((c : Context) → FiguresAre f c → Put (now (room .entry)) at (pointUnits c) r (now (room .exit))) ⌝ }
+    ensures put { λ r. ⌜ ((c : Context) → FiguresAre (now (digits .entry)) f c → Put (now (room .entry)) at (pointUnits c) r (now (room .exit))) ⌝ }
 {
     if f.integers == 0 {
-        let a = put_extra(room, at, f, 15);
+        let a = put_extra(room, at, digits, f, 15);
         return put_unit(room, a, 46);
     }
     put_unit(room, at, 46)
 }
 
 // Puts the digits from below `high` down to `low`.
-fn put_run(room: &mut [u16], at: usize, digits: [u8; 40], high: usize, low: usize) -> usize
+fn put_run(room: &mut [u16], at: usize, digits: &[u8; 40], high: usize, low: usize) -> usize
     requires { ⌜ (at < 2 ^ 62 + 50) × (high ≤ 40) ⌝ }
     ensures within { λ r. ⌜ r ≤ at + 40 ⌝ }
-    ensures put { λ r. ⌜ ((n : ℕ) → digits ≡ figures n
+    ensures put { λ r. ⌜ ((n : ℕ) → now (digits .entry) ≡ figures n
         → Put (now (room .entry)) at (digitUnits (high - low) (n / 10 ^ low)) r (now (room .exit))) ⌝ }
 {
     let mut k = high;
@@ -200,10 +213,10 @@ fn at_least_one(used: usize) -> usize
 }
 
 // Puts a point and the decimals down to the lowest that is not 0, or nothing where there is none.
-fn put_decimals(room: &mut [u16], at: usize, digits: [u8; 40], lowest: usize) -> usize
+fn put_decimals(room: &mut [u16], at: usize, digits: &[u8; 40], lowest: usize) -> usize
     requires { ⌜ at < 2 ^ 62 + 49 ⌝ }
     ensures within { λ r. ⌜ r ≤ at + 41 ⌝ }
-    ensures put { λ r. ⌜ ((n : ℕ) → digits ≡ figures n
+    ensures put { λ r. ⌜ ((n : ℕ) → now (digits .entry) ≡ figures n
         → Put (now (room .entry)) at (pointed (take (15 - lowest) (digitUnits 15 n))) r (now (room .exit))) ⌝ }
 {
     if lowest < 15 {
@@ -214,12 +227,11 @@ fn put_decimals(room: &mut [u16], at: usize, digits: [u8; 40], lowest: usize) ->
 }
 
 // Puts a number as General shows it: its integer digits, and its decimals without the zeros at their end.
-pub fn put_general(room: &mut [u16], at: usize, f: Figures) -> usize
+pub fn put_general(room: &mut [u16], at: usize, digits: &[u8; 40], f: Figures) -> usize
     requires { ⌜ (at < 2 ^ 62) × (f .used ≤ 40) ⌝ }
     ensures within { λ r. ⌜ r ≤ at + 81 ⌝ }
-    ensures put { λ r. ⌜ ((n : ℕ) → DigitsAre f n → Put (now (room .entry)) at (generalUnits n) r (now (room .exit))) ⌝ }
+    ensures put { λ r. ⌜ ((n : ℕ) → DigitsAre (now (digits .entry)) f n → Put (now (room .entry)) at (generalUnits n) r (now (room .exit))) ⌝ }
 {
-    let digits = f.digits;
     let a = put_run(room, at, digits, at_least_one(f.used), 15);
     put_decimals(room, a, digits, f.lowest)
 }

@@ -10,7 +10,7 @@ use lib.ListN.{length, getD, drop, take, length-take, length-drop}
 use lib.Seq.{drop-drop}
 use Rattle.lists.specs.Lists.{every}
 use Rattle.lists.proofs.Bools.{and-left, and-right}
-use Rattle.formats.specs.Items.{Item, Section, itemAllowed, kindOf, itemsFit, integerPlaces}
+use Rattle.formats.specs.Items.{Item, Section, Kind, dateKind, itemAllowed, kindOf, itemsFit, integerPlaces}
 use Rattle.answers.specs.declared.Shown.{Shown}
 use Rattle.formats.specs.Text.{Context, itemsUnits, sectionUnits}
 use Rattle.formats.specs.Reading.{Reading, within}
@@ -22,9 +22,10 @@ use Rattle.tables.proofs.Words.{rows-length, Exactly, exactly}
 use Rattle.tables.proofs.Back.{RowFacts, row-facts}
 use Rattle.choosing.specs.Seeking.{sectionIn, wordIn}
 use Rattle.choosing.proofs.Places.{noRow, passing, row-placed, section-row, row-fits, words-by-place}
+use Rattle.date_text.specs.declared.Moment.{Moment}
 use Rattle.section_text.specs.declared.Subject.{Subject}
-use Rattle.section_text.specs.Walk.{entriesIn, EntriesFit, Ready}
-use Rattle.section_text.specs.Place.{bodyStart, Known}
+use Rattle.section_text.specs.Walk.{entriesIn, EntriesFit, Ready, DatedReady}
+use Rattle.section_text.specs.Place.{bodyStart, Known, DatedKnown}
 use Rattle.section_text.specs.Show.{signText, sectionReading, Shows}
 
 -- the items of the first i rows
@@ -190,13 +191,26 @@ module _ (ws : List ℕ) (i : ℕ) {start w : ℕ} (t : T (passes ws)) (h : i < 
   pub part-fits : Fits (sectionIn ws i) (entriesIn (partOf ws start w))
   part-fits = rw part-is (section-fits ws i t h)
 
-  pub part-ready : {s : Subject} {text : List ℕ} → Known (kindOf (sectionIn ws i)) s text → Ready (partOf ws start w) s text
+  pub part-ready : {digits : List ℕ} {s : Subject} {text : List ℕ} → Known (kindOf (sectionIn ws i)) digits s text → Ready (partOf ws start w) digits s text
   part-ready k = record {
     context = k .context;
     kind = kindOf (sectionIn ws i);
     power = 14 + integerPlaces (sectionIn ws i .items);
     subject = k .is;
     fit = part-fits .fit;
+  }
+
+  pub part-dated-fits : kindOf (sectionIn ws i) ≡ dateKind
+      → EntriesFit dateKind (14 + integerPlaces (sectionIn ws i .items)) (entriesIn (partOf ws start w))
+  part-dated-fits e =
+      subst (λ (x : Kind). EntriesFit x (14 + integerPlaces (sectionIn ws i .items)) (entriesIn (partOf ws start w))) e (part-fits .fit)
+
+  pub part-dated : {m : Moment} → kindOf (sectionIn ws i) ≡ dateKind → DatedKnown m → DatedReady (partOf ws start w) m
+  part-dated e k = record {
+    context = k .context;
+    power = 14 + integerPlaces (sectionIn ws i .items);
+    moment = k .is;
+    fit = part-dated-fits e;
   }
 
   -- what is shown of the words is what is shown of the section

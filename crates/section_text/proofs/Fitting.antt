@@ -4,12 +4,13 @@ use Prim.Native.Nat.{ℕ, _+_, _*_, _≤_, _<_}
 use native.Mathlib.Omega.{arith}
 use mathlib.Core.Path.{_≡_, refl, _∙_}
 use mathlib.Core.Bool.{Bool, true, false, not, _&&_}
-use mathlib.Core.List.{List, [], _∷_}
+use mathlib.Core.List.{List, [], _∷_, _++_}
 use lib.ListN.{length}
 use lib.Dec.{T, leb, leb→le}
 use borrow.Author.Tests.{le-leb, lt-leb}
 use Rattle.answers.specs.declared.Answer.{Answer}
 use Rattle.answers.specs.declared.Answer.the-variants as answer
+use Rattle.answers.specs.declared.Shown.{Shown}
 use Rattle.answers.specs.Number.{refusedShown}
 use Rattle.lists.specs.Lists.{overlay}
 use Rattle.formats.specs.Reading.{refused, within}
@@ -65,3 +66,9 @@ module _ (old text : List ℕ) (colour i : ℕ) where
       let e = sure lent words (length old) t in
       let fits : n ≤ length old = omega (arith, e .1, h (e .0)) in
       shows-all p fits p
+
+-- no minus is no text
+pub unsigned : {old out : List ℕ} {r : Shown} (text : List ℕ) (colour i : ℕ) → Shows (within (length old) text colour i) old r out
+    → Shows (within (length old) (signText false ++ text) colour i) old r out
+unfolding signText
+unsigned text colour i x = x

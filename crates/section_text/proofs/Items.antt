@@ -3,6 +3,7 @@
 use Prim.Native.Nat.{ℕ, suc, _+_, _-_, _≤_, _<_}
 use native.Mathlib.Omega.{arith}
 use mathlib.Core.Path.{_≡_, refl, sym}
+use mathlib.Core.Logic.{⊎-elim}
 use mathlib.Core.Bool.{Bool, true, false, _||_, true≢false}
 use mathlib.Core.List.{List, [], _∷_}
 use lib.Dec.{T, eqb, eqb→eq}
@@ -18,6 +19,7 @@ use Rattle.tables.specs.Encode.{entry}
 use Rattle.tables.specs.Decode.{itemAt}
 use Rattle.tables.specs.Rules.{entryInRange}
 use Rattle.tables.proofs.BackEntries.{span-at, tag-known, between-facts}
+use Rattle.figures.proofs.Filling.{lt-or-le}
 use Rattle.figure_text.specs.declared.Figures.{Figures}
 use Rattle.figure_text.specs.Shown.{DigitsAre, FiguresAre, placeOfTag}
 use Rattle.date_text.proofs.Items.{Apart, past}
@@ -89,25 +91,25 @@ module _ (k : Kind) (q tag a : ℕ) (f : EntryFits k q (entry tag a)) where
       ((λ h. h), ((λ h. h), ((λ h. h), ((λ h. h), ((λ h. h), ((λ h. h), ((λ h. h), ((λ h. h), ((λ h. h), ((λ h. h), ((λ h. h), tt)))))))))))
       least (omega arith) (f .allowed)
 
-  pub standing-held : {s : Subject} {text : List ℕ} {c : Context} → SubjectIs k s text c → 9 ≤ tag → tag ≤ 10
-      → StandsFor (s .lent) (s .figures) text (c .standing)
+  pub standing-held : {digits : List ℕ} {s : Subject} {text : List ℕ} {c : Context} → SubjectIs k digits s text c → 9 ≤ tag → tag ≤ 10
+      → StandsFor (s .lent) digits (s .figures) text (c .standing)
   unfolding itemAt itemAllowed itemBelongs
-  standing-held {s} {text} {c} i least most =
-      span-at (λ (t : ℕ). T (itemAllowed k (itemAt (entry t a))) → StandsFor (s .lent) (s .figures) text (c .standing)) 9 2 tag
+  standing-held {digits} {s} {text} {c} i least most =
+      span-at (λ (t : ℕ). T (itemAllowed k (itemAt (entry t a))) → StandsFor (s .lent) digits (s .figures) text (c .standing)) 9 2 tag
       (i .general, (i .textual, tt)) least (omega arith) (f .allowed)
 
 -- ---- what is put
 -- the figures of a context are digits of its number
-pub digits-of : {f : Figures} {c : Context} → FiguresAre f c → DigitsAre f (c .figures)
-digits-of a = record { digits = a .digits; small = a .small; used = a .used; lowest = a .lowest }
+pub digits-of : {digits : List ℕ} {f : Figures} {c : Context} → FiguresAre digits f c → DigitsAre digits f (c .figures)
+digits-of a = record { number = a .number; small = a .small; used = a .used; lowest = a .lowest }
 
-pub stands-lent : (b : Bool) (f : Figures) (text us : List ℕ) → b ≡ true → StandsFor b f text us → text ≡ us
-stands-lent true f text us e h = h
-stands-lent false f text us e h = absurd (true≢false (sym e))
+pub stands-lent : (b : Bool) (digits : List ℕ) (f : Figures) (text us : List ℕ) → b ≡ true → StandsFor b digits f text us → text ≡ us
+stands-lent true digits f text us e h = h
+stands-lent false digits f text us e h = absurd (true≢false (sym e))
 
-pub stands-general : (b : Bool) (f : Figures) (text us : List ℕ) → b ≡ false → StandsFor b f text us → GeneralOf f us
-stands-general true f text us e h = absurd (true≢false e)
-stands-general false f text us e h = h
+pub stands-general : (b : Bool) (digits : List ℕ) (f : Figures) (text us : List ℕ) → b ≡ false → StandsFor b digits f text us → GeneralOf digits f us
+stands-general true digits f text us e h = absurd (true≢false e)
+stands-general false digits f text us e h = h
 
 pub place-put : {old out : List ℕ} {at r : ℕ} (c : Context) (p : Place) (a q : ℕ) → a ≡ q + 1
     → Put old at (placeUnits c p (a - 1)) r out → Put old at (placeUnits c p q) r out
@@ -143,6 +145,16 @@ pub moment-put : (lent : Bool) {old out : List ℕ} {at r : ℕ} (c : Context) (
     → Put old at (itemUnits c q (itemAt (entry tag a))) r out → ItemPut lent old at (itemUnits c q (itemAt (entry tag a))) r out
 moment-put lent c q tag a h t p =
     piece-put lent refl (omega (arith, p .next, item-length c q tag a h, date-argument tag a h t)) p
+
+-- of the first ten a date-time section holds three
+pub date-plain : (q tag a : ℕ) → 1 ≤ tag → tag ≤ 10 → EntryFits dateKind q (entry tag a) → tag ≤ 3
+unfolding itemAt itemAllowed itemBelongs
+date-plain q tag a least most f =
+    ⊎-elim (λ (h : tag < 4). omega arith)
+    (λ (h : 4 ≤ tag).
+    absurd (span-at (λ (t : ℕ). T (itemAllowed dateKind (itemAt (entry t a))) → ⊥) 4 7 tag
+    ((λ h. h), ((λ h. h), ((λ h. h), ((λ h. h), ((λ h. h), ((λ h. h), ((λ h. h), tt))))))) h (omega arith) (f .allowed)))
+    (lt-or-le tag 4)
 
 -- a tag that is none of the first ten
 pub late : (tag a : ℕ) → T (entryInRange (entry tag a)) → Apart tag 1 10 → 10 < tag

@@ -3,15 +3,15 @@
 use Prim.Native.Nat.{ℕ, suc, _+_, _-_, _*_, _/_, _≤_, _<_, _^_}
 use native.Mathlib.Omega.{arith}
 use native.Mathlib.Nat.{sub-zero}
-use mathlib.Core.Path.{_≡_, subst}
-use mathlib.Core.Bool.{false}
+use mathlib.Core.Path.{_≡_, refl, subst}
+use mathlib.Core.Bool.{Bool, true, false}
 use mathlib.Core.List.{List, _∷_}
 use lib.Dec.{T, eqb}
 use lib.ListN.{length, drop, getD}
 use lib.Seq.{getD-drop, drop-drop}
 use Rattle.lists.specs.Lists.{every}
 use Rattle.lists.proofs.Bools.{and-left, and-right, every-head, every-tail}
-use Rattle.formats.specs.Items.{Kind, itemAllowed, isPlace}
+use Rattle.formats.specs.Items.{Kind, dateKind, itemAllowed, isPlace}
 use Rattle.formats.specs.Where.{implies}
 use Rattle.formats.specs.Text.{Context, itemUnits, itemsUnits, digitAfter}
 use Rattle.tables.specs.Words.{Entry, entriesAt}
@@ -20,9 +20,11 @@ use Rattle.tables.specs.Decode.{itemAt, itemsAt}
 use Rattle.tables.specs.Rules.{entryInRange, powersFrom}
 use Rattle.writing.specs.Put.{Put, Rest}
 use Rattle.writing.proofs.Laws.{rest-start, rest-put, rest-done}
+use Rattle.date_text.specs.declared.Moment.{Moment}
+use Rattle.date_text.specs.Moment.{MomentIs}
 use Rattle.section_text.specs.declared.Subject.{Subject}
 use Rattle.section_text.specs.Subject.{SubjectIs, EntryFits, ItemPut}
-use Rattle.section_text.specs.Walk.{entriesIn, EntriesFit, Ready}
+use Rattle.section_text.specs.Walk.{entriesIn, EntriesFit, Ready, DatedReady}
 
 -- the first of some entries, and those behind it
 module _ (k : Kind) (q : ℕ) (e : Entry) (es : List Entry) (f : EntriesFit k q (e ∷ es)) where
@@ -50,16 +52,16 @@ pub record Left (old : List ℕ) (start : ℕ) (whole : List ℕ) (c : Context) 
   pub fit : EntriesFit k power es
   pub rest : Rest old start whole room at (itemsUnits c power (itemsAt es))
 
--- an item is put, in every context that the subject is of
-abbrev pub Puts : Subject → List ℕ → List ℕ → ℕ → Entry → ℕ → List ℕ → Type 0
-Puts s text room at e r out =
-    (c : Context) (k : Kind) (q : ℕ) → SubjectIs k s text c → EntryFits k q e → ItemPut (s .lent) room at (itemUnits c q (itemAt e)) r out
+-- an item is put, in every context with the property
+abbrev pub Puts : (Kind → Context → Type 0) → Bool → List ℕ → ℕ → Entry → ℕ → List ℕ → Type 0
+Puts P lent room at e r out =
+    (c : Context) (k : Kind) (q : ℕ) → P k c → EntryFits k q e → ItemPut lent room at (itemUnits c q (itemAt e)) r out
 
-left-step : {old whole room out : List ℕ} {start at r : ℕ} {c : Context} {k : Kind} (s : Subject) (text : List ℕ) (e : Entry) (es : List Entry)
-    → SubjectIs k s text c → Puts s text room at e r out
+left-step : {old whole room out : List ℕ} {start at r : ℕ} {c : Context} {k : Kind} (P : Kind → Context → Type 0) (lent : Bool) (e : Entry) (es : List Entry)
+    → P k c → Puts P lent room at e r out
     → Left old start whole c k room at (e ∷ es) → Left old start whole c k out r es
 unfolding itemsUnits itemsAt
-left-step {c = c} {k} s text e es i p l =
+left-step {c = c} {k} P lent e es i p l =
     let f = first-fits k (l .power) e es (l .fit) in
     record {
       power = digitAfter (l .power) (itemAt e);
@@ -67,10 +69,10 @@ left-step {c = c} {k} s text e es i p l =
       rest = rest-put (l .rest) (p c k (l .power) i f .put);
     }
 
-left-short : {old whole room out : List ℕ} {start at r : ℕ} {c : Context} {k : Kind} (s : Subject) (text : List ℕ) (e : Entry) (es : List Entry)
-    → SubjectIs k s text c → Puts s text room at e r out → Left old start whole c k room at (e ∷ es)
-    → (r ≤ at + 1024) × (s .lent ≡ false → r ≤ at + 82)
-left-short {c = c} {k} s text e es i p l =
+left-short : {old whole room out : List ℕ} {start at r : ℕ} {c : Context} {k : Kind} (P : Kind → Context → Type 0) (lent : Bool) (e : Entry) (es : List Entry)
+    → P k c → Puts P lent room at e r out → Left old start whole c k room at (e ∷ es)
+    → (r ≤ at + 1024) × (lent ≡ false → r ≤ at + 82)
+left-short {c = c} {k} P lent e es i p l =
     let t = p c k (l .power) i (first-fits k (l .power) e es (l .fit)) in
     (t .short, t .near)
 
@@ -87,16 +89,42 @@ entries-front words n k h =
     let nought : 2 * k + 0 ≡ 2 * k = omega arith in
     rw (one, two, getD-drop (2 * k) words 0 0, getD-drop (2 * k) words 1 0, drop-drop 2 (2 * k) words, nought)
 
+-- there is a context with the property, and the entries fit
+pub record Walkable (P : Kind → Context → Type 0) (words : List ℕ) : Type 0 where
+  pub context : Context
+  pub kind : Kind
+  pub power : ℕ
+  pub subject : P kind context
+  pub fit : EntriesFit kind power (entriesIn words)
+
+-- the property of a subject, and that of a moment
+abbrev pub IsOf : List ℕ → Subject → List ℕ → Kind → Context → Type 0
+IsOf digits s text k c = SubjectIs k digits s text c
+
+abbrev pub DatedOf : Moment → Kind → Context → Type 0
+DatedOf m k c = (k ≡ dateKind) × MomentIs true m c
+
+pub ready-walks : {words digits : List ℕ} {s : Subject} {text : List ℕ} → Ready words digits s text → Walkable (IsOf digits s text) words
+ready-walks r = record { context = r .context; kind = r .kind; power = r .power; subject = r .subject; fit = r .fit }
+
+pub dated-walks : {words : List ℕ} {m : Moment} → DatedReady words m → Walkable (DatedOf m) words
+dated-walks r = record { context = r .context; kind = dateKind; power = r .power; subject = (refl, r .moment); fit = r .fit }
+
+pub dated-puts : {room out : List ℕ} {at r : ℕ} (m : Moment) (e : Entry)
+    → ((c : Context) (q : ℕ) → MomentIs true m c → EntryFits dateKind q e → ItemPut false room at (itemUnits c q (itemAt e)) r out)
+    → Puts (DatedOf m) false room at e r out
+dated-puts m e f c k q p g = f c q (p .1) (subst (λ (x : Kind). EntryFits x q e) (p .0) g)
+
 -- after k of n items: in the context that is known to be there, and in every other
-pub record Walking (old : List ℕ) (start : ℕ) (words : List ℕ) (s : Subject) (text : List ℕ) (n k : ℕ) (room : List ℕ) (at : ℕ) : Type 0 where
+pub record Walking (P : Kind → Context → Type 0) (lent : Bool) (old : List ℕ) (start : ℕ) (words : List ℕ) (n k : ℕ) (room : List ℕ) (at : ℕ) : Type 0 where
   pub small : length words ≤ 508
   pub items : n ≡ length words / 2
   pub inside : k ≤ n
   pub short : at ≤ start + 1024 * k
-  pub near : s .lent ≡ false → at ≤ start + 82 * k
-  pub ready : Ready words s text
+  pub near : lent ≡ false → at ≤ start + 82 * k
+  pub ready : Walkable P words
   pub known : Left old start (itemsUnits (ready .context) (ready .power) (itemsAt (entriesIn words))) (ready .context) (ready .kind) room at (entriesFrom words n k)
-  pub left : (c : Context) (kind : Kind) (q : ℕ) → SubjectIs kind s text c → EntriesFit kind q (entriesIn words)
+  pub left : (c : Context) (kind : Kind) (q : ℕ) → P kind c → EntriesFit kind q (entriesIn words)
       → Left old start (itemsUnits c q (itemsAt (entriesIn words))) c kind room at (entriesFrom words n k)
 
 left-start : (old : List ℕ) (start : ℕ) (words : List ℕ) (n : ℕ) (c : Context) (kind : Kind) (q : ℕ) → n ≡ length words / 2
@@ -106,9 +134,9 @@ unfolding entriesIn
 left-start old start words n c kind q e f =
     rw (sub-zero n, e) (record { power = q; fit = f; rest = rest-start old start _ })
 
-pub walking-start : (old : List ℕ) (start : ℕ) (words : List ℕ) (s : Subject) (text : List ℕ) (n : ℕ)
-    → length words ≤ 508 → n ≡ length words / 2 → Ready words s text → Walking old start words s text n 0 old start
-walking-start old start words s text n h e d =
+pub walking-start : (P : Kind → Context → Type 0) (lent : Bool) (old : List ℕ) (start : ℕ) (words : List ℕ) (n : ℕ)
+    → length words ≤ 508 → n ≡ length words / 2 → Walkable P words → Walking P lent old start words n 0 old start
+walking-start P lent old start words n h e d =
     record {
       small = h;
       items = e;
@@ -120,21 +148,21 @@ walking-start old start words s text n h e d =
       left = λ c kind q i f. left-start old start words n c kind q e f;
     }
 
-module _ {old : List ℕ} {start : ℕ} {words : List ℕ} {s : Subject} {text : List ℕ} {n k : ℕ} {room : List ℕ} {at : ℕ}
-    (inv : Walking old start words s text n k room at) (h : k < n) where
+module _ {P : Kind → Context → Type 0} {lent : Bool} {old : List ℕ} {start : ℕ} {words : List ℕ} {n k : ℕ} {room : List ℕ} {at : ℕ}
+    (inv : Walking P lent old start words n k room at) (h : k < n) where
   pub walking-in-range : T (entryInRange (entry (getD words (2 * k) 0) (getD words (2 * k + 1) 0)))
   walking-in-range =
       let l = inv .known in
       first-in-range (inv .ready .kind) (l .power) _ _ (rw (entries-front words n k h) at (l .fit))
 
-  pub walking-step : (r : ℕ) (out : List ℕ) → Puts s text room at (entry (getD words (2 * k) 0) (getD words (2 * k + 1) 0)) r out
-      → Walking old start words s text n (k + 1) out r
+  pub walking-step : (r : ℕ) (out : List ℕ) → Puts P lent room at (entry (getD words (2 * k) 0) (getD words (2 * k + 1) 0)) r out
+      → Walking P lent old start words n (k + 1) out r
   walking-step r out p =
       let e = entry (getD words (2 * k) 0) (getD words (2 * k + 1) 0) in
       let g = entries-front words n k h in
       let d = inv .ready in
       let l = subst (Left old start (itemsUnits (d .context) (d .power) (itemsAt (entriesIn words))) (d .context) (d .kind) room at) g (inv .known) in
-      let b = left-short s text e (entriesFrom words n (k + 1)) (d .subject) p l in
+      let b = left-short P lent e (entriesFrom words n (k + 1)) (d .subject) p l in
       record {
         small = inv .small;
         items = inv .items;
@@ -142,14 +170,14 @@ module _ {old : List ℕ} {start : ℕ} {words : List ℕ} {s : Subject} {text :
         short = omega (arith, b .0, inv .short);
         near = λ z. omega (arith, b .1 z, inv .near z);
         ready = d;
-        known = left-step s text e (entriesFrom words n (k + 1)) (d .subject) p l;
+        known = left-step P lent e (entriesFrom words n (k + 1)) (d .subject) p l;
         left = λ c kind q i f.
-            left-step s text e (entriesFrom words n (k + 1)) i p
+            left-step P lent e (entriesFrom words n (k + 1)) i p
             (subst (Left old start (itemsUnits c q (itemsAt (entriesIn words))) c kind room at) g (inv .left c kind q i f));
       }
 
-pub walking-end : {old : List ℕ} {start : ℕ} {words : List ℕ} {s : Subject} {text : List ℕ} {n k : ℕ} {room : List ℕ} {at : ℕ}
-    → Walking old start words s text n k room at → n ≤ k → (c : Context) (kind : Kind) (q : ℕ) → SubjectIs kind s text c → EntriesFit kind q (entriesIn words)
+pub walking-end : {P : Kind → Context → Type 0} {lent : Bool} {old : List ℕ} {start : ℕ} {words : List ℕ} {n k : ℕ} {room : List ℕ} {at : ℕ}
+    → Walking P lent old start words n k room at → n ≤ k → (c : Context) (kind : Kind) (q : ℕ) → P kind c → EntriesFit kind q (entriesIn words)
     → Put old start (itemsUnits c q (itemsAt (entriesIn words))) at room
 unfolding itemsUnits itemsAt entriesAt
 walking-end {words = words} {n = n} {k} inv h c kind q i f =
@@ -158,18 +186,18 @@ walking-end {words = words} {n = n} {k} inv h c kind q i f =
     rest-done (rw none at (l .rest))
 
 -- the place where the next item goes is far from the end of numbers, and the room keeps its length
-pub walking-short : {old : List ℕ} {start : ℕ} {words : List ℕ} {s : Subject} {text : List ℕ} {n k : ℕ} {room : List ℕ} {at : ℕ}
-    → Walking old start words s text n k room at → start ≤ 1 → at < 2 ^ 61
+pub walking-short : {P : Kind → Context → Type 0} {lent : Bool} {old : List ℕ} {start : ℕ} {words : List ℕ} {n k : ℕ} {room : List ℕ} {at : ℕ}
+    → Walking P lent old start words n k room at → start ≤ 1 → at < 2 ^ 61
 walking-short inv h = omega (arith, inv .small, inv .items, inv .inside, inv .short)
 
-pub walking-size : {old : List ℕ} {start : ℕ} {words : List ℕ} {s : Subject} {text : List ℕ} {n k : ℕ} {room : List ℕ} {at : ℕ}
-    → Walking old start words s text n k room at → length room ≡ length old
+pub walking-size : {P : Kind → Context → Type 0} {lent : Bool} {old : List ℕ} {start : ℕ} {words : List ℕ} {n k : ℕ} {room : List ℕ} {at : ℕ}
+    → Walking P lent old start words n k room at → length room ≡ length old
 walking-size inv = inv .known .rest .size
 
-pub walking-within : {old : List ℕ} {start : ℕ} {words : List ℕ} {s : Subject} {text : List ℕ} {n k : ℕ} {room : List ℕ} {at : ℕ}
-    → Walking old start words s text n k room at → at ≤ start + 260096
+pub walking-within : {P : Kind → Context → Type 0} {lent : Bool} {old : List ℕ} {start : ℕ} {words : List ℕ} {n k : ℕ} {room : List ℕ} {at : ℕ}
+    → Walking P lent old start words n k room at → at ≤ start + 260096
 walking-within inv = omega (arith, inv .small, inv .items, inv .inside, inv .short)
 
-pub walking-near : {old : List ℕ} {start : ℕ} {words : List ℕ} {s : Subject} {text : List ℕ} {n k : ℕ} {room : List ℕ} {at : ℕ}
-    → Walking old start words s text n k room at → s .lent ≡ false → at ≤ start + 41 * length words
+pub walking-near : {P : Kind → Context → Type 0} {lent : Bool} {old : List ℕ} {start : ℕ} {words : List ℕ} {n k : ℕ} {room : List ℕ} {at : ℕ}
+    → Walking P lent old start words n k room at → lent ≡ false → at ≤ start + 41 * length words
 walking-near inv z = omega (arith, inv .items, inv .inside, inv .near z)

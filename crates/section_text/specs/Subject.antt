@@ -14,26 +14,25 @@ use Rattle.tables.specs.Decode.{itemAt}
 use Rattle.writing.specs.Put.{Put}
 use Rattle.figure_text.specs.declared.Figures.{Figures}
 use Rattle.figure_text.specs.Shown.{FiguresAre}
-use Rattle.date_text.specs.Moment.{MomentIs}
 use Rattle.section_text.specs.declared.Subject.{Subject}
 
 -- units are what General shows of the number that the figures are of
-pub record GeneralOf (f : Figures) (us : List ℕ) : Type 0 where
+pub record GeneralOf (digits : List ℕ) (f : Figures) (us : List ℕ) : Type 0 where
   pub context : Context
-  pub are : FiguresAre f context
+  pub are : FiguresAre digits f context
   pub shows : us ≡ generalUnits (context .figures)
 
 -- what General and `@` stand for: the text that is lent, or a number's figures
-abbrev pub StandsFor : Bool → Figures → List ℕ → List ℕ → Type 0
-StandsFor true f text us = text ≡ us
-StandsFor false f text us = GeneralOf f us
+abbrev pub StandsFor : Bool → List ℕ → Figures → List ℕ → List ℕ → Type 0
+StandsFor true digits f text us = text ≡ us
+StandsFor false digits f text us = GeneralOf digits f us
 
--- a subject is what a context shows in a section of kind k: only what such a section may hold is asked for
-pub record SubjectIs (k : Kind) (s : Subject) (text : List ℕ) (c : Context) : Type 0 where
-  pub numeric : T (sameKind numberKind k) → FiguresAre (s .figures) c
-  pub general : T (sameKind generalKind k) → StandsFor (s .lent) (s .figures) text (c .standing)
-  pub textual : T (sameKind textKind k) → StandsFor (s .lent) (s .figures) text (c .standing)
-  pub moment : T (sameKind dateKind k) → MomentIs true (s .moment) c
+-- a subject is what a context shows in a section of kind k, no date-time section: only what such a section may hold is asked for
+pub record SubjectIs (k : Kind) (digits : List ℕ) (s : Subject) (text : List ℕ) (c : Context) : Type 0 where
+  pub numeric : T (sameKind numberKind k) → FiguresAre digits (s .figures) c
+  pub general : T (sameKind generalKind k) → StandsFor (s .lent) digits (s .figures) text (c .standing)
+  pub textual : T (sameKind textKind k) → StandsFor (s .lent) digits (s .figures) text (c .standing)
+  pub undated : sameKind dateKind k ≡ false
 
 -- a section of kind k may hold the entry's item; q + 1 is the argument of a place
 pub record EntryFits (k : Kind) (q : ℕ) (e : Entry) : Type 0 where

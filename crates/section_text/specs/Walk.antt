@@ -1,15 +1,18 @@
 -- What is asked of a section's item words to show them.
 -- Assumes nothing.
+use mathlib.Core.Bool.{true}
 use mathlib.Core.List.{List}
 use Prim.Native.Nat.{ℕ, _/_}
 use lib.Dec.{T}
 use lib.ListN.{length}
 use Rattle.lists.specs.Lists.{every}
-use Rattle.formats.specs.Items.{Kind, itemAllowed}
+use Rattle.formats.specs.Items.{Kind, dateKind, itemAllowed}
 use Rattle.formats.specs.Text.{Context}
 use Rattle.tables.specs.Words.{Entry, entriesAt}
 use Rattle.tables.specs.Decode.{itemsAt}
 use Rattle.tables.specs.Rules.{entryInRange, powersFrom}
+use Rattle.date_text.specs.declared.Moment.{Moment}
+use Rattle.date_text.specs.Moment.{MomentIs}
 use Rattle.section_text.specs.declared.Subject.{Subject}
 use Rattle.section_text.specs.Subject.{SubjectIs}
 
@@ -24,9 +27,16 @@ pub record EntriesFit (k : Kind) (q : ℕ) (es : List Entry) : Type 0 where
   pub powers : T (powersFrom q es)
 
 -- there is a context that the subject is of, and the entries fit
-pub record Ready (words : List ℕ) (s : Subject) (text : List ℕ) : Type 0 where
+pub record Ready (words digits : List ℕ) (s : Subject) (text : List ℕ) : Type 0 where
   pub context : Context
   pub kind : Kind
   pub power : ℕ
-  pub subject : SubjectIs kind s text context
+  pub subject : SubjectIs kind digits s text context
   pub fit : EntriesFit kind power (entriesIn words)
+
+-- the same of a date-time section's words and a moment
+pub record DatedReady (words : List ℕ) (m : Moment) : Type 0 where
+  pub context : Context
+  pub power : ℕ
+  pub moment : MomentIs true m context
+  pub fit : EntriesFit dateKind power (entriesIn words)

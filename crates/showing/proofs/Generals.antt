@@ -46,13 +46,13 @@ unfolding generalRounded
 general-small m s h = rounded-small m 0 s (generalDecimals (powered m 0 s)) h (omega arith) (omega (arith, decimals-most (powered m 0 s)))
 
 pub general-figures : {f : Figures} {r : Rounded} (l : List ℕ) (m s : ℕ) → r ≡ generalOf l m s → f ≡ figuresWith (r .digits) 0 false
-    → m < 10 ^ 15 → s ≤ 15 → FiguresAre f (contextOf (generalNumber m s))
+    → m < 10 ^ 15 → s ≤ 15 → FiguresAre (r .digits) f (contextOf (generalNumber m s))
 unfolding contextWith
 general-figures {f} {r} l m s er ef hm hs =
     let d : r .digits ≡ figures (generalNumber m s) = ap (λ (x : Rounded). x .digits) (er ∙ general-fits l m s hm (omega arith)) in
     figures-are (r .digits) (contextOf (generalNumber m s)) ef d (general-small m s hm)
 
-pub general-of : {f : Figures} (m s : ℕ) → FiguresAre f (contextOf (generalNumber m s)) → GeneralOf f (generalUnits (generalNumber m s))
+pub general-of : {digits : List ℕ} {f : Figures} (m s : ℕ) → FiguresAre digits f (contextOf (generalNumber m s)) → GeneralOf digits f (generalUnits (generalNumber m s))
 unfolding contextWith
 general-of m s are = record { context = contextOf (generalNumber m s); are = are; shows = refl }
 
@@ -61,12 +61,12 @@ none-used zero = refl
 none-used (suc u) = ne-eqb (suc u) 0 (λ e. omega arith) ∙ sym (lt-leb (suc u) 0 (omega arith))
 
 -- no place is used where the number is nought
-pub figures-nought : {f : Figures} (c : Context) → FiguresAre f c → eqb (f .used) 0 ≡ eqb (c .figures) 0
-figures-nought {f} c are =
+pub figures-nought : {digits : List ℕ} {f : Figures} (c : Context) → FiguresAre digits f c → eqb (f .used) 0 ≡ eqb (c .figures) 0
+figures-nought {f = f} c are =
     let n : ℕ = c .figures in
     ap (λ (u : ℕ). eqb u 0) (are .used) ∙ none-used (placesUsed 40 (figures n)) ∙ used-test n (are .small) 0 ∙ ap (λ (x : ℕ). eqb x 0) (div-one n)
 
-pub nought-told : {f : Figures} (n : ℕ) → FiguresAre f (contextOf n) → eqb (f .used) 0 ≡ eqb n 0
+pub nought-told : {digits : List ℕ} {f : Figures} (n : ℕ) → FiguresAre digits f (contextOf n) → eqb (f .used) 0 ≡ eqb n 0
 unfolding contextWith
 nought-told n are = figures-nought (contextOf n) are
 
@@ -100,38 +100,38 @@ general-takes literalKind t = absurd t
 general-takes numberKind t = absurd t
 general-takes dateKind t = absurd t
 
-stands-general-in : (b : Bool) (f : Figures) (text us : List ℕ) → b ≡ false → GeneralOf f us → StandsFor b f text us
-stands-general-in true f text us e g = absurd (true≢false e)
-stands-general-in false f text us e g = g
+stands-general-in : (b : Bool) (digits : List ℕ) (f : Figures) (text us : List ℕ) → b ≡ false → GeneralOf digits f us → StandsFor b digits f text us
+stands-general-in true digits f text us e g = absurd (true≢false e)
+stands-general-in false digits f text us e g = g
 
-subject-general : (k : Kind) (s : Subject) (text us : List ℕ) (c : Context) → T (showsGeneral k) → s .lent ≡ false → GeneralOf (s .figures) us
-    → us ≡ c .standing → SubjectIs k s text c
+subject-general : (k : Kind) (digits : List ℕ) (s : Subject) (text us : List ℕ) (c : Context) → T (showsGeneral k) → s .lent ≡ false → GeneralOf digits (s .figures) us
+    → us ≡ c .standing → SubjectIs k digits s text c
 unfolding showsGeneral
-subject-general textKind s text us c t l g e = record {
+subject-general textKind digits s text us c t l g e = record {
   numeric = λ u. absurd u;
   general = λ u. absurd u;
-  textual = λ u. subst (StandsFor (s .lent) (s .figures) text) e (stands-general-in (s .lent) (s .figures) text us l g);
-  moment = λ u. absurd u;
+  textual = λ u. subst (StandsFor (s .lent) digits (s .figures) text) e (stands-general-in (s .lent) digits (s .figures) text us l g);
+  undated = refl;
 }
-subject-general generalKind s text us c t l g e = record {
+subject-general generalKind digits s text us c t l g e = record {
   numeric = λ u. absurd u;
-  general = λ u. subst (StandsFor (s .lent) (s .figures) text) e (stands-general-in (s .lent) (s .figures) text us l g);
+  general = λ u. subst (StandsFor (s .lent) digits (s .figures) text) e (stands-general-in (s .lent) digits (s .figures) text us l g);
   textual = λ u. absurd u;
-  moment = λ u. absurd u;
+  undated = refl;
 }
-subject-general literalKind s text us c t l g e = absurd t
-subject-general numberKind s text us c t l g e = absurd t
-subject-general dateKind s text us c t l g e = absurd t
+subject-general literalKind digits s text us c t l g e = absurd t
+subject-general numberKind digits s text us c t l g e = absurd t
+subject-general dateKind digits s text us c t l g e = absurd t
 
-pub general-known : (k : Kind) (s : Subject) (text us : List ℕ) → T (showsGeneral k) → s .lent ≡ false → GeneralOf (s .figures) us → Known k s text
+pub general-known : (k : Kind) (digits : List ℕ) (s : Subject) (text us : List ℕ) → T (showsGeneral k) → s .lent ≡ false → GeneralOf digits (s .figures) us → Known k digits s text
 unfolding textContext
-general-known k s text us t l g = record { context = textContext us; is = subject-general k s text us (textContext us) t l g refl }
+general-known k digits s text us t l g = record { context = textContext us; is = subject-general k digits s text us (textContext us) t l g refl }
 
-pub general-subject : (z : Section) (s : Subject) (text : List ℕ) (v : Signed) (x : Number) → v ≡ signedOf x → T (showsGeneral (kindOf z)) → s .lent ≡ false
-    → GeneralOf (s .figures) (generalUnits (generalNumber (v .magnitude) (v .scale))) → SubjectIs (kindOf z) s text (numberContext z x)
+pub general-subject : (z : Section) (digits : List ℕ) (s : Subject) (text : List ℕ) (v : Signed) (x : Number) → v ≡ signedOf x → T (showsGeneral (kindOf z)) → s .lent ≡ false
+    → GeneralOf digits (s .figures) (generalUnits (generalNumber (v .magnitude) (v .scale))) → SubjectIs (kindOf z) digits s text (numberContext z x)
 unfolding numberContext
-general-subject z s text v x e t l g =
-    subject-general (kindOf z) s text (generalUnits (generalNumber (v .magnitude) (v .scale))) (numberContext z x) t l g (ap generalUnits (standing-is v x e))
+general-subject z digits s text v x e t l g =
+    subject-general (kindOf z) digits s text (generalUnits (generalNumber (v .magnitude) (v .scale))) (numberContext z x) t l g (ap generalUnits (standing-is v x e))
 
 pub general-nought : (z : Section) (x : Number) (n : ℕ) (b : Bool) → T (showsGeneral (kindOf z)) → n ≡ standingRounded x → b ≡ eqb n 0 → b ≡ showsNought z x
 unfolding showsNought

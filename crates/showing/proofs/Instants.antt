@@ -13,14 +13,14 @@ use Rattle.values.specs.declared.Millisecond.{Millisecond}
 use Rattle.lists.specs.Lists.{every}
 use Rattle.lists.proofs.Bools.{every-head, every-tail}
 use Rattle.formats.specs.Items.{Item, literal, blank, fill, place, point, percent, general, at, year, month, day, hour, minute, second, part, elapsed, half, Section, Kind, textKind, generalKind, dateKind, numberKind, literalKind, sameKind, itemAllowed, itemBelongs, kindOf, integerPlaces}
-use Rattle.formats.specs.Text.{Context}
 use Rattle.answers.specs.Number.{refusedShown}
 use Rattle.calendar.specs.Clock.{sinceDayZero}
 use Rattle.formats.specs.Choice.{Exact, instantExact, Reason, Choice, chosen, choose}
 use Rattle.formats.specs.Reading.{takesInstant, instantContext, readInstant}
-use Rattle.tables.specs.Encode.{bit, flagsWord, hasHalf, kindWord, headOf}
+use Rattle.tables.specs.Encode.{bit, flagsWord, hasHalf, headOf}
 use Rattle.tables.specs.Decode.{itemsAt, decode}
 use Rattle.tables.specs.Rules.{passes}
+use Rattle.date_text.specs.declared.Moment.{Moment}
 use Rattle.date_text.specs.Moment.{momentOf, MomentIs}
 use Rattle.date_text.proofs.Moments.{moment-instant}
 use Rattle.choosing.specs.declared.Sought.{Sought}
@@ -29,10 +29,7 @@ use Rattle.choosing.specs.Seeking.{exactOf, instantSought, foundOf, sectionIn, 
 use Rattle.choosing.proofs.Asking.{instant-exact}
 use Rattle.choosing.proofs.Finding.{found-nothing, found-at}
 use Rattle.choosing.proofs.Places.{words-by-place}
-use Rattle.section_text.specs.declared.Subject.{Subject}
-use Rattle.section_text.specs.Subject.{SubjectIs}
-use Rattle.showing.specs.KindWord.{instantWord}
-use Rattle.section_text.specs.Place.{Known}
+use Rattle.section_text.specs.Place.{DatedKnown}
 use Rattle.section_text.specs.Show.{signText, sectionReading, Shows}
 use Rattle.section_text.proofs.Fitting.{shows-refused}
 use Rattle.section_text.proofs.Bodies.{section-fits}
@@ -65,22 +62,6 @@ section-places ws i t h e =
     let f = section-fits ws i t h in
     no-places (kindOf (sectionIn ws i)) (itemsAt _) (f .fit .allowed) e ∙ ap integerPlaces (sym (f .items))
 
--- the kinds that take an instant, by their words
-takes-word : (k : Kind) → instantWord (kindWord k) ≡ takesInstant k
-unfolding kindWord takesInstant
-takes-word textKind = refl
-takes-word generalKind = refl
-takes-word dateKind = refl
-takes-word numberKind = refl
-takes-word literalKind = refl
-
-pub takes-told : (ws : List ℕ) (i w : ℕ) (b : Bool) → T (passes ws) → i < getD ws 0 0 → w ≡ wordIn ws i 0 → b ≡ instantWord w
-    → takesInstant (kindOf (sectionIn ws i)) ≡ b
-unfolding headOf
-takes-told ws i w b t h e f =
-    let k : wordIn ws i 0 ≡ kindWord (kindOf (sectionIn ws i)) = words-by-place ws i t h .kind in
-    sym (takes-word (kindOf (sectionIn ws i))) ∙ ap instantWord (sym (e ∙ k)) ∙ sym f
-
 instant-other : (k : Kind) → takesInstant k ≡ true → sameKind numberKind k ≡ false
 unfolding takesInstant
 instant-other textKind e = refl
@@ -107,31 +88,27 @@ twelve-told ws i w t h e =
     let f = words-by-place ws i t h .flags in
     ap (ltb 3) (e ∙ f) ∙ flag-told _ _ (hasHalf (sectionIn ws i .items))
 
-subject-instant : (k : Kind) (s : Subject) (text : List ℕ) (c : Context) → takesInstant k ≡ true → MomentIs true (s .moment) c → SubjectIs k s text c
+pub date-takes : (k : Kind) → k ≡ dateKind → takesInstant k ≡ true
 unfolding takesInstant
-subject-instant textKind s text c e m = absurd (true≢false (sym e))
-subject-instant generalKind s text c e m = absurd (true≢false (sym e))
-subject-instant numberKind s text c e m = absurd (true≢false (sym e))
-subject-instant dateKind s text c e m = record { numeric = λ t. absurd t; general = λ t. absurd t; textual = λ t. absurd t; moment = λ t. m }
-subject-instant literalKind s text c e m = record { numeric = λ t. absurd t; general = λ t. absurd t; textual = λ t. absurd t; moment = λ t. absurd t }
+date-takes k e = rw e
+
+pub literal-takes : (k : Kind) → k ≡ literalKind → takesInstant k ≡ true
+unfolding takesInstant
+literal-takes k e = rw e
 
 module _ (ws : List ℕ) (i : ℕ) (t : T (passes ws)) (h : i < getD ws 0 0) (e : takesInstant (kindOf (sectionIn ws i)) ≡ true) where
   pub instant-places : (d : Day) (m : Millisecond) → instantContext (sectionIn ws i) d m .integerPlaces ≡ integerPlaces (sectionIn ws i .items)
   unfolding instantContext
   instant-places d m = section-places ws i t h (instant-other (kindOf (sectionIn ws i)) e)
 
-  pub instant-subject : (s : Subject) (text : List ℕ) (b : Bool) (d : Day) (m : Millisecond)
-      → b ≡ hasHalf (sectionIn ws i .items) → s .moment ≡ momentOf true b d m
-      → SubjectIs (kindOf (sectionIn ws i)) s text (instantContext (sectionIn ws i) d m)
+-- the moment is that of the section's context
+module _ (s : Section) (w : Moment) (b : Bool) (d : Day) (m : Millisecond) (eb : b ≡ hasHalf (s .items)) (ew : w ≡ momentOf true b d m) where
+  pub instant-moment : MomentIs true w (instantContext s d m)
   unfolding hasHalf
-  instant-subject s text b d m eb em =
-      subject-instant (kindOf (sectionIn ws i)) s text (instantContext (sectionIn ws i) d m) e
-      (moment-instant true b (sectionIn ws i) d m (s .moment) em eb)
+  instant-moment = moment-instant true b s d m w ew eb
 
-  pub instant-known : (s : Subject) (text : List ℕ) (b : Bool) (d : Day) (m : Millisecond)
-      → b ≡ hasHalf (sectionIn ws i .items) → s .moment ≡ momentOf true b d m → Known (kindOf (sectionIn ws i)) s text
-  instant-known s text b d m eb em =
-      record { context = instantContext (sectionIn ws i) d m; is = instant-subject s text b d m eb em }
+  pub instant-known : DatedKnown w
+  instant-known = record { context = instantContext s d m; is = instant-moment }
 
 -- the reading of an instant in a section, by whether its kind takes one
 pub instant-shows : {old out : List ℕ} {r : Shown} (s : Section) (i : ℕ) (why : Reason) (d : Day) (m : Millisecond)

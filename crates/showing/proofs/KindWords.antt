@@ -2,6 +2,7 @@
 -- Assumes nothing.
 use Prim.Native.Nat.{ℕ, zero, suc, _<_}
 use mathlib.Core.Path.{_≡_, refl, sym, ap, _∙_}
+use mathlib.Core.Bool.{false}
 use mathlib.Core.List.{List}
 use lib.Dec.{T}
 use lib.ListN.{length, getD}
@@ -10,7 +11,7 @@ use Rattle.answers.specs.Number.{refusedShown}
 use Rattle.values.specs.declared.Number.{Number}
 use Rattle.formats.specs.Items.{Section, Kind, textKind, generalKind, dateKind, numberKind, literalKind, kindOf}
 use Rattle.formats.specs.Choice.{Reason, chosen}
-use Rattle.formats.specs.Reading.{takesNumber, showsGeneral, readNumber}
+use Rattle.formats.specs.Reading.{takesNumber, takesInstant, showsGeneral, readNumber}
 use Rattle.tables.specs.Encode.{kindWord, headOf}
 use Rattle.tables.specs.Rules.{passes}
 use Rattle.choosing.specs.Seeking.{sectionIn, wordIn}
@@ -42,6 +43,14 @@ general-word dateKind l n d = absurd (d refl)
 general-word numberKind l n d = absurd (n refl)
 general-word literalKind l n d = absurd (l refl)
 
+sort-word : (k : Kind) → (kindWord k ≡ 4 → ⊥) → (kindWord k ≡ 0 → ⊥) → takesInstant k ≡ false
+unfolding kindWord takesInstant
+sort-word textKind d l = refl
+sort-word generalKind d l = refl
+sort-word dateKind d l = absurd (d refl)
+sort-word numberKind d l = refl
+sort-word literalKind d l = absurd (l refl)
+
 module _ (ws : List ℕ) (i w : ℕ) (t : T (passes ws)) (h : i < getD ws 0 0) (e : w ≡ wordIn ws i 0) where
   kind-word : w ≡ kindWord (kindOf (sectionIn ws i))
   unfolding headOf
@@ -53,6 +62,9 @@ module _ (ws : List ℕ) (i w : ℕ) (t : T (passes ws)) (h : i < getD ws 0 0) (
   pub told-general : (w ≡ 0 → ⊥) → (w ≡ 2 → ⊥) → (w ≡ 4 → ⊥) → T (showsGeneral (kindOf (sectionIn ws i)))
   told-general l n d =
       general-word (kindOf (sectionIn ws i)) (λ f. l (kind-word ∙ f)) (λ f. n (kind-word ∙ f)) (λ f. d (kind-word ∙ f))
+
+  pub told-sort : (w ≡ 4 → ⊥) → (w ≡ 0 → ⊥) → takesInstant (kindOf (sectionIn ws i)) ≡ false
+  told-sort d l = sort-word (kindOf (sectionIn ws i)) (λ f. d (kind-word ∙ f)) (λ f. l (kind-word ∙ f))
 
 pub date-refused : (old : List ℕ) (ss : List Section) (z : Section) (i : ℕ) (why : Reason) (x : Number)
     → kindOf z ≡ dateKind → Shows (readNumber ss x (length old) (chosen i z why)) old (refusedShown answer.Sort) old

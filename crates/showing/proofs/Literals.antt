@@ -1,6 +1,6 @@
 -- A number in a literal section.
 -- Assumes nothing.
-use mathlib.Core.Path.{_≡_}
+use mathlib.Core.Path.{_≡_, refl}
 use mathlib.Core.Bool.{false}
 use mathlib.Core.List.{List}
 use Prim.Native.Nat.{ℕ}
@@ -17,14 +17,14 @@ use Rattle.section_text.specs.Place.{Known}
 use Rattle.section_text.specs.Show.{Shows}
 
 -- nothing is asked of the subject
-subject-any : (s : Subject) (text : List ℕ) (c : Context) → SubjectIs literalKind s text c
-subject-any s text c = record { numeric = λ t. absurd t; general = λ t. absurd t; textual = λ t. absurd t; moment = λ t. absurd t }
+subject-any : (digits : List ℕ) (s : Subject) (text : List ℕ) (c : Context) → SubjectIs literalKind digits s text c
+subject-any digits s text c = record { numeric = λ t. absurd t; general = λ t. absurd t; textual = λ t. absurd t; undated = refl }
 
-module _ (k : Kind) (e : k ≡ literalKind) (s : Subject) (text : List ℕ) where
-  pub literal-subject : (c : Context) → SubjectIs k s text c
-  literal-subject c = rw e (subject-any s text c)
+module _ (k : Kind) (e : k ≡ literalKind) (digits : List ℕ) (s : Subject) (text : List ℕ) where
+  pub literal-subject : (c : Context) → SubjectIs k digits s text c
+  literal-subject c = rw e (subject-any digits s text c)
 
-  pub literal-known : Known k s text
+  pub literal-known : Known k digits s text
   literal-known = record { context = textContext text; is = literal-subject (textContext text) }
 
 module _ (z : Section) (e : kindOf z ≡ literalKind) (x : Number) where

@@ -99,7 +99,7 @@ module _ {shift flags decimals : ℕ} {s : Section} (w : NumberWords shift flags
   number-small : m < 10 ^ 15 → sectionNumber s m scale < 10 ^ 40
   number-small h = rw (← number-net) (rounded-small m (shift - 15) (scale + (15 - shift)) decimals h (omega (arith, w .shiftMost)) (w .decimalsMost))
 
-  number-digits : {r : Rounded} {up down : ℕ} (l : List ℕ) → m < 10 ^ 15 → scale ≤ 15 → up ≡ shift - 15 → down ≡ 15 - shift
+  pub number-digits : {r : Rounded} {up down : ℕ} (l : List ℕ) → m < 10 ^ 15 → scale ≤ 15 → up ≡ shift - 15 → down ≡ 15 - shift
       → r ≡ roundedOf l m up (scale + down) decimals → r .digits ≡ figures (sectionNumber s m scale)
   number-digits {r} {up} {down} l hm hs eu ed e =
       let u : up ≤ 10 = omega (arith, w .shiftMost) in
@@ -108,40 +108,38 @@ module _ {shift flags decimals : ℕ} {s : Section} (w : NumberWords shift flags
       ∙ rw (eu, ed) (ap figures number-net)
 
   -- the figures, in the context that shows them as the section does
-  pub number-figures : {f : Figures} {r : Rounded} {up down integers : ℕ} (l : List ℕ) → m < 10 ^ 15 → scale ≤ 15
-      → up ≡ shift - 15 → down ≡ 15 - shift → r ≡ roundedOf l m up (scale + down) decimals
-      → integers ≡ integerPlaces (s .items) → f ≡ figuresWith (r .digits) integers (eqb (flags % 2) 1)
-      → FiguresAre f (sectionContext s m scale)
+  pub number-figures : {digits : List ℕ} {f : Figures} {integers : ℕ} → m < 10 ^ 15 → digits ≡ figures (sectionNumber s m scale)
+      → integers ≡ integerPlaces (s .items) → f ≡ figuresWith digits integers (eqb (flags % 2) 1)
+      → FiguresAre digits f (sectionContext s m scale)
   unfolding sectionContext contextWith
-  number-figures {f} {r} l hm hs eu ed er ei ef =
-      figures-are (r .digits) (sectionContext s m scale) (rw (ei, w .groups) at ef) (number-digits l hm hs eu ed er) (number-small hm)
+  number-figures {digits} hm ed ei ef = figures-are digits (sectionContext s m scale) (rw (ei, w .groups) at ef) ed (number-small hm)
 
 -- the subject is asked for its figures alone
-module _ (k : Kind) (e : k ≡ numberKind) (s : Subject) (text : List ℕ) (c : Context) (are : FiguresAre (s .figures) c) where
-  subject-number : SubjectIs numberKind s text c
-  subject-number = record { numeric = λ t. are; general = λ t. absurd t; textual = λ t. absurd t; moment = λ t. absurd t }
+module _ (k : Kind) (e : k ≡ numberKind) (digits : List ℕ) (s : Subject) (text : List ℕ) (c : Context) (are : FiguresAre digits (s .figures) c) where
+  subject-number : SubjectIs numberKind digits s text c
+  subject-number = record { numeric = λ t. are; general = λ t. absurd t; textual = λ t. absurd t; undated = refl }
 
-  pub number-subject : SubjectIs k s text c
+  pub number-subject : SubjectIs k digits s text c
   number-subject = rw e subject-number
 
-  pub number-known : Known k s text
+  pub number-known : Known k digits s text
   number-known = record { context = c; is = number-subject }
 
 -- the figures are those of every number that the value is
-pub number-are : {f : Figures} (z : Section) (v : Signed) (x : Number) → v ≡ signedOf x → FiguresAre f (sectionContext z (v .magnitude) (v .scale))
-    → FiguresAre f (numberContext z x)
+pub number-are : {digits : List ℕ} {f : Figures} (z : Section) (v : Signed) (x : Number) → v ≡ signedOf x → FiguresAre digits f (sectionContext z (v .magnitude) (v .scale))
+    → FiguresAre digits f (numberContext z x)
 unfolding signedOf sectionContext contextWith sectionNumber numberContext sectionRounded
-number-are {f} z v x e are =
-    let a : FiguresAre f (sectionContext z (signedOf x .magnitude) (signedOf x .scale)) =
-    subst (λ (w : Signed). FiguresAre f (sectionContext z (w .magnitude) (w .scale))) e are in
-    record { digits = a .digits; small = a .small; used = a .used; lowest = a .lowest; integers = a .integers; grouped = a .grouped }
+number-are {digits} {f} z v x e are =
+    let a : FiguresAre digits f (sectionContext z (signedOf x .magnitude) (signedOf x .scale)) =
+    subst (λ (w : Signed). FiguresAre digits f (sectionContext z (w .magnitude) (w .scale))) e are in
+    record { number = a .number; small = a .small; used = a .used; lowest = a .lowest; integers = a .integers; grouped = a .grouped }
 
 or-none : (b : Bool) → b ≡ b || false
 or-none true = refl
 or-none false = refl
 
 module _ (z : Section) (e : kindOf z ≡ numberKind) (x : Number) where
-  pub number-nought : {f : Figures} → FiguresAre f (numberContext z x) → eqb (f .used) 0 ≡ showsNought z x
+  pub number-nought : {digits : List ℕ} {f : Figures} → FiguresAre digits f (numberContext z x) → eqb (f .used) 0 ≡ showsNought z x
   unfolding showsNought showsGeneral numberContext
   number-nought are = figures-nought (numberContext z x) are ∙ rw e (or-none (eqb (sectionRounded z x) 0))
 

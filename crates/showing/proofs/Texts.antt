@@ -88,10 +88,10 @@ section-stands ws i t h =
     pass-all (standsAt (length (decode ws))) noSection (decode ws) (is-none _ (passing ws t .stand)) i (rw (sections-length ws) h)
 
 -- the text that is lent is what a text's context stands for
-stands : (b : Bool) (f : Figures) (text : List ℕ) → b ≡ true → StandsFor b f text (textContext text .standing)
+stands : (b : Bool) (digits : List ℕ) (f : Figures) (text : List ℕ) → b ≡ true → StandsFor b digits f text (textContext text .standing)
 unfolding textContext
-stands true f text e = refl
-stands false f text e = absurd (true≢false (sym e))
+stands true digits f text e = refl
+stands false digits f text e = absurd (true≢false (sym e))
 
 module _ (ws : List ℕ) (i : ℕ) (t : T (passes ws)) (e : found.At i ≡ textFoundOf (chooseText (decode ws))) where
   pub text-within : i < getD ws 0 0
@@ -107,18 +107,18 @@ module _ (ws : List ℕ) (i : ℕ) (t : T (passes ws)) (e : found.At i ≡ textF
   unfolding textContext
   text-places text = section-places ws i t text-within (plain-kind (kindOf (sectionIn ws i)) section-plain .0)
 
-  pub text-subject : (s : Subject) (text : List ℕ) → s .lent ≡ true → SubjectIs (kindOf (sectionIn ws i)) s text (textContext text)
-  text-subject s text l =
+  pub text-subject : (digits : List ℕ) (s : Subject) (text : List ℕ) → s .lent ≡ true → SubjectIs (kindOf (sectionIn ws i)) digits s text (textContext text)
+  text-subject digits s text l =
       let p = plain-kind (kindOf (sectionIn ws i)) section-plain in
       record {
         numeric = λ u. absurd (rw (p .0) at u);
-        general = λ u. stands (s .lent) (s .figures) text l;
-        textual = λ u. stands (s .lent) (s .figures) text l;
-        moment = λ u. absurd (rw (p .1) at u);
+        general = λ u. stands (s .lent) digits (s .figures) text l;
+        textual = λ u. stands (s .lent) digits (s .figures) text l;
+        undated = p .1;
       }
 
-  pub text-known : (s : Subject) (text : List ℕ) → s .lent ≡ true → Known (kindOf (sectionIn ws i)) s text
-  text-known s text l = record { context = textContext text; is = text-subject s text l }
+  pub text-known : (digits : List ℕ) (s : Subject) (text : List ℕ) → s .lent ≡ true → Known (kindOf (sectionIn ws i)) digits s text
+  text-known digits s text l = record { context = textContext text; is = text-subject digits s text l }
 
   pub text-shows : {old out : List ℕ} {r : Shown} (text : List ℕ)
       → Shows (sectionReading (length old) (sectionIn ws i) i false (textContext text)) old r out

@@ -1,5 +1,4 @@
 pub mod Minus
-pub mod KindWord
 pub mod General
 pub mod Number
 pub mod Sought

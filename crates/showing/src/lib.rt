@@ -3,12 +3,11 @@ ghost use mathlib.Core.Path.{_≡_};
 ghost use mathlib.Core.Bool.{true, false, cond};
 ghost use Prim.Native.Nat.{_-_, _≤_, _<_, _^_};
 ghost use lib.Dec.{T, eqb};
-ghost use lib.IntN.{pos};
-ghost use lib.Signed.{ltZ};
 ghost use lib.ListN.{length, getD};
 ghost use Rattle.formats.specs.Items.{numberKind, literalKind, kindOf, integerPlaces};
 ghost use Rattle.formats.specs.Choice.{numberExact, instantExact, Reason, chosen, choose, chooseText};
-ghost use Rattle.formats.specs.Reading.{refused, within, readInstant, readText, numberContext, showsNought, numberUnits, showsGeneral, readNumber, reading};
+ghost use Rattle.formats.specs.Reading.{refused, within, readInstant, readText, showsGeneral, readNumber, reading};
+ghost use Rattle.figures.specs.Digits.{figures};
 ghost use Rattle.figures.specs.Sign.{signedOf};
 ghost use Rattle.formats.specs.Minus.{isOwn};
 ghost use Rattle.values.specs.declared.Number.{Number};
@@ -18,16 +17,10 @@ ghost use Rattle.tables.specs.Decode.{decode};
 ghost use Rattle.tables.specs.Rules.{passes};
 ghost use Rattle.tables.specs.Calls.{showing, roomAfter};
 ghost use Rattle.choosing.specs.Seeking.{instantSought, sectionIn};
-ghost use Rattle.date_text.specs.Moment.{momentOf};
-ghost use Rattle.figure_text.specs.Shown.{FiguresAre};
-ghost use Rattle.section_text.specs.Subject.{SubjectIs};
 ghost use Rattle.section_text.specs.Show.{Shows};
 ghost use Rattle.section_text.specs.Walk.{entriesIn};
-ghost use Rattle.section_text.specs.Place.{Known};
-ghost use Rattle.showing.specs.Minus.{minusTold};
-ghost use Rattle.showing.specs.General.{contextOf, generalNumber};
-ghost use Rattle.showing.specs.KindWord.{instantWord};
-ghost use Rattle.showing.specs.Number.{sectionContext, firstArgument};
+ghost use Rattle.showing.specs.Minus.{minusTold, minusIn};
+ghost use Rattle.showing.specs.Number.{sectionNumber, firstArgument};
 ghost use Rattle.showing.specs.Sought.{signedSought};
 use answers::Answer;
 use answers::Shown;
@@ -35,10 +28,12 @@ use choosing::Found;
 use choosing::Sought;
 use choosing::TextFound;
 use figure_text::Figures;
+use figure_text::figures_of;
 use figures::Signed;
 use figures::Taken;
 use section_text::Subject;
 use section_text::refuse;
+use section_text::show_dated_section;
 use section_text::show_section;
 use values::Ask;
 use values::Day;
@@ -46,35 +41,15 @@ use values::Millisecond;
 use values::Number;
 use values::Value;
 
-// Whether a section with this kind word takes an instant.
-fn takes_instant(kind: u16) -> bool
-    ensures { λ r. ⌜ r ≡ instantWord kind ⌝ }
-{
-    (kind == 0) | (kind == 4)
-}
-
 // The figures of a subject that shows no number.
 fn no_figures() -> Figures
     ensures { λ r. ⌜ r .used ≤ 40 ⌝ }
 {
     Figures {
-        digits: [0; 40],
         used: 0,
         lowest: 40,
         integers: 0,
         grouped: false,
-    }
-}
-
-fn instant_subject(twelve: bool, d: Day, m: Millisecond) -> Subject
-    ensures used { λ r. ⌜ r .figures .used ≤ 40 ⌝ }
-    ensures lent { λ r. ⌜ r .lent ≡ false ⌝ }
-    ensures moment { λ r. ⌜ r .moment ≡ momentOf true twelve d m ⌝ }
-{
-    Subject {
-        figures: no_figures(),
-        moment: date_text::moment_of(true, twelve, d, m),
-        lent: false,
     }
 }
 
@@ -92,10 +67,18 @@ fn show_instant_in(
         (now (room .entry)) r (now (room .exit))) ⌝ }
 {
     let kind = choosing::word(table, i as usize, 0);
-    let flags = choosing::word(table, i as usize, 9);
-    if takes_instant(kind) {
-        let s = instant_subject(3 < flags, d, m);
-        return show_section(room, table, i, false, s, text);
+    if kind == 4 {
+        let flags = choosing::word(table, i as usize, 9);
+        let moment = date_text::moment_of(true, 3 < flags, d, m);
+        return show_dated_section(room, table, i, moment);
+    }
+    if kind == 0 {
+        let digits = [0; 40];
+        let s = Subject {
+            figures: no_figures(),
+            lent: false,
+        };
+        return show_section(room, table, i, false, &digits, s, text);
     }
     refuse(Answer::Sort)
 }
@@ -141,17 +124,6 @@ fn show_plain(room: &mut [u16], text: &[u16]) -> Shown
     }
 }
 
-fn text_subject() -> Subject
-    ensures used { λ r. ⌜ r .figures .used ≤ 40 ⌝ }
-    ensures lent { λ r. ⌜ r .lent ≡ true ⌝ }
-{
-    Subject {
-        figures: no_figures(),
-        moment: date_text::moment_of(false, false, Day(0), Millisecond(0)),
-        lent: true,
-    }
-}
-
 // Shows a text.
 fn show_text(room: &mut [u16], table: &[u16], text: &[u16]) -> Shown
     requires { ⌜ T (passes (now table)) × (length (now text) ≤ 1024) ⌝ }
@@ -160,7 +132,14 @@ fn show_text(room: &mut [u16], table: &[u16], text: &[u16]) -> Shown
 {
     match choosing::choose_text(table) {
         TextFound::Itself => show_plain(room, text),
-        TextFound::At(i) => show_section(room, table, i, false, text_subject(), text),
+        TextFound::At(i) => {
+            let digits = [0; 40];
+            let s = Subject {
+                figures: no_figures(),
+                lent: true,
+            };
+            show_section(room, table, i, false, &digits, s, text)
+        }
     }
 }
 
@@ -180,44 +159,14 @@ fn has_minus(negative: bool, items: u16, excepted: bool, nought: bool) -> bool
     negative
 }
 
-// Shows a number in section i, which takes it; `nought`: the figures that it shows are nought.
-fn show_signed(
-    room: &mut [u16],
-    table: &[u16],
-    i: u16,
-    own: bool,
-    negative: bool,
-    nought: bool,
-    s: Subject,
-    text: &[u16],
-) -> Shown
-    requires { ⌜ T (passes (now table)) × (i < getD (now table) 0 0) × (s .figures .used ≤ 40) × (s .lent ≡ true → length (now text) ≤ 1024)
-        × Known (kindOf (sectionIn (now table) i)) s (now text) ⌝ }
-    ensures { λ r. ⌜ ((x : Number) (why : Reason) → negative ≡ ltZ (x .coefficient) (pos 0) → own ≡ isOwn why
-        → nought ≡ showsNought (sectionIn (now (table .entry)) i) x
-        → SubjectIs (kindOf (sectionIn (now (table .entry)) i)) s (now (text .entry)) (numberContext (sectionIn (now (table .entry)) i) x)
-        → Shows (within (length (now (room .entry))) (numberUnits (decode (now (table .entry))) i (sectionIn (now (table .entry)) i) why x)
-        (sectionIn (now (table .entry)) i .colour) i) (now (room .entry)) r (now (room .exit))) ⌝ }
+// The added minus of a number in section i; `nought`: the figures that it shows are nought.
+fn added_minus(table: &[u16], i: u16, own: bool, negative: bool, nought: bool) -> bool
+    requires { ⌜ T (passes (now table)) × (i < getD (now table) 0 0) ⌝ }
+    ensures { λ r. ⌜ r ≡ minusIn (now (table .entry)) i own negative nought ⌝ }
 {
     let items = choosing::word(table, i as usize, 11);
     let excepted = choosing::no_minus(table, i, own);
-    let minus = has_minus(negative, items, excepted, nought);
-    show_section(room, table, i, minus, s, text)
-}
-
-// The subject of a number in a section that shows General.
-fn general_subject(v: Signed) -> Subject
-    ensures used { λ r. ⌜ r .figures .used ≤ 40 ⌝ }
-    ensures lent { λ r. ⌜ r .lent ≡ false ⌝ }
-    ensures figures { λ r. ⌜ (v .magnitude < 10 ^ 15 → v .scale ≤ 15 → FiguresAre (r .figures) (contextOf (generalNumber (v .magnitude) (v .scale)))) ⌝ }
-{
-    let rounded = figures::round_general([0; 40], v.magnitude, v.scale);
-    let digits = rounded.digits;
-    Subject {
-        figures: figure_text::figures_of(digits, 0, false),
-        moment: date_text::moment_of(false, false, Day(0), Millisecond(0)),
-        lent: false,
-    }
+    has_minus(negative, items, excepted, nought)
 }
 
 // Shows a number in section i, which shows General.
@@ -238,9 +187,14 @@ fn show_general(
     if figures::general_too_wide(v.magnitude, v.scale) {
         return refuse(Answer::General);
     }
-    let s = general_subject(v);
-    let nought = s.figures.used == 0;
-    show_signed(room, table, i, own, v.negative, nought, s, text)
+    let rounded = figures::round_general([0; 40], v.magnitude, v.scale);
+    let digits = rounded.digits;
+    let s = Subject {
+        figures: figures_of(digits, 0, false),
+        lent: false,
+    };
+    let minus = added_minus(table, i, own, v.negative, s.figures.used == 0);
+    show_section(room, table, i, minus, &digits, s, text)
 }
 
 // Shows a number in section i, which is a literal section.
@@ -257,8 +211,13 @@ fn show_literal(
         → Shows (readNumber (decode (now (table .entry))) x (length (now (room .entry))) (chosen i (sectionIn (now (table .entry)) i) why))
         (now (room .entry)) r (now (room .exit))) ⌝ }
 {
-    let s = instant_subject(false, Day(0), Millisecond(0));
-    show_signed(room, table, i, own, v.negative, false, s, text)
+    let digits = [0; 40];
+    let minus = added_minus(table, i, own, v.negative, false);
+    let s = Subject {
+        figures: no_figures(),
+        lent: false,
+    };
+    show_section(room, table, i, minus, &digits, s, text)
 }
 
 // The argument of the first place among item words; 15 where there is none.
@@ -295,36 +254,18 @@ fn excess(a: u32, b: u32) -> u32
     if b < a { a - b } else { 0 }
 }
 
-// The figures of a number in section i, which is a number section: a shift above 15 multiplies, one below 15 divides.
-fn number_figures(table: &[u16], i: usize, v: Signed) -> Figures
+// The digits of a number in section i, which is a number section: a shift above 15 multiplies, one below 15 divides.
+fn number_digits(table: &[u16], i: usize, v: Signed) -> [u8; 40]
     requires { ⌜ T (passes (now table)) × (i < getD (now table) 0 0) × (v .magnitude < 10 ^ 15) × (v .scale ≤ 15)
         × (kindOf (sectionIn (now table) i) ≡ numberKind) ⌝ }
-    ensures used { λ r. ⌜ r .used ≤ 40 ⌝ }
-    ensures figures { λ r. ⌜ FiguresAre r (sectionContext (sectionIn (now (table .entry)) i) (v .magnitude) (v .scale)) ⌝ }
+    ensures { λ r. ⌜ r ≡ figures (sectionNumber (sectionIn (now (table .entry)) i) (v .magnitude) (v .scale)) ⌝ }
 {
     let shift = choosing::word(table, i, 8) as u32;
-    let flags = choosing::word(table, i, 9);
     let decimals = choosing::word(table, i, 10) as u32;
     let up = excess(shift, 15);
     let down = v.scale + excess(15, shift);
     let rounded = figures::round([0; 40], v.magnitude, up, down, decimals);
-    let digits = rounded.digits;
-    figure_text::figures_of(digits, integer_places(table, i), flags % 2 == 1)
-}
-
-// The subject of a number in section i, which is a number section.
-fn number_subject(table: &[u16], i: usize, v: Signed) -> Subject
-    requires { ⌜ T (passes (now table)) × (i < getD (now table) 0 0) × (v .magnitude < 10 ^ 15) × (v .scale ≤ 15)
-        × (kindOf (sectionIn (now table) i) ≡ numberKind) ⌝ }
-    ensures used { λ r. ⌜ r .figures .used ≤ 40 ⌝ }
-    ensures lent { λ r. ⌜ r .lent ≡ false ⌝ }
-    ensures figures { λ r. ⌜ FiguresAre (r .figures) (sectionContext (sectionIn (now (table .entry)) i) (v .magnitude) (v .scale)) ⌝ }
-{
-    Subject {
-        figures: number_figures(table, i, v),
-        moment: date_text::moment_of(false, false, Day(0), Millisecond(0)),
-        lent: false,
-    }
+    rounded.digits
 }
 
 // Shows a number in section i, which is a number section.
@@ -342,9 +283,15 @@ fn show_figures(
         → Shows (readNumber (decode (now (table .entry))) x (length (now (room .entry))) (chosen i (sectionIn (now (table .entry)) i) why))
         (now (room .entry)) r (now (room .exit))) ⌝ }
 {
-    let s = number_subject(table, i as usize, v);
-    let nought = s.figures.used == 0;
-    show_signed(room, table, i, own, v.negative, nought, s, text)
+    let digits = number_digits(table, i as usize, v);
+    let integers = integer_places(table, i as usize);
+    let flags = choosing::word(table, i as usize, 9);
+    let s = Subject {
+        figures: figures_of(digits, integers, flags % 2 == 1),
+        lent: false,
+    };
+    let minus = added_minus(table, i, own, v.negative, s.figures.used == 0);
+    show_section(room, table, i, minus, &digits, s, text)
 }
 
 // Shows a number in section i, by the section's kind.

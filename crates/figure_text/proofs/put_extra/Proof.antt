@@ -15,15 +15,15 @@ use Rattle.figure_text.proofs.put_extra.Statement.{statement}
 use Rattle.figure_text.proofs.put_extra.Tie as tie
 
 abbrev Inv-loop : tie.InvT-loop
-Inv-loop room₀ at q f k₀ o₀ room k o =
+Inv-loop room₀ at digits f q k₀ o₀ room k o =
     (k ≤ f .used)
     × (o + 2 * k ≤ at + 80)
     × (length room ≡ length room₀)
-    × ((c : Context) → FiguresAre f c
+    × ((c : Context) → FiguresAre digits f c
     → Rest room₀ at (extraUnits (c .figures) (c .grouped) q (40 - q)) room o (extraUnits (c .figures) (c .grouped) q (k - q)))
 
 abbrev μ-loop : tie.MeasureT-loop
-μ-loop room₀ at q f k₀ o₀ room k o = k
+μ-loop room₀ at digits f q k₀ o₀ room k o = k
 
 loop-holds : tie.Need-loop-holds Inv-loop μ-loop
 loop-holds c = (omega arith, omega arith, refl, λ x are. extra-start are _ _ _ (omega arith) (omega arith))
@@ -51,7 +51,7 @@ loop-again c =
     let a = t .before .before .before .args in
     let put = p .put-shown .ensures in (
       omega arith,
-      omega (arith, shown-within (a .t3 .grouped) (l .k - 1) (p .before .digit-unit .result) put),
+      omega (arith, shown-within (a .f .grouped) (l .k - 1) (p .before .digit-unit .result) put),
       put-size put ∙ l .inv .2,
       λ x are. extra-turn are (a .q) (l .k) (omega arith) (t .loop-test .taken) (omega arith) (p .before .digit-unit .ensures) (l .inv .3 x are) put,
     )

@@ -22,7 +22,7 @@ returns c =
     let p = c .before .before in
     let t = p .before .before in
     let a = t .before .before .before .args in (
-      idle-within (a .t3 .grouped) (a .q) (placeOfTag (a .place)) (p .put-idle .ensures),
+      idle-within (a .f .grouped) (a .q) (placeOfTag (a .place)) (p .put-idle .ensures),
       λ x are. put-as (figure-idle are (placeOfTag (a .place)) (a .q) (omega arith) (sym (t .before .is-idle .ensures) ∙ t .if1 .taken)) (p .put-idle .ensures),
     )
 
@@ -43,7 +43,7 @@ returns-2 c =
     let p = c .before .before in
     let t = p .before .before .before .before in
     let a = t .before .before .before .args in (
-      shown-within (a .t3 .grouped) (a .q) (p .before .digit-unit .result) (p .put-shown .ensures),
+      shown-within (a .f .grouped) (a .q) (p .before .digit-unit .result) (p .put-shown .ensures),
       λ x are. put-as (figure-digit are (placeOfTag (a .place)) (a .q) (omega arith) (sym (t .before .is-idle .ensures) ∙ t .if1 .left))
           (rw (p .before .digit-unit .ensures) at (p .put-shown .ensures)),
     )

@@ -26,8 +26,8 @@ returns c =
     let r = p .before .before .before .before in (
       omega arith,
       λ n are. put-as (general-runs are)
-          (put-put (rw (r .before .at-least-one .ensures) at (r .put-run .ensures .1 n (are .digits)))
-          (p .put-decimals .ensures .1 n (are .digits))),
+          (put-put (rw (r .before .at-least-one .ensures) at (r .put-run .ensures .1 n (are .number)))
+          (p .put-decimals .ensures .1 n (are .number))),
     )
 
 pub put-general-spec : {M : Type 1} → statement M

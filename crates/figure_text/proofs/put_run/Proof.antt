@@ -13,7 +13,7 @@ use Rattle.figure_text.proofs.put_run.Statement.{statement}
 use Rattle.figure_text.proofs.put_run.Tie as tie
 
 abbrev Inv-loop : tie.InvT-loop
-Inv-loop room₀ at high low digits k₀ o₀ room k o =
+Inv-loop room₀ at digits high low k₀ o₀ room k o =
     (k ≤ high)
     × (o + k ≤ at + high)
     × (length room ≡ length room₀)
@@ -21,7 +21,7 @@ Inv-loop room₀ at high low digits k₀ o₀ room k o =
     → Rest room₀ at (digitUnits (high - low) (n / 10 ^ low)) room o (digitUnits (k - low) (n / 10 ^ low)))
 
 abbrev μ-loop : tie.MeasureT-loop
-μ-loop room₀ at high low digits k₀ o₀ room k o = k
+μ-loop room₀ at digits high low k₀ o₀ room k o = k
 
 loop-holds : tie.Need-loop-holds Inv-loop μ-loop
 loop-holds c = (omega arith, omega arith, refl, λ n e. rest-start _ _ _)
@@ -29,8 +29,8 @@ loop-holds c = (omega arith, omega arith, refl, λ n e. rest-start _ _ _)
 sub-k : tie.Need-sub-k Inv-loop μ-loop
 sub-k c = search needs
 
-array-read-digit-unit : tie.Need-array-read-digit-unit Inv-loop μ-loop
-array-read-digit-unit c = search needs
+element-copy-out-digit-unit : tie.Need-element-copy-out-digit-unit Inv-loop μ-loop
+element-copy-out-digit-unit c = search needs
 
 digit-unit-requires : tie.Need-digit-unit-requires Inv-loop μ-loop
 digit-unit-requires c κs = search needs
@@ -44,14 +44,14 @@ loop-less c = search needs
 loop-again : tie.Need-loop-again Inv-loop μ-loop
 loop-again c =
     let p = c .before .before in
-    let t = p .before .before .before in
+    let t = p .before .before .before .before in
     let l = t .before .loop in
     let a = t .before .before .before .args in
     let put = p .put-unit .ensures in (
       omega arith,
       omega (arith, put .next),
       put-size put ∙ l .inv .2,
-      λ n e. run-turn n (l .k) (a .low) (a .t3) e (omega arith) (t .loop-test .taken) (p .before .digit-unit .ensures) (l .inv .3 n e) put,
+      λ n e. run-turn n (l .k) (a .low) _ e (omega arith) (t .loop-test .taken) (p .before .digit-unit .ensures) (l .inv .3 n e) put,
     )
 
 same-length : tie.Need-same-length Inv-loop μ-loop
@@ -70,7 +70,7 @@ put-run-spec =
     μ-loop
     loop-holds
     sub-k
-    array-read-digit-unit
+    element-copy-out-digit-unit
     digit-unit-requires
     put-unit-requires
     loop-less

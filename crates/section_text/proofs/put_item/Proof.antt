@@ -1,9 +1,7 @@
 -- `section_text::put_item` meets its contract.
 -- Assumes nothing.
 use native.Mathlib.Omega.{arith}
-use mathlib.Core.Path.{refl}
-use mathlib.Core.Bool.{true}
-use Rattle.section_text.proofs.Items.{place-argument, literal-item, blank-item, fill-item, percent-item, point-item, place-item, standing-item, place-power, number-held, date-held, standing-held, piece-put, standing-put, unit-put, moment-put, late}
+use Rattle.section_text.proofs.Items.{place-argument, literal-item, blank-item, fill-item, percent-item, point-item, place-item, standing-item, place-power, number-held, date-held, standing-held, piece-put, standing-put, unit-put, late}
 use Rattle.writing.proofs.Laws.{put-none}
 use Rattle.tables.proofs.BackEntries.{tag-known}
 use borrow.Author.Needs.{needs}
@@ -48,12 +46,6 @@ put-standing-requires c κs = search needs
 
 put-standing-requires-2 : tie.Need-put-standing-requires-2
 put-standing-requires-2 c κs = search needs
-
-put-moment-item-requires : tie.Need-put-moment-item-requires
-put-moment-item-requires c κs =
-    let k = c .before in
-    let b = k .before .before .before in
-    (omega (arith, b .pre .0), late _ _ (b .pre .3) (k .match .rest))
 
 same-length : tie.Need-same-length
 same-length c = search needs
@@ -164,18 +156,11 @@ returns-10 c =
     standing-put _ (standing-item x q _ _ (omega (arith, e)) (omega (arith, e))) (p .put-standing2 .ensures .0, p .put-standing2 .ensures .1 .0)
     (p .put-standing2 .ensures .1 .1 _ (standing-held kind q _ _ f i (omega (arith, e)) (omega (arith, e))))
 
-same-length-10 : tie.Need-same-length-10
-same-length-10 c = search needs
-
 returns-11 : tie.Need-returns-11
 returns-11 c =
-    let p = c .before .before in
-    let k = p .before .before in
-    let b = k .before .before .before in
-    let h = late _ _ (b .pre .3) (k .match .rest) in
-    λ x kind q i f.
-    moment-put _ x q _ _ h (b .pre .3)
-    (p .put-moment-item .ensures x q true (λ _. refl) (i .moment (date-held kind q _ _ f h (tag-known _ (b .pre .3) .1))))
+    let b = c .before .before .before in
+    let h = late _ _ (b .pre .3) (c .match .rest) in
+    λ x kind q i f. absurd (rw (i .undated) at (date-held kind q _ _ f h (tag-known _ (b .pre .3) .1)))
 
 pub put-item-spec : {M : Type 1} → statement M
 put-item-spec =
@@ -190,7 +175,6 @@ put-item-spec =
     put-unit-requires-3
     put-standing-requires
     put-standing-requires-2
-    put-moment-item-requires
     same-length
     returns
     same-length-2
@@ -210,5 +194,4 @@ put-item-spec =
     returns-9
     same-length-9
     returns-10
-    same-length-10
     returns-11)

@@ -2,21 +2,21 @@
 -- Assumes nothing.
 use Prim.Native.Nat.{_-_}
 use mathlib.Core.Path.{refl}
-use Rattle.section_text.proofs.Walking.{Walking, walking-start, walking-in-range, walking-step, walking-end, walking-short, walking-within, walking-near, walking-size}
+use Rattle.section_text.proofs.Walking.{IsOf, Walking, ready-walks, walking-start, walking-in-range, walking-step, walking-end, walking-short, walking-within, walking-near, walking-size}
 use borrow.Author.Needs.{needs}
 use Rattle.section_text.proofs.put_items.Statement.{statement}
 use Rattle.section_text.proofs.put_items.Tie as tie
 
 abbrev Inv-loop : tie.InvT-loop
-Inv-loop room₀ at items s text n k₀ o₀ room k o = Walking room₀ at items s text n k room o
+Inv-loop room₀ at items digits s text n k₀ o₀ room k o = Walking (IsOf digits s text) (s .lent) room₀ at items n k room o
 
 abbrev μ-loop : tie.MeasureT-loop
-μ-loop room₀ at items s text n k₀ o₀ room k o = n - k
+μ-loop room₀ at items digits s text n k₀ o₀ room k o = n - k
 
 loop-holds : tie.Need-loop-holds Inv-loop μ-loop
 loop-holds c =
     let b = c .before .before .before in
-    walking-start _ _ _ _ _ _ (b .pre .3) refl (b .pre .4)
+    walking-start _ _ _ _ _ _ (b .pre .3) refl (ready-walks (b .pre .4))
 
 mul-i : tie.Need-mul-i Inv-loop μ-loop
 mul-i c = search needs

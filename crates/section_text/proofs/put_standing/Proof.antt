@@ -22,7 +22,7 @@ returns c =
       omega (arith, b .pre .2 (k .if1 .taken), p .put-units .ensures .next),
       (
         λ z. absurd (true≢false (sym (k .if1 .taken) ∙ z)),
-        λ us h. rw (← stands-lent _ _ _ us (k .if1 .taken) h) (p .put-units .ensures),
+        λ us h. rw (← stands-lent _ _ _ _ us (k .if1 .taken) h) (p .put-units .ensures),
       ),
     )
 
@@ -39,7 +39,7 @@ returns-2 c =
       omega arith,
       (
         λ z. omega arith,
-        λ us h. let g = stands-general _ _ _ us (k .if1 .left) h in rw (g .shows) (p .put-general .ensures .1 (g .context .figures) (digits-of (g .are))),
+        λ us h. let g = stands-general _ _ _ _ us (k .if1 .left) h in rw (g .shows) (p .put-general .ensures .1 (g .context .figures) (digits-of (g .are))),
       ),
     )
 

@@ -48,8 +48,8 @@ returns-2 c =
 put-text-requires-2 : tie.Need-put-text-requires-2
 put-text-requires-2 c κs = search needs
 
-cast-t21 : tie.Need-cast-t21
-cast-t21 c = search needs
+cast-t22 : tie.Need-cast-t22
+cast-t22 c = search needs
 
 same-length-3 : tie.Need-same-length-3
 same-length-3 c = search needs
@@ -77,6 +77,6 @@ show-items-spec =
     same-length-2
     returns-2
     put-text-requires-2
-    cast-t21
+    cast-t22
     same-length-3
     returns-3)

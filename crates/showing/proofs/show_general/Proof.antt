@@ -1,8 +1,9 @@
 -- `showing::show_general` meets its contract.
 -- Assumes nothing.
-use mathlib.Core.Path.{sym, _∙_}
+use mathlib.Core.Path.{refl, sym, _∙_}
 use Rattle.showing.proofs.Instants.{not-lent}
-use Rattle.showing.proofs.Generals.{general-of, nought-told, negative-is, standing-is, wide-is, general-known, general-subject, general-nought, general-wide, general-shows}
+use Rattle.showing.proofs.Numbers.{number-places, number-text}
+use Rattle.showing.proofs.Generals.{general-figures, general-of, nought-told, negative-is, standing-is, wide-is, general-known, general-subject, general-nought, general-wide, general-shows}
 use borrow.Author.Needs.{needs}
 use Rattle.showing.proofs.show_general.Statement.{statement}
 use Rattle.showing.proofs.show_general.Tie as tie
@@ -21,15 +22,22 @@ returns c =
     rw (c .refuse .ensures)
     (general-wide _ _ _ why x (p .4) (sym (wide-is _ x ev) ∙ sym (g .general-too-wide .ensures) ∙ c .before .if1 .taken))
 
-general-subject-requires : tie.Need-general-subject-requires
-general-subject-requires c κs = search needs
+round-general-requires : tie.Need-round-general-requires
+round-general-requires c κs = search needs
 
-show-signed-requires : tie.Need-show-signed-requires
-show-signed-requires c κs =
-    let n = c .before .before in
-    let p = n .before .before .before .before .before .before .pre in
-    let e = n .general-subject .ensures in
-    (p .0, p .1, e .0, not-lent (e .1 .0), general-known _ _ _ _ (p .4) (e .1 .0) (general-of _ _ (e .1 .1 (p .2) (p .3))))
+figures-of-requires : tie.Need-figures-of-requires
+figures-of-requires c κs = search needs
+
+added-minus-requires : tie.Need-added-minus-requires
+added-minus-requires c κs = search needs
+
+show-section-requires : tie.Need-show-section-requires
+show-section-requires c κs =
+    let f = c .before .before .before .before in
+    let r = f .before .before in
+    let p = r .before .before .before .before .before .before .pre in
+    let are = general-figures _ _ _ (r .round-general .ensures) (f .figures-of .ensures .0) (p .2) (p .3) in
+    (p .0, p .1, f .figures-of .ensures .1, not-lent refl, general-known _ _ _ _ _ (p .4) refl (general-of _ _ are))
 
 same-length : tie.Need-same-length
 same-length c = search needs
@@ -37,15 +45,17 @@ same-length c = search needs
 returns-2 : tie.Need-returns-2
 returns-2 c =
     let s = c .before .before in
-    let n = s .before .before .before in
-    let g = n .before .before in
+    let m = s .before .before .before in
+    let f = m .before .before in
+    let r = f .before .before in
+    let g = r .before .before in
     let p = g .before .before .before .before .pre in
-    let e = n .general-subject .ensures in
-    let are = e .1 .1 (p .2) (p .3) in
+    let are = general-figures _ _ _ (r .round-general .ensures) (f .figures-of .ensures .0) (p .2) (p .3) in
     λ x why ev eo.
-    general-shows _ _ _ why x (p .4) (sym (wide-is _ x ev) ∙ sym (g .general-too-wide .ensures) ∙ n .before .if1 .left)
-    (s .show-signed .ensures x why (negative-is _ x ev) eo (general-nought _ x _ _ (p .4) (standing-is _ x ev) (nought-told _ are))
-    (general-subject _ _ _ _ x ev (p .4) (e .1 .0) (general-of _ _ are)))
+    general-shows _ _ _ why x (p .4) (sym (wide-is _ x ev) ∙ sym (g .general-too-wide .ensures) ∙ r .before .if1 .left)
+    (number-text _ _ x why (p .0) (p .1) (m .added-minus .ensures) (negative-is _ x ev) eo
+    (general-nought _ x _ _ (p .4) (standing-is _ x ev) (nought-told _ are))
+    (s .show-section .ensures _ (general-subject _ _ _ _ _ x ev (p .4) refl (general-of _ _ are)) (number-places _ x)))
 
 pub show-general-spec : {M : Type 1} → statement M
 show-general-spec =
@@ -54,7 +64,9 @@ show-general-spec =
     general-too-wide-requires
     refuse-requires
     returns
-    general-subject-requires
-    show-signed-requires
+    round-general-requires
+    figures-of-requires
+    added-minus-requires
+    show-section-requires
     same-length
     returns-2)

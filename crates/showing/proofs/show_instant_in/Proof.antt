@@ -1,7 +1,10 @@
 -- `showing::show_instant_in` meets its contract.
 -- Assumes nothing.
-use mathlib.Core.Path.{_∙_}
-use Rattle.showing.proofs.Instants.{takes-told, twelve-told, instant-places, instant-subject, instant-known, instant-shows, instant-refused, not-lent}
+use mathlib.Core.Path.{refl}
+use Rattle.choosing.specs.Seeking.{sectionIn}
+use Rattle.showing.proofs.Instants.{twelve-told, date-takes, literal-takes, instant-places, instant-moment, instant-known, instant-shows, instant-refused, not-lent}
+use Rattle.showing.proofs.KindWords.{kind-with, told-sort}
+use Rattle.showing.proofs.Literals.{literal-subject, literal-known}
 use borrow.Author.Needs.{needs}
 use Rattle.showing.proofs.show_instant_in.Statement.{statement}
 use Rattle.showing.proofs.show_instant_in.Tie as tie
@@ -12,24 +15,20 @@ word-requires c κs = search needs
 word-requires-2 : tie.Need-word-requires-2
 word-requires-2 c κs = search needs
 
-takes-instant-requires : tie.Need-takes-instant-requires
-takes-instant-requires c κs = search needs
+moment-of-requires : tie.Need-moment-of-requires
+moment-of-requires c κs = search needs
 
-instant-subject-requires : tie.Need-instant-subject-requires
-instant-subject-requires c κs = search needs
-
-show-section-requires : tie.Need-show-section-requires
-show-section-requires c κs =
+show-dated-section-requires : tie.Need-show-dated-section-requires
+show-dated-section-requires c κs =
     let n = c .before in
-    let g = n .before .before in
-    let w = g .before .before in
-    let p = w .before .before .before .before .pre in
-    let e = takes-told _ _ _ _ (p .0) (p .1) (w .word .ensures) (g .takes-instant .ensures) ∙ n .before .if1 .taken in (
+    let f = n .before in
+    let k = f .before in
+    let w = k .before in
+    let p = w .before .before .before .before .pre in (
       p .0,
       p .1,
-      n .instant-subject .ensures .0,
-      not-lent (n .instant-subject .ensures .1 .0),
-      instant-known _ _ (p .0) (p .1) e _ _ _ _ _ (twelve-told _ _ _ (p .0) (p .1) (g .before .word2 .ensures)) (n .instant-subject .ensures .1 .1),
+      kind-with _ _ _ (p .0) (p .1) (w .word .ensures) 4 (k .if1 .taken),
+      instant-known (sectionIn _ _) _ _ _ _ (twelve-told _ _ _ (p .0) (p .1) (f .word2 .ensures)) (n .moment-of .ensures),
     )
 
 same-length : tie.Need-same-length
@@ -39,22 +38,49 @@ returns : tie.Need-returns
 returns c =
     let s = c .before .before in
     let n = s .before .before in
-    let g = n .before .before in
-    let w = g .before .before in
+    let f = n .before in
+    let k = f .before in
+    let w = k .before in
     let p = w .before .before .before .before .pre in
-    let e = takes-told _ _ _ _ (p .0) (p .1) (w .word .ensures) (g .takes-instant .ensures) ∙ n .before .if1 .taken in
-    let i = instant-subject _ _ (p .0) (p .1) e _ _ _ _ _ (twelve-told _ _ _ (p .0) (p .1) (g .before .word2 .ensures)) (n .instant-subject .ensures .1 .1) in
-    λ why. instant-shows _ _ why _ _ e (s .show-section .ensures _ i (instant-places _ _ (p .0) (p .1) e _ _))
+    let e = date-takes _ (kind-with _ _ _ (p .0) (p .1) (w .word .ensures) 4 (k .if1 .taken)) in
+    let i = instant-moment (sectionIn _ _) _ _ _ _ (twelve-told _ _ _ (p .0) (p .1) (f .word2 .ensures)) (n .moment-of .ensures) in
+    λ why. instant-shows _ _ why _ _ e (s .show-dated-section .ensures _ i (instant-places _ _ (p .0) (p .1) e _ _))
+
+no-figures-requires : tie.Need-no-figures-requires
+no-figures-requires c κs = search needs
+
+show-section-requires : tie.Need-show-section-requires
+show-section-requires c κs =
+    let n = c .before .before in
+    let k = n .before in
+    let w = k .before .before in
+    let p = w .before .before .before .before .pre in
+    let e = kind-with _ _ _ (p .0) (p .1) (w .word .ensures) 0 (k .if2 .taken) in
+    (p .0, p .1, n .no-figures .ensures, not-lent refl, literal-known _ e _ _ _)
+
+same-length-2 : tie.Need-same-length-2
+same-length-2 c = search needs
+
+returns-2 : tie.Need-returns-2
+returns-2 c =
+    let s = c .before .before in
+    let k = s .before .before .before .before in
+    let w = k .before .before in
+    let p = w .before .before .before .before .pre in
+    let l = kind-with _ _ _ (p .0) (p .1) (w .word .ensures) 0 (k .if2 .taken) in
+    let e = literal-takes _ l in
+    λ why. instant-shows _ _ why _ _ e (s .show-section .ensures _ (literal-subject _ l _ _ _ _) (instant-places _ _ (p .0) (p .1) e _ _))
 
 refuse-requires : tie.Need-refuse-requires
 refuse-requires c κs = search needs
 
-returns-2 : tie.Need-returns-2
-returns-2 c =
-    let g = c .before .before in
-    let w = g .before .before in
+returns-3 : tie.Need-returns-3
+returns-3 c =
+    let k = c .before in
+    let j = k .before in
+    let w = j .before in
     let p = w .before .before .before .before .pre in
-    let e = takes-told _ _ _ _ (p .0) (p .1) (w .word .ensures) (g .takes-instant .ensures) ∙ c .before .if1 .left in
+    let e = told-sort _ _ _ (p .0) (p .1) (w .word .ensures) (j .if1 .left) (k .if2 .left) in
     λ why. rw (c .refuse .ensures) (instant-refused _ _ _ why _ _ e)
 
 pub show-instant-in-spec : {M : Type 1} → statement M
@@ -63,10 +89,13 @@ show-instant-in-spec =
     (tie.spec
     word-requires
     word-requires-2
-    takes-instant-requires
-    instant-subject-requires
-    show-section-requires
+    moment-of-requires
+    show-dated-section-requires
     same-length
     returns
+    no-figures-requires
+    show-section-requires
+    same-length-2
+    returns-2
     refuse-requires
-    returns-2)
+    returns-3)

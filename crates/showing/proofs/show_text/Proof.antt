@@ -1,6 +1,6 @@
 -- `showing::show_text` meets its contract.
 -- Assumes nothing.
-use mathlib.Core.Path.{sym, _∙_}
+use mathlib.Core.Path.{refl, sym, _∙_}
 use Rattle.showing.proofs.Texts.{text-within, text-places, text-subject, text-known, text-shows, itself-shows}
 use borrow.Author.Needs.{needs}
 use Rattle.showing.proofs.show_text.Statement.{statement}
@@ -18,16 +18,17 @@ show-plain-requires c κs = search needs
 enum-known-i : tie.Need-enum-known-i
 enum-known-i c = search needs
 
-text-subject-requires : tie.Need-text-subject-requires
-text-subject-requires c κs = search needs
+no-figures-requires : tie.Need-no-figures-requires
+no-figures-requires c κs = search needs
 
 show-section-requires : tie.Need-show-section-requires
 show-section-requires c κs =
-    let g = c .before .before .before in
+    let f = c .before .before in
+    let g = f .before .before in
     let h = g .before .before in
     let p = h .before .before .before .before .pre in
     let e = sym (g .i .given .1) ∙ h .choose-text .ensures in
-    (p .0, text-within _ _ (p .0) e, c .text-subject .ensures .0, (λ _. p .1), text-known _ _ (p .0) e _ _ (c .text-subject .ensures .1))
+    (p .0, text-within _ _ (p .0) e, f .no-figures .ensures, (λ _. p .1), text-known _ _ (p .0) e _ _ _ refl)
 
 same-length : tie.Need-same-length
 same-length c = search needs
@@ -44,13 +45,11 @@ same-length-2 c = search needs
 returns-2 : tie.Need-returns-2
 returns-2 c =
     let s = c .before .before in
-    let u = s .before in
-    let g = u .before .before .before in
+    let g = s .before .before .before .before .before in
     let h = g .before .before in
     let p = h .before .before .before .before .pre in
     let e = sym (g .i .given .1) ∙ h .choose-text .ensures in
-    text-shows _ _ (p .0) e _
-    (s .show-section .ensures _ (text-subject _ _ (p .0) e _ _ (u .text-subject .ensures .1)) (text-places _ _ (p .0) e _))
+    text-shows _ _ (p .0) e _ (s .show-section .ensures _ (text-subject _ _ (p .0) e _ _ _ refl) (text-places _ _ (p .0) e _))
 
 pub show-text-spec : {M : Type 1} → statement M
 show-text-spec =
@@ -60,7 +59,7 @@ show-text-spec =
     enum-told
     show-plain-requires
     enum-known-i
-    text-subject-requires
+    no-figures-requires
     show-section-requires
     same-length
     returns

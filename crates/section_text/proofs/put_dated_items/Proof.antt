@@ -1,0 +1,86 @@
+-- `section_text::put_dated_items` meets its contract. The invariant, `Walking`: the text of the entries that are left is what is left to put.
+-- Assumes nothing.
+use Prim.Native.Nat.{_-_}
+use native.Mathlib.Omega.{arith}
+use mathlib.Core.Path.{refl}
+use mathlib.Core.Bool.{false}
+use Rattle.formats.specs.Items.{dateKind}
+use Rattle.section_text.proofs.Walking.{DatedOf, Walking, dated-walks, dated-puts, walking-start, walking-in-range, walking-step, walking-end, walking-short, walking-near, walking-size}
+use borrow.Author.Needs.{needs}
+use Rattle.section_text.proofs.put_dated_items.Statement.{statement}
+use Rattle.section_text.proofs.put_dated_items.Tie as tie
+
+abbrev Inv-loop : tie.InvT-loop
+Inv-loop room₀ items m n k₀ o₀ room k o = Walking (DatedOf m) false room₀ 0 items n k room o
+
+abbrev μ-loop : tie.MeasureT-loop
+μ-loop room₀ items m n k₀ o₀ room k o = n - k
+
+loop-holds : tie.Need-loop-holds Inv-loop μ-loop
+loop-holds c =
+    let b = c .before .before in
+    walking-start _ _ _ _ _ _ (b .pre .0) refl (dated-walks (b .pre .1))
+
+mul-i : tie.Need-mul-i Inv-loop μ-loop
+mul-i c = search needs
+
+add-j : tie.Need-add-j Inv-loop μ-loop
+add-j c = search needs
+
+mul-put-dated-item : tie.Need-mul-put-dated-item Inv-loop μ-loop
+mul-put-dated-item c = search needs
+
+shared-slice-read-put-dated-item : tie.Need-shared-slice-read-put-dated-item Inv-loop μ-loop
+shared-slice-read-put-dated-item c = search needs
+
+mul-put-dated-item-2 : tie.Need-mul-put-dated-item-2 Inv-loop μ-loop
+mul-put-dated-item-2 c = search needs
+
+shared-slice-read-put-dated-item-2 : tie.Need-shared-slice-read-put-dated-item-2 Inv-loop μ-loop
+shared-slice-read-put-dated-item-2 c = search needs
+
+put-dated-item-requires : tie.Need-put-dated-item-requires Inv-loop μ-loop
+put-dated-item-requires c κs =
+    let t = c .before .before .before in
+    let w = t .before .loop .inv in
+    (walking-short w (omega arith), walking-in-range w (t .loop-test .taken))
+
+add-k : tie.Need-add-k Inv-loop μ-loop
+add-k c = search needs
+
+loop-less : tie.Need-loop-less Inv-loop μ-loop
+loop-less c = search needs
+
+loop-again : tie.Need-loop-again Inv-loop μ-loop
+loop-again c =
+    let p = c .before .before in
+    let t = p .before .before .before .before in
+    walking-step (t .before .loop .inv) (t .loop-test .taken) _ _ (dated-puts _ _ (p .put-dated-item .ensures))
+
+same-length : tie.Need-same-length Inv-loop μ-loop
+same-length c = walking-size (c .before .loop .inv)
+
+returns : tie.Need-returns Inv-loop μ-loop
+returns c =
+    let w = c .before .loop .inv in
+    (omega (arith, walking-near w refl), λ x q i f. walking-end w (c .loop-test .left) x dateKind q (refl, i) f)
+
+pub put-dated-items-spec : {M : Type 1} → statement M
+put-dated-items-spec =
+    tie.close
+    (tie.spec
+    Inv-loop
+    μ-loop
+    loop-holds
+    mul-i
+    add-j
+    mul-put-dated-item
+    shared-slice-read-put-dated-item
+    mul-put-dated-item-2
+    shared-slice-read-put-dated-item-2
+    put-dated-item-requires
+    add-k
+    loop-less
+    loop-again
+    same-length
+    returns)
