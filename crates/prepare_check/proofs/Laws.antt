@@ -1,37 +1,26 @@
--- Laws of the lines that are written, and of the rooms that are lent.
+-- Laws of the lines that are written, and of the words that preparing reports.
 -- Assumes nothing.
-use Prim.Native.Nat.{ℕ, _+_, _≤_, _<_, max}
+use Prim.Native.Nat.{ℕ, _+_, _≤_, _<_}
 use native.Mathlib.Omega.{arith}
 use mathlib.Core.Path.{_≡_, ap}
 use mathlib.Core.Bool.{Bool, true, false}
-use mathlib.Core.List.{List, [], _∷_, _++_, map}
-use lib.ListN.{length, getD, take, drop, length-append, length-drop}
-use lib.Seq.{length-take-le}
+use mathlib.Core.List.{List, [], _∷_, _++_}
+use lib.ListN.{length, getD, drop}
 use lib.Dec.{leb}
 use borrow.Author.Tests.{leb-true}
 use Rattle.answers.specs.declared.Prepared.{Prepared}
 use Rattle.lists.proofs.Bools.{cond-case}
-use Rattle.figures.specs.Digits.{width, numeral}
-use Rattle.figures.proofs.Digits.{digitUnits-length, width-most}
 use Rattle.formats.specs.Accept.{Accepted, sections, refusal, accept}
 use Rattle.tables.specs.Encode.{encode}
 use Rattle.tables.specs.Calls.{preparedAs, prepared}
 use Rattle.writing.specs.Put.{Put}
 use Rattle.writing.proofs.Laws.{drop-first, put-none}
-use Rattle.prepare_check.specs.Lines.{mark, spaced, spacedAll, lowByte}
-
--- ---- lengths: no numeral has more than 25 digits
-pub numeral-short : (n : ℕ) → length (numeral 1 n) ≤ 25
-unfolding numeral
-numeral-short n = omega (arith, digitUnits-length (max 1 (width n)) n, width-most n)
+use Rattle.prepare_check.specs.Lines.{mark, spaced, spacedAll}
 
 -- ---- the first of what is left
 pub all-first : (ws : List ℕ) (i : ℕ) → i < length ws → spacedAll (drop i ws) ≡ spaced (getD ws i 0) ++ spacedAll (drop (i + 1) ws)
 unfolding spacedAll
 all-first ws i h = ap spacedAll (drop-first ws i h)
-
-pub low-first : (us : List ℕ) (i : ℕ) → i < length us → map lowByte (drop i us) ≡ (lowByte (getD us i 0) ∷ []) ++ map lowByte (drop (i + 1) us)
-low-first us i h = ap (map lowByte) (drop-first us i h)
 
 -- ---- the words that preparing reports lie in the room
 words-as : (a : Accepted) (size : ℕ) → preparedAs a size .words ≤ size
@@ -43,10 +32,6 @@ words-as (sections ss) size =
 pub words-within : (code : List ℕ) (size : ℕ) (p : Prepared) → p ≡ prepared code size → p .words ≤ size
 unfolding prepared
 words-within code size p e = rw e (words-as (accept code) size)
-
--- ---- a room keeps its length when a part of it was lent
-pub back-length : (last room : List ℕ) (n : ℕ) → n ≤ length room → length last ≡ length (take n room) → length (last ++ drop n room) ≡ length room
-back-length last room n h e = omega (arith, length-append last (drop n room), length-drop n room, length-take-le n room h)
 
 -- ---- the mark
 pub mark-none : (l : List ℕ) (at : ℕ) (sound : Bool) → sound ≡ true → Put l at (mark sound) at l

@@ -1,6 +1,6 @@
 -- The line that is written for a code.
 -- Assumes nothing.
-use Prim.Native.Nat.{ℕ, _%_}
+use Prim.Native.Nat.{ℕ}
 use mathlib.Core.Bool.{Bool, true, false}
 use mathlib.Core.List.{List, [], _∷_, _++_}
 use lib.ListN.{length}
@@ -22,7 +22,3 @@ spacedAll (w ∷ ws) = spaced w ++ spacedAll ws
 unfoldable pub lineOf : Bool → ℕ → ℕ → List ℕ → List ℕ
 lineOf sound answer place words =
     mark sound ++ numeral 1 answer ++ spaced place ++ spaced (length words) ++ spacedAll words ++ (10 ∷ [])
-
--- the byte that a unit is written as
-abbrev pub lowByte : ℕ → ℕ
-lowByte u = u % 256

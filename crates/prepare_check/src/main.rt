@@ -2,17 +2,16 @@
 // A line begins with `!` where a word was changed that was to be kept, or where a table room one word too short was not refused.
 // The file stdout has what another implementation of document 01 gives.
 mod lines;
-mod runs;
 
 use answers::Prepared;
 use answers::number;
+use lexing::scan::Set;
+use lexing::scan::scan;
 use libc::STDIN_FILENO;
 use libc::STDOUT_FILENO;
 use lines::put_line;
-use runs::first_line;
-use runs::first_other;
-use runs::narrow;
-use runs::widen;
+use requests::bytes::narrow;
+use requests::bytes::put_bytes;
 ghost use mathlib.Core.Path.{_≡_};
 ghost use Prim.Native.Nat.{_≤_};
 ghost use lib.ListN.{length};
@@ -58,8 +57,8 @@ fn write_line(sound: bool, answer: u16, place: u32, words: &[u16])
     let mut line = line_room();
     let n = put_line(&mut line, sound, answer, place, words);
     let mut bytes = line_bytes();
-    let k = narrow(&line[..n], &mut bytes);
-    io::write_all(STDOUT_FILENO, &bytes[..k]);
+    narrow(&line[..n], &mut bytes);
+    io::write_all(STDOUT_FILENO, &bytes[..n]);
 }
 
 // Whether a table room one word too short is refused, and keeps its words.
@@ -72,7 +71,7 @@ fn refuses_short(code: &[u16], words: usize) -> bool
     let mut room = table_room();
     let p = preparing::prepare(code, &mut room[..words - 1]);
     let answer = p.answer;
-    let kept = first_other(&room, FILLING) == 557;
+    let kept = scan(&room, Set::Only(FILLING)) == 557;
     kept & (number(answer) == 7) & (p.place == 0) & (p.words == 0)
 }
 
@@ -82,7 +81,7 @@ fn report(code: &[u16], p: Prepared, table: &[u16])
 {
     let answer = p.answer;
     let n = p.words as usize;
-    let kept = first_other(&table[n..], FILLING) == table.len() - n;
+    let kept = scan(&table[n..], Set::Only(FILLING)) == table.len() - n;
     let sound = kept & refuses_short(code, n);
     write_line(sound, number(answer), p.place, &table[..n]);
 }
@@ -97,7 +96,7 @@ fn prepare_line(code: &[u16]) {
 fn prepare_lines(input: &[u16]) {
     let mut at = 0;
     while at < input.len() {
-        let n = first_line(&input[at..]);
+        let n = scan(&input[at..], Set::But(10));
         prepare_line(&input[at..at + n]);
         at += n + 1;
     }
@@ -111,6 +110,6 @@ fn main() {
         return;
     }
     let mut input = input_room();
-    let n = widen(&bytes[..got], &mut input);
-    prepare_lines(&input[..n]);
+    put_bytes(&mut input, 0, &bytes[..got]);
+    prepare_lines(&input[..got]);
 }

@@ -1,26 +1,25 @@
--- Laws of lines: tests of every unit, a line at a place of the input, bytes copied to units.
+-- Laws of lines: tests of every unit, a line at a place of the input, units as bytes.
 -- Assumes nothing.
 use Prim.Native.Nat.{ℕ, zero, suc, _+_, _-_, _≤_, _<_}
-use mathlib.Core.Path.{_≡_, sym, ap, _∙_, subst}
+use mathlib.Core.Path.{_≡_, sym, ap, _∙_}
 use mathlib.Core.Bool.{Bool, true, false, _&&_}
-use mathlib.Core.List.{List, [], _∷_}
+use mathlib.Core.List.{List, [], _∷_, _++_, map}
 use native.Mathlib.Omega.{arith}
 use native.Mathlib.Numerals.{add-one}
 use native.Mathlib.Nat.{add-sub-cancel-left, add-suc, sub-zero, zero-sub, suc-sub-suc}
-use native.Mathlib.Decide.{decLe}
 use borrow.Author.Tests.{lt-ltb, le-ltb, le-leb, lt-leb, leb-true}
 use lib.Dec.{leb, ltb}
-use lib.ListN.{length, take, drop, getD, length-drop, drop-of-length-le, take-append-drop}
-use lib.Seq.{drop-cons, drop-drop, length-take-le, take-nil, take-all, take-append-seam, sets, length-sets}
-use Rattle.lists.specs.Lists.{every, overlay}
+use lib.ListN.{length, take, drop, getD, length-drop, drop-of-length-le}
+use lib.Seq.{drop-cons, drop-drop, length-take-le, take-nil}
+use Rattle.lists.specs.Lists.{every}
 use Rattle.lists.proofs.Bools.{by-cases, and-left, and-right, true-T, T-true}
 use Rattle.formats.specs.Tokens.{before, leading, startsWith}
-use Rattle.writing.specs.Put.{Put, Rest}
-use Rattle.writing.proofs.Laws.{rest-put, rest-done, drop-first, sets-append, sets-out, sets-overlay}
+use Rattle.writing.proofs.Laws.{drop-first}
 use Rattle.lexing.specs.declared.scan.Set.the-variants.{But}
 use Rattle.lexing.specs.Scan.{member}
 use Rattle.formats.proofs.Lexing.{word-most}
 use Rattle.lexing.proofs.Scanning.{before-leading, rest-all}
+use Rattle.requests.specs.Bytes.{lowByte}
 use Rattle.requests.specs.Lines.{isAscii, isLine, missing, fieldOf}
 use Rattle.requests.specs.Reads.{partOf, Content}
 
@@ -116,32 +115,6 @@ module _ (input name : List ℕ) (at n : ℕ) (e : n ≡ before 10 (drop at inpu
         };
       }
 
--- ---- bytes copied to units
-pub widen-step : {l m o t : List ℕ} {s r : ℕ} (bytes : List ℕ) (i : ℕ) → Rest l s t m i (drop i bytes) → i < length bytes
-    → (u : ℕ) → u ≡ getD bytes i 0 → Put m i (u ∷ []) r o → Rest l s t o r (drop r bytes) × (r ≡ i + 1)
-widen-step {l} {m} {o} {t} {s} {r} bytes i x h u e p =
-    let next : r ≡ i + 1 = p .next in
-    (subst (λ (k : ℕ). Rest l s t o r (drop k bytes)) (sym next) (rest-put {p = u ∷ []} (rw (drop-first bytes i h, ← e) at x) p), next)
-
-pub widen-end : {l m t : List ℕ} {s : ℕ} (bytes : List ℕ) (i : ℕ) → Rest l s t m i (drop i bytes) → length bytes ≤ i → Put l s t i m
-widen-end bytes i x h = rest-done (rw (drop-of-length-le bytes {i = i} h) at x)
-
--- what of the bytes finds no room is left out
-pub widened : (room bytes out : List ℕ) {r : ℕ} → Put room 0 bytes r out → out ≡ overlay (take (length room) bytes) room
-widened room bytes out p =
-    elim (decLe (length bytes) (length room)) [
-      | yes h ↦ p .room ∙ sets-overlay room bytes h ∙ rw (take-all (length room) bytes h)
-      | no h ↦
-          let first : List ℕ = take (length room) bytes in
-          let size : length first ≡ length room = length-take-le (length room) bytes (omega arith) in
-          p .room
-          ∙ ap (sets room 0) (sym (take-append-drop (length room) bytes))
-          ∙ sets-append room 0 first (drop (length room) bytes)
-          ∙ sets-out (sets room 0 first) (0 + length first) (drop (length room) bytes) (omega (arith, length-sets room 0 first))
-          ∙ sets-overlay room first (omega arith)
-    ]
-
--- bytes that find room stand in front
-pub widened-whole : (room bytes : List ℕ) → length bytes ≤ length room → take (length bytes) (overlay (take (length room) bytes) room) ≡ bytes
-unfolding overlay
-widened-whole room bytes h = rw (take-all (length room) bytes h) (take-append-seam bytes (drop (length bytes) room))
+-- ---- units as bytes
+pub low-first : (us : List ℕ) (i : ℕ) → i < length us → map lowByte (drop i us) ≡ (lowByte (getD us i 0) ∷ []) ++ map lowByte (drop (i + 1) us)
+low-first us i h = ap (map lowByte) (drop-first us i h)

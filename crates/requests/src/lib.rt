@@ -1,4 +1,5 @@
 // Reads the program's three lines: a code, the kind of a value, and the value.
+pub mod bytes;
 pub mod digits;
 pub mod lines;
 pub mod written;

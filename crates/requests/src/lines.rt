@@ -2,11 +2,10 @@
 use lexing::scan::Set;
 use lexing::scan::scan;
 use lexing::scan::starts_with;
-use writing::put_unit;
 ghost use mathlib.Core.Path.{_≡_};
 ghost use Prim.Native.Nat.{_≤_};
-ghost use lib.ListN.{length, take};
-ghost use Rattle.lists.specs.Lists.{every, overlay};
+ghost use lib.ListN.{length};
+ghost use Rattle.lists.specs.Lists.{every};
 ghost use Rattle.requests.specs.Lines.{isAscii, isLine};
 ghost use Rattle.requests.specs.Reads.{LineAt};
 
@@ -20,22 +19,6 @@ pub struct Part {
 pub enum Line {
     Content(Part),
     Malformed,
-}
-
-fn wide(b: u8) -> u16
-    ensures { λ r. ⌜ r ≡ b ⌝ }
-{
-    b as u16
-}
-
-// Copies bytes to units, as many as the room holds.
-pub fn widen(bytes: &[u8], room: &mut [u16])
-    ensures { λ _. ⌜ now (room .exit) ≡ overlay (take (length (now (room .entry))) (now (bytes .entry))) (now (room .entry)) ⌝ }
-{
-    let mut i: usize = 0;
-    while i < bytes.len() {
-        i = put_unit(room, i, wide(bytes[i]));
-    }
 }
 
 // Every unit is ASCII.

@@ -2,11 +2,12 @@
 -- Assumes nothing.
 use Prim.Native.Nat.{ℕ, _+_, _≤_, min}
 use native.Mathlib.Omega.{arith}
+use native.Mathlib.Decide.{decLe}
 use mathlib.Core.Path.{_≡_, ap, _∙_}
 use mathlib.Core.Bool.{true, not, _&&_}
 use mathlib.Core.List.{List, [], _∷_, _++_}
-use lib.ListN.{length, take, drop, length-append, length-take}
-use lib.Seq.{take-append-seam}
+use lib.ListN.{length, take, length-append}
+use lib.Seq.{take-all, take-at, take-append-seam, length-take-le}
 use lib.Dec.{leb}
 use borrow.Author.Tests.{leb-true, le-leb}
 use Rattle.answers.specs.declared.Answer.{Answer}
@@ -30,6 +31,8 @@ use Rattle.formats.specs.Text.{sectionUnits}
 use Rattle.formats.specs.Accept.{Accepted, sections, refusal, accept}
 use Rattle.formats.specs.Reading.{Reading, refused, within, takesNumber, takesInstant, showsGeneral, instantContext, textContext, numberUnits, readNumber, readInstant, readText, readValue, reading}
 use Rattle.tables.specs.Calls.{written}
+use Rattle.writing.specs.Put.{Put}
+use Rattle.writing.proofs.Laws.{sets-overlay}
 use Rattle.writing.proofs.Numerals.{numeral-short}
 use Rattle.requests.specs.Request.{Request, malformed, request, requestOf}
 use Rattle.requests.proofs.Prefixes.{request-prefix}
@@ -115,25 +118,29 @@ pub response-prefix : (input : List ℕ) (n : ℕ) → 6148 ≤ n → responseOf
 unfolding responseOf
 response-prefix input n h = ap (λ (q : Request). fourLines (outcomeOf q)) (request-prefix input n h)
 
--- the bytes in front of a room that took as many as it holds
-pub read-prefix : (bytes old room : List ℕ) (n m : ℕ) → 6148 ≡ m → m ≡ length old → room ≡ overlay (take (length old) bytes) old → n ≡ min (length bytes) m
-    → responseOf (take n room) ≡ responseOf bytes
-unfolding overlay
-read-prefix bytes old room n m e f g h =
-    let front : List ℕ = take (length old) bytes in
-    let size : n ≡ length front = h ∙ rw (length-take, ← f) (omega arith) in
-    ap responseOf (rw (g, size) (take-append-seam front (drop (length front) old))) ∙ response-prefix bytes (length old) (omega arith)
+-- the first bytes in a room of 6,148 units, and their answer in a room of 4,203
+module _ (bytes wide old : List ℕ) {units room : List ℕ} {n m r k : ℕ} (e : 6148 ≡ m) (f : m ≡ length wide) (g : n ≡ min (length bytes) m)
+    (p : Put wide 0 (take n bytes) r units) (size : 4203 ≡ length old) (s : k ≡ lengthIn (responseOf (take n units)) (length old))
+    (h : room ≡ written (responseOf (take n units)) old) where
+  front : take n units ≡ take n bytes
+  unfolding overlay
+  front =
+      let l : length (take n bytes) ≡ n = length-take-le n bytes (omega arith) in
+      rw (p .room ∙ sets-overlay wide (take n bytes) (omega arith)) (take-at (take n bytes) _ n l)
 
--- a room of 4,203 units takes every answer
-module _ (input old : List ℕ) {room : List ℕ} {k : ℕ} (size : length old ≡ 4203) (r : k ≡ lengthIn (responseOf input) (length old))
-    (h : room ≡ written (responseOf input) old) where
-  taken : leb (length (responseOf input)) (length old) ≡ true
-  taken = le-leb (length (responseOf input)) (length old) (omega (arith, response-short input))
+  same : responseOf (take n units) ≡ responseOf bytes
+  same =
+      ap responseOf front
+      ∙ elim (decLe (length bytes) n) [
+        | yes l ↦ ap responseOf (take-all n bytes l)
+        | no l ↦ response-prefix bytes n (omega arith)
+      ]
 
-  pub response-length : k ≡ length (responseOf input)
-  unfolding lengthIn
-  response-length = r ∙ rw taken
+  taken : leb (length (responseOf bytes)) (length old) ≡ true
+  taken = le-leb (length (responseOf bytes)) (length old) (omega (arith, response-short bytes))
 
-  pub response-front : take k room ≡ responseOf input
-  unfolding written overlay
-  response-front = rw (response-length, h, taken) (take-append-seam (responseOf input) _)
+  pub told : (k ≡ length (responseOf bytes)) × (take k room ≡ responseOf bytes)
+  unfolding lengthIn written overlay
+  told =
+      let l : k ≡ length (responseOf bytes) = s ∙ rw (same, taken) in
+      (l, rw (l, h, same, taken) (take-append-seam (responseOf bytes) _))

@@ -1,7 +1,7 @@
 -- What the program answers: "It tests 14 first and lends 557 table words and 4,096 text units", and it writes four lines. The
 -- answer is read off the code itself. A table has at most 557 words, so the one lent is never too short (7).
 -- Assumes nothing.
-use Prim.Native.Nat.{ℕ, _%_}
+use Prim.Native.Nat.{ℕ}
 use mathlib.Core.Bool.{cond}
 use mathlib.Core.List.{List, [], _∷_, _++_}
 use lib.ListN.{length}
@@ -60,7 +60,3 @@ responseOf input = fourLines (outcomeOf (requestOf input))
 -- how many units are written to a room that takes all of them or none
 unfoldable pub lengthIn : List ℕ → ℕ → ℕ
 lengthIn new size = cond (leb (length new) size) (length new) 0
-
--- the byte that a unit is written as; an ASCII unit is its own
-abbrev pub lowByte : ℕ → ℕ
-lowByte u = u % 256

@@ -5,7 +5,8 @@ use answers::Answer;
 use lines::write_lines;
 use preview::preview;
 use requests::RequestRead;
-use requests::lines::widen;
+use requests::bytes::narrow;
+use requests::bytes::put_bytes;
 use requests::read_request;
 use values::Ask;
 ghost use mathlib.Core.Path.{_≡_};
@@ -14,7 +15,8 @@ ghost use Prim.Native.Nat.{min};
 ghost use lib.ListN.{length};
 ghost use Rattle.formats.specs.Accept.{accept};
 ghost use Rattle.tables.specs.Calls.{written};
-ghost use Rattle.responding.specs.Respond.{acceptedOutcome, fourLines, responseOf, lengthIn, lowByte};
+ghost use Rattle.requests.specs.Bytes.{lowByte};
+ghost use Rattle.responding.specs.Respond.{acceptedOutcome, fourLines, responseOf, lengthIn};
 
 // Rooms are made by functions of their own: only their lengths matter to the proofs.
 fn table_room() -> [u16; 557]
@@ -66,8 +68,15 @@ fn input_room() -> [u16; 6148]
     [0; 6148]
 }
 
-// No answer is longer.
+// No answer is longer (`response-short`).
 fn output_room() -> [u16; 4203]
+    ensures { λ r. ⌜ 4203 ≡ length r ⌝ }
+{
+    [0; 4203]
+}
+
+// The same in bytes, for the programs.
+pub fn output_bytes() -> [u8; 4203]
     ensures { λ r. ⌜ 4203 ≡ length r ⌝ }
 {
     [0; 4203]
@@ -79,31 +88,18 @@ fn at_most(n: usize, limit: usize) -> usize
     if n < limit { n } else { limit }
 }
 
-// Writes units as bytes where the room takes them.
-fn narrow(units: &[u16], room: &mut [u8]) -> usize
-    ensures size { λ r. ⌜ r ≡ lengthIn (now (units .entry)) (length (now (room .entry))) ⌝ }
-    ensures room { λ r. ⌜ now (room .exit) ≡ written (map lowByte (now (units .entry))) (now (room .entry)) ⌝ }
-{
-    if room.len() < units.len() {
-        return 0;
-    }
-    let mut i = 0;
-    while i < units.len() {
-        room[i] = (units[i] % 256) as u8;
-        i += 1;
-    }
-    i
-}
-
 // The same of bytes to bytes. Of a longer input the first 6,148 bytes are read: the rest changes no answer.
 pub fn respond_bytes(input: &[u8], out: &mut [u8]) -> usize
     ensures size { λ r. ⌜ r ≡ lengthIn (responseOf (now (input .entry))) (length (now (out .entry))) ⌝ }
     ensures out { λ r. ⌜ now (out .exit) ≡ written (map lowByte (responseOf (now (input .entry)))) (now (out .entry)) ⌝ }
 {
-    let mut wide = input_room();
-    widen(input, &mut wide);
     let n = at_most(input.len(), 6148);
+    let mut wide = input_room();
+    put_bytes(&mut wide, 0, &input[..n]);
     let mut lines = output_room();
     let k = respond(&wide[..n], &mut lines);
+    if out.len() < k {
+        return 0;
+    }
     narrow(&lines[..k], out)
 }

@@ -8,23 +8,10 @@ ghost use Rattle.writing.specs.Put.{Put};
 ghost use Rattle.responding.specs.Respond.{lineOf, fourLines, lengthIn};
 use answers::Answer;
 use answers::number;
+use requests::bytes::put_bytes;
 use writing::put_numeral;
 use writing::put_unit;
 use writing::put_units;
-
-// Puts bytes at `at`, each as a unit.
-fn put_bytes(room: &mut [u16], at: usize, bytes: &[u8]) -> usize
-    requires { ⌜ at + length (now bytes) < 2 ^ 62 ⌝ }
-    ensures { λ r. ⌜ Put (now (room .entry)) at (now (bytes .entry)) r (now (room .exit)) ⌝ }
-{
-    let mut o = at;
-    let mut i = 0;
-    while i < bytes.len() {
-        o = put_unit(room, o, bytes[i] as u16);
-        i += 1;
-    }
-    o
-}
 
 // Puts a line with a number.
 fn put_number(room: &mut [u16], at: usize, name: &[u8], n: u64) -> usize

@@ -1,6 +1,7 @@
 // Answers the request on standard input: three lines, a code, a kind and a value.
 use libc::STDIN_FILENO;
 use libc::STDOUT_FILENO;
+use responding::output_bytes;
 use responding::respond_bytes;
 ghost use mathlib.Core.Path.{_≡_};
 ghost use lib.ListN.{length};
@@ -11,13 +12,6 @@ fn input_bytes() -> [u8; 6148]
     ensures { λ r. ⌜ 6148 ≡ length r ⌝ }
 {
     [0; 6148]
-}
-
-// No answer is longer (`response-short`).
-fn output_bytes() -> [u8; 4203]
-    ensures { λ r. ⌜ 4203 ≡ length r ⌝ }
-{
-    [0; 4203]
 }
 
 fn main() {

@@ -2,23 +2,17 @@
 // as they fall inside its narrowing, and others. The file stdout has what another implementation of document 01 gives.
 use libc::STDIN_FILENO;
 use libc::STDOUT_FILENO;
+use responding::output_bytes;
 use responding::respond_bytes;
 ghost use mathlib.Core.Path.{_≡_};
 ghost use Prim.Native.Nat.{_≤_, _<_};
 ghost use lib.ListN.{length};
 
-// Rooms are made by functions of their own: only their lengths matter to the proofs. One byte more than is taken, to see that
-// there is no more.
+// One byte more than is taken, to see that there is no more.
 fn input_bytes() -> [u8; 65537]
     ensures { λ r. ⌜ 65537 ≡ length r ⌝ }
 {
     [0; 65537]
-}
-
-fn output_bytes() -> [u8; 4203]
-    ensures { λ r. ⌜ 4203 ≡ length r ⌝ }
-{
-    [0; 4203]
 }
 
 // The place behind the line that starts at `at`, with its line feed where it has one.

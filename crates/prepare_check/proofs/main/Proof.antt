@@ -27,17 +27,17 @@ returns c = search needs
 input-room-requires : tie.Need-input-room-requires
 input-room-requires c κs = search needs
 
+slice-aggregate-put-bytes : tie.Need-slice-aggregate-put-bytes
+slice-aggregate-put-bytes c = search needs
+
 array-share-prefix-bytes : tie.Need-array-share-prefix-bytes
 array-share-prefix-bytes c = search needs
 
-slice-aggregate-widen : tie.Need-slice-aggregate-widen
-slice-aggregate-widen c = search needs
+slice-aggregate-put-bytes-2 : tie.Need-slice-aggregate-put-bytes-2
+slice-aggregate-put-bytes-2 c = search needs
 
-slice-aggregate-widen-2 : tie.Need-slice-aggregate-widen-2
-slice-aggregate-widen-2 c = search needs
-
-widen-requires : tie.Need-widen-requires
-widen-requires c κs = search needs
+put-bytes-requires : tie.Need-put-bytes-requires
+put-bytes-requires c κs = search needs
 
 array-share-prefix-input : tie.Need-array-share-prefix-input
 array-share-prefix-input c = search needs
@@ -62,10 +62,10 @@ main-spec =
     write-all-requires
     returns
     input-room-requires
+    slice-aggregate-put-bytes
     array-share-prefix-bytes
-    slice-aggregate-widen
-    slice-aggregate-widen-2
-    widen-requires
+    slice-aggregate-put-bytes-2
+    put-bytes-requires
     array-share-prefix-input
     slice-aggregate-prepare-lines
     prepare-lines-requires

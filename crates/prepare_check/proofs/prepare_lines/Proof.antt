@@ -15,20 +15,20 @@ abbrev μ-loop : tie.MeasureT-loop
 loop-holds : tie.Need-loop-holds Inv-loop μ-loop
 loop-holds c = search needs
 
-mul-first-line : tie.Need-mul-first-line Inv-loop μ-loop
-mul-first-line c = search needs
+mul-scan : tie.Need-mul-scan Inv-loop μ-loop
+mul-scan c = search needs
 
-sub-first-line : tie.Need-sub-first-line Inv-loop μ-loop
-sub-first-line c = search needs
+sub-scan : tie.Need-sub-scan Inv-loop μ-loop
+sub-scan c = search needs
 
-part-first-line-start : tie.Need-part-first-line-start Inv-loop μ-loop
-part-first-line-start c = search needs
+part-scan-start : tie.Need-part-scan-start Inv-loop μ-loop
+part-scan-start c = search needs
 
-part-first-line-end : tie.Need-part-first-line-end Inv-loop μ-loop
-part-first-line-end c = search needs
+part-scan-end : tie.Need-part-scan-end Inv-loop μ-loop
+part-scan-end c = search needs
 
-first-line-requires : tie.Need-first-line-requires Inv-loop μ-loop
-first-line-requires c κs = search needs
+scan-requires : tie.Need-scan-requires Inv-loop μ-loop
+scan-requires c κs = search needs
 
 add-prepare-line : tie.Need-add-prepare-line Inv-loop μ-loop
 add-prepare-line c = search needs
@@ -70,11 +70,11 @@ prepare-lines-spec =
     Inv-loop
     μ-loop
     loop-holds
-    mul-first-line
-    sub-first-line
-    part-first-line-start
-    part-first-line-end
-    first-line-requires
+    mul-scan
+    sub-scan
+    part-scan-start
+    part-scan-end
+    scan-requires
     add-prepare-line
     mul-prepare-line
     sub-prepare-line

@@ -1,10 +1,10 @@
 -- `prepare_check::refuses_short` is safe and ends.
 -- Assumes nothing.
-use Prim.Native.Nat.{_-_, _≤_}
+use Prim.Native.Nat.{_-_}
 use native.Mathlib.Omega.{arith}
 use mathlib.Core.Path.{sym, _∙_}
-use lib.ListN.{length, length-take}
-use Rattle.prepare_check.proofs.Laws.{back-length}
+use lib.ListN.{length-take}
+use lib.Seq.{length-front}
 use borrow.Author.Needs.{needs}
 use Rattle.prepare_check.proofs.refuses_short.Statement.{statement}
 use Rattle.prepare_check.proofs.refuses_short.Tie as tie
@@ -27,15 +27,14 @@ slice-aggregate-prepare c = simp length-take (omega arith)
 prepare-requires : tie.Need-prepare-requires
 prepare-requires c κs = search needs
 
-slice-aggregate-first-other : tie.Need-slice-aggregate-first-other
-slice-aggregate-first-other c =
+slice-aggregate-scan : tie.Need-slice-aggregate-scan
+slice-aggregate-scan c =
     let p = c .before .before in
     let room = p .before .before in
-    let h : room .before .before .before .args .words - 1 ≤ length (room .table-room .result) = omega arith in
-    room .table-room .ensures ∙ sym (back-length (p .prepare .last .1 .0) _ _ h (p .prepare .kept .1 .0))
+    room .table-room .ensures ∙ sym (length-front (room .table-room .result) (p .prepare .last .1 .0) (room .before .before .before .args .words - 1) (p .prepare .kept .1 .0))
 
-first-other-requires : tie.Need-first-other-requires
-first-other-requires c κs = search needs
+scan-requires : tie.Need-scan-requires
+scan-requires c κs = search needs
 
 number-requires : tie.Need-number-requires
 number-requires c κs = search needs
@@ -53,7 +52,7 @@ refuses-short-spec =
     array-borrow-prefix-room
     slice-aggregate-prepare
     prepare-requires
-    slice-aggregate-first-other
-    first-other-requires
+    slice-aggregate-scan
+    scan-requires
     number-requires
     returns-2)

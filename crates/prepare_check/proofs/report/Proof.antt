@@ -9,20 +9,20 @@ use Rattle.prepare_check.proofs.report.Tie as tie
 cast-n : tie.Need-cast-n
 cast-n c = search needs
 
-mul-first-other : tie.Need-mul-first-other
-mul-first-other c = search needs
+mul-scan : tie.Need-mul-scan
+mul-scan c = search needs
 
-sub-first-other : tie.Need-sub-first-other
-sub-first-other c = search needs
+sub-scan : tie.Need-sub-scan
+sub-scan c = search needs
 
-part-first-other-start : tie.Need-part-first-other-start
-part-first-other-start c = search needs
+part-scan-start : tie.Need-part-scan-start
+part-scan-start c = search needs
 
-part-first-other-end : tie.Need-part-first-other-end
-part-first-other-end c = search needs
+part-scan-end : tie.Need-part-scan-end
+part-scan-end c = search needs
 
-first-other-requires : tie.Need-first-other-requires
-first-other-requires c κs = search needs
+scan-requires : tie.Need-scan-requires
+scan-requires c κs = search needs
 
 sub-kept : tie.Need-sub-kept
 sub-kept c = search needs
@@ -47,11 +47,11 @@ report-spec =
     tie.close
     (tie.spec
     cast-n
-    mul-first-other
-    sub-first-other
-    part-first-other-start
-    part-first-other-end
-    first-other-requires
+    mul-scan
+    sub-scan
+    part-scan-start
+    part-scan-end
+    scan-requires
     sub-kept
     refuses-short-requires
     number-requires

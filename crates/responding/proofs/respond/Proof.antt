@@ -21,66 +21,42 @@ enum-known-code c = search needs
 mul-respond-to : tie.Need-mul-respond-to
 mul-respond-to c =
     let q = request-told _ _ (c .before .before .before .read-request .ensures) _ _ _ (c .before .code .given .1) in
-    let w = q .code-within in
-    let i = w .inside in
-    let o = w .ordered in
-    search needs
+    search (needs, q .code-within)
 
 sub-respond-to : tie.Need-sub-respond-to
 sub-respond-to c =
     let q = request-told _ _ (c .before .before .before .read-request .ensures) _ _ _ (c .before .code .given .1) in
-    let w = q .code-within in
-    let i = w .inside in
-    let o = w .ordered in
-    search needs
+    search (needs, q .code-within)
 
 part-respond-to-start : tie.Need-part-respond-to-start
 part-respond-to-start c =
     let q = request-told _ _ (c .before .before .before .read-request .ensures) _ _ _ (c .before .code .given .1) in
-    let w = q .code-within in
-    let i = w .inside in
-    let o = w .ordered in
-    search needs
+    search (needs, q .code-within)
 
 part-respond-to-end : tie.Need-part-respond-to-end
 part-respond-to-end c =
     let q = request-told _ _ (c .before .before .before .read-request .ensures) _ _ _ (c .before .code .given .1) in
-    let w = q .code-within in
-    let i = w .inside in
-    let o = w .ordered in
-    search needs
+    search (needs, q .code-within)
 
 mul-respond-to-2 : tie.Need-mul-respond-to-2
 mul-respond-to-2 c =
     let q = request-told _ _ (c .before .before .before .before .read-request .ensures) _ _ _ (c .before .before .code .given .1) in
-    let w = q .text-within in
-    let i = w .inside in
-    let o = w .ordered in
-    search needs
+    search (needs, q .text-within)
 
 sub-respond-to-2 : tie.Need-sub-respond-to-2
 sub-respond-to-2 c =
     let q = request-told _ _ (c .before .before .before .before .read-request .ensures) _ _ _ (c .before .before .code .given .1) in
-    let w = q .text-within in
-    let i = w .inside in
-    let o = w .ordered in
-    search needs
+    search (needs, q .text-within)
 
 part-respond-to-start-2 : tie.Need-part-respond-to-start-2
 part-respond-to-start-2 c =
     let q = request-told _ _ (c .before .before .before .before .read-request .ensures) _ _ _ (c .before .before .code .given .1) in
-    let w = q .text-within in
-    let i = w .inside in
-    let o = w .ordered in
-    search needs
+    search (needs, q .text-within)
 
 part-respond-to-end-2 : tie.Need-part-respond-to-end-2
 part-respond-to-end-2 c =
     let q = request-told _ _ (c .before .before .before .before .read-request .ensures) _ _ _ (c .before .before .code .given .1) in
-    let w = q .text-within in
-    let i = w .inside in
-    let o = w .ordered in
-    search needs
+    search (needs, q .text-within)
 
 respond-to-requires : tie.Need-respond-to-requires
 respond-to-requires c κs = search needs

@@ -1,31 +1,32 @@
 -- `responding::respond_bytes` meets its contract: 6,148 bytes decide what an input asks.
 -- Assumes nothing.
-use Prim.Native.Nat.{ℕ}
 use native.Mathlib.Omega.{arith}
-use mathlib.Core.Path.{refl, sym, ap, _∙_}
-use mathlib.Core.List.{List, map}
-use lib.ListN.{length, length-take}
-use lib.Seq.{length-take-le}
+use mathlib.Core.Path.{refl, _∙_}
+use mathlib.Core.List.{map}
+use lib.ListN.{length-take, length-map}
 use denote.Ref.{now}
-use Rattle.tables.specs.Calls.{written}
-use Rattle.responding.specs.Respond.{lengthIn, lowByte}
-use Rattle.responding.proofs.Whole.{fits-room}
-use Rattle.responding.proofs.Bounds.{read-prefix, response-front}
+use Rattle.requests.specs.Bytes.{lowByte}
+use Rattle.responding.specs.Respond.{responseOf}
+use Rattle.responding.proofs.Whole.{in-front, left-out, put-whole, low-length}
+use Rattle.responding.proofs.Bounds.{told}
 use borrow.Author.Needs.{needs}
 use Rattle.responding.proofs.respond_bytes.Statement.{statement}
 use Rattle.responding.proofs.respond_bytes.Tie as tie
 
+at-most-requires : tie.Need-at-most-requires
+at-most-requires c κs = search needs
+
 input-room-requires : tie.Need-input-room-requires
 input-room-requires c κs = search needs
 
-slice-aggregate-widen : tie.Need-slice-aggregate-widen
-slice-aggregate-widen c = search needs
+slice-aggregate-put-bytes : tie.Need-slice-aggregate-put-bytes
+slice-aggregate-put-bytes c = search needs
 
-widen-requires : tie.Need-widen-requires
-widen-requires c κs = search needs
+slice-aggregate-put-bytes-2 : tie.Need-slice-aggregate-put-bytes-2
+slice-aggregate-put-bytes-2 c = simp length-take (omega arith)
 
-at-most-requires : tie.Need-at-most-requires
-at-most-requires c κs = search needs
+put-bytes-requires : tie.Need-put-bytes-requires
+put-bytes-requires c κs = simp length-take (omega arith)
 
 output-room-requires : tie.Need-output-room-requires
 output-room-requires c κs = search needs
@@ -42,53 +43,65 @@ slice-aggregate-respond-2 c = search needs
 respond-requires : tie.Need-respond-requires
 respond-requires c κs = search needs
 
+returns : tie.Need-returns
+returns c =
+    let r = c .before .before in
+    let o = r .before .before .before in
+    let p = o .before .before in
+    let i = p .before .before .before in
+    let m = i .before in
+    let a = m .before .before .before .args in
+    let t = told (now (a .input)) _ _ refl (i .input-room .ensures) (m .at-most .ensures) (p .put-bytes .ensures) (o .output-room .ensures) (r .respond .ensures .0) (r .respond .ensures .1) in
+    let w = left-out (now (a .out)) (map lowByte (responseOf (now (a .input)))) (rw (length-map (responseOf (now (a .input))) lowByte) (omega (arith, t .0, c .if1 .taken))) in
+    (w .0 ∙ low-length _ _, w .1)
+
 array-share-prefix-lines : tie.Need-array-share-prefix-lines
 array-share-prefix-lines c =
-    let r = c .before .respond in
-    omega (arith, r .kept .1 .0, fits-room _ _ (r .ensures .0))
+    let r = c .before .before .respond in
+    in-front _ (r .last .1 .0) _ (r .ensures .0) (r .kept .1 .0) .0
 
 slice-aggregate-narrow : tie.Need-slice-aggregate-narrow
 slice-aggregate-narrow c =
-    let r = c .before .before .respond in
-    sym (length-take-le _ _ (omega (arith, r .kept .1 .0, fits-room _ _ (r .ensures .0))))
+    let r = c .before .before .before .respond in
+    in-front _ (r .last .1 .0) _ (r .ensures .0) (r .kept .1 .0) .1
 
 narrow-requires : tie.Need-narrow-requires
-narrow-requires c κs = search needs
+narrow-requires c κs = simp length-take (omega arith)
 
 same-length : tie.Need-same-length
 same-length c = search needs
 
-returns : tie.Need-returns
-returns c =
+returns-2 : tie.Need-returns-2
+returns-2 c =
     let w = c .before .before in
-    let r = w .before .before .before .before in
+    let e = w .before .before .before in
+    let r = e .before .before in
     let o = r .before .before .before in
-    let m = o .before in
-    let d = m .before .before in
-    let i = d .before .before in
-    let a = i .before .before .before .args in
-    let front = response-front _ _ (sym (o .output-room .ensures)) (r .respond .ensures .0) (r .respond .ensures .1) in
-    let same = read-prefix (now (a .input)) (i .input-room .result) _ _ _ refl (i .input-room .ensures) (d .widen .ensures) (m .at-most .ensures) in
-    let e = front ∙ same in (
-      w .narrow .ensures .0 ∙ ap (λ (us : List ℕ). lengthIn us (length (now (a .out)))) e,
-      w .narrow .ensures .1 ∙ ap (λ (us : List ℕ). written (map lowByte us) (now (a .out))) e,
-    )
+    let p = o .before .before in
+    let i = p .before .before .before in
+    let m = i .before in
+    let a = m .before .before .before .args in
+    let t = told (now (a .input)) _ _ refl (i .input-room .ensures) (m .at-most .ensures) (p .put-bytes .ensures) (o .output-room .ensures) (r .respond .ensures .0) (r .respond .ensures .1) in
+    let v = put-whole (now (a .out)) (map lowByte (responseOf (now (a .input)))) (rw (t .1) at (w .narrow .ensures)) (rw (length-map (responseOf (now (a .input))) lowByte) (omega (arith, t .0, e .if1 .left))) in
+    (v .0 ∙ low-length _ _, v .1)
 
 pub respond-bytes-spec : {M : Type 1} → statement M
 respond-bytes-spec =
     tie.close
     (tie.spec
-    input-room-requires
-    slice-aggregate-widen
-    widen-requires
     at-most-requires
+    input-room-requires
+    slice-aggregate-put-bytes
+    slice-aggregate-put-bytes-2
+    put-bytes-requires
     output-room-requires
     array-share-prefix-wide
     slice-aggregate-respond
     slice-aggregate-respond-2
     respond-requires
+    returns
     array-share-prefix-lines
     slice-aggregate-narrow
     narrow-requires
     same-length
-    returns)
+    returns-2)

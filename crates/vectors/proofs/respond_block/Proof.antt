@@ -1,9 +1,6 @@
 -- `vectors::respond_block` is safe and ends: the answer fits its room.
 -- Assumes nothing.
-use native.Mathlib.Omega.{arith}
-use mathlib.Core.Path.{sym}
-use lib.Seq.{length-take-le}
-use Rattle.responding.proofs.Whole.{fits-room}
+use Rattle.responding.proofs.Whole.{in-front}
 use borrow.Author.Needs.{needs}
 use Rattle.vectors.proofs.respond_block.Statement.{statement}
 use Rattle.vectors.proofs.respond_block.Tie as tie
@@ -20,12 +17,12 @@ respond-bytes-requires c κs = search needs
 array-share-prefix-output : tie.Need-array-share-prefix-output
 array-share-prefix-output c =
     let r = c .before .respond-bytes in
-    omega (arith, r .kept .1 .0, fits-room _ _ (r .ensures .0))
+    in-front _ (r .last .1 .0) _ (r .ensures .0) (r .kept .1 .0) .0
 
 slice-aggregate-write-all : tie.Need-slice-aggregate-write-all
 slice-aggregate-write-all c =
     let r = c .before .before .respond-bytes in
-    sym (length-take-le _ _ (omega (arith, r .kept .1 .0, fits-room _ _ (r .ensures .0))))
+    in-front _ (r .last .1 .0) _ (r .ensures .0) (r .kept .1 .0) .1
 
 write-all-requires : tie.Need-write-all-requires
 write-all-requires c κs = search needs

@@ -1,7 +1,7 @@
 -- `prepare_check::put_number` meets its contract.
 -- Assumes nothing.
 use native.Mathlib.Omega.{arith}
-use Rattle.prepare_check.proofs.Laws.{numeral-short}
+use Rattle.writing.proofs.Numerals.{numeral-short}
 use borrow.Author.Needs.{needs}
 use Rattle.prepare_check.proofs.lines.put_number.Statement.{statement}
 use Rattle.prepare_check.proofs.lines.put_number.Tie as tie
@@ -13,7 +13,7 @@ same-length : tie.Need-same-length
 same-length c = search needs
 
 returns : tie.Need-returns
-returns c = let e = c .before .before .put-numeral .ensures in (omega (arith, e .next, numeral-short (c .before .before .before .before .before .args .n)), e)
+returns c = let e = c .before .before .put-numeral .ensures in (omega (arith, e .next, numeral-short 1 (c .before .before .before .before .before .args .n) (omega arith)), e)
 
 pub put-number-spec : {M : Type 1} → statement M
 put-number-spec = tie.close (tie.spec put-numeral-requires same-length returns)

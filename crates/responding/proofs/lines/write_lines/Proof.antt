@@ -1,5 +1,6 @@
 -- `responding::lines::write_lines` meets its contract.
 -- Assumes nothing.
+use native.Mathlib.Omega.{arith}
 use Rattle.section_text.proofs.Fitting.{none}
 use Rattle.responding.proofs.Whole.{left-out, put-whole}
 use borrow.Author.Needs.{needs}
@@ -21,7 +22,7 @@ same-length c = search needs
 returns : tie.Need-returns
 returns c =
     let w = c .before .before .before .put-lines in
-    rw (none (w .last .0) (w .kept .0)) (left-out _ _ (w .ensures .1) (c .if1 .taken))
+    rw (none (w .last .0) (w .kept .0)) (left-out _ _ (omega (arith, w .ensures .1 .next, c .if1 .taken)))
 
 put-lines-requires-2 : tie.Need-put-lines-requires-2
 put-lines-requires-2 c κs = search needs
@@ -34,7 +35,7 @@ returns-2 c =
     let q = c .before .before in
     let i = q .before .before in
     let w = i .before .before .before .put-lines in
-    put-whole _ _ (w .ensures .1) (i .if1 .left) (rw (none (w .last .0) (w .kept .0)) at (q .put-lines2 .ensures .1))
+    put-whole _ _ (rw (none (w .last .0) (w .kept .0)) at (q .put-lines2 .ensures .1)) (omega (arith, w .ensures .1 .next, i .if1 .left))
 
 pub write-lines-spec : {M : Type 1} → statement M
 write-lines-spec =

@@ -1,4 +1,4 @@
--- `responding::lines::put_bytes` meets its contract.
+-- `requests::bytes::put_bytes` meets its contract.
 -- Assumes nothing.
 use Prim.Native.Nat.{_+_, _-_, _≤_}
 use native.Mathlib.Omega.{arith}
@@ -7,8 +7,8 @@ use lib.ListN.{length, drop, drop-of-length-le}
 use Rattle.writing.specs.Put.{Rest}
 use Rattle.writing.proofs.Laws.{drop-first, rest-start, rest-put, rest-done}
 use borrow.Author.Needs.{needs}
-use Rattle.responding.proofs.lines.put_bytes.Statement.{statement}
-use Rattle.responding.proofs.lines.put_bytes.Tie as tie
+use Rattle.requests.proofs.bytes.put_bytes.Statement.{statement}
+use Rattle.requests.proofs.bytes.put_bytes.Tie as tie
 
 abbrev Inv-loop : tie.InvT-loop
 Inv-loop room₀ at bytes o₀ i₀ room o i = Rest room₀ at bytes room o (drop i bytes) × (i ≤ length bytes) × (o ≤ at + i)

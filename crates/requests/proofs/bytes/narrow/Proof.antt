@@ -1,4 +1,4 @@
--- `prepare_check::narrow` meets its contract.
+-- `requests::bytes::narrow` meets its contract.
 -- Assumes nothing.
 use Prim.Native.Nat.{_≤_, _-_}
 use mathlib.Core.Path.{refl}
@@ -6,11 +6,11 @@ use mathlib.Core.List.{[], _∷_, map}
 use lib.ListN.{drop-of-length-le, length, drop}
 use Rattle.writing.specs.Put.{Rest}
 use Rattle.writing.proofs.Laws.{rest-put, rest-done}
-use Rattle.prepare_check.specs.Lines.{lowByte}
-use Rattle.prepare_check.proofs.Laws.{low-first}
+use Rattle.requests.specs.Bytes.{lowByte}
+use Rattle.requests.proofs.Lining.{low-first}
 use borrow.Author.Needs.{needs}
-use Rattle.prepare_check.proofs.runs.narrow.Statement.{statement}
-use Rattle.prepare_check.proofs.runs.narrow.Tie as tie
+use Rattle.requests.proofs.bytes.narrow.Statement.{statement}
+use Rattle.requests.proofs.bytes.narrow.Tie as tie
 
 abbrev Inv-loop : tie.InvT-loop
 Inv-loop units room₀ i₀ room i = Rest room₀ 0 (map lowByte units) room i (map lowByte (drop i units)) × (i ≤ length units)
@@ -50,8 +50,7 @@ same-length c = search needs
 returns : tie.Need-returns Inv-loop μ-loop
 returns c =
     let l = c .before .loop in
-    let e = l .inv .0 .size in
-    (search needs, rest-done (rw (drop-of-length-le _ (c .loop-test .left)) at (l .inv .0)))
+    rest-done (rw (drop-of-length-le _ (c .loop-test .left)) at (l .inv .0))
 
 pub narrow-spec : {M : Type 1} → statement M
 narrow-spec =
