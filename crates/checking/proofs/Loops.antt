@@ -10,6 +10,7 @@ use lib.ListN.{length, getD, drop, take, length-drop}
 use lib.Seq.{drop-drop, getD-drop, length-take-le}
 use lib.Dec.{eqb}
 use Rattle.lists.specs.Lists.{every}
+use Rattle.formats.specs.Minus.{exceptionA}
 use Rattle.tables.specs.Words.{Head, Entry, headAt, headsAt, entriesAt, rowsAt, headsIn, rowsIn, itemsSaid}
 use Rattle.tallies.specs.Tally.{entriesIn, tallyOf}
 use Rattle.checking.specs.declared.HeadWords.{HeadWords}
@@ -55,6 +56,12 @@ head-read ws a =
     let nought : a + 0 ≡ a = omega arith in
     rw (getD-drop a ws 0 0, getD-drop a ws 1 0, getD-drop a ws 2 0, getD-drop a ws 3 0, getD-drop a ws 4 0, getD-drop a ws 5 0, getD-drop a ws 6 0, getD-drop a ws 7 0, getD-drop a ws 8 0, getD-drop a ws 9 0, getD-drop a ws 10 0, getD-drop a ws 11 0, nought)
 
+pub items-read : (ws : List ℕ) (i : ℕ) → getD ws (12 + 12 * i) 0 ≡ headAt (drop (1 + 12 * i) ws) .items
+unfolding headAt
+items-read ws i =
+    let e : 12 + 12 * i ≡ 1 + 12 * i + 11 = omega arith in
+    ap (λ (k : ℕ). getD ws k 0) e ∙ sym (getD-drop (1 + 12 * i) ws 11 0)
+
 -- ---- the sum of the items
 pub record Summing (ws : List ℕ) (n i sum : ℕ) : Type 0 where
   pub sections : n ≡ getD ws 0 0
@@ -76,10 +83,9 @@ summing-start ws n e m l =
     }
 
 module _ (ws : List ℕ) (n i sum : ℕ) (inv : Summing ws n i sum) where
-  pub summing-step : (h : HeadWords) → i < n → headFrom h ≡ headAt (drop (1 + 12 * i) ws) → h .items ≤ 65535 → Summing ws n (i + 1) (sum + h .items)
+  pub summing-step : (items : ℕ) → i < n → items ≡ headAt (drop (1 + 12 * i) ws) .items → items ≤ 65535 → Summing ws n (i + 1) (sum + items)
   unfolding itemsSaid
-  summing-step h l e m =
-      let p : h .items ≡ headAt (drop (1 + 12 * i) ws) .items = ap (λ (x : Head). x .items) e in
+  summing-step items l p m =
       let q : itemsSaid (left ws n i) ≡ headAt (drop (1 + 12 * i) ws) .items + itemsSaid (left ws n (i + 1)) = ap itemsSaid (left-front ws n i l) in
       record {
         sections = inv .sections;
@@ -143,51 +149,57 @@ rowing-start ws n s e =
     }
 
 module _ (ws : List ℕ) (n i at : ℕ) (inv : Rowing ws n i at) where
-  -- the head of section i and its items are within
-  pub record Within (h : HeadWords) : Type 0 where
-    pub few : h .items ≤ 254
-    pub words : at + 2 * h .items ≤ length ws
-    pub said : itemsSaid (left ws n i) ≡ h .items + itemsSaid (left ws n (i + 1))
+  abbrev here : Head
+  here = headAt (drop (1 + 12 * i) ws)
 
-  pub within : (h : HeadWords) → i < n → headFrom h ≡ headAt (drop (1 + 12 * i) ws) → Within h
-  unfolding itemsSaid
-  within h l e =
-      let p : h .items ≡ headAt (drop (1 + 12 * i) ws) .items = ap (λ (x : Head). x .items) e in
-      let q : itemsSaid (left ws n i) ≡ headAt (drop (1 + 12 * i) ws) .items + itemsSaid (left ws n (i + 1)) = ap itemsSaid (left-front ws n i l) in
-      record {
-        few = omega (arith, inv .few, p, q);
-        words = omega (arith, inv .behind, p, q);
-        said = omega (arith, p, q);
-      }
+  -- the items of section i are within
+  pub record Within (items : ℕ) : Type 0 where
+    pub few : items ≤ 254
+    pub words : at + 2 * items ≤ length ws
+    pub said : itemsSaid (left ws n i) ≡ items + itemsSaid (left ws n (i + 1))
 
-  module _ (h : HeadWords) (l : i < n) (e : headFrom h ≡ headAt (drop (1 + 12 * i) ws)) where
+  module _ (l : i < n) where
+    pub within : (items : ℕ) → items ≡ here .items → Within items
+    unfolding itemsSaid
+    within items p =
+        let q : itemsSaid (left ws n i) ≡ here .items + itemsSaid (left ws n (i + 1)) = ap itemsSaid (left-front ws n i l) in
+        record {
+          few = omega (arith, inv .few, p, q);
+          words = omega (arith, inv .behind, p, q);
+          said = omega (arith, p, q);
+        }
+
     row-front : every rowGood (rowsIn ws)
-        ≡ cond (rowTold (headFrom h) (tallyOf (entriesIn (take (2 * h .items) (drop at ws)))))
-        (every rowGood (rowsAt (left ws n (i + 1)) (drop (at + 2 * h .items) ws))) false
+        ≡ cond (rowTold here (tallyOf (entriesIn (take (2 * here .items) (drop at ws)))))
+        (every rowGood (rowsAt (left ws n (i + 1)) (drop (at + 2 * here .items) ws))) false
     unfolding rowsAt every
     row-front =
-        let w : Within h = within h l e in
+        let w : Within (here .items) = within (here .items) refl in
         let d : length (drop at ws) ≡ length ws - at = length-drop at ws in
-        inv .same ∙ rw (left-front ws n i l, ← e, entries-part (h .items) (drop at ws) (omega arith), row-told (headFrom h) (entriesAt (h .items) (drop at ws)), drop-drop (2 * h .items) at ws)
+        inv .same ∙ rw (left-front ws n i l, entries-part (here .items) (drop at ws) (omega arith), row-told here (entriesAt (here .items) (drop at ws)), drop-drop (2 * here .items) at ws)
 
-    module _ (m : ℕ) (k : m ≡ 2 * h .items) (b : Bool) (r : b ≡ rowTold (headFrom h) (tallyOf (entriesIn (take m (drop at ws))))) where
-      told : rowTold (headFrom h) (tallyOf (entriesIn (take (2 * h .items) (drop at ws)))) ≡ b
-      told = sym (r ∙ rw k)
+    module _ (items : ℕ) (p : items ≡ here .items) (m : ℕ) (k : m ≡ 2 * items) (b : Bool) (r : b ≡ rowTold here (tallyOf (entriesIn (take m (drop at ws))))) where
+      told : rowTold here (tallyOf (entriesIn (take (2 * here .items) (drop at ws)))) ≡ b
+      told =
+          let j : m ≡ 2 * here .items = omega (arith, p, k) in
+          sym (r ∙ ap (λ (x : ℕ). rowTold here (tallyOf (entriesIn (take x (drop at ws))))) j)
 
-      pub rowing-step : b ≡ true → Rowing ws n (i + 1) (at + 2 * h .items)
-      rowing-step t =
-          let w : Within h = within h l e in
+      pub rowing-step : b ≡ true → Rowing ws n (i + 1) (at + 2 * items)
+      rowing-step v =
+          let w : Within items = within items p in
+          let moved : every rowGood (rowsAt (left ws n (i + 1)) (drop (at + 2 * here .items) ws)) ≡ every rowGood (rowsAt (left ws n (i + 1)) (drop (at + 2 * items) ws)) =
+          ap (λ (x : ℕ). every rowGood (rowsAt (left ws n (i + 1)) (drop (at + 2 * x) ws))) (sym p) in
           record {
             sized = inv .sized;
             sections = inv .sections;
             inside = omega arith;
             behind = omega (arith, inv .behind, w .said);
             few = omega (arith, inv .few, w .said);
-            same = row-front ∙ rw (told, t);
+            same = row-front ∙ rw (told, v) moved;
           }
 
       pub rowing-fails : b ≡ false → false ≡ every rowGood (rowsIn ws)
-      rowing-fails t = sym (row-front ∙ rw (told, t))
+      rowing-fails v = sym (row-front ∙ rw (told, v))
 
   pub rowing-end : n ≤ i → true ≡ every rowGood (rowsIn ws)
   unfolding every rowsAt
@@ -240,6 +252,10 @@ module _ (ws : List ℕ) (n i most : ℕ) (inv : Counting ws n i most) where
       omega (arith, inv .same, z)
 
 -- ---- where the sections stand
+if-true : (b : Bool) → cond b true false ≡ b
+if-true true = refl
+if-true false = refl
+
 pub record Placing (ws : List ℕ) (n most : ℕ) (firstHas : Bool) (i : ℕ) : Type 0 where
   pub sized : Sized ws
   pub sections : n ≡ getD ws 0 0
@@ -289,3 +305,17 @@ module _ (ws : List ℕ) (n most : ℕ) (firstHas : Bool) (i : ℕ) (inv : Placi
 pub placing-end : (ws : List ℕ) (n most : ℕ) (firstHas : Bool) (i : ℕ) → Placing ws n most firstHas i → n ≤ i → true ≡ placesFit (headsIn ws)
 unfolding placesFrom
 placing-end ws n most firstHas i inv l = sym (inv .same ∙ rw (left-end ws n i l))
+
+-- one section alone, of which exception (a) does not speak
+pub placing-alone : (ws : List ℕ) (n : ℕ) (h : HeadWords) → Sized ws → n ≡ getD ws 0 0 → n ≡ 1 → headFrom h ≡ headAt (drop 1 ws)
+    → placeFits 1 1 false 0 (headFrom h) ≡ placesFit (headsIn ws)
+unfolding placesFrom placeFits exceptionA
+placing-alone ws n h s e one f =
+    let most = countedHeads 0 (headsIn ws) in
+    let has = hasIn (headFrom h) in
+    let inv : Placing ws n most has 0 = placing-start ws n most h s e refl f in
+    let test : Bool = placeFits 1 1 false 0 (headFrom h) in
+    let ended : placesFrom n most has 1 (left ws n 1) ≡ true = rw (left-end ws n 1 (omega arith)) in
+    let whole : placesFit (headsIn ws) ≡ cond (placeFits n most has 0 (headFrom h)) (placesFrom n most has 1 (left ws n 1)) false =
+    place-front ws n most has 0 inv (omega arith) h f in
+    sym (whole ∙ rw (ended, one) (if-true test))

@@ -21,20 +21,20 @@ use Rattle.checking.specs.Checking.{agree, thousandsTold, shiftTold, der
 use Rattle.checking.proofs.Tests.{same-test, carry}
 
 -- the tests on a head and a tally as facts
-record Told (h : Head) (t : Tally) : Type 0 where
-  range : T (headInRange h)
-  condition : T (conditionFits h)
-  sound : T (t .sound)
-  items : T (itemsFitTold t)
-  fill : T (oneFillTold t)
-  within : T (withinTold t (thousandsTold (h .shift) t))
-  grouping : T (groupingTold t (groupedAt (h .flags)))
-  kind : T (eqb (h .kind) (kindTold t))
-  decimals : T (eqb (h .decimals) (decimalsTold t))
-  shift : T (shiftTold (h .shift) t)
-  half : T (agree (leb 4 (h .flags)) (t .halves))
+pub record Told (h : Head) (t : Tally) : Type 0 where
+  pub range : T (headInRange h)
+  pub condition : T (conditionFits h)
+  pub sound : T (t .sound)
+  pub items : T (itemsFitTold t)
+  pub fill : T (oneFillTold t)
+  pub within : T (withinTold t (thousandsTold (h .shift) t))
+  pub grouping : T (groupingTold t (groupedAt (h .flags)))
+  pub kind : T (eqb (h .kind) (kindTold t))
+  pub decimals : T (eqb (h .decimals) (decimalsTold t))
+  pub shift : T (shiftTold (h .shift) t)
+  pub half : T (agree (leb 4 (h .flags)) (t .halves))
 
-told : (h : Head) (t : Tally) → T (rowTold h t) → Told h t
+pub told : (h : Head) (t : Tally) → T (rowTold h t) → Told h t
 unfolding rowTold headTold itemsTold derivedTold
 told h t u =
     let a : T (headTold h) = and-left (headTold h) (itemsTold h t && derivedTold h t) u in
@@ -42,6 +42,14 @@ told h t u =
     let b : T (itemsTold h t) = and-left (itemsTold h t) (derivedTold h t) bc in
     let c : T (derivedTold h t) = and-right (itemsTold h t) (derivedTold h t) bc in
     search (and-left, and-right) depth 8
+
+pub told-back : (h : Head) (t : Tally) → Told h t → T (rowTold h t)
+unfolding rowTold headTold itemsTold derivedTold
+told-back h t f =
+    let a : T (headTold h) = and-in (headInRange h) (conditionFits h) (f .range) (f .condition) in
+    let b : T (itemsTold h t) = search and-in depth 8 in
+    let c : T (derivedTold h t) = search and-in depth 8 in
+    and-in (headTold h) (itemsTold h t && derivedTold h t) a (and-in (itemsTold h t) (derivedTold h t) b c)
 
 module _ (h : Head) (es : List Entry) where
   abbrev row : Row

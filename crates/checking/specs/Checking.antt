@@ -11,7 +11,7 @@ use Rattle.formats.specs.Where.{implies}
 use Rattle.formats.specs.Minus.{exceptionA}
 use Rattle.tables.specs.Words.{Head, Row, headsIn, itemsSaid, exactWords}
 use Rattle.tables.specs.Encode.{hasHalf}
-use Rattle.tables.specs.Decode.{itemsAt, groupedAt, thousandsAt}
+use Rattle.tables.specs.Decode.{wholeAt, millionthsAt, itemsAt, groupedAt, thousandsAt}
 use Rattle.tables.specs.Rules.{headInRange, conditionFits, shiftTells, rowFits}
 use Rattle.tallies.specs.declared.Tally.{Tally}
 use Rattle.tallies.specs.Tally.{kindTold, itemsFitTold, oneFillTold, withinTold, groupingTold, decimalsTold}
@@ -51,10 +51,17 @@ pub record Sized (ws : List ℕ) : Type 0 where
 
 -- ---- one section, by its head and the tally of its items
 -- a condition's words, whose numbers are read
-abbrev pub conditionWith : ℕ → ℕ → ℕ → ℕ → Bool
-conditionWith operator negative whole millionths =
-    implies (eqb operator 0) (eqb negative 0 && eqb whole 0 && eqb millionths 0)
+unfoldable pub comparedTold : ℕ → ℕ → ℕ → ℕ → Bool
+comparedTold operator negative whole millionths =
+    leb operator 6
+    && leb negative 1
+    && leb whole 999999999
+    && leb millionths 999999
+    && implies (eqb operator 0) (eqb negative 0 && eqb whole 0 && eqb millionths 0)
     && implies (eqb whole 0 && eqb millionths 0) (eqb negative 0)
+
+unfoldable pub conditionTold : Head → Bool
+conditionTold h = comparedTold (h .operator) (h .negative) (wholeAt h) (millionthsAt h)
 
 unfoldable pub thousandsTold : ℕ → Tally → ℕ
 thousandsTold shift t = cond (eqb (kindTold t) 2) (thousandsAt shift (t .percents)) 0
@@ -79,6 +86,39 @@ headTold h = headInRange h && conditionFits h
 unfoldable pub rowTold : Head → Tally → Bool
 rowTold h t = headTold h && (itemsTold h t && derivedTold h t)
 
+-- where no item belongs to a date-time section, none is elapsed and none is a half-day mark
+pub record Undated (t : Tally) : Type 0 where
+  pub elapsed : t .dates ≡ false → t .elapsed ≡ 0
+  pub hours : t .dates ≡ false → t .«elapsed_hours» ≡ false
+  pub minutes : t .dates ≡ false → t .«elapsed_minutes» ≡ false
+  pub seconds : t .dates ≡ false → t .«elapsed_seconds» ≡ false
+  pub short : t .dates ≡ false → t .short ≡ true
+  pub halves : t .dates ≡ false → t .halves ≡ false
+
+-- what is left to test of a number section, by the words of its head and the numbers of its tally
+unfoldable pub numberTold : ℕ → ℕ → ℕ → Bool → ℕ → ℕ → ℕ → ℕ → Bool
+numberTold shift flags decimals dates points integers places percents =
+    not dates
+    && leb points 1
+    && leb integers 20
+    && leb places 15
+    && leb percents 5
+    && eqb decimals places
+    && leb flags 3
+    && (not (groupedAt flags) || leb 2 integers)
+    && shiftTells shift percents
+
+-- of another section
+unfoldable pub otherTold : ℕ → ℕ → ℕ → Tally → Bool
+otherTold shift flags decimals t =
+    eqb shift 0
+    && eqb decimals 0
+    && leb flags 7
+    && groupingTold t (groupedAt flags)
+    && agree (leb 4 flags) (t .halves)
+    && withinTold t 0
+    && itemsFitTold t
+
 -- a row with its twelve-hour flag, the only flag besides grouping that its items tell
 unfoldable pub halfFits : Row → Bool
 halfFits r = agree (leb 4 (r .head .flags)) (hasHalf (itemsAt (r .entries)))
@@ -102,6 +142,14 @@ standsWith n i kind colour has =
 -- the flag of exception (a), of section i where `most` sections count
 abbrev pub minusWith : ℕ → ℕ → Bool → Bool → ℕ → Bool
 minusWith most i has firstHas flags = agree (eqb (flags / 2 % 2) 1) (exceptionA most i has firstHas)
+
+-- the same of a section with a condition that has no such flag, and of one without a condition
+unfoldable pub comparedStands : ℕ → ℕ → ℕ → Bool
+comparedStands n i kind = not (eqb kind 3) && (implies (eqb n 1) (eqb kind 1) && ltb i 2)
+
+unfoldable pub plainFits : ℕ → ℕ → Bool → ℕ → ℕ → ℕ → Bool → Bool
+plainFits n most firstHas i kind colour flag =
+    standsWith n i kind colour false && agree flag (exceptionA most i false firstHas)
 
 unfoldable pub placeFits : ℕ → ℕ → Bool → ℕ → Head → Bool
 placeFits n most firstHas i h =

@@ -1,20 +1,19 @@
 // Whether words are a table: every table rule, in one pass over the items.
 ghost use mathlib.Core.Path.{_≡_};
+ghost use mathlib.Core.Bool.{false};
 ghost use Prim.Native.Nat.{_+_, _*_, _≤_, _<_};
 ghost use lib.ListN.{length, getD, drop};
 ghost use Rattle.formats.specs.Minus.{exceptionA};
 ghost use Rattle.lists.specs.Lists.{every};
 ghost use Rattle.tables.specs.Words.{headAt, headsIn, rowsIn, itemsSaid};
 ghost use Rattle.tables.specs.Decode.{twoWords, thousandsAt};
-ghost use Rattle.tables.specs.Rules.{headInRange, shiftTells, passes};
+ghost use Rattle.tables.specs.Rules.{shiftTells, passes};
 ghost use Rattle.tallies.specs.Tally.{entriesIn, tallyOf};
-ghost use Rattle.checking.specs.Checking.{headFrom, agree, sized, Sized, conditionWith, thousandsTold, shiftTold, derivedTold, itemsTold, headTold, rowTold, rowGood, standsWith, placeFits, countedOne, countedHeads, placesFit};
+ghost use Rattle.checking.specs.Checking.{headFrom, agree, sized, Sized, comparedTold, conditionTold, numberTold, otherTold, rowTold, rowGood, comparedStands, plainFits, placeFits, countedOne, countedHeads, placesFit};
 use tallies::Tally;
-use tallies::decimals_word;
 use tallies::grouping_fits;
 use tallies::items_fit;
 use tallies::kind;
-use tallies::one_fill;
 use tallies::tally_words;
 use tallies::within;
 
@@ -56,6 +55,14 @@ fn head_at(table: &[u16], i: usize) -> HeadWords
     }
 }
 
+// How many items section i has.
+fn items_at(table: &[u16], i: usize) -> u16
+    requires { ⌜ (i ≤ 3) × (13 + 12 * i ≤ length (now table)) ⌝ }
+    ensures { λ r. ⌜ r ≡ headAt (drop (1 + 12 * i) (now (table .entry))) .items ⌝ }
+{
+    table[12 + 12 * i]
+}
+
 fn agree(a: bool, b: bool) -> bool
     ensures { λ r. ⌜ r ≡ agree a b ⌝ }
 {
@@ -69,37 +76,37 @@ fn number(low: u16, high: u16) -> u32
     low as u32 + 65536 * high as u32
 }
 
-fn in_range(h: HeadWords, whole: u32, millionths: u32) -> bool
-    requires { ⌜ (whole ≡ twoWords (h .«whole_low») (h .«whole_high»)) × (millionths ≡ twoWords (h .«millionths_low») (h .«millionths_high»)) ⌝ }
-    ensures { λ r. ⌜ r ≡ headInRange (headFrom h) ⌝ }
-{
-    (h.kind <= 4)
-        & (h.colour <= 56)
-        & (h.operator <= 6)
-        & (h.negative <= 1)
-        & (whole <= 999999999)
-        & (millionths <= 999999)
-        & (h.shift <= 25)
-        & (h.flags <= 7)
-        & (h.decimals <= 15)
-        & (h.items <= 254)
-}
-
 // No number without a comparison, no sign without a number.
-fn condition_fits(operator: u16, negative: u16, whole: u32, millionths: u32) -> bool
-    ensures { λ r. ⌜ r ≡ conditionWith operator negative whole millionths ⌝ }
+fn compared_fits(operator: u16, negative: u16, whole: u32, millionths: u32) -> bool
+    ensures { λ r. ⌜ r ≡ comparedTold operator negative whole millionths ⌝ }
 {
     let nothing = (whole == 0) & (millionths == 0);
-    (!(operator == 0) | ((negative == 0) & (whole == 0) & (millionths == 0)))
+    (operator <= 6)
+        & (negative <= 1)
+        & (whole <= 999999999)
+        & (millionths <= 999999)
+        & (!(operator == 0) | ((negative == 0) & (whole == 0) & (millionths == 0)))
         & (!nothing | (negative == 0))
 }
 
-fn head_fits(h: HeadWords) -> bool
-    ensures { λ r. ⌜ r ≡ headTold (headFrom h) ⌝ }
+// Most sections have no condition: then the numbers are not made.
+fn condition_fits(h: HeadWords) -> bool
+    ensures { λ r. ⌜ r ≡ conditionTold (headFrom h) ⌝ }
 {
-    let whole = number(h.whole_low, h.whole_high);
-    let millionths = number(h.millionths_low, h.millionths_high);
-    in_range(h, whole, millionths) & condition_fits(h.operator, h.negative, whole, millionths)
+    if h.operator == 0 {
+        return h.negative as u32
+            + h.whole_low as u32
+            + h.whole_high as u32
+            + h.millionths_low as u32
+            + h.millionths_high as u32
+            == 0;
+    }
+    compared_fits(
+        h.operator,
+        h.negative,
+        number(h.whole_low, h.whole_high),
+        number(h.millionths_low, h.millionths_high),
+    )
 }
 
 // The dividing commas that a shift tells beside the percents.
@@ -114,62 +121,123 @@ fn thousands_at(shift: u16, percents: u16) -> u16
     0
 }
 
+// Most number sections have neither percents nor dividing commas.
 fn shift_tells(shift: u16, percents: u16) -> bool
     ensures { λ r. ⌜ r ≡ shiftTells shift percents ⌝ }
 {
+    if (shift == 15) & (percents == 0) {
+        return true;
+    }
     let t = thousands_at(shift, percents);
     (t <= 5) & (shift as u32 + 3 * t as u32 == 15 + 2 * percents as u32)
 }
 
-// Only a number section divides.
-fn thousands(shift: u16, t: Tally) -> u16
-    ensures { λ r. ⌜ r ≡ thousandsTold shift t ⌝ }
+// What is left to test of a number section, by the words of its head and what its items tell. Each is passed by itself:
+// what is not asked for is not read.
+fn number_fits(
+    shift: u16,
+    flags: u16,
+    decimals: u16,
+    dates: bool,
+    points: u16,
+    integers: u16,
+    places: u16,
+    percents: u16,
+) -> bool
+    ensures { λ r. ⌜ r ≡ numberTold shift flags decimals dates points integers places percents ⌝ }
 {
-    if kind(t) == 2 {
-        return thousands_at(shift, t.percents);
+    if dates {
+        return false;
     }
-    0
-}
-
-fn shift_fits(shift: u16, t: Tally) -> bool
-    ensures { λ r. ⌜ r ≡ shiftTold shift t ⌝ }
-{
-    if kind(t) == 2 {
-        return shift_tells(shift, t.percents);
+    if 1 < points {
+        return false;
     }
-    shift == 0
+    if 20 < integers {
+        return false;
+    }
+    if 15 < places {
+        return false;
+    }
+    if 5 < percents {
+        return false;
+    }
+    if !(decimals == places) {
+        return false;
+    }
+    if 3 < flags {
+        return false;
+    }
+    if (flags % 2 == 1) & (integers < 2) {
+        return false;
+    }
+    shift_tells(shift, percents)
 }
 
-// The words that follow from the items: kind, decimals, shift and the twelve-hour flag.
-fn derived_fit(h: HeadWords, t: Tally) -> bool
-    ensures { λ r. ⌜ r ≡ derivedTold (headFrom h) t ⌝ }
+// What is left to test of a section of another kind.
+fn other_fits(shift: u16, flags: u16, decimals: u16, t: Tally) -> bool
+    ensures { λ r. ⌜ r ≡ otherTold shift flags decimals t ⌝ }
 {
-    let same = h.kind == kind(t);
-    let decimals = h.decimals == decimals_word(t);
-    let shift = shift_fits(h.shift, t);
-    let halves = agree(4 <= h.flags, t.halves);
-    same & (decimals & (shift & halves))
+    if !(shift == 0) {
+        return false;
+    }
+    if !(decimals == 0) {
+        return false;
+    }
+    if 7 < flags {
+        return false;
+    }
+    if !grouping_fits(t, flags % 2 == 1) {
+        return false;
+    }
+    if !agree(4 <= flags, t.halves) {
+        return false;
+    }
+    if !within(t, 0) {
+        return false;
+    }
+    items_fit(t)
 }
 
-fn section_items_fit(h: HeadWords, t: Tally) -> bool
-    ensures { λ r. ⌜ r ≡ itemsTold (headFrom h) t ⌝ }
+// The rules for section i that do not speak of where it stands. A word that another word or the items tell is in its range
+// where they are. The head is read again behind the items: what is kept over a call costs more than a second reading.
+fn row_fits(table: &[u16], i: usize, items: &[u16]) -> bool
+    requires { ⌜ (i ≤ 3) × (13 + 12 * i ≤ length (now table)) × (length (now items) ≤ 508) × (headAt (drop (1 + 12 * i) (now table)) .items ≤ 254) ⌝ }
+    ensures { λ r. ⌜ r ≡ rowTold (headAt (drop (1 + 12 * i) (now (table .entry)))) (tallyOf (entriesIn (now (items .entry)))) ⌝ }
 {
-    let fit = items_fit(t);
-    let fills = one_fill(t);
-    let limits = within(t, thousands(h.shift, t));
-    let grouping = grouping_fits(t, h.flags % 2 == 1);
-    t.sound & (fit & (fills & (limits & grouping)))
-}
-
-// The rules for one section that do not speak of where it stands.
-fn row_fits(h: HeadWords, items: &[u16]) -> bool
-    requires { ⌜ length (now items) ≤ 508 ⌝ }
-    ensures { λ r. ⌜ r ≡ rowTold (headFrom h) (tallyOf (entriesIn (now (items .entry)))) ⌝ }
-{
+    let first = head_at(table, i);
+    if 56 < first.colour {
+        return false;
+    }
+    if !condition_fits(first) {
+        return false;
+    }
     let t = tally_words(items);
-    let head = head_fits(h);
-    let fit = section_items_fit(h, t);
-    head & (fit & derived_fit(h, t))
+    if !t.sound {
+        return false;
+    }
+    if 1 < t.fills {
+        return false;
+    }
+    let h = head_at(table, i);
+    if h.kind == 2 {
+        if !(kind(t) == 2) {
+            return false;
+        }
+        return number_fits(
+            h.shift,
+            h.flags,
+            h.decimals,
+            t.dates,
+            t.points,
+            t.integers,
+            t.decimals,
+            t.percents,
+        );
+    }
+    if !(h.kind == kind(t)) {
+        return false;
+    }
+    other_fits(h.shift, h.flags, h.decimals, t)
 }
 
 // The items of all heads.
@@ -180,8 +248,7 @@ fn items_said(table: &[u16], n: usize) -> usize
     let mut sum: usize = 0;
     let mut i: usize = 0;
     while i < n {
-        let h = head_at(table, i);
-        sum += h.items as usize;
+        sum += items_at(table, i) as usize;
         i += 1;
     }
     sum
@@ -218,9 +285,8 @@ fn rows_fit(table: &[u16]) -> bool
     let mut at = 1 + 12 * n;
     let mut i: usize = 0;
     while i < n {
-        let h = head_at(table, i);
-        let end = at + 2 * h.items as usize;
-        if !row_fits(h, &table[at..end]) {
+        let end = at + 2 * items_at(table, i) as usize;
+        if !row_fits(table, i, &table[at..end]) {
             return false;
         }
         at = end;
@@ -253,36 +319,57 @@ fn counted(table: &[u16], n: usize) -> u16
     most
 }
 
-// Where a section of a kind and a colour may stand, with a condition or without.
-fn stands(n: usize, i: usize, kind: u16, colour: u16, has: bool) -> bool
-    requires { ⌜ i ≤ 3 ⌝ }
-    ensures { λ r. ⌜ r ≡ standsWith n i kind colour has ⌝ }
+// Where a section with a condition may stand: first or second; not of text; alone only as General.
+fn compared_stands(n: usize, i: usize, kind: u16) -> bool
+    ensures { λ r. ⌜ r ≡ comparedStands n i kind ⌝ }
 {
-    let text = kind == 3;
-    let fourth = i == 3;
-    (!text | (i + 1 == n))
-        & (!((n == 1) & has) | (kind == 1))
-        & (!has | (i < 2))
-        & (!text | !has)
-        & (!fourth | (text | (kind == 1) | (kind == 0)))
-        & (!fourth | ((colour == 0) & !has))
+    !(kind == 3) & ((!(n == 1) | (kind == 1)) & (i < 2))
 }
 
-// Exception (a) of the added minus.
-fn excepted(most: u16, i: usize, has: bool, first_has: bool) -> bool
-    ensures { λ r. ⌜ r ≡ exceptionA most i has «first_has» ⌝ }
+// Exception (a) of the added minus, of the second section, which has no condition.
+fn excepted(most: u16, first_has: bool) -> bool
+    ensures { λ r. ⌜ r ≡ exceptionA most 1 false «first_has» ⌝ }
 {
-    (i == 1) & !has & ((most == 3) | ((most == 2) & !first_has))
+    (most == 3) | ((most == 2) & !first_has)
+}
+
+// Where a section without a condition may stand, with or without the flag of exception (a).
+fn plain_fits(
+    n: usize,
+    most: u16,
+    first_has: bool,
+    i: usize,
+    kind: u16,
+    colour: u16,
+    flag: bool,
+) -> bool
+    requires { ⌜ i ≤ 3 ⌝ }
+    ensures { λ r. ⌜ r ≡ plainFits n most «first_has» i kind colour flag ⌝ }
+{
+    if (kind == 3) & !(i + 1 == n) {
+        return false;
+    }
+    if i == 1 {
+        return agree(flag, excepted(most, first_has));
+    }
+    if i == 3 {
+        return !flag & (colour == 0) & ((kind == 3) | (kind == 1) | (kind == 0));
+    }
+    !flag
 }
 
 fn place_fits(n: usize, most: u16, first_has: bool, i: usize, h: HeadWords) -> bool
     requires { ⌜ i ≤ 3 ⌝ }
     ensures { λ r. ⌜ r ≡ placeFits n most «first_has» i (headFrom h) ⌝ }
 {
-    let has = !(h.operator == 0);
     let flag = h.flags / 2 % 2 == 1;
-    let minus = agree(flag, excepted(most, i, has, first_has));
-    stands(n, i, h.kind, h.colour, has) & minus
+    if h.operator == 0 {
+        return plain_fits(n, most, first_has, i, h.kind, h.colour, flag);
+    }
+    if flag {
+        return false;
+    }
+    compared_stands(n, i, h.kind)
 }
 
 // Where the sections stand, and the flags of exception (a).
@@ -291,6 +378,9 @@ fn places_fit(table: &[u16]) -> bool
     ensures { λ r. ⌜ r ≡ placesFit (headsIn (now (table .entry))) ⌝ }
 {
     let n = table[0] as usize;
+    if n == 1 {
+        return place_fits(1, 1, false, 0, head_at(table, 0));
+    }
     let most = counted(table, n);
     let first = head_at(table, 0);
     let first_has = !(first.operator == 0);

@@ -5,7 +5,7 @@ ghost use lib.ListN.{length};
 ghost use Rattle.values.specs.Ranges.{between};
 ghost use Rattle.formats.specs.Items.{meansMinutes, noRun};
 ghost use Rattle.tables.specs.Encode.{entry};
-ghost use Rattle.tallies.specs.Tally.{entriesIn, tallyOf, hasPlaces, hasNumberItems, kindTold, allowedTold, noPlainTold, itemsFitTold, oneFillTold, withinTold, groupingTold, decimalsTold};
+ghost use Rattle.tallies.specs.Tally.{entriesIn, tallyOf, hasPlaces, hasNumberItems, kindTold, allowedTold, noPlainTold, itemsFitTold, withinTold, groupingTold, decimalsTold};
 ghost use Rattle.tallies.specs.Walk.{runAt, lower, faultOf, tooLong, countedOf, datedOf, stepOf, startOf, finishedOf, withoutDates, Few, Weights};
 
 // What the items of a section tell together.
@@ -421,12 +421,6 @@ pub fn items_fit(t: Tally) -> bool
     ensures { λ r. ⌜ r ≡ itemsFitTold t ⌝ }
 {
     allowed(t) & ((t.generals <= 1) & ((t.points <= 1) & ((t.elapsed <= 1) & no_plain(t))))
-}
-
-pub fn one_fill(t: Tally) -> bool
-    ensures { λ r. ⌜ r ≡ oneFillTold t ⌝ }
-{
-    t.fills <= 1
 }
 
 pub fn within(t: Tally, thousands: u16) -> bool

@@ -4,7 +4,7 @@ use Prim.Native.Nat.{_-_}
 use native.Mathlib.Omega.{arith}
 use mathlib.Core.Path.{sym, _∙_, refl}
 use borrow.Author.Tests.{not-true, not-false}
-use Rattle.checking.proofs.Loops.{Placing, placing-start, placing-step, placing-fails, placing-end}
+use Rattle.checking.proofs.Loops.{Placing, placing-start, placing-step, placing-fails, placing-end, placing-alone}
 use borrow.Author.Needs.{needs}
 use Rattle.checking.proofs.places_fit.Statement.{statement}
 use Rattle.checking.proofs.places_fit.Tie as tie
@@ -21,23 +21,32 @@ shared-slice-read-n c = search needs
 cast-n : tie.Need-cast-n Inv-loop μ-loop
 cast-n c = search needs
 
-counted-requires : tie.Need-counted-requires Inv-loop μ-loop
-counted-requires c κs = search needs
-
 head-at-requires : tie.Need-head-at-requires Inv-loop μ-loop
 head-at-requires c κs = search needs
-
-loop-holds : tie.Need-loop-holds Inv-loop μ-loop
-loop-holds c = placing-start _ _ _ _ (c .before .before .before .before .before .pre) refl (c .before .before .counted .ensures) (c .before .head-at .ensures)
-
-head-at-requires-2 : tie.Need-head-at-requires-2 Inv-loop μ-loop
-head-at-requires-2 c κs = search needs
 
 place-fits-requires : tie.Need-place-fits-requires Inv-loop μ-loop
 place-fits-requires c κs = search needs
 
 returns : tie.Need-returns Inv-loop μ-loop
-returns c = placing-fails _ _ _ _ _ (c .before .before .before .before .loop .inv) (omega arith) _ (c .before .before .head-at2 .ensures) (sym (c .before .place-fits .ensures) ∙ not-true _ (c .if1 .taken))
+returns c = c .place-fits .ensures ∙ placing-alone _ _ _ (c .before .before .before .before .before .pre) refl (c .before .before .if1 .taken) (c .before .head-at .ensures)
+
+counted-requires : tie.Need-counted-requires Inv-loop μ-loop
+counted-requires c κs = search needs
+
+head-at-requires-2 : tie.Need-head-at-requires-2 Inv-loop μ-loop
+head-at-requires-2 c κs = search needs
+
+loop-holds : tie.Need-loop-holds Inv-loop μ-loop
+loop-holds c = placing-start _ _ _ _ (c .before .before .before .before .before .before .pre) refl (c .before .before .counted .ensures) (c .before .head-at2 .ensures)
+
+head-at-requires-3 : tie.Need-head-at-requires-3 Inv-loop μ-loop
+head-at-requires-3 c κs = search needs
+
+place-fits-requires-2 : tie.Need-place-fits-requires-2 Inv-loop μ-loop
+place-fits-requires-2 c κs = search needs
+
+returns-2 : tie.Need-returns-2 Inv-loop μ-loop
+returns-2 c = placing-fails _ _ _ _ _ (c .before .before .before .before .loop .inv) (omega arith) _ (c .before .before .head-at3 .ensures) (sym (c .before .place-fits2 .ensures) ∙ not-true _ (c .if2 .taken))
 
 add-i : tie.Need-add-i Inv-loop μ-loop
 add-i c = search needs
@@ -46,10 +55,10 @@ loop-less : tie.Need-loop-less Inv-loop μ-loop
 loop-less c = search needs
 
 loop-again : tie.Need-loop-again Inv-loop μ-loop
-loop-again c = placing-step _ _ _ _ _ (c .before .before .before .before .loop .inv) (omega arith) _ (c .before .before .head-at2 .ensures) (sym (c .before .place-fits .ensures) ∙ not-false _ (c .if1 .left))
+loop-again c = placing-step _ _ _ _ _ (c .before .before .before .before .loop .inv) (omega arith) _ (c .before .before .head-at3 .ensures) (sym (c .before .place-fits2 .ensures) ∙ not-false _ (c .if2 .left))
 
-returns-2 : tie.Need-returns-2 Inv-loop μ-loop
-returns-2 c = placing-end _ _ _ _ _ (c .before .loop .inv) (search needs)
+returns-3 : tie.Need-returns-3 Inv-loop μ-loop
+returns-3 c = placing-end _ _ _ _ _ (c .before .loop .inv) (search needs)
 
 pub places-fit-spec : {M : Type 1} → statement M
 places-fit-spec =
@@ -59,13 +68,16 @@ places-fit-spec =
     μ-loop
     shared-slice-read-n
     cast-n
-    counted-requires
     head-at-requires
-    loop-holds
-    head-at-requires-2
     place-fits-requires
     returns
+    counted-requires
+    head-at-requires-2
+    loop-holds
+    head-at-requires-3
+    place-fits-requires-2
+    returns-2
     add-i
     loop-less
     loop-again
-    returns-2)
+    returns-3)

@@ -1,33 +1,132 @@
 -- `checking::row_fits` meets its contract.
 -- Assumes nothing.
-use Rattle.checking.specs.Checking.{rowTold}
+use native.Mathlib.Omega.{arith}
+use mathlib.Core.Path.{refl, sym, _∙_, subst}
+use lib.Dec.{eqb→eq}
+use denote.Ref.{now}
+use borrow.Author.Tests.{eqb-true, eqb-false, not-true, not-false}
+use Rattle.tallies.specs.Tally.{entriesIn, tallyOf}
+use Rattle.checking.specs.Checking.{headFrom, Undated}
+use Rattle.checking.proofs.Tests.{carry}
+use Rattle.checking.proofs.Undated.{undated}
+use Rattle.checking.proofs.ByKind.{refused, colour-most, fills-most, condition-out, Front, row-number, row-other, rowed, items-few, colour-again, condition-again}
 use borrow.Author.Needs.{needs}
 use Rattle.checking.proofs.row_fits.Statement.{statement}
 use Rattle.checking.proofs.row_fits.Tie as tie
+use Rattle.checking.proofs.condition_fits.Reads as condition-fits-reads
+use Rattle.checking.proofs.head_at.Reads as head-at-reads
+use Rattle.checking.proofs.number_fits.Reads as number-fits-reads
+use Rattle.checking.proofs.other_fits.Reads as other-fits-reads
+use Rattle.tallies.proofs.kind.Reads as kind-reads
 use Rattle.tallies.proofs.tally_words.Reads as tally-words-reads
+
+head-at-requires : tie.Need-head-at-requires
+head-at-requires c κs = search needs
+
+returns : tie.Need-returns
+returns c =
+    rowed _ _ _ _ _ (c .before .before .head-at .ensures) refl
+    (refused (headFrom (c .before .before .head-at .result)) (tallyOf (entriesIn (now (c .before .before .before .before .before .args .items)))) (λ f. absurd (omega (arith, colour-most (headFrom (c .before .before .head-at .result)) (f .range)))))
+
+condition-fits-requires : tie.Need-condition-fits-requires
+condition-fits-requires c κs = search needs
+
+returns-2 : tie.Need-returns-2
+returns-2 c =
+    rowed _ _ _ _ _ (c .before .before .before .before .head-at .ensures) refl
+    (refused (headFrom (c .before .before .before .before .head-at .result)) (tallyOf (entriesIn (now (c .before .before .before .before .before .before .before .args .items)))) (λ f. carry (sym (c .before .condition-fits .ensures) ∙ not-true _ (c .if2 .taken)) (condition-out _ _ f)))
 
 tally-words-requires : tie.Need-tally-words-requires
 tally-words-requires c κs = search needs
 
-head-fits-requires : tie.Need-head-fits-requires
-head-fits-requires c κs = search needs
+returns-3 : tie.Need-returns-3
+returns-3 c =
+    rowed _ _ _ _ _ (c .before .before .before .before .before .before .before .head-at .ensures) (c .before .before .tally-words .ensures)
+    (refused (headFrom (c .before .before .before .before .before .before .before .head-at .result)) (c .before .before .tally-words .result) (λ f. carry {a = c .before .before .tally-words .result .sound} (not-true _ (c .if3 .taken)) (f .sound)))
 
-section-items-fit-requires : tie.Need-section-items-fit-requires
-section-items-fit-requires c κs = search needs
+returns-4 : tie.Need-returns-4
+returns-4 c =
+    rowed _ _ _ _ _ (c .before .before .before .before .before .before .before .before .before .head-at .ensures) (c .before .before .before .before .tally-words .ensures)
+    (refused (headFrom (c .before .before .before .before .before .before .before .before .before .head-at .result)) (c .before .before .before .before .tally-words .result) (λ f. let few = fills-most _ _ f in absurd (omega arith)))
 
-derived-fit-requires : tie.Need-derived-fit-requires
-derived-fit-requires c κs = search needs
+head-at-requires-2 : tie.Need-head-at-requires-2
+head-at-requires-2 c κs = search needs
 
-returns : tie.Need-returns
-unfolding rowTold
-returns c = rw (c .derived-fit .ensures, c .before .section-items-fit .ensures, c .before .before .head-fits .ensures, c .before .before .before .tally-words .ensures)
+kind-requires : tie.Need-kind-requires
+kind-requires c κs = search needs
+
+returns-5 : tie.Need-returns-5
+returns-5 c =
+    rowed _ _ _ _ _ (c .before .before .before .before .head-at2 .ensures) (c .before .before .before .before .before .before .before .before .before .tally-words .ensures)
+    (refused (headFrom (c .before .before .before .before .head-at2 .result)) (c .before .before .before .before .before .before .before .before .before .tally-words .result) (λ f. eqb-false _ _ (not-true _ (c .if6 .taken)) (c .before .kind .ensures ∙ sym (eqb→eq _ _ (f .kind)) ∙ c .before .before .if5 .taken)))
+
+number-fits-requires : tie.Need-number-fits-requires
+number-fits-requires c κs = search needs
+
+returns-6 : tie.Need-returns-6
+returns-6 c =
+    let front : Front (headFrom (c .before .before .before .before .before .head-at2 .result)) (c .before .before .before .before .before .before .before .before .before .before .tally-words .result) = record {
+      undated = subst Undated (sym (c .before .before .before .before .before .before .before .before .before .before .tally-words .ensures)) (undated (entriesIn (now (c .before .before .before .before .before .before .before .before .before .before .before .before .before .before .before .before .before .before .args .items))));
+      items = items-few _ _ (c .before .before .before .before .before .head-at2 .ensures) (c .before .before .before .before .before .before .before .before .before .before .before .before .before .before .before .before .before .before .pre .3);
+      a = search needs;
+      b = search needs;
+      c = search needs;
+      d = search needs;
+      sound = not-false _ (c .before .before .before .before .before .before .before .before .if3 .left);
+      colour = colour-again _ (c .before .before .before .before .before .before .before .before .before .before .before .before .before .before .before .head-at .result) _ (c .before .before .before .before .before .head-at2 .ensures) (c .before .before .before .before .before .before .before .before .before .before .before .before .before .before .before .head-at .ensures) (omega (arith, c .before .before .before .before .before .before .before .before .before .before .before .before .before .if1 .left));
+      fill = omega (arith, c .before .before .before .before .before .before .if4 .left);
+      condition = condition-again _ _ _ (c .before .before .before .before .before .head-at2 .ensures) (c .before .before .before .before .before .before .before .before .before .before .before .before .before .before .before .head-at .ensures) (sym (c .before .before .before .before .before .before .before .before .before .before .before .before .condition-fits .ensures) ∙ not-false _ (c .before .before .before .before .before .before .before .before .before .before .before .if2 .left));
+      kind = c .before .before .before .if5 .taken ∙ sym (sym (c .before .before .kind .ensures) ∙ eqb-true _ _ (not-false _ (c .before .if6 .left)));
+    } in
+    rowed _ _ _ _ _ (c .before .before .before .before .before .head-at2 .ensures) (c .before .before .before .before .before .before .before .before .before .before .tally-words .ensures)
+    (c .number-fits .ensures ∙ row-number _ _ (sym (c .before .before .kind .ensures) ∙ eqb-true _ _ (not-false _ (c .before .if6 .left))) front)
+
+kind-requires-2 : tie.Need-kind-requires-2
+kind-requires-2 c κs = search needs
+
+returns-7 : tie.Need-returns-7
+returns-7 c =
+    rowed _ _ _ _ _ (c .before .before .before .before .before .head-at2 .ensures) (c .before .before .before .before .before .before .before .before .before .before .tally-words .ensures)
+    (refused (headFrom (c .before .before .before .before .before .head-at2 .result)) (c .before .before .before .before .before .before .before .before .before .before .tally-words .result) (λ f. eqb-false _ _ (not-true _ (c .if7 .taken)) (eqb→eq _ _ (f .kind) ∙ sym (c .before .before .kind2 .ensures))))
+
+other-fits-requires : tie.Need-other-fits-requires
+other-fits-requires c κs = search needs
+
+returns-8 : tie.Need-returns-8
+returns-8 c =
+    let front : Front (headFrom (c .before .before .before .before .before .before .head-at2 .result)) (c .before .before .before .before .before .before .before .before .before .before .before .tally-words .result) = record {
+      undated = subst Undated (sym (c .before .before .before .before .before .before .before .before .before .before .before .tally-words .ensures)) (undated (entriesIn (now (c .before .before .before .before .before .before .before .before .before .before .before .before .before .before .before .before .before .before .before .args .items))));
+      items = items-few _ _ (c .before .before .before .before .before .before .head-at2 .ensures) (c .before .before .before .before .before .before .before .before .before .before .before .before .before .before .before .before .before .before .before .pre .3);
+      a = search needs;
+      b = search needs;
+      c = search needs;
+      d = search needs;
+      sound = not-false _ (c .before .before .before .before .before .before .before .before .before .if3 .left);
+      colour = colour-again _ (c .before .before .before .before .before .before .before .before .before .before .before .before .before .before .before .before .head-at .result) _ (c .before .before .before .before .before .before .head-at2 .ensures) (c .before .before .before .before .before .before .before .before .before .before .before .before .before .before .before .before .head-at .ensures) (omega (arith, c .before .before .before .before .before .before .before .before .before .before .before .before .before .before .if1 .left));
+      fill = omega (arith, c .before .before .before .before .before .before .before .if4 .left);
+      condition = condition-again _ _ _ (c .before .before .before .before .before .before .head-at2 .ensures) (c .before .before .before .before .before .before .before .before .before .before .before .before .before .before .before .before .head-at .ensures) (sym (c .before .before .before .before .before .before .before .before .before .before .before .before .before .condition-fits .ensures) ∙ not-false _ (c .before .before .before .before .before .before .before .before .before .before .before .before .if2 .left));
+      kind = (eqb-true _ _ (not-false _ (c .before .if7 .left)) ∙ c .before .before .before .kind2 .ensures);
+    } in
+    rowed _ _ _ _ _ (c .before .before .before .before .before .before .head-at2 .ensures) (c .before .before .before .before .before .before .before .before .before .before .before .tally-words .ensures)
+    (c .other-fits .ensures ∙ row-other _ _ (λ e. c .before .before .before .before .if5 .left ((eqb-true _ _ (not-false _ (c .before .if7 .left)) ∙ c .before .before .before .kind2 .ensures) ∙ e)) front)
 
 pub row-fits-spec : {M : Type 1} → statement M
 row-fits-spec =
     tie.close
     (tie.spec
+    head-at-requires
+    returns
+    condition-fits-requires
+    returns-2
     tally-words-requires
-    head-fits-requires
-    section-items-fit-requires
-    derived-fit-requires
-    returns)
+    returns-3
+    returns-4
+    head-at-requires-2
+    kind-requires
+    returns-5
+    number-fits-requires
+    returns-6
+    kind-requires-2
+    returns-7
+    other-fits-requires
+    returns-8)

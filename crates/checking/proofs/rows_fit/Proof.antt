@@ -32,8 +32,8 @@ add-at c = search needs
 loop-holds : tie.Need-loop-holds Inv-loop μ-loop
 loop-holds c = rowing-start _ _ (c .before .before .pre) refl
 
-head-at-requires : tie.Need-head-at-requires Inv-loop μ-loop
-head-at-requires c κs = search needs
+items-at-requires : tie.Need-items-at-requires Inv-loop μ-loop
+items-at-requires c κs = search needs
 
 cast-end : tie.Need-cast-end Inv-loop μ-loop
 cast-end c = search needs
@@ -54,20 +54,24 @@ part-row-fits-start : tie.Need-part-row-fits-start Inv-loop μ-loop
 part-row-fits-start c = search needs
 
 part-row-fits-end : tie.Need-part-row-fits-end Inv-loop μ-loop
-part-row-fits-end c = let w = within _ _ _ _ (c .before .before .before .loop .inv) _ (omega arith) (c .before .head-at .ensures) in search needs
+part-row-fits-end c = let w = within _ _ _ _ (c .before .before .loop .inv) (omega arith) _ (c .items-at .ensures) in search needs
 
 row-fits-requires : tie.Need-row-fits-requires Inv-loop μ-loop
 row-fits-requires c κs =
-    let w = within _ _ _ _ (c .before .before .before .before .loop .inv) _ (omega arith) (c .before .before .head-at .ensures) in
-    let at = c .before .before .before .before .loop .at in
-    let items = c .before .before .head-at .result .items in
-    part-short (at + 2 * items - at) (drop at (now (c .before .before .before .before .before .before .before .args .table))) items (w .few) (omega arith)
+    let w = within _ _ _ _ (c .before .before .before .loop .inv) (omega arith) _ (c .before .items-at .ensures) in
+    let at = c .before .before .before .loop .at in
+    let items = c .before .items-at .result in (
+      search needs,
+      search needs,
+      part-short (at + 2 * items - at) (drop at (now (c .before .before .before .before .before .before .args .table))) items (w .few) (omega arith),
+      within _ _ _ _ (c .before .before .before .loop .inv) (omega arith) _ refl .few,
+    )
 
 returns : tie.Need-returns Inv-loop μ-loop
 returns c =
-    let at = c .before .before .before .before .before .before .loop .at in
-    let items = c .before .before .before .before .head-at .result .items in
-    rowing-fails _ _ _ _ (c .before .before .before .before .before .before .loop .inv) _ (omega arith) (c .before .before .before .before .head-at .ensures) (at + 2 * items - at) (omega arith) _ (c .before .row-fits .ensures) (not-true _ (c .if1 .taken))
+    let at = c .before .before .before .before .before .loop .at in
+    let items = c .before .before .before .items-at .result in
+    rowing-fails _ _ _ _ (c .before .before .before .before .before .loop .inv) (omega arith) items (c .before .before .before .items-at .ensures) (at + 2 * items - at) (omega arith) _ (c .before .row-fits .ensures) (not-true _ (c .if1 .taken))
 
 add-i : tie.Need-add-i Inv-loop μ-loop
 add-i c = search needs
@@ -77,9 +81,9 @@ loop-less c = search needs
 
 loop-again : tie.Need-loop-again Inv-loop μ-loop
 loop-again c =
-    let at = c .before .before .before .before .before .before .loop .at in
-    let items = c .before .before .before .before .head-at .result .items in
-    rowing-step _ _ _ _ (c .before .before .before .before .before .before .loop .inv) _ (omega arith) (c .before .before .before .before .head-at .ensures) (at + 2 * items - at) (omega arith) _ (c .before .row-fits .ensures) (not-false _ (c .if1 .left))
+    let at = c .before .before .before .before .before .loop .at in
+    let items = c .before .before .before .items-at .result in
+    rowing-step _ _ _ _ (c .before .before .before .before .before .loop .inv) (omega arith) items (c .before .before .before .items-at .ensures) (at + 2 * items - at) (omega arith) _ (c .before .row-fits .ensures) (not-false _ (c .if1 .left))
 
 returns-2 : tie.Need-returns-2 Inv-loop μ-loop
 returns-2 c = rowing-end _ _ _ _ (c .before .loop .inv) (search needs)
@@ -95,7 +99,7 @@ rows-fit-spec =
     mul-at
     add-at
     loop-holds
-    head-at-requires
+    items-at-requires
     cast-end
     mul-end
     add-end

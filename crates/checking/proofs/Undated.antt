@@ -1,0 +1,81 @@
+-- Where no item belongs to a date-time section: no item is elapsed, and none is a half-day mark.
+-- Assumes nothing.
+use mathlib.Core.Path.{_≡_, refl}
+use mathlib.Core.Bool.{Bool, true, false, true≢false, cond}
+use mathlib.Core.List.{List, [], _∷_}
+use Rattle.lists.specs.Lists.{every, any, count}
+use Rattle.formats.specs.Tokens.{hours, minutes, seconds}
+use Rattle.formats.specs.Items.{Item, literal, blank, fill, place, point, percent, general, at, year, month, day, hour, minute, second, part, elapsed, half, itemBelongs, isElapsed, isHalf}
+use Rattle.formats.specs.Limits.{elapsedShort}
+use Rattle.tables.specs.Words.{Entry}
+use Rattle.tables.specs.Decode.{itemsAt}
+use Rattle.tallies.specs.Tally.{belongsDate, isElapsedOf, tallyOf}
+use Rattle.checking.specs.Checking.{Undated}
+
+record Plain (i : Item) : Type 0 where
+  runs : isElapsed i ≡ false
+  h : isElapsedOf hours i ≡ false
+  m : isElapsedOf minutes i ≡ false
+  s : isElapsedOf seconds i ≡ false
+  short : elapsedShort i ≡ true
+  mark : isHalf i ≡ false
+
+plain : (i : Item) → belongsDate i ≡ false → Plain i
+unfolding itemBelongs isElapsedOf elapsedShort
+plain (literal u) e = record { runs = refl; h = refl; m = refl; s = refl; short = refl; mark = refl }
+plain (blank u) e = record { runs = refl; h = refl; m = refl; s = refl; short = refl; mark = refl }
+plain (fill u) e = record { runs = refl; h = refl; m = refl; s = refl; short = refl; mark = refl }
+plain (place p) e = record { runs = refl; h = refl; m = refl; s = refl; short = refl; mark = refl }
+plain point e = record { runs = refl; h = refl; m = refl; s = refl; short = refl; mark = refl }
+plain percent e = record { runs = refl; h = refl; m = refl; s = refl; short = refl; mark = refl }
+plain general e = record { runs = refl; h = refl; m = refl; s = refl; short = refl; mark = refl }
+plain at e = record { runs = refl; h = refl; m = refl; s = refl; short = refl; mark = refl }
+plain (year n) e = absurd (true≢false e)
+plain (month n) e = absurd (true≢false e)
+plain (day n) e = absurd (true≢false e)
+plain (hour n) e = absurd (true≢false e)
+plain (minute n) e = absurd (true≢false e)
+plain (second n) e = absurd (true≢false e)
+plain (part n) e = absurd (true≢false e)
+plain (elapsed d n) e = absurd (true≢false e)
+plain (half h) e = absurd (true≢false e)
+
+record AllPlain (is : List Item) : Type 0 where
+  runs : count isElapsed is ≡ 0
+  h : any (isElapsedOf hours) is ≡ false
+  m : any (isElapsedOf minutes) is ≡ false
+  s : any (isElapsedOf seconds) is ≡ false
+  short : every elapsedShort is ≡ true
+  mark : any isHalf is ≡ false
+
+either-false : (a b : Bool) → cond a true b ≡ false → (a ≡ false) × (b ≡ false)
+either-false true b e = absurd (true≢false e)
+either-false false b e = (refl, e)
+
+all-plain : (is : List Item) → any belongsDate is ≡ false → AllPlain is
+unfolding any every count
+all-plain [] e = record { runs = refl; h = refl; m = refl; s = refl; short = refl; mark = refl }
+all-plain (i ∷ is) e =
+    let both = either-false (belongsDate i) (any belongsDate is) e in
+    let p : Plain i = plain i (both .0) in
+    let r : AllPlain is = all-plain is (both .1) in
+    record {
+      runs = rw (p .runs) (r .runs);
+      h = rw (p .h) (r .h);
+      m = rw (p .m) (r .m);
+      s = rw (p .s) (r .s);
+      short = rw (p .short) (r .short);
+      mark = rw (p .mark) (r .mark);
+    }
+
+pub undated : (es : List Entry) → Undated (tallyOf es)
+unfolding tallyOf
+undated es =
+    record {
+      elapsed = λ e. all-plain (itemsAt es) e .runs;
+      hours = λ e. all-plain (itemsAt es) e .h;
+      minutes = λ e. all-plain (itemsAt es) e .m;
+      seconds = λ e. all-plain (itemsAt es) e .s;
+      short = λ e. all-plain (itemsAt es) e .short;
+      halves = λ e. all-plain (itemsAt es) e .mark;
+    }
