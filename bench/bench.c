@@ -320,11 +320,11 @@ static void compare_texts(void)
 
 /* Tables */
 
-static void print_showing(void)
+static void print_showing(const char *numbers)
 {
     size_t at;
 
-    printf("Showing, nanoseconds a call (best / median of %d batches of %d calls)\n\n", ROUNDS, CALLS);
+    printf("Showing %s, nanoseconds a call (best / median of %d batches of %d calls)\n\n", numbers, ROUNDS, CALLS);
     printf("| code | room of %d | room of %d | plain C | to snprintf | to plain C |\n", ROOM, SHORT_ROOM);
     printf("|---|---|---|---|---|---|\n");
     for (at = 0; at < SPECIMENS; at++) {
@@ -413,18 +413,26 @@ static int write_plot(const char *path)
     return plot_write(path, &left, &right);
 }
 
+/* Times all jobs on values of a sort, where the library and the hand-written formatters agree on them. */
+static void measure_on(number_sort sort)
+{
+    make_values(sort);
+    compare_texts();
+    measure(jobs, JOBS);
+}
+
 int main(int count, char **arguments)
 {
     if (count != 2) {
         fprintf(stderr, "usage: bench PLOT.svg\n");
         return 2;
     }
-    make_values();
     prepare_codes();
-    compare_texts();
     make_jobs();
-    measure(jobs, JOBS);
-    print_showing();
+    measure_on(AMOUNTS);
+    print_showing("amounts");
+    measure_on(MIXED);
+    print_showing("mixed numbers");
     print_preparing();
     printf("How showing grows, nanoseconds a call (best / median)\n\n");
     print_growth("literal items", literal_counts, jobs + BY_LITERALS, jobs + BY_LITERALS_SHORT, LITERALS);

@@ -26,14 +26,14 @@ static int64_t ten_to(uint32_t power)
     return result;
 }
 
-/* Up to ten digits, at most four of them behind the point, either sign. */
-static void make_number(size_t at)
+/* Mixed numbers have up to ten digits, at most four of them behind the point; amounts up to eight, two of them. */
+static void make_number(size_t at, number_sort sort)
 {
-    int64_t most = ten_to(4 + (uint32_t)(random_bits() % 7));
+    int64_t most = ten_to(sort == AMOUNTS ? 8 : 4 + (uint32_t)(random_bits() % 7));
     int64_t magnitude = (int64_t)(random_bits() % (uint64_t)most);
 
     coefficients[at] = random_bits() % 2 ? -magnitude : magnitude;
-    scales[at] = (uint32_t)(random_bits() % 5);
+    scales[at] = sort == AMOUNTS ? 2 : (uint32_t)(random_bits() % 5);
     doubles[at] = (double)coefficients[at] / (double)ten_to(scales[at]);
 }
 
@@ -52,12 +52,12 @@ static void make_instant(size_t at)
     milliseconds[at] = (uint32_t)(random_bits() % 86400000);
 }
 
-void make_values(void)
+void make_values(number_sort sort)
 {
     size_t at;
 
     for (at = 0; at < CALLS; at++) {
-        make_number(at);
+        make_number(at, sort);
         make_instant(at);
     }
 }

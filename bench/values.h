@@ -11,6 +11,9 @@ extern uint32_t scales[CALLS];
 extern double doubles[CALLS]; /* the same numbers */
 extern uint32_t days[CALLS], milliseconds[CALLS];
 
-void make_values(void);
+/* Of either sign: of the size and the decimals of a sum of money, or of any size and number of decimals. */
+typedef enum { AMOUNTS, MIXED } number_sort;
+
+void make_values(number_sort sort);
 
 #endif
