@@ -40,6 +40,19 @@ abbrev pub millisecondOf : ℕ → MillisecondMade
 millisecondOf n =
     cond (between millisecondLeast millisecondGreatest n) (millisecond.Made (record { 0 = n })) millisecond.OutOfRange
 
+-- their numbers in the answer list: 0 done; 9 "the value is out of range"
+abbrev pub dayNumber : DayMade → ℕ
+dayNumber (day.Made d) = 0
+dayNumber day.OutOfRange = 9
+
+abbrev pub millisecondNumber : MillisecondMade → ℕ
+millisecondNumber (millisecond.Made m) = 0
+millisecondNumber millisecond.OutOfRange = 9
+
+-- the number of the answer to a value that is in its range or not
+abbrev pub rangeNumber : Bool → ℕ
+rangeNumber inside = cond inside 0 9
+
 -- "a signed coefficient of at most fifteen digits and a scale 0 to 15"
 abbrev pub numberInRange : Number → Bool
 numberInRange x = ltb (natAbs (x .coefficient)) (10 ^ 15) && leb (x .scale) 15
