@@ -1,24 +1,22 @@
 -- What preparing answers and leaves, from what examining told.
 -- Assumes nothing.
-use Prim.Native.Nat.{ℕ, zero, suc, _+_, _-_, _*_, _≤_, _<_}
+use Prim.Native.Nat.{ℕ, suc, _+_, _*_, _≤_, _<_}
 use native.Mathlib.Omega.{arith}
 use mathlib.Core.Path.{_≡_, refl, sym, _∙_, ap}
-use mathlib.Core.Bool.{Bool, true, false, cond, true≢false}
-use mathlib.Core.List.{List, [], _∷_, _++_, map}
+use mathlib.Core.Bool.{Bool, true}
+use mathlib.Core.List.{List, [], _∷_}
 use mathlib.Core.Option.{Option, none, some}
 use lib.ListN.{length, take, length-append, length-map}
 use lib.Seq.{sets, length-take-le}
-use lib.Dec.{leb, eqb}
-use borrow.Author.Tests.{le-leb, lt-leb, eq-eqb, ne-eqb, eqb-true}
+use borrow.Author.Tests.{le-leb, lt-leb}
 use Rattle.answers.specs.declared.Answer.{Answer}
 use Rattle.answers.specs.declared.Answer.the-variants as answer
-use Rattle.answers.specs.declared.Prepared.{Prepared}
-use Rattle.answers.specs.Number.{numberOf, refusedPrepared}
+use Rattle.answers.specs.Number.{refusedPrepared}
 use Rattle.lists.specs.Lists.{All, overlay, firstFailing}
 use Rattle.lists.proofs.Bools.{by-cases}
 use Rattle.formats.specs.Kinds.{Parts, sectionOf}
 use Rattle.formats.specs.Limits.{withinLimits}
-use Rattle.formats.specs.Accept.{partsIn, sectionsIn, Verdict, fine, refused, sectionVerdict, limitVerdict, verdict, Accepted, sections, refusal, acceptedBy, accept}
+use Rattle.formats.specs.Accept.{partsIn, sectionsIn, fine, refused, sectionVerdict, limitVerdict, verdict, sections, acceptedBy, accept}
 use Rattle.formats.proofs.First.{verdict-fine}
 use Rattle.formats.proofs.ItemCount.{section-count}
 use Rattle.tables.specs.Words.{headWords}
@@ -26,10 +24,11 @@ use Rattle.tables.specs.Encode.{encode}
 use Rattle.tables.specs.Calls.{wordsOf, tableOf, preparedAs, prepared, written, tableAfter}
 use Rattle.writing.specs.Put.{Put}
 use Rattle.writing.proofs.Laws.{sets-overlay}
-use Rattle.preparing.specs.declared.drafts.Draft.{Draft}
-use Rattle.preparing.specs.declared.examining.Examined.{Examined}
-use Rattle.preparing.specs.Draft.{Drafted, itemWords, countedBy, firstBy, headBy, headsBy, tableBy}
-use Rattle.preparing.specs.Examine.{verdictOf, Sound, ExaminedAs}
+use Rattle.drafting.specs.declared.Draft.{Draft}
+use Rattle.drafting.specs.declared.Examined.{Examined}
+use Rattle.drafting.specs.Draft.{Drafted}
+use Rattle.preparing.specs.Table.{countedBy, firstBy, headsBy, tableBy}
+use Rattle.drafting.specs.Examine.{Sound}
 use Rattle.preparing.proofs.Tabling.{table-same}
 
 -- the words taken from a room
@@ -45,15 +44,6 @@ module _ (code : List ℕ) (a : Answer) (k : ℕ) (v : verdict code ≡ refused 
   pub refused-table : (old : List ℕ) → tableAfter code old ≡ old
   unfolding tableAfter tableOf wordsOf accept acceptedBy written overlay
   refused-table old = rw (v, le-leb 0 (length old) (omega arith))
-
-pub examined-no : (code tokens : List ℕ) (r : Examined) (out : List ℕ) (n : ℕ) → ExaminedAs code tokens r out → n ≡ numberOf (r .answer) → (n ≡ 0 → ⊥)
-    → verdict code ≡ refused (r .answer) (r .place)
-unfolding verdictOf
-examined-no code tokens r out n x e z = sym (x .told) ∙ rw (ne-eqb (numberOf (r .answer)) 0 (λ t. z (e ∙ t)))
-
-pub examined-fine : (code tokens : List ℕ) (r : Examined) (out : List ℕ) (n : ℕ) → ExaminedAs code tokens r out → n ≡ numberOf (r .answer) → n ≡ 0 → verdict code ≡ fine
-unfolding verdictOf
-examined-fine code tokens r out n x e z = sym (x .told) ∙ rw (eq-eqb (numberOf (r .answer)) 0 (sym e ∙ z))
 
 -- ---- the table
 none-fine : (a : Answer) (o : Option ℕ) → sectionVerdict a o ≡ fine → o ≡ none

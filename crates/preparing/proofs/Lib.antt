@@ -1,10 +1,3 @@
-pub mod Integers
-pub mod Drafting
-pub mod Digits
-pub mod Sectioning
-pub mod Testing
-pub mod Refusing
+pub mod Counting
 pub mod Tabling
-pub mod Answering
 pub mod Finishing
-pub mod Spanning

@@ -1,10 +1,10 @@
 -- The table's words: those of the heads and of the items are those of the sections' rows.
 -- Assumes nothing.
-use Prim.Native.Nat.{ℕ, zero, suc, _+_, _-_, _*_, _≤_, _<_, _^_}
+use Prim.Native.Nat.{ℕ, zero, suc, _+_, _*_, _≤_, _<_}
 use native.Mathlib.Omega.{arith}
 use native.Mathlib.Numerals.{add-one}
 use mathlib.Core.Path.{_≡_, refl, sym, _∙_, ap}
-use mathlib.Core.Bool.{Bool, true, false, cond, not, _&&_, _||_, true≢false}
+use mathlib.Core.Bool.{Bool, true, false, _&&_, _||_, true≢false}
 use mathlib.Core.List.{List, [], _∷_, _++_, map}
 use lib.ListN.{length, take, drop, getD, length-map}
 use lib.Dec.{eqb}
@@ -13,18 +13,19 @@ use Rattle.lists.proofs.Bools.{by-cases}
 use Rattle.formats.specs.Items.{Section}
 use Rattle.formats.specs.Kinds.{Parts, sectionOf}
 use Rattle.formats.specs.Limits.{writtenWithin, sectionWithin, withinLimits}
-use Rattle.formats.specs.Where.{hasCondition, isText}
+use Rattle.formats.specs.Where.{isText}
 use Rattle.formats.specs.Choice.{countedFrom, counted}
 use Rattle.formats.specs.Minus.{firstHasCondition, exceptionA}
-use Rattle.tables.specs.Words.{Head, Entry, Row, headWords, headsWords, entriesWords, bodiesWords, tableWords}
+use Rattle.tables.specs.Words.{Head, Entry, headWords, headsWords, entriesWords, bodiesWords, tableWords}
 use Rattle.tables.specs.Encode.{bit, lowWord, highWord, flagsWord, hasHalf, headOf, noMinus, rowOf, rowsFrom, rowsOf, encode}
 use Rattle.writing.specs.Put.{Put, Rest}
 use Rattle.writing.proofs.Laws.{put-put, rest-start, rest-put, rest-done}
 use Rattle.emitting.specs.Emit.{bodyWords}
-use Rattle.preparing.specs.declared.drafts.Draft.{Draft}
-use Rattle.preparing.specs.Draft.{DraftOf, Drafted, itemWords, hasConditionBy, firstBy, countedBy, headBy, headsBy, tableBy}
-use Rattle.preparing.proofs.Testing.{front, none-left}
-use Rattle.preparing.proofs.Refusing.{text-same, condition-same}
+use Rattle.drafting.specs.declared.Draft.{Draft}
+use Rattle.drafting.specs.Draft.{DraftOf, Drafted, itemWords, hasConditionBy}
+use Rattle.preparing.specs.Table.{firstBy, countedBy, headBy, headsBy, tableBy}
+use Rattle.drafting.proofs.Testing.{front, none-left}
+use Rattle.drafting.proofs.Refusing.{text-same, condition-same}
 
 -- ---- the loop over the heads
 pub record Heading (n : ℕ) (firstHas : Bool) (old : List ℕ) (start : ℕ) (ds : List Draft) (count : ℕ) (room : List ℕ) (at i : ℕ) : Type 0 where

@@ -1,3 +1,1 @@
-pub mod Draft
-pub mod Examine
-pub mod Span
+pub mod Table

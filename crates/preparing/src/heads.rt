@@ -1,10 +1,10 @@
 // The words of a table: how many sections there are, their heads and their items.
-use super::drafts::Draft;
-use super::verdicts::counted;
-use super::verdicts::has_condition;
+use drafting::Draft;
+use drafting::has_condition;
 use writing::put_unit;
 use writing::put_units;
 ghost use mathlib.Core.Path.{_≡_};
+ghost use mathlib.Core.Bool.{cond};
 ghost use mathlib.Core.List.{[], _∷_};
 ghost use Prim.Native.Nat.{_+_, _≤_, _<_, _^_};
 ghost use lib.ListN.{length, take};
@@ -12,7 +12,7 @@ ghost use Rattle.formats.specs.Minus.{exceptionA};
 ghost use Rattle.tables.specs.Words.{headWords};
 ghost use Rattle.tables.specs.Encode.{bit, lowWord, highWord, flagsWord};
 ghost use Rattle.writing.specs.Put.{Put};
-ghost use Rattle.preparing.specs.Draft.{hasConditionBy, headBy, headsBy, tableBy};
+ghost use Rattle.preparing.specs.Table.{countsBy, countedBy, headBy, headsBy, tableBy};
 
 fn bit_of(b: bool) -> u16
     ensures { λ r. ⌜ (r ≡ bit b) × (r ≤ 1) ⌝ }
@@ -46,6 +46,32 @@ fn flags_word(grouped: bool, no_minus: bool, twelve: bool) -> u16
     ensures { λ r. ⌜ r ≡ flagsWord grouped «no_minus» twelve ⌝ }
 {
     bit_of(grouped) + 2 * bit_of(no_minus) + 4 * bit_of(twelve)
+}
+
+// One more where section i is neither text nor fourth.
+fn counted_with(d: Draft, i: usize, count: usize) -> usize
+    requires { ⌜ count ≤ 4 ⌝ }
+    ensures { λ r. ⌜ r ≡ cond (countsBy i d) (count + 1) count ⌝ }
+{
+    let body = d.body;
+    if !((body.kind == 3) | (i == 3)) {
+        return count + 1;
+    }
+    count
+}
+
+// How many of n sections are neither text nor fourth.
+pub fn counted(drafts: [Draft; 4], n: usize) -> usize
+    requires { ⌜ n ≤ 4 ⌝ }
+    ensures { λ r. ⌜ r ≡ countedBy 0 (take n drafts) ⌝ }
+{
+    let mut count: usize = 0;
+    let mut i: usize = 0;
+    while i < n {
+        count = counted_with(drafts[i], i, count);
+        i += 1;
+    }
+    count
 }
 
 // Puts six words.

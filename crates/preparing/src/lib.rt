@@ -1,16 +1,10 @@
 // Prepares a code: tests it, and writes its table.
-pub mod drafts;
-pub mod examining;
-pub mod heads;
-pub mod places;
-pub mod sections;
-pub mod spans;
-pub mod verdicts;
+mod heads;
 
 use answers::Answer;
 use answers::Prepared;
 use answers::number;
-use examining::examine;
+use drafting::examine;
 use heads::put_table;
 ghost use mathlib.Core.Path.{_≡_};
 ghost use lib.ListN.{length};

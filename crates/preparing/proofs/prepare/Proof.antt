@@ -3,7 +3,8 @@
 use native.Mathlib.Omega.{arith}
 use mathlib.Core.Path.{refl, sym, _∙_}
 use lib.Seq.{length-take-le}
-use Rattle.preparing.proofs.Finishing.{part-few, examined-no, examined-fine, refused-prepared, refused-table, room-prepared, room-table, done-prepared, done-table}
+use Rattle.drafting.proofs.Answering.{examined-no, examined-fine}
+use Rattle.preparing.proofs.Finishing.{part-few, refused-prepared, refused-table, room-prepared, room-table, done-prepared, done-table}
 use borrow.Author.Needs.{needs}
 use Rattle.preparing.proofs.prepare.Statement.{statement}
 use Rattle.preparing.proofs.prepare.Tie as tie

@@ -2,7 +2,6 @@
 -- Assumes nothing.
 use native.Mathlib.Omega.{arith}
 use Rattle.tables.specs.Encode.{bit}
-use borrow.Author.Needs.{needs}
 use Rattle.preparing.proofs.heads.bit_of.Statement.{statement}
 use Rattle.preparing.proofs.heads.bit_of.Tie as tie
 

@@ -2,7 +2,6 @@
 -- Assumes nothing.
 use mathlib.Core.Path.{refl}
 use Rattle.formats.specs.Minus.{exceptionA}
-use borrow.Author.Needs.{needs}
 use Rattle.preparing.proofs.heads.no_minus.Statement.{statement}
 use Rattle.preparing.proofs.heads.no_minus.Tie as tie
 

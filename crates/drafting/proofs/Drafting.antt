@@ -1,0 +1,238 @@
+-- What a section's tokens and items say of it is what its draft tells.
+-- Assumes nothing.
+use Prim.Native.Nat.{ℕ, zero, suc, _+_, _-_, _*_, _/_, _≤_, _<_}
+use native.Mathlib.Omega.{arith}
+use mathlib.Core.Path.{_≡_, refl, sym, _∙_, ap}
+use mathlib.Core.Bool.{Bool, true, false, _&&_, true≢false}
+use mathlib.Core.List.{List, [], _∷_, _++_, append-assoc}
+use mathlib.Core.Option.{some}
+use native.Mathlib.Decide.{decLe}
+use lib.ListN.{length, take, drop, length-take, length-drop, drop-of-length-le}
+use lib.Seq.{take-all, take-append-seam, drop-at, sets-eq, length-take-le}
+use lib.Dec.{leb}
+use borrow.Author.Tests.{leb-true}
+use Rattle.calendar.specs.Names.{units}
+use Rattle.lists.specs.Lists.{count, isSome}
+use Rattle.formats.specs.Tokens.{Token, Written, startsWith, conditionInside}
+use Rattle.formats.specs.Items.{Item, kindOf, sameKind, dateKind, settled}
+use Rattle.formats.specs.Kinds.{Parts, partsOf, conditionOf, sectionOf, fits, commasFit, bodyKind, bodyItems, lastFill}
+use Rattle.formats.specs.Limits.{writtenWithin, sectionWithin, withinLimits}
+use Rattle.tables.specs.Words.{Entry, entriesAt, entriesWords}
+use Rattle.tables.specs.Encode.{operatorWord, negativeWord, wholePart, millionthsPart, bit, entriesOf, shiftWord}
+use Rattle.tables.specs.Decode.{itemsAt}
+use Rattle.tables.proofs.MadeItems.{items-back, entries-length}
+use Rattle.marks.specs.Marks.{tokensIn}
+use Rattle.writing.specs.Put.{Put}
+use Rattle.bodies.specs.declared.conditions.Compared.{Compared}
+use Rattle.bodies.specs.declared.facts.Facts.{Facts}
+use Rattle.bodies.specs.declared.commas.Commas.{Commas}
+use Rattle.bodies.specs.declared.sections.Heading.{Heading}
+use Rattle.bodies.specs.Conditions.{writtenInside, ComparedBy}
+use Rattle.bodies.specs.Bodies.{factsOf}
+use Rattle.bodies.specs.Uses.{commasOf}
+use Rattle.bodies.specs.Sections.{headingParts, HeadingOf}
+use Rattle.bodies.proofs.Inside.{condition-at}
+use Rattle.bodies.proofs.Words.{tokens-drop}
+use Rattle.tallies.specs.declared.Tally.{Tally}
+use Rattle.tallies.specs.Tally.{entriesIn, tallyOf, kindTold, withinTold, decimalsTold}
+use Rattle.tallies.proofs.Told.{percents-are, half-told, items-fit-told, within-told, decimals-told, section-kind-told, number-told}
+use Rattle.emitting.specs.Emit.{isFillToken, bodyWords}
+use Rattle.drafting.specs.declared.Body.{Body}
+use Rattle.drafting.specs.Draft.{ConditionAs, headingCondition, noCondition, thousandsBy, shiftBy, shiftTold, fitsBy, bodyBy, BodyOf, DraftOf}
+
+-- ---- the condition
+conditioned : (w : Written) (r : Compared) → ComparedBy w r → ConditionAs (some w) r
+unfolding conditionOf operatorWord negativeWord wholePart millionthsPart
+conditioned w r h = record {
+  operator = h .operator;
+  within = h .within;
+  negative = λ t. ap bit (h .negative t);
+  whole = λ t. rw (h .number t) (omega (arith, h .millionths));
+  millionths = λ t. rw (h .number t) (omega (arith, h .millionths));
+}
+
+inside-none : (a : ℕ) → isSome (conditionInside (take a [])) ≡ false
+unfolding conditionInside startsWith units isSome
+inside-none zero = refl
+inside-none (suc a) = refl
+
+module _ (code : List ℕ) (h : Heading) where
+  -- the bracket has units behind its first one
+  pub start-inside : isSome (conditionInside (take (h .argument) (drop (suc (h .start)) code))) ≡ true → suc (h .start) < length code
+  start-inside e = elim (decLe (length code) (suc (h .start))) [
+    | yes l ↦ absurd (true≢false (sym e ∙ rw (drop-of-length-le code {i = suc (h .start)} l) (inside-none (h .argument))))
+    | no l ↦ omega arith
+  ]
+
+  pub condition-none : h .condition ≡ false → ConditionAs (headingCondition code h) noCondition
+  unfolding headingCondition conditionOf operatorWord negativeWord wholePart millionthsPart bit writtenWithin
+  condition-none e = rw e (record { operator = refl; within = refl; negative = λ t. refl; whole = λ t. refl; millionths = λ t. refl })
+
+  module _ (here : h .condition ≡ true) (r : Compared) where
+    pub condition-some : ComparedBy (writtenInside (take (h .argument) (drop (suc (h .start)) code))) r → ConditionAs (headingCondition code h) r
+    unfolding headingCondition
+    condition-some b = rw (here, condition-at code (h .argument) (h .start)) (conditioned _ r b)
+
+    -- the units end with the code
+    pub condition-clamped : (room : ℕ) → room ≡ length code - h .start - 1 → room ≤ h .argument
+        → ComparedBy (writtenInside (take room (drop (suc (h .start)) code))) r → ConditionAs (headingCondition code h) r
+    condition-clamped room e l b =
+        let us : List ℕ = drop (suc (h .start)) code in
+        let size : length us ≡ length code - suc (h .start) = length-drop (suc (h .start)) code in
+        let same : take room us ≡ take (h .argument) us = take-all room us (omega arith) ∙ sym (take-all (h .argument) us (omega arith)) in
+        condition-some (rw same at b)
+
+-- the same units, clamped to the code
+pub clamped-inside : (code : List ℕ) (start size room : ℕ) → room ≡ length code - start - 1 → room ≤ size
+    → isSome (conditionInside (take size (drop (suc start) code))) ≡ true → isSome (conditionInside (take room (drop (suc start) code))) ≡ true
+clamped-inside code start size room e l h =
+    let us : List ℕ = drop (suc start) code in
+    let d : length us ≡ length code - suc start = length-drop (suc start) code in
+    let same : take room us ≡ take size us = take-all room us (omega arith) ∙ sym (take-all size us (omega arith)) in
+    rw same h
+
+-- ---- the items' words read back
+entries-back : (es : List Entry) → entriesAt (length es) (entriesWords es []) ≡ es
+unfolding entriesAt entriesWords
+entries-back [] = refl
+entries-back (e ∷ es) = ap (λ (xs : List Entry). e ∷ xs) (entries-back es)
+
+words-length : (es : List Entry) → length (entriesWords es []) ≡ 2 * length es
+unfolding entriesWords
+words-length [] = refl
+words-length (e ∷ es) = omega (arith, words-length es)
+
+module _ (ts : List Token) where
+  abbrev items : List Item
+  items = settled (lastFill (bodyItems ts))
+
+  pub body-length : length (bodyWords ts) ≡ 2 * length items
+  unfolding entriesOf
+  body-length = words-length (entriesOf items) ∙ rw (entries-length _ items)
+
+  pub body-entries : entriesIn (bodyWords ts) ≡ entriesOf items
+  unfolding entriesIn
+  body-entries =
+      let half : length (entriesWords (entriesOf items) []) / 2 ≡ length (entriesOf items) = omega (arith, words-length (entriesOf items)) in
+      rw half (entries-back (entriesOf items))
+
+-- ---- the body
+pub within-bounds : (t : Tally) (thousands : ℕ) → withinTold t thousands ≡ true → (t .percents ≤ 5) × (thousands ≤ 5)
+within-bounds t thousands e = (leb-true (t .percents) 5 (go .0), leb-true thousands 5 (go .1))
+  where
+    parts : (a b c d f : Bool) → (a && (b && (c && (d && f)))) ≡ true → (c ≡ true) × (d ≡ true)
+    parts true true true true f h = (refl, refl)
+    parts true true true false f h = absurd (true≢false (sym h))
+    parts true true false d f h = absurd (true≢false (sym h))
+    parts true false c d f h = absurd (true≢false (sym h))
+    parts false b c d f h = absurd (true≢false (sym h))
+
+    go : (leb (t .percents) 5 ≡ true) × (leb thousands 5 ≡ true)
+    go = parts (leb (t .integers) 20) (leb (t .decimals) 15) (leb (t .percents) 5) (leb thousands 5) (t .short) e
+
+pub body-made : (f : Facts) (c : Commas) (t : Tally) (thousands kind shift decimals items : ℕ) (fits within grouped : Bool)
+    → thousands ≡ thousandsBy f c → fits ≡ fitsBy f c t → within ≡ withinTold t thousands → kind ≡ kindTold t → shift ≡ shiftTold t thousands
+    → grouped ≡ (f .number && c .grouped) → decimals ≡ decimalsTold t
+    → _≡_ {A = Body} (record { fits = fits; within = within; kind = kind; shift = shift; grouped = grouped; twelve = t .halves; decimals = decimals; items = items }) (bodyBy f c t items)
+body-made f c t thousands kind shift decimals items fits within grouped a b d e g h k = rw (b, d, e, g, h, k, a)
+
+module _ (p : Parts) where
+  abbrev entries : List Entry
+  entries = entriesOf (items (p .body))
+
+  section-items : (sectionOf p) .items ≡ itemsAt entries
+  unfolding sectionOf entriesOf
+  section-items = sym (items-back _ (items (p .body)))
+
+  thousands-same : thousandsBy (factsOf (p .body)) (commasOf (p .body)) ≡ (sectionOf p) .thousands
+  unfolding sectionOf factsOf commasOf
+  thousands-same = refl
+
+  fits-same : fitsBy (factsOf (p .body)) (commasOf (p .body)) (tallyOf entries) ≡ fits p
+  unfolding fits commasFit factsOf commasOf
+  fits-same = rw (items-fit-told entries, ← section-items)
+
+  shift-same : shiftBy (tallyOf entries) ((sectionOf p) .thousands) ≡ shiftWord (sectionOf p)
+  unfolding shiftWord kindOf
+  shift-same = rw (number-told entries, percents-are entries, ← section-items)
+
+  pub body-drafted : BodyOf p (bodyBy (factsOf (p .body)) (commasOf (p .body)) (tallyOf entries) (length (items (p .body))))
+  body-drafted =
+      let w : withinTold (tallyOf entries) (thousandsBy (factsOf (p .body)) (commasOf (p .body))) ≡ sectionWithin (sectionOf p)
+      = rw thousands-same (within-told entries (sectionOf p) section-items) in
+      record {
+        fits = fits-same;
+        within = w;
+        kind = section-kind-told entries (sectionOf p) section-items;
+        shift = λ t. rw t (rw thousands-same shift-same);
+        grouped = unfold sectionOf factsOf commasOf in refl;
+        twelve = half-told entries ∙ rw (← section-items);
+        decimals = decimals-told entries (sectionOf p) section-items;
+        items = unfold sectionOf in refl;
+      }
+
+-- the part of a room that a piece was put into
+pub put-read : {l o q : List ℕ} {at r : ℕ} → Put l at q r o → at + length q ≤ length l → take (r - at) (drop at o) ≡ q
+put-read {l} {o} {q} {at} {r} x h =
+    let n : r - at ≡ length q = omega (arith, x .next) in
+    rw (x .room, n, sets-eq q l at h, append-assoc (take at l) q (drop (at + length q) l), drop-at (take at l) (q ++ drop (at + length q) l) at (length-take-le at l (omega arith)))
+    (take-append-seam q (drop (at + length q) l))
+
+pub put-place : {l o q : List ℕ} {at r : ℕ} (s : ℕ) → Put l at q r o → s ≡ r → Put l at q s o
+put-place s x e = rw e x
+
+-- ---- what the passes over a body gave
+pub facts-date : (f : Facts) (ts : List Token) → f ≡ factsOf ts → f .date ≡ sameKind (bodyKind ts) dateKind
+unfolding factsOf
+facts-date f ts e = ap (λ (g : Facts). g .date) e
+
+pub facts-fills : (f : Facts) (ts : List Token) → f ≡ factsOf ts → f .fills ≡ count isFillToken ts
+unfolding factsOf
+facts-fills f ts e = ap (λ (g : Facts). g .fills) e
+
+module _ (ts : List Token) {old out : List ℕ} {at end : ℕ} (put : Put old at (bodyWords ts) end out) where
+  size : (end - at) / 2 ≡ length (items ts)
+  size = omega (arith, put .next, body-length ts)
+
+  pub body-end : (n : ℕ) → n ≡ (end - at) / 2 → at + 2 * n ≡ end
+  body-end n e = omega (arith, size, put .next, body-length ts)
+
+  body-read : (f : Facts) (c : Commas) (t : Tally) (b : Body) (p : Parts) → p .body ≡ ts → f ≡ factsOf ts → c ≡ commasOf ts → at + length (bodyWords ts) ≤ length old
+      → t ≡ tallyOf (entriesIn (take (end - at) (drop at out))) → b ≡ bodyBy f c t ((end - at) / 2) → BodyOf p b
+  body-read f c t b p e ef ec h et eb =
+      let words = put-read put h in
+      rw (eb, et, words, body-entries ts, size, ef, ec, ← e) (body-drafted p)
+
+pub body-put : (p : Parts) (f : Facts) (c : Commas) (t : Tally) (b : Body) (ts : List Token) {old out : List ℕ} {at end : ℕ}
+    → p .body ≡ ts → f ≡ factsOf ts → c ≡ commasOf ts → Put old at (bodyWords ts) end out → at + length (bodyWords ts) ≤ length old
+    → t ≡ tallyOf (entriesIn (take (end - at) (drop at out))) → b ≡ bodyBy f c t ((end - at) / 2) → BodyOf p b
+body-put p f c t b ts e ef ec put h et eb = body-read ts put f c t b p e ef ec h et eb
+
+-- a part of a list is no longer
+pub part-short : (ws : List ℕ) (n m : ℕ) → length ws ≤ 762 → length (take n (drop m ws)) ≤ 762
+part-short ws n m h = rw (length-take n (drop m ws), length-drop m ws) (omega arith)
+
+-- ---- the section
+module _ (code ws : List ℕ) (h : Heading) (head : HeadingOf ws h) where
+  abbrev tokens : List Token
+  tokens = tokensIn code ws
+
+  pub heading-body : tokensIn code (take (length ws - 3 * h .tokens) (drop (3 * h .tokens) ws)) ≡ (partsOf tokens) .body
+  unfolding headingParts
+  heading-body =
+      rw (take-all (length ws - 3 * h .tokens) (drop (3 * h .tokens) ws) (rw (length-drop (3 * h .tokens) ws) (omega arith)), tokens-drop code ws (h .tokens), head .same code)
+
+  -- the draft of a section by its heading, its condition and its body
+  pub section-drafted : (w : Compared) (b : Body) (within : Bool) → ConditionAs (headingCondition code h) w → BodyOf (partsOf tokens) b
+      → within ≡ (w .within && b .within)
+      → DraftOf (partsOf tokens) (record { colour = h .colour; within = within; condition = w; body = b })
+  unfolding headingParts headingCondition withinLimits
+  section-drafted w b within cw bw e =
+      let same = head .same code in
+      let condition : ConditionAs ((partsOf tokens) .condition) w = rw same cw in
+      record {
+        colour = rw same;
+        within = e ∙ rw (condition .within, bw .within);
+        condition = condition;
+        body = bw;
+      }

@@ -1,0 +1,222 @@
+-- The integer places of a body's items, from its tokens.
+-- Assumes nothing.
+use Prim.Native.Nat.{ℕ, zero, suc, _+_, _-_, _*_, _≤_, _<_, min}
+use native.Mathlib.Omega.{arith}
+use mathlib.Core.Path.{_≡_, refl, sym, _∙_, ap}
+use mathlib.Core.Bool.{Bool, true, false, cond, _&&_, true≢false}
+use mathlib.Core.List.{List, [], _∷_, _++_, map}
+use lib.ListN.{length, drop, getD}
+use lib.Dec.{ltb, eqb}
+use borrow.Author.Tests.{le-leb, lt-leb, lt-ltb, le-ltb}
+use native.Mathlib.Nat.{zero-min}
+use Rattle.lists.proofs.Bools.{by-cases}
+use Rattle.formats.specs.Tokens as token
+use Rattle.formats.specs.Tokens.{Token, Letter, letterY, letterM, letterD, letterH, letterS}
+use Rattle.formats.specs.Items.{Item, literal, integerPlaces, sameKind, dateKind}
+use Rattle.formats.specs.Kinds.{isPlace, isPoint, isZero, isSecondsToken, leadingZeros, partZeros, Piece, whole, secondPart, piecesFrom, runItem, tokenItems, pieceItems, plainItems, dateItems, bodyKind, bodyItems}
+use Rattle.marks.specs.Marks.{markToken, conditionOf, tokenAt, tokensIn}
+use Rattle.bodies.specs.declared.facts.Facts.{Facts}
+use Rattle.bodies.specs.Forms.{placeForm}
+use Rattle.bodies.specs.Bodies.{integerPlaceTokens, factsOf}
+use Rattle.bodies.proofs.Forms.{by-form, upFrom}
+use Rattle.bodies.proofs.Words.{tokens-first, tokens-end, tokens-length}
+use Rattle.emitting.specs.Emit.{formSeconds}
+use Rattle.emitting.proofs.Forms.{tells}
+use Rattle.drafting.specs.declared.places.Parting.{Parting}
+use Rattle.drafting.specs.Draft.{datePlaces, partForm}
+
+-- ---- the places that a token makes
+literals-places : (us : List ℕ) (is : List Item) → integerPlaces (map literal us ++ is) ≡ integerPlaces is
+unfolding integerPlaces
+literals-places [] is = refl
+literals-places (u ∷ us) is = literals-places us is
+
+run-places : (l : Letter) (n : ℕ) (is : List Item) → integerPlaces (runItem l n ∷ is) ≡ integerPlaces is
+unfolding integerPlaces runItem
+run-places letterY n is = refl
+run-places letterM n is = refl
+run-places letterD n is = refl
+run-places letterH n is = refl
+run-places letterS n is = refl
+
+-- one more where it is a place
+abbrev more : Bool → ℕ → ℕ
+more b n = cond b (suc n) n
+
+token-places : (date : Bool) (t : Token) (is : List Item) → integerPlaces (tokenItems date t ++ is)
+    ≡ cond (isPoint t) (cond date (integerPlaces is) 0) (more (isPlace t) (integerPlaces is))
+unfolding integerPlaces tokenItems
+token-places date (token.literal us) is = literals-places us is
+token-places date (token.bare u) is = refl
+token-places date (token.blank u) is = refl
+token-places date (token.fill u) is = refl
+token-places date (token.place p) is = refl
+token-places true token.point is = refl
+token-places false token.point is = refl
+token-places true token.comma is = refl
+token-places false token.comma is = refl
+token-places date token.percent is = refl
+token-places date token.at is = refl
+token-places date token.semicolon is = refl
+token-places date token.general is = refl
+token-places date (token.half h) is = refl
+token-places date (token.run l n) is = run-places l n is
+token-places date (token.elapsed e n) is = refl
+token-places date (token.colour n) is = refl
+token-places date (token.condition w) is = refl
+
+places-plain : (ts : List Token) → integerPlaces (plainItems ts) ≡ integerPlaceTokens ts
+unfolding plainItems integerPlaces integerPlaceTokens
+places-plain [] = refl
+places-plain (t ∷ ts) = token-places false t (plainItems ts) ∙ rw (places-plain ts)
+
+-- ---- the places of a date
+point-other : (t : Token) → isPoint t ≡ true → (isSecondsToken t ≡ false) × (isPlace t ≡ false)
+unfolding isSecondsToken
+point-other token.point e = (refl, refl)
+point-other (token.literal us) e = absurd (true≢false (sym e))
+point-other (token.bare u) e = absurd (true≢false (sym e))
+point-other (token.blank u) e = absurd (true≢false (sym e))
+point-other (token.fill u) e = absurd (true≢false (sym e))
+point-other (token.place p) e = absurd (true≢false (sym e))
+point-other token.comma e = absurd (true≢false (sym e))
+point-other token.percent e = absurd (true≢false (sym e))
+point-other token.at e = absurd (true≢false (sym e))
+point-other token.semicolon e = absurd (true≢false (sym e))
+point-other token.general e = absurd (true≢false (sym e))
+point-other (token.half h) e = absurd (true≢false (sym e))
+point-other (token.run l n) e = absurd (true≢false (sym e))
+point-other (token.elapsed x n) e = absurd (true≢false (sym e))
+point-other (token.colour n) e = absurd (true≢false (sym e))
+point-other (token.condition w) e = absurd (true≢false (sym e))
+
+-- the items of a token that belongs to no part, with those that follow
+piece-places : (n : ℕ) (t : Token) (ps : List Piece) → (eqb n 0 ≡ false → isPlace t ≡ false)
+    → integerPlaces (dateItems (cond (eqb n 0) (whole t ∷ ps) (secondPart n ∷ ps))) ≡ more (isPlace t) (integerPlaces (dateItems ps))
+unfolding dateItems pieceItems integerPlaces
+piece-places n t ps h = by-cases (eqb n 0)
+    (λ e. rw e (token-places true t (dateItems ps) ∙ by-cases (isPoint t) (λ p. rw (p, point-other t p .1)) (λ p. rw p)))
+    (λ e. rw (e, h e))
+
+zeros-room : (b : Bool) (t : Token) (ts : List Token) → partZeros b t ts ≡ min (cond (b && isPoint t) 3 0) (leadingZeros ts)
+unfolding partZeros
+zeros-room b t ts = by-cases (b && isPoint t) (λ e. rw e) (λ e. rw (e, zero-min (leadingZeros ts)))
+
+pub and-second : (a b : Bool) → (a && b) ≡ true → b ≡ true
+and-second true b e = e
+and-second false b e = absurd (true≢false (sym e))
+
+part-no-place : (b : Bool) (t : Token) (ts : List Token) → eqb (partZeros b t ts) 0 ≡ false → isPlace t ≡ false
+unfolding partZeros
+part-no-place b t ts e = by-cases (b && isPoint t)
+    (λ p. point-other t (and-second b (isPoint t) p) .1)
+    (λ p. absurd (true≢false (rw p at e)))
+
+-- a token that belongs to no part
+module _ (b : Bool) (t : Token) (ts : List Token) where
+  abbrev room : ℕ
+  room = cond (b && isPoint t) 3 0
+
+  room-other : 0 < room → isSecondsToken t ≡ false
+  room-other h = by-cases (b && isPoint t)
+      (λ p. point-other t (and-second b (isPoint t) p) .0)
+      (λ p. let z = rw p at h in absurd (omega arith))
+
+  other-date : integerPlaces (dateItems (piecesFrom (isSecondsToken t) (min room (leadingZeros ts)) ts)) ≡ datePlaces (isSecondsToken t) room ts
+      → integerPlaces (dateItems (piecesFrom b 0 (t ∷ ts))) ≡ more (isPlace t) (datePlaces (isSecondsToken t) room ts)
+  unfolding piecesFrom
+  other-date ih =
+      piece-places (partZeros b t ts) t (piecesFrom (isSecondsToken t) (partZeros b t ts) ts) (part-no-place b t ts)
+      ∙ ap (λ (n : ℕ). more (isPlace t) n) (rw (zeros-room b t ts) ih)
+
+-- the zeros that belong to a part are passed over
+places-skip : (b : Bool) (left : ℕ) (ts : List Token) (skip : ℕ) → skip ≡ min left (leadingZeros ts) → (0 < left → b ≡ false)
+    → integerPlaces (dateItems (piecesFrom b skip ts)) ≡ datePlaces b left ts
+unfolding datePlaces piecesFrom dateItems integerPlaces leadingZeros
+places-skip b left [] skip e h = refl
+places-skip b left (t ∷ ts) zero e h =
+    let later = other-date b t ts (places-skip (isSecondsToken t) (room b t ts) ts (min (room b t ts) (leadingZeros ts)) refl (room-other b t ts)) in
+    by-cases (isZero t)
+    (λ z. let y = rw z at e in let none : ltb 0 left ≡ false = le-ltb 0 left (omega arith) in rw (z, none) later)
+    (λ z. rw z later)
+places-skip b left (t ∷ ts) (suc skip) e h =
+    by-cases (isZero t)
+    (λ z. let y = rw z at e in
+    let some : ltb 0 left ≡ true = lt-ltb 0 left (omega arith) in
+    rw (z, some) (places-skip false (left - 1) ts skip (omega arith) (λ l. refl)))
+    (λ z. let y = rw z at e in absurd (omega arith))
+
+-- ---- the places of a body
+pub places-body : (ts : List Token)
+    → integerPlaces (bodyItems ts) ≡ cond (sameKind (bodyKind ts) dateKind) (datePlaces false 0 ts) (integerPlaceTokens ts)
+unfolding bodyItems
+places-body ts = by-cases (sameKind (bodyKind ts) dateKind)
+    (λ e. rw e (places-skip false 0 ts 0 (sym (zero-min (leadingZeros ts))) (λ h. refl)))
+    (λ e. rw e (places-plain ts))
+
+places-few : (ts : List Token) → integerPlaceTokens ts ≤ length ts
+unfolding integerPlaceTokens
+places-few [] = omega arith
+places-few (t ∷ ts) =
+    let r = places-few ts in
+    by-cases (isPoint t) (λ p. rw p (omega arith)) (λ p. rw p (by-cases (isPlace t) (λ q. rw q (omega arith)) (λ q. rw q (omega arith))))
+
+module _ (f : Facts) (ws : List ℕ) (same : (code : List ℕ) → f ≡ factsOf (tokensIn code ws)) where
+  date-told : (code : List ℕ) → sameKind (bodyKind (tokensIn code ws)) dateKind ≡ f .date
+  unfolding factsOf
+  date-told code = sym (ap (λ (g : Facts). g .date) (same code))
+
+  places-told : (code : List ℕ) → integerPlaceTokens (tokensIn code ws) ≡ f .places
+  unfolding factsOf
+  places-told code = sym (ap (λ (g : Facts). g .places) (same code))
+
+  pub places-dated : (n : ℕ) → ((code : List ℕ) → n ≡ datePlaces false 0 (tokensIn code ws)) → f .date ≡ true
+      → (code : List ℕ) → n ≡ integerPlaces (bodyItems (tokensIn code ws))
+  places-dated n h e code = h code ∙ sym (places-body (tokensIn code ws) ∙ rw (date-told code, e))
+
+  pub places-other : f .date ≡ false → (code : List ℕ) → f .places ≡ integerPlaces (bodyItems (tokensIn code ws))
+  places-other e code = sym (places-told code) ∙ sym (places-body (tokensIn code ws) ∙ rw (date-told code, e))
+
+  pub places-bound : length ws ≤ 762 → f .places ≤ 254
+  places-bound h = omega (arith, places-told [], places-few (tokensIn [] ws), tokens-length [] ws)
+
+-- ---- the pass over a date's tokens
+place-form : (f a : ℕ) (us : List ℕ) → isPlace (markToken f a us) ≡ placeForm f
+unfolding upFrom conditionOf
+place-form f a us = by-form isPlace placeForm a us refl (λ n h. sym (simp (le-leb 4 n (omega arith), lt-leb n 6 (omega arith)))) f
+
+part-step : (s : Parting) (f a : ℕ) (us : List ℕ) (ts : List Token)
+    → s .places + datePlaces (s .behind) (s .left) (markToken f a us ∷ ts)
+    ≡ (partForm s f) .places + datePlaces ((partForm s f) .behind) ((partForm s f) .left) ts
+unfolding datePlaces formSeconds
+part-step s f a us ts =
+    let t = tells f a us in
+    rw (t .zero, t .seconds, t .point, place-form f a us)
+    (by-cases (eqb f 4 && ltb 0 (s .left)) (λ e. rw e) (λ e. rw e (by-cases (placeForm f) (λ p. rw p (omega arith)) (λ p. rw p))))
+
+part-few : (s : Parting) (f : ℕ) → (partForm s f) .places ≤ s .places + 1
+part-few s f = by-cases (eqb f 4 && ltb 0 (s .left)) (λ e. rw e (omega arith)) (λ e. rw e (by-cases (placeForm f) (λ p. rw p (omega arith)) (λ p. rw p (omega arith))))
+
+-- what the loop of `date_places` keeps
+pub record Passing (ws : List ℕ) (i : ℕ) (s : Parting) : Type 0 where
+  pub small : length ws ≤ 762
+  pub inside : i ≤ length ws
+  pub few : 3 * s .places ≤ i
+  pub same : (code : List ℕ) → datePlaces false 0 (tokensIn code ws) ≡ s .places + datePlaces (s .behind) (s .left) (tokensIn code (drop i ws))
+
+pub passing-start : (ws : List ℕ) → length ws ≤ 762 → Passing ws 0 (record { behind = false; left = 0; places = 0 })
+passing-start ws h = record { small = h; inside = omega arith; few = omega arith; same = λ code. omega arith }
+
+module _ (ws : List ℕ) (i : ℕ) (s : Parting) (inv : Passing ws i s) where
+  pub passing-end : length ws ≤ i + 2 → ((code : List ℕ) → s .places ≡ datePlaces false 0 (tokensIn code ws)) × (s .places ≤ 254)
+  unfolding datePlaces
+  passing-end h = ((λ code. let e = rw (tokens-end code ws i h) at (inv .same code) in omega arith), omega (arith, inv .few, inv .inside, inv .small))
+
+  pub passing-step : i + 2 < length ws → (r : Parting) → r ≡ partForm s (getD ws i 0) → Passing ws (i + 3) r
+  unfolding tokenAt
+  passing-step h r e = rw e (record {
+    small = inv .small;
+    inside = omega arith;
+    few = omega (arith, part-few s (getD ws i 0), inv .few);
+    same = λ code. inv .same code ∙ rw (tokens-first code ws i h) (part-step s (getD ws i 0) (getD ws (i + 1) 0) (drop (suc (getD ws (i + 2) 0)) code) (tokensIn code (drop (i + 3) ws)));
+  })

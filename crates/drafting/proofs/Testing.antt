@@ -1,0 +1,48 @@
+-- The loops over drafts, and what their tests say of the sections.
+-- Assumes nothing.
+use Prim.Native.Nat.{ℕ, _+_, _≤_, _<_}
+use native.Mathlib.Omega.{arith}
+use native.Mathlib.Numerals.{add-one}
+use mathlib.Core.Path.{_≡_, sym, _∙_}
+use mathlib.Core.Bool.{Bool, true, false}
+use mathlib.Core.List.{List, [], _∷_}
+use lib.ListN.{length, take, drop, getD, drop-of-length-le}
+use lib.Seq.{drop-cons, getD-take, length-take-le}
+use Rattle.drafting.specs.declared.Draft.{Draft}
+use Rattle.drafting.specs.Draft.{firstFrom}
+
+module _ (ds : List Draft) (n i : ℕ) (few : n ≤ 4) (size : length ds ≡ 4) where
+  pub front : i < n → (d : Draft) → drop i (take n ds) ≡ getD ds i d ∷ drop (i + 1) (take n ds)
+  front h d = rw (add-one i, ← getD-take n ds i d h) (drop-cons (take n ds) i d (omega (arith, length-take-le n ds (omega arith))))
+
+  pub none-left : n ≤ i → drop i (take n ds) ≡ []
+  none-left h = drop-of-length-le (take n ds) {i = i} (omega (arith, length-take-le n ds (omega arith)))
+
+-- ---- the first that fails
+pub record Seeking (f : ℕ → Draft → Bool) (ds : List Draft) (n i : ℕ) : Type 0 where
+  pub few : n ≤ 4
+  pub size : length ds ≡ 4
+  pub inside : i ≤ n
+  pub same : firstFrom f 0 (take n ds) ≡ firstFrom f i (drop i (take n ds))
+
+pub seeking-start : (f : ℕ → Draft → Bool) (ds : List Draft) (n i : ℕ) → i ≡ 0 → n ≤ 4 → length ds ≡ 4 → Seeking f ds n i
+seeking-start f ds n i z h e = record { few = h; size = e; inside = omega arith; same = rw z }
+
+module _ (f : ℕ → Draft → Bool) (ds : List Draft) (n i : ℕ) (inv : Seeking f ds n i) where
+  pub seeking-end : n ≤ i → n ≡ firstFrom f 0 (take n ds)
+  unfolding firstFrom
+  seeking-end h = sym (inv .same ∙ rw (none-left ds n i (inv .few) (inv .size) h) (omega (arith, inv .inside)))
+
+  module _ (h : i < n) (d : Draft) where
+    pub seeking-fail : f i (getD ds i d) ≡ false → i ≡ firstFrom f 0 (take n ds)
+    unfolding firstFrom
+    seeking-fail e = sym (inv .same ∙ rw (front ds n i (inv .few) (inv .size) h d, e))
+
+    pub seeking-step : f i (getD ds i d) ≡ true → Seeking f ds n (i + 1)
+    unfolding firstFrom
+    seeking-step e = record {
+      few = inv .few;
+      size = inv .size;
+      inside = omega arith;
+      same = inv .same ∙ rw (front ds n i (inv .few) (inv .size) h d, e);
+    }

@@ -1,0 +1,116 @@
+-- `drafting::examine_sections` meets its contract.
+-- Assumes nothing.
+use native.Mathlib.Omega.{arith}
+use mathlib.Core.Path.{refl}
+use denote.Ref.{now}
+use Rattle.drafting.proofs.Answering.{examined-refused, verdict-kind, verdict-where, verdict-limit, examined-done}
+use borrow.Author.Needs.{needs}
+use Rattle.drafting.proofs.examine_sections.Statement.{statement}
+use Rattle.drafting.proofs.examine_sections.Tie as tie
+
+draft-all-requires : tie.Need-draft-all-requires
+draft-all-requires c κs =
+    let s = c .before .before .before .before in
+    let b = s .pre .1 .0 in
+    ((b .small, omega (arith, b .size, b .few), s .pre .0 .0, s .pre .0 .1), s .pre .1 .1 .0)
+
+first-failing-requires : tie.Need-first-failing-requires
+first-failing-requires c κs = search needs
+
+cast-refused : tie.Need-cast-refused
+cast-refused c = search needs
+
+refused-requires : tie.Need-refused-requires
+refused-requires c κs = search needs
+
+same-length : tie.Need-same-length
+same-length c = search needs
+
+returns : tie.Need-returns
+returns c =
+    let f = c .before .before in
+    let a = f .before .before .before .before in
+    let s = a .before .before .before .before .before in
+    examined-refused _ _ _ _ _ _ (c .refused .ensures) refl
+    (verdict-kind (now (s .args .code)) (s .pre .1 .1 .1) _ (a .draft-all .ensures) _ (s .pre .1 .1 .0 .many) _ (f .first-failing .ensures) (c .before .if1 .taken))
+
+first-failing-requires-2 : tie.Need-first-failing-requires-2
+first-failing-requires-2 c κs = search needs
+
+cast-refused-2 : tie.Need-cast-refused-2
+cast-refused-2 c = search needs
+
+refused-requires-2 : tie.Need-refused-requires-2
+refused-requires-2 c κs = search needs
+
+same-length-2 : tie.Need-same-length-2
+same-length-2 c = search needs
+
+returns-2 : tie.Need-returns-2
+returns-2 c =
+    let g = c .before .before in
+    let f = g .before .before in
+    let a = f .before .before .before .before in
+    let s = a .before .before .before .before .before in
+    examined-refused _ _ _ _ _ _ (c .refused2 .ensures) refl
+    (verdict-where (now (s .args .code)) (s .pre .1 .1 .1) _ (a .draft-all .ensures) _ (s .pre .1 .1 .0 .many) _ (f .first-failing .ensures) (g .before .if1 .left)
+    _ (g .first-failing2 .ensures) (c .before .if2 .taken))
+
+first-failing-requires-3 : tie.Need-first-failing-requires-3
+first-failing-requires-3 c κs = search needs
+
+cast-refused-3 : tie.Need-cast-refused-3
+cast-refused-3 c = search needs
+
+refused-requires-3 : tie.Need-refused-requires-3
+refused-requires-3 c κs = search needs
+
+same-length-3 : tie.Need-same-length-3
+same-length-3 c = search needs
+
+returns-3 : tie.Need-returns-3
+returns-3 c =
+    let h = c .before .before in
+    let g = h .before .before in
+    let f = g .before .before in
+    let a = f .before .before .before .before in
+    let s = a .before .before .before .before .before in
+    examined-refused _ _ _ _ _ _ (c .refused3 .ensures) refl
+    (verdict-limit (now (s .args .code)) (s .pre .1 .1 .1) _ (a .draft-all .ensures) _ (s .pre .1 .1 .0 .many) _ (f .first-failing .ensures) (g .before .if1 .left)
+    _ (g .first-failing2 .ensures) (h .before .if2 .left) _ (h .first-failing3 .ensures) (c .before .if3 .taken))
+
+same-length-4 : tie.Need-same-length-4
+same-length-4 c = search needs
+
+returns-4 : tie.Need-returns-4
+returns-4 c =
+    let h = c .before in
+    let g = h .before .before in
+    let f = g .before .before in
+    let a = f .before .before .before .before in
+    let s = a .before .before .before .before .before in
+    examined-done (now (s .args .code)) (s .pre .1 .1 .1) _ (a .draft-all .ensures) _ (s .pre .1 .1 .0 .many) _ (f .first-failing .ensures) (g .before .if1 .left)
+    _ (g .first-failing2 .ensures) (h .before .if2 .left) _ (h .first-failing3 .ensures) (c .if3 .left) (s .pre .0 .1) (s .pre .0 .0) _ _ (s .pre .1 .0)
+
+pub examine-sections-spec : {M : Type 1} → statement M
+examine-sections-spec =
+    tie.close
+    (tie.spec
+    draft-all-requires
+    first-failing-requires
+    cast-refused
+    refused-requires
+    same-length
+    returns
+    first-failing-requires-2
+    cast-refused-2
+    refused-requires-2
+    same-length-2
+    returns-2
+    first-failing-requires-3
+    cast-refused-3
+    refused-requires-3
+    same-length-3
+    returns-3
+    same-length-4
+    returns-4)

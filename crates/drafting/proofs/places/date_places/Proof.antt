@@ -1,0 +1,57 @@
+-- `drafting::places::date_places` meets its contract.
+-- Assumes nothing.
+use Prim.Native.Nat.{_-_}
+use lib.ListN.{length}
+use Rattle.drafting.proofs.Integers.{Passing, passing-start, passing-step, passing-end}
+use borrow.Author.Needs.{needs}
+use Rattle.drafting.proofs.places.date_places.Statement.{statement}
+use Rattle.drafting.proofs.places.date_places.Tie as tie
+
+abbrev Inv-loop : tie.InvT-loop
+Inv-loop body s₀ i₀ s i = Passing body i s
+
+abbrev μ-loop : tie.MeasureT-loop
+μ-loop body s₀ i₀ s i = length body - i
+
+loop-holds : tie.Need-loop-holds Inv-loop μ-loop
+loop-holds c = search (needs, passing-start)
+
+add-loop : tie.Need-add-loop Inv-loop μ-loop
+add-loop c = search needs
+
+mul-part-token : tie.Need-mul-part-token Inv-loop μ-loop
+mul-part-token c = search needs
+
+shared-slice-read-part-token : tie.Need-shared-slice-read-part-token Inv-loop μ-loop
+shared-slice-read-part-token c = search needs
+
+part-token-requires : tie.Need-part-token-requires Inv-loop μ-loop
+part-token-requires c κs = search needs
+
+add-i : tie.Need-add-i Inv-loop μ-loop
+add-i c = search needs
+
+loop-less : tie.Need-loop-less Inv-loop μ-loop
+loop-less c = search needs
+
+loop-again : tie.Need-loop-again Inv-loop μ-loop
+loop-again c = search (needs, passing-step)
+
+returns : tie.Need-returns Inv-loop μ-loop
+returns c = passing-end _ _ _ (c .before .loop .inv) (c .loop-test .left)
+
+pub date-places-spec : {M : Type 1} → statement M
+date-places-spec =
+    tie.close
+    (tie.spec
+    Inv-loop
+    μ-loop
+    loop-holds
+    add-loop
+    mul-part-token
+    shared-slice-read-part-token
+    part-token-requires
+    add-i
+    loop-less
+    loop-again
+    returns)

@@ -1,0 +1,60 @@
+-- `drafting::verdicts::first_failing` meets its contract.
+-- Assumes nothing.
+use Prim.Native.Nat.{_-_}
+use native.Mathlib.Omega.{arith}
+use mathlib.Core.Path.{sym, _∙_}
+use borrow.Author.Tests.{not-true, not-false}
+use Rattle.drafting.specs.Draft.{passesBy}
+use Rattle.drafting.proofs.Testing.{Seeking, seeking-start, seeking-fail, seeking-step, seeking-end}
+use borrow.Author.Needs.{needs}
+use Rattle.drafting.proofs.verdicts.first_failing.Statement.{statement}
+use Rattle.drafting.proofs.verdicts.first_failing.Tie as tie
+
+abbrev Inv-loop : tie.InvT-loop
+Inv-loop n test drafts place₀ place = Seeking (passesBy test n) drafts n place
+
+abbrev μ-loop : tie.MeasureT-loop
+μ-loop n test drafts place₀ place = n - place
+
+loop-holds : tie.Need-loop-holds Inv-loop μ-loop
+loop-holds c = seeking-start _ _ _ _ (omega arith) (search needs) (search needs)
+
+mul-passes : tie.Need-mul-passes Inv-loop μ-loop
+mul-passes c = search needs
+
+array-copy-out-passes : tie.Need-array-copy-out-passes Inv-loop μ-loop
+array-copy-out-passes c = search needs
+
+passes-requires : tie.Need-passes-requires Inv-loop μ-loop
+passes-requires c κs = search needs
+
+returns : tie.Need-returns Inv-loop μ-loop
+returns c = seeking-fail _ _ _ _ (c .before .before .before .before .loop .inv) (c .before .before .before .loop-test .taken) _ (sym (c .before .passes .ensures) ∙ not-true _ (c .if1 .taken))
+
+add-place : tie.Need-add-place Inv-loop μ-loop
+add-place c = search needs
+
+loop-less : tie.Need-loop-less Inv-loop μ-loop
+loop-less c = search needs
+
+loop-again : tie.Need-loop-again Inv-loop μ-loop
+loop-again c = seeking-step _ _ _ _ (c .before .before .before .before .loop .inv) (c .before .before .before .loop-test .taken) _ (sym (c .before .passes .ensures) ∙ not-false _ (c .if1 .left))
+
+returns-2 : tie.Need-returns-2 Inv-loop μ-loop
+returns-2 c = seeking-end _ _ _ _ (c .before .loop .inv) (c .loop-test .left)
+
+pub first-failing-spec : {M : Type 1} → statement M
+first-failing-spec =
+    tie.close
+    (tie.spec
+    Inv-loop
+    μ-loop
+    loop-holds
+    mul-passes
+    array-copy-out-passes
+    passes-requires
+    returns
+    add-place
+    loop-less
+    loop-again
+    returns-2)

@@ -1,0 +1,197 @@
+-- What one section of a code is drafted as, and what the tests and the heads ask of drafts.
+-- Assumes nothing.
+use Prim.Native.Nat.{ℕ, suc, _+_, _-_, _*_}
+use mathlib.Core.Path.{_≡_}
+use mathlib.Core.Bool.{Bool, true, false, cond, not, _&&_, _||_}
+use mathlib.Core.List.{List, [], _∷_, _++_}
+use mathlib.Core.Option.{Option, none}
+use lib.ListN.{length, take}
+use lib.Dec.{ltb, eqb}
+use Rattle.lists.specs.Lists.{isEmpty}
+use Rattle.formats.specs.Tokens as token
+use Rattle.formats.specs.Tokens.{Token, Written, lex}
+use Rattle.formats.specs.Items.{kindOf}
+use Rattle.formats.specs.Accept.{placedOf, tokensOf, partsIn}
+use Rattle.formats.specs.Kinds.{Parts, partsOf, conditionIn, conditionOf, sectionOf, fits, isPlace, isPoint, isZero, isSecondsToken}
+use Rattle.formats.specs.Where.{implies}
+use Rattle.formats.specs.Limits.{writtenWithin, withinLimits, sectionWithin}
+use Rattle.tables.specs.Encode.{kindWord, operatorWord, negativeWord, wholePart, millionthsPart, bit, shiftWord, hasHalf, decimalsWord}
+use Rattle.marks.specs.Marks.{tokenAt, tokensIn}
+use Rattle.bodies.specs.declared.conditions.Compared.{Compared}
+use Rattle.emitting.specs.Emit.{bodyWords}
+use Rattle.drafting.specs.declared.Draft.{Draft}
+use Rattle.drafting.specs.declared.Body.{Body}
+use Rattle.drafting.specs.declared.sections.Next.{Next}
+use Rattle.drafting.specs.declared.sections.Drafts.{Drafts}
+use Rattle.writing.specs.Put.{Put}
+use Rattle.bodies.specs.Sections.{firstSection}
+use Rattle.drafting.specs.declared.places.Parting.{Parting}
+use Rattle.bodies.specs.declared.sections.Heading.{Heading}
+use Rattle.bodies.specs.declared.facts.Facts.{Facts}
+use Rattle.bodies.specs.declared.commas.Commas.{Commas}
+use Rattle.bodies.specs.Forms.{placeForm}
+use Rattle.tallies.specs.declared.Tally.{Tally}
+use Rattle.tallies.specs.Tally.{kindTold, itemsFitTold, withinTold, decimalsTold}
+
+-- the places of a date's items: those of its tokens but the zeros of a part of a second; behind: the token just before is s, ss or
+-- an elapsed s; `left` zeros may still belong to a part
+unfoldable pub datePlaces : Bool → ℕ → List Token → ℕ
+datePlaces behind left [] = 0
+datePlaces behind left (t ∷ ts) =
+    let inPart = datePlaces false (left - 1) ts in
+    let other = datePlaces (isSecondsToken t) (cond (behind && isPoint t) 3 0) ts in
+    cond (isZero t && ltb 0 left) inPart (cond (isPlace t) (suc other) other)
+
+-- the places met with one token more, by its form
+abbrev pub partForm : Parting → ℕ → Parting
+partForm s f =
+    cond (eqb f 4 && ltb 0 (s .left)) (record { behind = false; left = s .left - 1; places = s .places })
+    (record {
+      behind = eqb f 19 || eqb f 22;
+      left = cond (s .behind && eqb f 7) 3 0;
+      places = cond (placeForm f) (s .places + 1) (s .places);
+    })
+
+-- the condition of a section, if it has one, as numbers; they are only told where its digits are within the limits
+pub record ConditionAs (o : Option Written) (r : Compared) : Type 0 where
+  pub operator : r .operator ≡ operatorWord (conditionOf o)
+  pub within : r .within ≡ writtenWithin o
+  pub negative : r .within ≡ true → bit (r .negative) ≡ negativeWord (conditionOf o)
+  pub whole : r .within ≡ true → r .whole ≡ wholePart (conditionOf o)
+  pub millionths : r .within ≡ true → r .millionths ≡ millionthsPart (conditionOf o)
+
+-- the condition of a section with this heading
+unfoldable pub headingCondition : List ℕ → Heading → Option Written
+headingCondition code h = cond (h .condition) (conditionIn (tokenAt code 24 (h .argument) (h .start))) none
+
+-- no condition as numbers
+abbrev pub noCondition : Compared
+noCondition = record { operator = 0; negative = false; whole = 0; millionths = 0; within = true }
+
+-- the draft of no section
+abbrev pub noDraft : Draft
+noDraft =
+    record {
+      colour = 0;
+      within = true;
+      condition = noCondition;
+      body = record { fits = true; within = true; kind = 0; shift = 0; grouped = false; twelve = false; decimals = 0; items = 0 };
+    }
+
+-- the body of a section by its facts, its commas, the tally of its items and their count
+abbrev pub thousandsBy : Facts → Commas → ℕ
+thousandsBy f c = cond (f .number) (c .thousands) 0
+
+abbrev pub shiftBy : Tally → ℕ → ℕ
+shiftBy t thousands = cond (eqb (kindTold t) 2) (15 + 2 * t .percents - 3 * thousands) 0
+
+-- the shift is told where the section is within the limits
+abbrev pub shiftTold : Tally → ℕ → ℕ
+shiftTold t thousands = cond (withinTold t thousands) (shiftBy t thousands) 0
+
+abbrev pub fitsBy : Facts → Commas → Tally → Bool
+fitsBy f c t = f .plain && (f .date || not (c .misplaced)) && f .solidus && itemsFitTold t
+
+abbrev pub bodyBy : Facts → Commas → Tally → ℕ → Body
+bodyBy f c t items =
+    record {
+      fits = fitsBy f c t;
+      within = withinTold t (thousandsBy f c);
+      kind = kindTold t;
+      shift = shiftTold t (thousandsBy f c);
+      grouped = f .number && c .grouped;
+      twelve = t .halves;
+      decimals = decimalsTold t;
+      items = items;
+    }
+
+-- what the body of a section is drafted as
+pub record BodyOf (p : Parts) (b : Body) : Type 0 where
+  pub fits : b .fits ≡ fits p
+  pub within : b .within ≡ sectionWithin (sectionOf p)
+  pub kind : b .kind ≡ kindWord (kindOf (sectionOf p))
+  pub shift : b .within ≡ true → b .shift ≡ shiftWord (sectionOf p)
+  pub grouped : b .grouped ≡ (sectionOf p) .grouped
+  pub twelve : b .twelve ≡ hasHalf ((sectionOf p) .items)
+  pub decimals : b .decimals ≡ decimalsWord (sectionOf p)
+  pub items : b .items ≡ length ((sectionOf p) .items)
+
+-- what a section is drafted as
+pub record DraftOf (p : Parts) (d : Draft) : Type 0 where
+  pub colour : d .colour ≡ p .colour
+  pub within : d .within ≡ withinLimits p
+  pub condition : ConditionAs (p .condition) (d .condition)
+  pub body : BodyOf p (d .body)
+
+-- the sections are drafted as the first of these
+abbrev pub Drafted : List Parts → List Draft → Type 0
+Drafted [] ds = Unit {0}
+Drafted (p ∷ ps) [] = ⊥
+Drafted (p ∷ ps) (d ∷ ds) = DraftOf p d × Drafted ps ds
+
+-- the words of the items of sections, one behind the other
+unfoldable pub itemWords : List Parts → List ℕ
+itemWords [] = []
+itemWords (p ∷ ps) = bodyWords (p .body) ++ itemWords ps
+
+-- the first section of these tokens is drafted, and the words of its items are put
+pub record FirstDrafted (ts : List Token) (old : List ℕ) (at : ℕ) (r : Next) (out : List ℕ) : Type 0 where
+  pub size : r .size ≡ firstSection ts
+  pub draft : DraftOf (partsOf (take (firstSection ts) ts)) (r .draft)
+  pub put : Put old at (bodyWords ((partsOf (take (firstSection ts) ts)) .body)) (at + 2 * r .draft .body .items) out
+
+-- the sections of a code are drafted, and the words of their items are put
+pub record AllDrafted (ps : List Parts) (old : List ℕ) (r : Drafts) (out : List ℕ) : Type 0 where
+  pub each : Drafted ps (r .drafts)
+  pub put : Put old 0 (itemWords ps) (r .words) out
+
+-- the buffer holds the tokens of the code, of n sections
+pub record Lexes (code tokens : List ℕ) (n : ℕ) : Type 0 where
+  pub same : tokensIn code tokens ≡ tokensOf (placedOf (lex code))
+  pub many : n ≡ length (partsIn code)
+
+-- ---- the tests on a draft
+abbrev pub hasConditionBy : Draft → Bool
+hasConditionBy d = not (eqb (d .condition .operator) 0)
+
+abbrev pub isTextBy : Draft → Bool
+isTextBy d = eqb (d .body .kind) 3
+
+-- where section i of n may stand
+unfoldable pub standsBy : ℕ → ℕ → Draft → Bool
+standsBy n i d =
+    implies (isTextBy d) (eqb (i + 1) n)
+    && implies (eqb n 1 && hasConditionBy d) (eqb (d .body .kind) 1)
+    && implies (hasConditionBy d) (ltb i 2)
+    && implies (isTextBy d) (not (hasConditionBy d))
+    && implies (eqb i 3) (isTextBy d || eqb (d .body .kind) 1 || eqb (d .body .kind) 0)
+    && implies (eqb i 3) (eqb (d .colour) 0 && not (hasConditionBy d))
+
+-- the test of the answer of this number, of section i of n
+unfoldable pub passesBy : ℕ → ℕ → ℕ → Draft → Bool
+passesBy test n i d = cond (eqb test 4) (d .body .fits) (cond (eqb test 5) (standsBy n i d) (d .within))
+
+-- the place of the first draft that fails, or of the end
+unfoldable pub firstFrom : (ℕ → Draft → Bool) → ℕ → List Draft → ℕ
+firstFrom f k [] = k
+firstFrom f k (d ∷ ds) = let r = firstFrom f (k + 1) ds in cond (f k d) r k
+
+-- ---- a condition token's units write a condition
+-- a condition that is read has a digit
+unfoldable pub hasDigit : Token → Bool
+hasDigit (token.condition w) = not (isEmpty (w .whole))
+hasDigit (token.literal us) = true
+hasDigit (token.bare u) = true
+hasDigit (token.blank u) = true
+hasDigit (token.fill u) = true
+hasDigit (token.place p) = true
+hasDigit token.point = true
+hasDigit token.comma = true
+hasDigit token.percent = true
+hasDigit token.at = true
+hasDigit token.semicolon = true
+hasDigit token.general = true
+hasDigit (token.half h) = true
+hasDigit (token.run l n) = true
+hasDigit (token.elapsed e n) = true
+hasDigit (token.colour n) = true

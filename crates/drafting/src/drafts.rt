@@ -1,0 +1,136 @@
+// One section of a code: what its tokens say of it, with the words of its items.
+use super::Body;
+use super::Draft;
+use super::places::integer_places;
+use bodies::commas::Commas;
+use bodies::commas::commas_of;
+use bodies::conditions::Compared;
+use bodies::conditions::condition_of;
+use bodies::facts::Facts;
+use bodies::facts::facts_of;
+use bodies::sections::Heading;
+use bodies::sections::heading_of;
+use emitting::put_items;
+use tallies::Tally;
+use tallies::decimals_word;
+use tallies::items_fit;
+use tallies::kind;
+use tallies::tally_words;
+use tallies::within;
+ghost use mathlib.Core.Path.{_≡_};
+ghost use mathlib.Core.Bool.{true};
+ghost use Prim.Native.Nat.{suc, _+_, _*_, _≤_};
+ghost use lib.Dec.{T};
+ghost use lib.ListN.{length, take, drop};
+ghost use Rattle.lists.specs.Lists.{every, isSome};
+ghost use Rattle.formats.specs.Tokens.{conditionInside};
+ghost use Rattle.formats.specs.Kinds.{Parts, partsOf};
+ghost use Rattle.marks.specs.Marks.{tokensIn};
+ghost use Rattle.writing.specs.Put.{Put};
+ghost use Rattle.emitting.specs.Emit.{bodyWords};
+ghost use Rattle.drafting.specs.Draft.{ConditionAs, headingCondition, noCondition, thousandsBy, shiftTold, fitsBy, bodyBy, BodyOf, DraftOf, hasDigit};
+
+pub fn no_condition() -> Compared
+    ensures { λ r. ⌜ r ≡ noCondition ⌝ }
+{
+    Compared {
+        operator: 0,
+        negative: false,
+        whole: 0,
+        millionths: 0,
+        within: true,
+    }
+}
+
+// The condition of a section with this heading.
+fn heading_condition(code: &[u16], h: Heading) -> Compared
+    requires { ⌜ (length (now code) ≤ 254) × (h .condition ≡ true → isSome (conditionInside (take (h .argument) (drop (suc (h .start)) (now code)))) ≡ true) ⌝ }
+    ensures { λ r. ⌜ ConditionAs (headingCondition (now (code .entry)) h) r ⌝ }
+{
+    if !h.condition {
+        return no_condition();
+    }
+    let room = code.len() - h.start as usize - 1;
+    if (h.argument as usize) < room {
+        return condition_of(code, h.start, h.argument);
+    }
+    condition_of(code, h.start, room as u16)
+}
+
+// How many commas divide: only those of a number do.
+fn thousands_of(f: Facts, c: Commas) -> u16
+    ensures { λ r. ⌜ r ≡ thousandsBy f c ⌝ }
+{
+    if f.number { c.thousands } else { 0 }
+}
+
+// The head's shift, of a section within the limits.
+fn shift_of(t: Tally, thousands: u16) -> u16
+    ensures { λ r. ⌜ r ≡ shiftTold t thousands ⌝ }
+{
+    if !within(t, thousands) {
+        return 0;
+    }
+    if kind(t) != 2 {
+        return 0;
+    }
+    15 + 2 * t.percents - 3 * thousands
+}
+
+fn fits(f: Facts, c: Commas, t: Tally) -> bool
+    ensures { λ r. ⌜ r ≡ fitsBy f c t ⌝ }
+{
+    f.plain & (f.date | !c.misplaced) & f.solidus & items_fit(t)
+}
+
+// A body by what its tokens and its items say.
+fn body_of(f: Facts, c: Commas, t: Tally, items: u16) -> Body
+    ensures { λ r. ⌜ r ≡ bodyBy f c t items ⌝ }
+{
+    let thousands = thousands_of(f, c);
+    Body {
+        fits: fits(f, c, t),
+        within: within(t, thousands),
+        kind: kind(t),
+        shift: shift_of(t, thousands),
+        grouped: f.number & c.grouped,
+        twelve: t.halves,
+        decimals: decimals_word(t),
+        items,
+    }
+}
+
+// Drafts a body, and puts the words of its items at `at`.
+fn draft_body(code: &[u16], body: &[u16], items: &mut [u16], at: usize) -> Body
+    requires { ⌜ (length (now code) ≤ 254) × (length (now body) ≤ 762) × (length (now items) ≤ 508) × (at + length (bodyWords (tokensIn (now code) (now body))) ≤ length (now items)) ⌝ }
+    ensures draft { λ r. ⌜ ((p : Parts) → p .body ≡ tokensIn (now (code .entry)) (now (body .entry)) → BodyOf p r) ⌝ }
+    ensures put { λ r. ⌜ Put (now (items .entry)) at (bodyWords (tokensIn (now (code .entry)) (now (body .entry)))) (at + 2 * r .items) (now (items .exit)) ⌝ }
+{
+    let f = facts_of(body);
+    let c = commas_of(body);
+    let places = integer_places(body, f);
+    let end = put_items(code, body, f.date, f.fills, places, items, at);
+    let t = tally_words(&items[at..end]);
+    let size = end - at;
+    body_of(f, c, t, (size / 2) as u16)
+}
+
+// Drafts the section of these tokens, and puts the words of its items at `at`.
+pub fn draft_section(code: &[u16], part: &[u16], items: &mut [u16], at: usize) -> Draft
+    requires { ⌜ (length (now code) ≤ 254) × (length (now part) ≤ 762) × (length (now items) ≤ 508) ⌝ }
+    requires { ⌜ at + length (bodyWords ((partsOf (tokensIn (now code) (now part))) .body)) ≤ length (now items) ⌝ }
+    requires { ⌜ T (every hasDigit (tokensIn (now code) (now part))) ⌝ }
+    ensures draft { λ r. ⌜ DraftOf (partsOf (tokensIn (now (code .entry)) (now (part .entry)))) r ⌝ }
+    ensures put { λ r. ⌜ Put (now (items .entry)) at (bodyWords ((partsOf (tokensIn (now (code .entry)) (now (part .entry)))) .body)) (at + 2 * r .body .items) (now (items .exit)) ⌝ }
+{
+    let h = heading_of(part);
+    let from = 3 * h.tokens;
+    let condition = heading_condition(code, h);
+    let body = draft_body(code, &part[from..], items, at);
+    Draft {
+        colour: h.colour,
+        within: condition.within & body.within,
+        condition,
+        body,
+    }
+}

@@ -1,0 +1,102 @@
+-- `spans::section_span` meets its contract.
+-- Assumes nothing.
+use Prim.Native.Nat.{ℕ, _*_}
+use native.Mathlib.Omega.{arith}
+use mathlib.Core.Path.{_≡_, sym, _∙_}
+use mathlib.Core.List.{List}
+use denote.Ref.{now}
+use lib.ListN.{length-take}
+use Rattle.formats.specs.Accept.{fine, verdict}
+use Rattle.drafting.specs.Examine.{Sound}
+use Rattle.drafting.proofs.Answering.{examined-no, examined-fine}
+use Rattle.spans.proofs.Spanning.{section-refused, section-fine, section-there, section-missing}
+use borrow.Author.Needs.{needs}
+use Rattle.spans.proofs.section_span.Statement.{statement}
+use Rattle.spans.proofs.section_span.Tie as tie
+
+-- what examining told of a code that is not refused
+module _ (k : tie.Else1) where
+  abbrev code : List ℕ
+  code = now (k .before .before .before .before .before .before .before .before .args .code)
+
+  abbrev n : ℕ
+  n = k .before .before .before .before .before .before .before .before .args .n
+
+  accepted : verdict code ≡ fine
+  accepted = examined-fine _ _ _ _ _ (k .before .before .before .before .examine .ensures) (k .before .number .ensures) (k .if1 .left)
+
+  sound : Sound code (k .before .before .before .before .examine .last .1 .0) (k .before .before .before .before .examine .result) (k .before .before .before .before .examine .last .1 .1 .0)
+  sound = k .before .before .before .before .examine .ensures .sound (sym (k .before .number .ensures) ∙ k .if1 .left)
+
+slice-aggregate-examine : tie.Need-slice-aggregate-examine
+slice-aggregate-examine c = search needs
+
+slice-aggregate-examine-2 : tie.Need-slice-aggregate-examine-2
+slice-aggregate-examine-2 c = search needs
+
+examine-requires : tie.Need-examine-requires
+examine-requires c κs = search needs
+
+number-requires : tie.Need-number-requires
+number-requires c κs = search needs
+
+empty-start-requires : tie.Need-empty-start-requires
+empty-start-requires c κs = search needs
+
+returns : tie.Need-returns
+returns c =
+    let m = c .before .before in
+    let x = m .before .before .before in
+    let a = x .before .before .before .before .args in
+    let v = examined-no _ _ _ _ _ (x .examine .ensures) (m .number .ensures) (c .before .if1 .taken) in
+    let r = section-refused (now (a .code)) (a .n) _ _ v in
+    rw (c .empty-start .ensures) (r .start, (r .size, r .inside))
+
+empty-start-requires-2 : tie.Need-empty-start-requires-2
+empty-start-requires-2 c κs = search needs
+
+returns-2 : tie.Need-returns-2
+returns-2 c =
+    let k = c .before .before .before in
+    let r = section-missing (code k) (n k) _ _ _ (sound k) (accepted k) (omega (arith, c .before .if2 .taken)) in
+    rw (c .empty-start2 .ensures) (r .start, (r .size, r .inside))
+
+mul-end : tie.Need-mul-end
+mul-end c = omega (arith, sound (c .before .before .before) .buffered .few)
+
+array-share-prefix-tokens : tie.Need-array-share-prefix-tokens
+array-share-prefix-tokens c =
+    let x = c .before .before .before .before .before .before .before .examine in
+    omega (arith, sound (c .before .before .before) .buffered .size, length-take (3 * x .result .tokens) (x .last .1 .0))
+
+slice-aggregate-span-between : tie.Need-slice-aggregate-span-between
+slice-aggregate-span-between c = sym (sound (c .before .before .before .before) .buffered .size)
+
+span-between-requires : tie.Need-span-between-requires
+span-between-requires c κs =
+    let k = c .before .before .before .before in
+    (sound k .buffered, section-there (code k) (n k) _ _ _ (sound k) (omega (arith, c .before .before .if2 .left)))
+
+returns-3 : tie.Need-returns-3
+returns-3 c =
+    let k = c .before .before .before .before .before in
+    let r = section-fine (code k) (n k) (accepted k) _ (c .span-between .ensures) in
+    (r .start, (r .size, r .inside))
+
+pub section-span-spec : {M : Type 1} → statement M
+section-span-spec =
+    tie.close
+    (tie.spec
+    slice-aggregate-examine
+    slice-aggregate-examine-2
+    examine-requires
+    number-requires
+    empty-start-requires
+    returns
+    empty-start-requires-2
+    returns-2
+    mul-end
+    array-share-prefix-tokens
+    slice-aggregate-span-between
+    span-between-requires
+    returns-3)
