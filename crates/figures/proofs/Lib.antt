@@ -1,3 +1,4 @@
+pub mod Past
 pub mod Tens
 pub mod Rounding
 pub mod Digits
