@@ -5,25 +5,25 @@ use mathlib.Core.Path.{_≡_, refl, sym, ap, _∙_}
 use mathlib.Core.Bool.{Bool, true, false, cond, not, _&&_, _||_}
 use mathlib.Core.List.{List, [], _∷_, map}
 use native.Mathlib.Omega.{arith}
-use lib.Dec.{leb, ltb, eqb}
+use lib.Dec.{eqb}
 use borrow.Author.Tests.{le-leb, lt-leb, le-ltb, ne-eqb}
 use lib.ListN.{length, drop, getD}
 use Rattle.lists.specs.Lists.{every, any, count}
 use Rattle.formats.specs.Tokens.{Token}
 use Rattle.formats.specs.Items.{Kind, textKind, generalKind, dateKind, numberKind, literalKind, sameKind, kindFrom}
-use Rattle.formats.specs.Kinds.{isPlace, isPoint, isSolidus, startsWithPlace, solidusFrom, solidusFits, noBracket, tokenMakes, bodyKind}
-use Rattle.marks.specs.Marks.{markToken, conditionOf, tokenAt, tokensIn}
+use Rattle.formats.specs.Kinds.{isPlace, isPoint, isFillToken, isSolidus, startsWithPlace, solidusFrom, solidusFits, noBracket, tokenMakes, bodyKind}
+use Rattle.marks.specs.Marks.{markRows, markToken, conditionOf, tokenAt, tokensIn}
 use Rattle.bodies.specs.declared.facts.Seen.{Seen}
-use Rattle.bodies.specs.Forms.{one, placeForm, rankOf, rankForm, isFillToken}
+use Rattle.bodies.specs.Forms.{one, placeForm, rankOf}
 use Rattle.bodies.specs.Bodies.{integerPlaceTokens, factsOf, seeForm, see, seeAll, nothingSeen, seenFacts}
-use Rattle.bodies.proofs.Forms.{upFrom, by-form}
-use Rattle.bodies.proofs.Words.{tokens-first, tokens-end}
+use Rattle.marks.proofs.ByForm.{upFrom, by-form}
+use Rattle.marks.proofs.Words.{tokens-first, tokens-end}
 
 -- what a token says, by its form and argument
 see-form : (s : Seen) (f a : ℕ) (us : List ℕ) → see s (markToken f a us) ≡ seeForm s f a
-unfolding upFrom conditionOf tokenMakes isSolidus noBracket
+unfolding markRows upFrom conditionOf tokenMakes isSolidus noBracket
 see-form s f a us = by-form (see s) (λ (n : ℕ). seeForm s n a) a us refl
-    (λ n h. rw (ne-eqb n 10 (omega arith), ne-eqb n 12 (omega arith), ne-eqb n 7 (omega arith), ne-eqb n 3 (omega arith), ne-eqb n 1 (omega arith), lt-leb n 22 (omega arith), lt-leb n 6 (omega arith), le-leb 15 n (omega arith), le-leb 4 n (omega arith), le-ltb n 23 (omega arith))) f
+    (λ n h. rw (ne-eqb n 10 (omega arith), ne-eqb n 12 (omega arith), ne-eqb n 7 (omega arith), ne-eqb n 3 (omega arith), ne-eqb n 1 (omega arith), lt-leb n 22 (omega arith), lt-leb n 6 (omega arith), le-leb 15 n (omega arith), le-leb 4 n (omega arith), ne-eqb n 23 (omega arith), le-ltb n 24 (omega arith))) f
 
 -- ---- the kind
 -- a kind in front of others: the higher rank is the rank of all
@@ -160,15 +160,6 @@ facts-seen ts =
     rw (rank, places, fills, plain-seen s ts, solidus-seen s ts, ← (rank-date (bodyKind ts)), ← (rank-number (bodyKind ts)))
 
 -- ---- the pass
-pub seen-made : (s : Seen) (f a rank₀ rank fills places : ℕ) (place point plain between solidus whole slash divided : Bool)
-    → place ≡ (leb 4 f && leb f 6) → point ≡ (s .point || eqb f 7) → rank₀ ≡ rankForm f → rank ≡ s .rank + (rank₀ - s .rank)
-    → plain ≡ (s .plain && ltb f 23) → between ≡ (s .divided && place) → solidus ≡ (s .solidus && not between)
-    → fills ≡ one (eqb f 3) + s .fills → whole ≡ (place && not point) → places ≡ one whole + s .places
-    → slash ≡ (eqb f 1 && eqb a 47) → divided ≡ (s .behind && slash)
-    → _≡_ {A = Seen} (record { rank = rank; plain = plain; solidus = solidus; fills = fills; places = places; point = point; behind = place; divided = divided }) (seeForm s f a)
-seen-made s f a rank₀ rank fills places place point plain between solidus whole slash divided e1 e2 e3 e4 e5 e6 e7 e8 e9 e10 e11 e12 =
-    rw (e4, e3, e5, e7, e6, e8, e10, e9, e2, e12, e11, e1)
-
 -- what the loop of `facts_of` keeps
 pub record Seeing (ws : List ℕ) (i : ℕ) (s : Seen) : Type 0 where
   pub small : length ws ≤ 762

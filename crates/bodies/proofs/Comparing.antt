@@ -102,15 +102,14 @@ module _ (us : List ℕ) (n b : ℕ) (e : n ≡ leading isDigit us) (f : b ≡ n
           = s ∙ ap (paddedNumber 6) decimals-part ∙ padded-number 6 (decimalUnits us) (omega arith) in
           rw (length-map (decimalUnits us) digitOf, ← whole-part, ← whole, ← decimals)
 
-      pub compared : (x : Bool) → x ≡ (negative && ltb 0 (w + m))
-          → ComparedBy (writtenOf operator negative us) (record { operator = operator; negative = x; whole = w; millionths = m; within = true })
+      pub compared : ComparedBy (writtenOf operator negative us) (record { operator = operator; negative = negative && ltb 0 (w + m); whole = w; millionths = m; within = true })
       unfolding writtenOf
-      compared x y =
+      compared =
           record {
             operator = word-back operator most compares;
             within = sym (within-limits ∙ rw (le-leb n 9 h, le-leb (length (take (length us - b) (drop b us))) 6 k));
             number = λ z. written-number;
-            negative = λ z. y ∙ ap (λ (c : Bool). negative && c) (sign-of (millionthsOf (writtenOf operator negative us)) w m written-number);
+            negative = λ z. ap (λ (c : Bool). negative && c) (sign-of (millionthsOf (writtenOf operator negative us)) w m written-number);
             whole = whole-small;
             millionths = t;
             outside = λ z. absurd (true≢false z);

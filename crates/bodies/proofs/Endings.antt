@@ -14,8 +14,8 @@ use Rattle.formats.specs.Kinds.{isSemicolon}
 use Rattle.formats.specs.Accept.{joined, split}
 use Rattle.marks.specs.Marks.{tokenAt, tokensIn}
 use Rattle.bodies.specs.Sections.{firstSection, laterSections, SectionEnd}
-use Rattle.bodies.proofs.Forms.{semicolon-form}
-use Rattle.bodies.proofs.Words.{tokens-first, tokens-end}
+use Rattle.marks.proofs.ByForm.{semicolon-form}
+use Rattle.marks.proofs.Words.{tokens-first, tokens-end}
 
 -- the first section and the others
 pub split-first : (ts : List Token) → split ts ≡ take (firstSection ts) ts ∷ laterSections (firstSection ts) ts

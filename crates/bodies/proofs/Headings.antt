@@ -13,8 +13,8 @@ use Rattle.formats.specs.Kinds.{afterColour, partsOf}
 use Rattle.marks.specs.Marks.{tokenAt, tokensIn}
 use Rattle.bodies.specs.declared.sections.Heading.{Heading}
 use Rattle.bodies.specs.Sections.{bareHeading, headingParts, AfterColour, HeadingOf}
-use Rattle.bodies.proofs.Forms.{colour-form, condition-form, colour-argument, condition-24}
-use Rattle.bodies.proofs.Words.{tokens-first, tokens-end, tokens-drop}
+use Rattle.marks.proofs.ByForm.{colour-form, condition-form, colour-argument, condition-24}
+use Rattle.marks.proofs.Words.{tokens-first, tokens-end, tokens-drop}
 
 module _ (ws : List ℕ) (colour passed : ℕ) (inside : 3 * passed ≤ length ws) where
   at-end : (code : List ℕ) → length ws ≤ 3 * passed + 2 → drop passed (tokensIn code ws) ≡ []

@@ -1,6 +1,4 @@
-pub mod Forms
 pub mod Tests
-pub mod Words
 pub mod Endings
 pub mod Headings
 pub mod Comparing

@@ -1,19 +1,11 @@
 -- What small tests answer, in the order of their branches.
 -- Assumes nothing.
-use Prim.Native.Nat.{ℕ, _+_, _≤_, _<_}
+use Prim.Native.Nat.{ℕ, _+_}
 use mathlib.Core.Path.{_≡_, sym, _∙_}
-use mathlib.Core.Bool.{Bool, true, false, _&&_}
+use mathlib.Core.Bool.{Bool, true, false}
 use native.Mathlib.Omega.{arith}
-use borrow.Author.Tests.{ne-eqb, le-leb, lt-leb}
-use lib.Dec.{leb}
+use borrow.Author.Tests.{ne-eqb}
 use Rattle.bodies.specs.Forms.{one, placeForm, dateForm, rankForm}
-
-module _ (low high f : ℕ) where
-  pub between-above : low ≤ f → leb f high ≡ (leb low f && leb f high)
-  between-above h = rw (le-leb low f h)
-
-  pub between-below : f < low → false ≡ (leb low f && leb f high)
-  between-below h = rw (lt-leb low f h)
 
 module _ (n : ℕ) (b : Bool) where
   pub counted-one : b ≡ true → n + 1 ≡ one b + n

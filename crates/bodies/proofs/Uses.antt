@@ -13,14 +13,14 @@ use Rattle.lists.proofs.Bools.{by-cases}
 use Rattle.lists.proofs.Counts.{any-count, none-count}
 use Rattle.formats.specs.Tokens.{Token}
 use Rattle.formats.specs.Kinds.{formOf, isPlace, isPoint, isComma, CommaUse, groups, divides, misplaced, isGrouping, isDividing, isMisplaced, integerPlaceIn, commaUse, commaUsesFrom, commaUses}
-use Rattle.marks.specs.Marks.{markToken, conditionOf, tokenAt, tokensIn}
+use Rattle.marks.specs.Marks.{markRows, markToken, conditionOf, tokenAt, tokensIn}
 use Rattle.bodies.specs.declared.commas.Scan.{Scan}
 use Rattle.bodies.specs.Uses.{commasOf, met, atComma, atPoint, atPlace, scanForm, scanToken, scanAll, nothingScanned, scanCommas}
-use Rattle.bodies.proofs.Forms.{upFrom, by-form}
-use Rattle.bodies.proofs.Words.{tokens-first, tokens-end}
+use Rattle.marks.proofs.ByForm.{upFrom, by-form}
+use Rattle.marks.proofs.Words.{tokens-first, tokens-end}
 
 scan-form : (s : Scan) (f a : ℕ) (us : List ℕ) → scanToken s (markToken f a us) ≡ scanForm s f
-unfolding upFrom conditionOf
+unfolding markRows upFrom conditionOf
 scan-form s f a us = by-form (scanToken s) (scanForm s) a us refl
     (λ n h. rw (ne-eqb n 8 (omega arith), ne-eqb n 7 (omega arith), lt-leb n 6 (omega arith), le-leb 4 n (omega arith))) f
 

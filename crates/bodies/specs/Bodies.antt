@@ -7,10 +7,10 @@ use lib.Dec.{ltb, eqb}
 use Rattle.lists.specs.Lists.{every, count}
 use Rattle.formats.specs.Tokens.{Token}
 use Rattle.formats.specs.Items.{dateKind, numberKind, sameKind}
-use Rattle.formats.specs.Kinds.{isPlace, isPoint, isSolidus, solidusFits, noBracket, tokenMakes, bodyKind}
+use Rattle.formats.specs.Kinds.{isPlace, isPoint, isFillToken, isSolidus, solidusFits, noBracket, tokenMakes, bodyKind}
 use Rattle.bodies.specs.declared.facts.Facts.{Facts}
 use Rattle.bodies.specs.declared.facts.Seen.{Seen}
-use Rattle.bodies.specs.Forms.{one, placeForm, rankOf, rankForm, isFillToken}
+use Rattle.bodies.specs.Forms.{one, placeForm, rankOf, rankForm}
 
 -- the places before the first point
 unfoldable pub integerPlaceTokens : List Token → ℕ
@@ -44,7 +44,7 @@ seen s rank isPlace isPoint isFill isSolidus plain =
 
 -- the same by the token's form and argument
 abbrev pub seeForm : Seen → ℕ → ℕ → Seen
-seeForm s f a = seen s (rankForm f) (placeForm f) (eqb f 7) (eqb f 3) (eqb f 1 && eqb a 47) (ltb f 23)
+seeForm s f a = seen s (rankForm f) (placeForm f) (eqb f 7) (eqb f 3) (eqb f 1 && eqb a 47) (not (eqb f 23) && ltb f 24)
 
 abbrev pub see : Seen → Token → Seen
 see s t = seen s (rankOf (tokenMakes t)) (isPlace t) (isPoint t) (isFillToken t) (isSolidus t) (noBracket t)

@@ -3,9 +3,7 @@
 use Prim.Native.Nat.{ℕ}
 use mathlib.Core.Bool.{Bool, cond, _&&_}
 use lib.Dec.{leb, eqb}
-use Rattle.formats.specs.Tokens.{Token}
 use Rattle.formats.specs.Items.{Kind, textKind, generalKind, dateKind, numberKind, literalKind}
-use Rattle.formats.specs.Kinds.{formOf}
 
 abbrev pub placeForm : ℕ → Bool
 placeForm f = leb 4 f && leb f 6
@@ -24,9 +22,6 @@ rankOf textKind = 4
 -- the rank of what a form makes of its body
 abbrev pub rankForm : ℕ → ℕ
 rankForm f = cond (eqb f 10) 4 (cond (eqb f 12) 3 (cond (dateForm f) 2 (cond (placeForm f) 1 0)))
-
-abbrev pub isFillToken : Token → Bool
-isFillToken t = eqb (formOf t) 3
 
 abbrev pub one : Bool → ℕ
 one b = cond b 1 0

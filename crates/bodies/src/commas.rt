@@ -1,6 +1,9 @@
 // The uses of a body's commas, in one pass over its tokens.
 use super::bools::between;
-use super::bools::either;
+use marks::forms::COMMA;
+use marks::forms::POINT;
+use marks::forms::SPACE_PLACE;
+use marks::forms::ZERO_PLACE;
 ghost use mathlib.Core.Path.{_≡_};
 ghost use mathlib.Core.List.{List};
 ghost use Prim.Native.Nat.{ℕ, _≤_};
@@ -31,7 +34,7 @@ fn at_comma(s: Scan) -> Scan
     ensures { λ r. ⌜ r ≡ atComma s ⌝ }
 {
     let mut t = s;
-    if either(s.point, s.place) {
+    if s.point | s.place {
         t.held += 1;
         return t;
     }
@@ -75,13 +78,13 @@ fn scan_token(s: Scan, form: u16) -> Scan
     requires { ⌜ met s ≤ 762 ⌝ }
     ensures { λ r. ⌜ r ≡ scanForm s form ⌝ }
 {
-    if form == 8 {
+    if form == COMMA {
         return at_comma(s);
     }
-    if form == 7 {
+    if form == POINT {
         return at_point(s);
     }
-    if between(form, 4, 6) {
+    if between(form, ZERO_PLACE, SPACE_PLACE) {
         return at_place(s);
     }
     s

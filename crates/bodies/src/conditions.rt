@@ -1,6 +1,5 @@
 // The condition that the units inside a bracket write.
 use super::bools::between;
-use super::bools::both;
 ghost use mathlib.Core.Path.{_≡_};
 ghost use mathlib.Core.Bool.{true, false};
 ghost use Prim.Native.Nat.{suc, _+_, _-_, _^_, _≤_, _<_};
@@ -126,7 +125,7 @@ fn compared_number(operator: u16, negative: bool, us: &[u16]) -> Compared
     let millionths = number(decimals, 6);
     Compared {
         operator,
-        negative: both(negative, 0 < whole + millionths),
+        negative: negative & (0 < whole + millionths),
         whole,
         millionths,
         within: true,

@@ -1,7 +1,16 @@
 // The facts of a body, in one pass over its tokens.
 use super::bools::between;
-use super::bools::both;
-use super::bools::either;
+use marks::forms::AT;
+use marks::forms::BARE;
+use marks::forms::COLOUR;
+use marks::forms::CONDITION;
+use marks::forms::ELAPSED_SECONDS;
+use marks::forms::FILL;
+use marks::forms::GENERAL;
+use marks::forms::POINT;
+use marks::forms::SPACE_PLACE;
+use marks::forms::YEARS;
+use marks::forms::ZERO_PLACE;
 ghost use mathlib.Core.Path.{_≡_};
 ghost use mathlib.Core.List.{List};
 ghost use Prim.Native.Nat.{ℕ, _+_, _-_, _≤_};
@@ -38,16 +47,16 @@ pub struct Seen {
 fn rank_of(form: u16) -> u16
     ensures { λ r. ⌜ r ≡ rankForm form ⌝ }
 {
-    if form == 10 {
+    if form == AT {
         return 4;
     }
-    if form == 12 {
+    if form == GENERAL {
         return 3;
     }
-    if between(form, 15, 22) {
+    if between(form, YEARS, ELAPSED_SECONDS) {
         return 2;
     }
-    if between(form, 4, 6) {
+    if between(form, ZERO_PLACE, SPACE_PLACE) {
         return 1;
     }
     0
@@ -72,17 +81,17 @@ fn see(s: Seen, form: u16, argument: u16) -> Seen
     requires { ⌜ (s .fills ≤ 762) × (s .places ≤ 762) ⌝ }
     ensures { λ r. ⌜ r ≡ seeForm s form argument ⌝ }
 {
-    let place = between(form, 4, 6);
-    let point = either(s.point, form == 7);
+    let place = between(form, ZERO_PLACE, SPACE_PLACE);
+    let point = s.point | (form == POINT);
     Seen {
         rank: higher(s.rank, rank_of(form)),
-        plain: both(s.plain, form < 23),
-        solidus: both(s.solidus, !both(s.divided, place)),
-        fills: counted(s.fills, form == 3),
-        places: counted(s.places, both(place, !point)),
+        plain: s.plain & ((form != COLOUR) & (form < CONDITION)),
+        solidus: s.solidus & !(s.divided & place),
+        fills: counted(s.fills, form == FILL),
+        places: counted(s.places, place & !point),
         point,
         behind: place,
-        divided: both(s.behind, both(form == 1, argument == 47)),
+        divided: s.behind & ((form == BARE) & (argument == 47)),
     }
 }
 

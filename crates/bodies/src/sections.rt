@@ -1,4 +1,7 @@
 // Where a section ends, and what stands before its body.
+use marks::forms::COLOUR;
+use marks::forms::CONDITION;
+use marks::forms::SEMICOLON;
 ghost use mathlib.Core.Path.{_≡_};
 ghost use Prim.Native.Nat.{_*_, _≤_};
 ghost use lib.ListN.{length};
@@ -12,7 +15,7 @@ pub fn section_end(tokens: &[u16]) -> usize
     let mut i: usize = 0;
     let mut n: usize = 0;
     while i + 2 < tokens.len() {
-        if tokens[i] == 11 {
+        if tokens[i] == SEMICOLON {
             return n;
         }
         n += 1;
@@ -53,7 +56,7 @@ fn after_colour(tokens: &[u16], colour: u16, passed: usize) -> Heading
     if tokens.len() <= at + 2 {
         return bare_heading(colour, passed);
     }
-    if tokens[at] < 24 {
+    if tokens[at] < CONDITION {
         return bare_heading(colour, passed);
     }
     Heading {
@@ -73,7 +76,7 @@ pub fn heading_of(tokens: &[u16]) -> Heading
     if tokens.len() <= 2 {
         return after_colour(tokens, 0, 0);
     }
-    if tokens[0] == 23 {
+    if tokens[0] == COLOUR {
         let colour = tokens[1];
         return after_colour(tokens, colour, 1);
     }

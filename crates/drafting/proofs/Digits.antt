@@ -18,8 +18,8 @@ use Rattle.formats.proofs.TokenRanges.{InForm, InStep, closed-step, first-passe
 use Rattle.marks.specs.Marks.{writtenOr, writtenIn, conditionOf, markRows, markToken, tokenAt, tokensIn}
 use Rattle.bodies.specs.declared.sections.Heading.{Heading}
 use Rattle.bodies.specs.Sections.{HeadingOf}
-use Rattle.bodies.proofs.Forms.{condition-24}
-use Rattle.bodies.proofs.Words.{tokens-first, tokens-drop, tokens-take}
+use Rattle.marks.proofs.ByForm.{condition-24}
+use Rattle.marks.proofs.Words.{tokens-first, tokens-drop, tokens-take}
 use Rattle.drafting.specs.Draft.{hasDigit}
 
 -- ---- the units inside a bracket

@@ -15,7 +15,7 @@ use Rattle.calendar.specs.Names.{units}
 use Rattle.lists.specs.Lists.{count, isSome}
 use Rattle.formats.specs.Tokens.{Token, Written, startsWith, conditionInside}
 use Rattle.formats.specs.Items.{Item, kindOf, sameKind, dateKind, settled}
-use Rattle.formats.specs.Kinds.{Parts, partsOf, conditionOf, sectionOf, fits, commasFit, bodyKind, bodyItems, lastFill}
+use Rattle.formats.specs.Kinds.{isFillToken, Parts, partsOf, conditionOf, sectionOf, fits, commasFit, bodyKind, bodyItems, lastFill}
 use Rattle.formats.specs.Limits.{writtenWithin, sectionWithin, withinLimits}
 use Rattle.tables.specs.Words.{Entry, entriesAt, entriesWords}
 use Rattle.tables.specs.Encode.{operatorWord, negativeWord, wholePart, millionthsPart, bit, entriesOf, shiftWord}
@@ -32,11 +32,11 @@ use Rattle.bodies.specs.Bodies.{factsOf}
 use Rattle.bodies.specs.Uses.{commasOf}
 use Rattle.bodies.specs.Sections.{headingParts, HeadingOf}
 use Rattle.bodies.proofs.Inside.{condition-at}
-use Rattle.bodies.proofs.Words.{tokens-drop}
+use Rattle.marks.proofs.Words.{tokens-drop}
 use Rattle.tallies.specs.declared.Tally.{Tally}
 use Rattle.tallies.specs.Tally.{entriesIn, tallyOf, kindTold, withinTold, decimalsTold}
 use Rattle.tallies.proofs.Told.{percents-are, half-told, items-fit-told, within-told, decimals-told, section-kind-told, number-told}
-use Rattle.emitting.specs.Emit.{isFillToken, bodyWords}
+use Rattle.emitting.specs.Emit.{bodyWords}
 use Rattle.drafting.specs.declared.Body.{Body}
 use Rattle.drafting.specs.Draft.{ConditionAs, headingCondition, noCondition, thousandsBy, shiftBy, shiftTold, fitsBy, bodyBy, BodyOf, DraftOf}
 

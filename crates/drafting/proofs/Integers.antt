@@ -7,19 +7,19 @@ use mathlib.Core.Bool.{Bool, true, false, cond, _&&_, true≢false}
 use mathlib.Core.List.{List, [], _∷_, _++_, map}
 use lib.ListN.{length, drop, getD}
 use lib.Dec.{ltb, eqb}
-use borrow.Author.Tests.{le-leb, lt-leb, lt-ltb, le-ltb}
+use borrow.Author.Tests.{lt-ltb, le-ltb}
 use native.Mathlib.Nat.{zero-min}
 use Rattle.lists.proofs.Bools.{by-cases}
 use Rattle.formats.specs.Tokens as token
 use Rattle.formats.specs.Tokens.{Token, Letter, letterY, letterM, letterD, letterH, letterS}
 use Rattle.formats.specs.Items.{Item, literal, integerPlaces, sameKind, dateKind}
-use Rattle.formats.specs.Kinds.{isPlace, isPoint, isZero, isSecondsToken, leadingZeros, partZeros, Piece, whole, secondPart, piecesFrom, runItem, tokenItems, pieceItems, plainItems, dateItems, bodyKind, bodyItems}
-use Rattle.marks.specs.Marks.{markToken, conditionOf, tokenAt, tokensIn}
+use Rattle.formats.specs.Kinds.{formOf, isPlace, isPoint, isZero, isZeroIn, isSecondsToken, leadingZeros, partZeros, Piece, whole, secondPart, piecesFrom, runItem, tokenItems, pieceItems, plainItems, dateItems, bodyKind, bodyItems}
+use Rattle.marks.specs.Marks.{markToken, tokenAt, tokensIn}
 use Rattle.bodies.specs.declared.facts.Facts.{Facts}
 use Rattle.bodies.specs.Forms.{placeForm}
 use Rattle.bodies.specs.Bodies.{integerPlaceTokens, factsOf}
-use Rattle.bodies.proofs.Forms.{by-form, upFrom}
-use Rattle.bodies.proofs.Words.{tokens-first, tokens-end, tokens-length}
+use Rattle.marks.proofs.ByForm.{place-form}
+use Rattle.marks.proofs.Words.{tokens-first, tokens-end, tokens-length}
 use Rattle.emitting.specs.Emit.{formSeconds}
 use Rattle.emitting.proofs.Forms.{tells}
 use Rattle.drafting.specs.declared.places.Parting.{Parting}
@@ -181,10 +181,6 @@ module _ (f : Facts) (ws : List ℕ) (same : (code : List ℕ) → f ≡ factsOf
   places-bound h = omega (arith, places-told [], places-few (tokensIn [] ws), tokens-length [] ws)
 
 -- ---- the pass over a date's tokens
-place-form : (f a : ℕ) (us : List ℕ) → isPlace (markToken f a us) ≡ placeForm f
-unfolding upFrom conditionOf
-place-form f a us = by-form isPlace placeForm a us refl (λ n h. sym (simp (le-leb 4 n (omega arith), lt-leb n 6 (omega arith)))) f
-
 part-step : (s : Parting) (f a : ℕ) (us : List ℕ) (ts : List Token)
     → s .places + datePlaces (s .behind) (s .left) (markToken f a us ∷ ts)
     ≡ (partForm s f) .places + datePlaces ((partForm s f) .behind) ((partForm s f) .left) ts

@@ -22,7 +22,7 @@ use Rattle.marks.specs.Marks.{tokensIn}
 use Rattle.writing.specs.Put.{Put, Rest}
 use Rattle.writing.proofs.Laws.{rest-start, rest-put, rest-done}
 use Rattle.bodies.specs.Sections.{firstSection, laterSections, SectionEnd}
-use Rattle.bodies.proofs.Words.{tokens-drop, tokens-take, tokens-length}
+use Rattle.marks.proofs.Words.{tokens-drop, tokens-take, tokens-length}
 use Rattle.bodies.proofs.Endings.{split-first}
 use Rattle.emitting.specs.Emit.{bodyWords}
 use Rattle.drafting.specs.declared.Draft.{Draft}

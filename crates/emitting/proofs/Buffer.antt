@@ -1,56 +1,31 @@
 -- The tokens and the literals that are left from a place of the buffer and of the code.
 -- Assumes nothing.
-use Prim.Native.Nat.{ℕ, zero, suc, _+_, _-_, _*_, _≤_, _<_, min}
+use Prim.Native.Nat.{ℕ, suc, _+_, _-_, _*_, _≤_, _<_, min}
 use native.Mathlib.Omega.{arith}
 use native.Mathlib.Nat.{min-eq-left, min-eq-right}
 use native.Mathlib.Numerals.{add-one}
 use mathlib.Core.Path.{_≡_, refl, sym, _∙_, ap}
 use mathlib.Core.Bool.{false}
 use mathlib.Core.List.{List, [], _∷_, _++_}
-use lib.ListN.{length, take, drop, getD, length-drop, drop-of-length-le}
+use lib.ListN.{length, take, drop, getD, drop-of-length-le}
 use lib.Seq.{drop-cons, take-nil}
 use lib.Dec.{eqb}
 use Rattle.formats.specs.Accept.{tokensOf}
 use Rattle.formats.specs.Kinds.{leadingZeros}
 use Rattle.marks.specs.Marks.{tokenAt, placedIn, tokensIn}
 use Rattle.emitting.specs.Emit.{literalWords}
-use Rattle.emitting.proofs.Forms.{tells}
-
--- the next token of a buffer, and the end of the tokens
-tokens-cons : (code : List ℕ) (f a s : ℕ) (ws : List ℕ) → tokensIn code (f ∷ a ∷ s ∷ ws) ≡ tokenAt code f a s ∷ tokensIn code ws
-unfolding tokensIn placedIn tokensOf
-tokens-cons code f a s ws = refl
-
-three : (ws : List ℕ) (i : ℕ) → i + 2 < length ws → drop i ws ≡ getD ws i 0 ∷ getD ws (i + 1) 0 ∷ getD ws (i + 2) 0 ∷ drop (i + 3) ws
-three ws i h =
-    let e : i + 2 ≡ suc (i + 1) = omega arith in
-    let g : i + 3 ≡ suc (suc (i + 1)) = omega arith in
-    drop-cons ws i 0 (omega arith)
-    ∙ rw (e, g, ← (add-one i), drop-cons ws (i + 1) 0 (omega arith), drop-cons ws (suc (i + 1)) 0 (omega arith))
-
-pub tokens-first : (code ws : List ℕ) (i : ℕ) → i + 2 < length ws
-    → tokensIn code (drop i ws) ≡ tokenAt code (getD ws i 0) (getD ws (i + 1) 0) (getD ws (i + 2) 0) ∷ tokensIn code (drop (i + 3) ws)
-tokens-first code ws i h = rw (three ws i h) (tokens-cons code (getD ws i 0) (getD ws (i + 1) 0) (getD ws (i + 2) 0) (drop (i + 3) ws))
-
-short-end : (code ws : List ℕ) → length ws ≤ 2 → tokensIn code ws ≡ []
-unfolding tokensIn placedIn tokensOf
-short-end code [] h = refl
-short-end code (f ∷ []) h = refl
-short-end code (f ∷ a ∷ []) h = refl
-short-end code (f ∷ a ∷ s ∷ ws) h = absurd (omega arith)
-
-pub tokens-end : (code ws : List ℕ) (i : ℕ) → length ws ≤ i + 2 → tokensIn code (drop i ws) ≡ []
-tokens-end code ws i h = short-end code (drop i ws) (omega (arith, length-drop i ws))
+use Rattle.marks.proofs.Words.{tokens-first, tokens-end}
+use Rattle.marks.proofs.ByForm.{zero-form}
 
 -- the zeros from a place of the buffer on; the code tells nothing of them
 pub zeros-next : (code ws : List ℕ) (i : ℕ) → i + 2 < length ws → getD ws i 0 ≡ 4
     → leadingZeros (tokensIn code (drop i ws)) ≡ suc (leadingZeros (tokensIn code (drop (i + 3) ws)))
 unfolding leadingZeros tokenAt
-zeros-next code ws i h e = rw (tokens-first code ws i h, tells (getD ws i 0) (getD ws (i + 1) 0) (drop (suc (getD ws (i + 2) 0)) code) .zero, e)
+zeros-next code ws i h e = rw (tokens-first code ws i h, zero-form (getD ws i 0) (getD ws (i + 1) 0) (drop (suc (getD ws (i + 2) 0)) code), e)
 
 pub zeros-stop : (code ws : List ℕ) (i : ℕ) → i + 2 < length ws → eqb (getD ws i 0) 4 ≡ false → leadingZeros (tokensIn code (drop i ws)) ≡ 0
 unfolding leadingZeros tokenAt
-zeros-stop code ws i h e = rw (tokens-first code ws i h, tells (getD ws i 0) (getD ws (i + 1) 0) (drop (suc (getD ws (i + 2) 0)) code) .zero, e)
+zeros-stop code ws i h e = rw (tokens-first code ws i h, zero-form (getD ws i 0) (getD ws (i + 1) 0) (drop (suc (getD ws (i + 2) 0)) code), e)
 
 pub zeros-end : (code ws : List ℕ) (i : ℕ) → length ws ≤ i + 2 → leadingZeros (tokensIn code (drop i ws)) ≡ 0
 unfolding leadingZeros
@@ -61,7 +36,7 @@ unfolding tokensIn placedIn tokensOf leadingZeros tokenAt
 zeros-alone code [] = refl
 zeros-alone code (f ∷ []) = refl
 zeros-alone code (f ∷ a ∷ []) = refl
-zeros-alone code (f ∷ a ∷ s ∷ ws) = rw (tells f a (drop (suc s) code) .zero, tells f a (drop (suc s) []) .zero, zeros-alone code ws)
+zeros-alone code (f ∷ a ∷ s ∷ ws) = rw (zero-form f a (drop (suc s) code), zero-form f a (drop (suc s) []), zeros-alone code ws)
 
 -- up to three zeros: there are no more, or there are three
 pub zeros-all : (n m z : ℕ) → z ≡ n + m → n ≤ 3 → m ≡ 0 → n ≡ min 3 z

@@ -9,17 +9,17 @@ use lib.ListN.{length, drop}
 use Rattle.lists.specs.Lists.{count}
 use Rattle.formats.specs.Tokens.{Token}
 use Rattle.formats.specs.Items.{Item, dateKind, sameKind, integerPlaces, noRun, settledFrom, settled}
-use Rattle.formats.specs.Kinds.{bodyKind, bodyItems, lastFill}
+use Rattle.formats.specs.Kinds.{isFillToken, bodyKind, bodyItems, lastFill}
 use Rattle.formats.proofs.FormedItems.{places-lastFill, places-settled}
 use Rattle.marks.specs.Marks.{tokensIn}
+use Rattle.marks.proofs.Words.{tokens-end}
 use Rattle.tables.specs.Words.{entriesWords}
 use Rattle.tables.specs.Encode.{entriesFrom, entriesOf}
 use Rattle.writing.specs.Put.{Put, Rest}
 use Rattle.writing.proofs.Laws.{rest-start, rest-put, rest-done}
 use Rattle.emitting.specs.declared.Walk.{Walk}
-use Rattle.emitting.specs.Emit.{isFillToken, bodyWords, emittedFrom, runIf, itemsWords, left, fillsLeft, Emitted}
+use Rattle.emitting.specs.Emit.{bodyWords, emittedFrom, runIf, itemsWords, left, fillsLeft, Emitted}
 use Rattle.emitting.proofs.Walks.{body-emitted, fills-emitted}
-use Rattle.emitting.proofs.Buffer.{tokens-end}
 
 -- the walk before the first token
 abbrev pub walkFrom : ℕ → ℕ → ℕ → Walk

@@ -14,16 +14,18 @@ use Rattle.lists.specs.Lists.{count}
 use Rattle.lists.proofs.Bools.{by-cases}
 use Rattle.formats.specs.Tokens.{Token}
 use Rattle.formats.specs.Items.{isFill}
-use Rattle.formats.specs.Kinds.{leadingZeros, partZeros, lastFill}
+use Rattle.formats.specs.Kinds.{isFillToken, leadingZeros, partZeros, lastFill}
 use Rattle.marks.specs.Marks.{tokenAt, tokensIn}
+use Rattle.marks.proofs.Words.{tokens-first}
+use Rattle.marks.proofs.ByForm.{fill-form, point-form}
 use Rattle.writing.specs.Put.{Put}
 use Rattle.writing.proofs.Laws.{put-none}
 use Rattle.emitting.specs.declared.Made.{Made}
 use Rattle.emitting.specs.declared.Walk.{Walk}
-use Rattle.emitting.specs.Emit.{isFillToken, emittedFrom, runIf, itemsWords, literalWords, formWords, madeWords, pieceOf, formDigit, walkAfter, walkPast, left, fillsLeft, Emitted}
-use Rattle.emitting.proofs.Forms.{tells, words-form, words-literal}
+use Rattle.emitting.specs.Emit.{emittedFrom, runIf, itemsWords, literalWords, formWords, madeWords, pieceOf, formDigit, walkAfter, walkPast, left, fillsLeft, Emitted}
+use Rattle.emitting.proofs.Forms.{words-form}
 use Rattle.emitting.proofs.Walks.{fills-step, words-step}
-use Rattle.emitting.proofs.Buffer.{tokens-first, zeros-alone, literals-length}
+use Rattle.emitting.proofs.Buffer.{zeros-alone, literals-length}
 
 -- the words of a token: of n zeros of a part of a second, of a quoted literal, of a fill before another, and of any other
 module _ (date : Bool) (w : Walk) (n : ℕ) (code : List ℕ) (f a s : ℕ) where
@@ -35,7 +37,7 @@ module _ (date : Bool) (w : Walk) (n : ℕ) (code : List ℕ) (f a s : ℕ) wher
 
   fill-told : isFillToken here ≡ eqb f 3
   unfolding tokenAt
-  fill-told = tells f a (drop (suc s) code) .fill
+  fill-told = fill-form f a (drop (suc s) code)
 
   pub piece-part : 0 < n → piece ≡ 17 ∷ n ∷ []
   piece-part h = simp (ne-eqb n 0 (omega arith))
@@ -44,7 +46,7 @@ module _ (date : Bool) (w : Walk) (n : ℕ) (code : List ℕ) (f a s : ℕ) wher
   unfolding tokenAt
   piece-literal h e =
       let z : n ≡ 0 = omega arith in
-      rw (z, fill-told, e, add-one s) (words-literal date (w .hours) (w .digit) a (drop (suc s) code))
+      rw (z, fill-told, e, add-one s) (words-form date (w .hours) (w .digit) a (drop (suc s) code) 0)
 
   pub piece-goes : n ≤ 0 → (eqb f 3 && ltb 1 (w .fills)) ≡ true → piece ≡ []
   piece-goes h e = let z : n ≡ 0 = omega arith in rw (z, fill-told, e)
@@ -54,8 +56,7 @@ module _ (date : Bool) (w : Walk) (n : ℕ) (code : List ℕ) (f a s : ℕ) wher
   unfolding tokenAt
   piece-made h e g m k =
       let z : n ≡ 0 = omega arith in
-      let l : 1 ≤ f = omega arith in
-      rw (z, fill-told, e) (words-form f date (w .hours) (w .digit) a (drop (suc s) code) l ∙ sym k)
+      rw (z, fill-told, e) (words-form date (w .hours) (w .digit) a (drop (suc s) code) f ∙ rw (ne-eqb f 0 g) (sym k))
 
 -- how many words they are at most
 pub made-short : (m : Made) → length (madeWords m) ≤ 2
@@ -106,7 +107,7 @@ module _ (date : Bool) (code body : List ℕ) (i : ℕ) (w : Walk) (inside : i +
   zeros-here : (n : ℕ) → n ≡ cond (date && w .behind && eqb (getD body i 0) 7) (min 3 (leadingZeros (tokensIn [] (drop (i + 3) body)))) 0
       → n ≡ partZeros (date && w .behind) first later
   unfolding partZeros tokenAt
-  zeros-here n e = rw (tells (getD body i 0) (getD body (i + 1) 0) (drop (suc (getD body (i + 2) 0)) code) .point, zeros-alone code (drop (i + 3) body)) e
+  zeros-here n e = rw (point-form (getD body i 0) (getD body (i + 1) 0) (drop (suc (getD body (i + 2) 0)) code), zeros-alone code (drop (i + 3) body)) e
 
   pub turn-put : (old out : List ℕ) (n at : ℕ) (r : Walk) → r ≡ walkAfter w (getD body i 0) n at → w .skip ≤ 0 → w .fills ≡ fillsLeft date w (tokensIn code (drop i body))
       → n ≡ cond (date && w .behind && eqb (getD body i 0) 7) (min 3 (leadingZeros (tokensIn [] (drop (i + 3) body)))) 0

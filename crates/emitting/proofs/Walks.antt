@@ -2,24 +2,24 @@
 -- Assumes nothing.
 use Prim.Native.Nat.{ℕ, zero, suc, _+_, _≤_}
 use native.Mathlib.Omega.{arith}
-use native.Mathlib.Nat.{min-le-right}
 use mathlib.Core.Path.{_≡_, refl, sym, _∙_, ap}
-use mathlib.Core.Bool.{Bool, true, false, cond, _&&_, true≢false}
+use mathlib.Core.Bool.{Bool, true, false, cond, _&&_}
 use mathlib.Core.List.{List, [], _∷_, _++_}
 use lib.Dec.{ltb, eqb}
 use borrow.Author.Tests.{eqb-true, lt-ltb, le-ltb}
 use Rattle.lists.specs.Lists.{any, count}
-use Rattle.lists.proofs.Bools.{by-cases}
+use Rattle.lists.proofs.Bools.{by-cases, and-right, T-true, true-T}
 use Rattle.lists.proofs.Counts.{count-append, any-count, none-count}
 use Rattle.formats.specs.Tokens as token
 use Rattle.formats.specs.Tokens.{Token}
 use Rattle.formats.specs.Items.{Item, literal, fill, part, dateKind, sameKind, isFill, noRun, meansMinutes, runOf, nearer, settledItem, settledFrom}
-use Rattle.formats.specs.Kinds.{formOf, isPoint, isZero, isSecondsToken, leadingZeros, partZeros, piecesFrom, pieceItems, plainItems, dateItems, bodyKind, bodyItems, runItem, tokenItems, lastFill}
+use Rattle.formats.specs.Kinds.{formOf, isFillToken, isPoint, isZero, isSecondsToken, leadingZeros, partZeros, piecesFrom, pieceItems, plainItems, dateItems, bodyKind, bodyItems, runItem, tokenItems, lastFill}
 use Rattle.formats.specs.Text.{digitAfter}
+use Rattle.formats.proofs.FormedPieces.{zero-case, zeros-follow, zeros-point}
 use Rattle.marks.specs.Marks.{markRows, markToken}
 use Rattle.tables.specs.Words.{entriesWords}
 use Rattle.tables.specs.Encode.{entryOf, entriesFrom}
-use Rattle.emitting.specs.Emit.{isFillToken, emittedFrom, runIf, itemsWords, tokenWords, pieceOf, formSeconds, formHours, formDigit, formFills}
+use Rattle.emitting.specs.Emit.{emittedFrom, runIf, itemsWords, tokenWords, pieceOf, formSeconds, formHours, formDigit, formFills}
 use Rattle.emitting.proofs.Joined.{runAfter, digitsAfter, items-append, words-first, words-run, fill-goes, fill-stays}
 use Rattle.emitting.proofs.Forms.{literals-fill, tells, behind}
 
@@ -76,35 +76,9 @@ token-fills date (token.elapsed e n) = refl
 token-fills date (token.colour n) = refl
 token-fills date (token.condition w) = refl
 
--- a zero is a place
-zero-form : (t : Token) → isZero t ≡ true → formOf t ≡ 4
-unfolding isZero
-zero-form (token.place p) e = refl
-zero-form (token.literal us) e = absurd (true≢false (sym e))
-zero-form (token.bare u) e = absurd (true≢false (sym e))
-zero-form (token.blank u) e = absurd (true≢false (sym e))
-zero-form (token.fill u) e = absurd (true≢false (sym e))
-zero-form token.point e = absurd (true≢false (sym e))
-zero-form token.comma e = absurd (true≢false (sym e))
-zero-form token.percent e = absurd (true≢false (sym e))
-zero-form token.at e = absurd (true≢false (sym e))
-zero-form token.semicolon e = absurd (true≢false (sym e))
-zero-form token.general e = absurd (true≢false (sym e))
-zero-form (token.half h) e = absurd (true≢false (sym e))
-zero-form (token.run l n) e = absurd (true≢false (sym e))
-zero-form (token.elapsed s n) e = absurd (true≢false (sym e))
-zero-form (token.colour n) e = absurd (true≢false (sym e))
-zero-form (token.condition w) e = absurd (true≢false (sym e))
-
--- a part of a second starts with a point and takes no more zeros than there are
-part-point : (b : Bool) (t : Token) (ts : List Token) → eqb (partZeros b t ts) 0 ≡ false → isPoint t ≡ true
-unfolding partZeros
-part-point true t ts e = by-cases (isPoint t) (λ h. h) (λ h. absurd (true≢false (rw h at e)))
-part-point false t ts e = absurd (true≢false e)
-
-part-few : (b : Bool) (t : Token) (ts : List Token) → partZeros b t ts ≤ leadingZeros ts
-unfolding partZeros
-part-few b t ts = by-cases (b && isPoint t) (λ h. rw h (omega (arith, min-le-right 3 (leadingZeros ts)))) (λ h. rw h (omega arith))
+-- a part of a second starts with a point
+starts-point : (b : Bool) (t : Token) (ts : List Token) → eqb (partZeros b t ts) 0 ≡ false → isPoint t ≡ true
+starts-point b t ts e = T-true (isPoint t) (and-right b (isPoint t) (true-T (zeros-point b t ts e)))
 
 -- the fills among the items are those among the tokens: what a part of a second takes with it are zeros
 pub fills-emitted : (date b : Bool) (k : ℕ) (ts : List Token) → k ≤ leadingZeros ts → count isFill (emittedFrom date b k ts) ≡ count isFillToken ts
@@ -113,16 +87,16 @@ fills-emitted date b k [] h = refl
 fills-emitted date b (suc k) (t ∷ ts) h =
     by-cases (isZero t)
     (λ z. let m : suc k ≤ suc (leadingZeros ts) = rw z at h in
-    rw (zero-form t z) (fills-emitted date false k ts (omega arith)))
+    rw (zero-case (λ (u : Token). formOf u ≡ 4) (λ p. refl) t z) (fills-emitted date false k ts (omega arith)))
     (λ z. let m : suc k ≤ 0 = rw z at h in absurd (omega arith))
 fills-emitted date b zero (t ∷ ts) h =
     let n = partZeros (date && b) t ts in
     let r : count isFill (emittedFrom date (isSecondsToken t) n ts) ≡ count isFillToken ts
-    = fills-emitted date (isSecondsToken t) n ts (part-few (date && b) t ts) in
+    = fills-emitted date (isSecondsToken t) n ts (zeros-follow (date && b) t ts) in
     by-cases (eqb n 0)
     (λ e. rw e (count-append isFill (tokenItems date t) (emittedFrom date (isSecondsToken t) n ts) ∙ rw (token-fills date t, r)
     (by-cases (isFillToken t) (λ l. rw l (omega arith)) (λ l. rw l (omega arith)))))
-    (λ e. rw (e, eqb-true (formOf t) 5 (part-point (date && b) t ts e)) r)
+    (λ e. rw (e, eqb-true (formOf t) 5 (starts-point (date && b) t ts e)) r)
 
 -- the words that are left behind a run of hours or not
 abbrev pub Words : Bool → Bool → ℕ → Bool → ℕ → List Token → List ℕ
@@ -138,10 +112,10 @@ told-words : (f : ℕ) (date hours : Bool) (q a : ℕ) (us : List ℕ) (is : Lis
     → itemsWords (runAfter (runIf hours) (tokenItems date (markToken f a us))) (digitsAfter q (tokenItems date (markToken f a us))) is
     ≡ itemsWords (runIf (formHours f hours)) (formDigit f q) is
 told-words f date hours q a us is =
-    let l = behind f date (runIf hours) q a us in
+    let l = behind date (runIf hours) q a us f in
     let m : meansMinutes (runAfter (runIf hours) (tokenItems date (markToken f a us))) noRun ≡ meansMinutes (runIf (formHours f hours)) noRun
-    = l .minutes ∙ ap (formHours f) (run-if hours) ∙ sym (run-if (formHours f hours)) in
-    rw (l .digit) (words-run _ (runIf (formHours f hours)) (formDigit f q) is m)
+    = ap (λ (p : Bool × ℕ). p .0) l ∙ ap (formHours f) (run-if hours) ∙ sym (run-if (formHours f hours)) in
+    rw (ap (λ (p : Bool × ℕ). p .1) l) (words-run _ (runIf (formHours f hours)) (formDigit f q) is m)
 
 module _ (f : ℕ) (date b hours : Bool) (q a : ℕ) (us : List ℕ) (ts : List Token) where
   abbrev t : Token
@@ -154,7 +128,7 @@ module _ (f : ℕ) (date b hours : Bool) (q a : ℕ) (us : List ℕ) (ts : List 
   first n e = rw (← (tells f a us .seconds)) (emitted-first date b t ts n e)
 
   part-form : (n : ℕ) → n ≡ partZeros (date && b) t ts → eqb n 0 ≡ false → f ≡ 7
-  part-form n e z = eqb-true f 7 (sym (tells f a us .point) ∙ part-point (date && b) t ts (ap (λ m. eqb m 0) (sym e) ∙ z))
+  part-form n e z = eqb-true f 7 (sym (tells f a us .point) ∙ starts-point (date && b) t ts (ap (λ m. eqb m 0) (sym e) ∙ z))
 
   part-kept : (n : ℕ) → n ≡ partZeros (date && b) t ts → eqb n 0 ≡ false → (formHours f hours ≡ hours) × (formDigit f q ≡ q)
   unfolding formHours formDigit

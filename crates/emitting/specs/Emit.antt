@@ -8,16 +8,12 @@ use lib.Dec.{leb, ltb, eqb}
 use Rattle.lists.specs.Lists.{count}
 use Rattle.formats.specs.Tokens.{Token}
 use Rattle.formats.specs.Items.{Item, part, isFill, Run, hourRun, noRun, settled, settledFrom}
-use Rattle.formats.specs.Kinds.{formOf, partZeros, isSecondsToken, tokenItems, bodyItems, lastFill}
+use Rattle.formats.specs.Kinds.{isFillToken, partZeros, isSecondsToken, tokenItems, bodyItems, lastFill}
 use Rattle.tables.specs.Words.{entriesWords}
 use Rattle.tables.specs.Encode.{entriesFrom, entriesOf}
 use Rattle.writing.specs.Put.{Put}
 use Rattle.emitting.specs.declared.Made.{Made}
 use Rattle.emitting.specs.declared.Walk.{Walk}
-
--- a fill among the tokens
-abbrev pub isFillToken : Token → Bool
-isFillToken t = eqb (formOf t) 3
 
 -- the words of a body's items in the table
 abbrev pub bodyWords : List Token → List ℕ

@@ -1,17 +1,19 @@
 // Writes the words of a section's items into a lent room, token by token.
+use marks::forms;
+use tables::tags;
 use writing::put_unit;
 ghost use mathlib.Core.Path.{_≡_};
-ghost use mathlib.Core.Bool.{true, false, cond, _&&_};
+ghost use mathlib.Core.Bool.{false, cond, _&&_};
 ghost use mathlib.Core.List.{[], _∷_};
 ghost use Prim.Native.Nat.{_+_, _≤_, _<_, _^_, min};
 ghost use lib.ListN.{length, take, drop};
 ghost use lib.Dec.{leb, ltb, eqb};
 ghost use Rattle.lists.specs.Lists.{count};
 ghost use Rattle.formats.specs.Items.{dateKind, sameKind, integerPlaces};
-ghost use Rattle.formats.specs.Kinds.{bodyKind, bodyItems, leadingZeros};
+ghost use Rattle.formats.specs.Kinds.{isFillToken, bodyKind, bodyItems, leadingZeros};
 ghost use Rattle.marks.specs.Marks.{tokenAt, tokensIn};
 ghost use Rattle.writing.specs.Put.{Put};
-ghost use Rattle.emitting.specs.Emit.{isFillToken, bodyWords, formWords, literalWords, madeWords, formSeconds, formHours, formDigit, formFills, pieceOf, walkAfter, walkPast, fillsLeft, Emitted};
+ghost use Rattle.emitting.specs.Emit.{bodyWords, formWords, literalWords, madeWords, formSeconds, formHours, formDigit, formFills, pieceOf, walkAfter, walkPast, fillsLeft, Emitted};
 
 // An item's tag and its argument. The tag 0 stands for no item.
 struct Made(u16, u16);
@@ -60,29 +62,29 @@ fn put_literals(room: &mut [u16], at: usize, code: &[u16], from: usize, count: u
         if code.len() <= i {
             return o;
         }
-        o = put_entry(room, o, 1, code[i]);
+        o = put_entry(room, o, tags::LITERAL, code[i]);
         i += 1;
         more -= 1;
     }
     o
 }
 
-// A point: of a date it is a literal.
+// A point: of a date it is the literal 46.
 fn point_of(date: bool) -> Made
     ensures { λ r. ⌜ madeWords r ≡ cond date (1 ∷ 46 ∷ []) (7 ∷ 0 ∷ []) ⌝ }
 {
     if date {
-        return Made(1, 46);
+        return Made(tags::LITERAL, 46);
     }
-    Made(7, 0)
+    Made(tags::POINT, 0)
 }
 
-// A comma: of a date it is a literal, else it makes no item.
+// A comma: of a date it is the literal 44, else it makes no item.
 fn comma_of(date: bool) -> Made
     ensures { λ r. ⌜ madeWords r ≡ cond date (1 ∷ 44 ∷ []) [] ⌝ }
 {
     if date {
-        return Made(1, 44);
+        return Made(tags::LITERAL, 44);
     }
     Made(0, 0)
 }
@@ -91,12 +93,10 @@ fn comma_of(date: bool) -> Made
 fn month_of(hours: bool, count: u16) -> Made
     ensures { λ r. ⌜ madeWords r ≡ cond (hours && leb count 2) (15 ∷ count ∷ []) (12 ∷ count ∷ []) ⌝ }
 {
-    if hours {
-        if count <= 2 {
-            return Made(15, count);
-        }
+    if hours & (count <= 2) {
+        return Made(tags::MINUTE, count);
     }
-    Made(12, count)
+    Made(tags::MONTH, count)
 }
 
 // The item of a token that is no quoted literal and no part of a second.
@@ -105,27 +105,27 @@ fn item_of(form: u16, argument: u16, date: bool, hours: bool, digit: u16) -> Mad
     ensures { λ r. ⌜ madeWords r ≡ formWords date hours digit argument form ⌝ }
 {
     match form {
-        1 => Made(1, argument),
-        2 => Made(2, argument),
-        3 => Made(3, argument),
-        4 => Made(4, digit + 1),
-        5 => Made(5, digit + 1),
-        6 => Made(6, digit + 1),
-        7 => point_of(date),
-        8 => comma_of(date),
-        9 => Made(8, 0),
-        10 => Made(10, 0),
-        12 => Made(9, 0),
-        13 => Made(21, 1),
-        14 => Made(21, 2),
-        15 => Made(11, argument),
-        16 => month_of(hours, argument),
-        17 => Made(13, argument),
-        18 => Made(14, argument),
-        19 => Made(16, argument),
-        20 => Made(18, argument),
-        21 => Made(19, argument),
-        22 => Made(20, argument),
+        forms::BARE => Made(tags::LITERAL, argument),
+        forms::BLANK => Made(tags::BLANK, argument),
+        forms::FILL => Made(tags::FILL, argument),
+        forms::ZERO_PLACE => Made(tags::ZERO_PLACE, digit + 1),
+        forms::HASH_PLACE => Made(tags::HASH_PLACE, digit + 1),
+        forms::SPACE_PLACE => Made(tags::SPACE_PLACE, digit + 1),
+        forms::POINT => point_of(date),
+        forms::COMMA => comma_of(date),
+        forms::PERCENT => Made(tags::PERCENT, 0),
+        forms::AT => Made(tags::AT, 0),
+        forms::GENERAL => Made(tags::GENERAL, 0),
+        forms::SHORT_HALF => Made(tags::HALF_DAY, 1),
+        forms::LONG_HALF => Made(tags::HALF_DAY, 2),
+        forms::YEARS => Made(tags::YEAR, argument),
+        forms::MONTHS => month_of(hours, argument),
+        forms::DAYS => Made(tags::DAY, argument),
+        forms::HOURS => Made(tags::HOUR, argument),
+        forms::SECONDS => Made(tags::SECOND, argument),
+        forms::ELAPSED_HOURS => Made(tags::ELAPSED_HOURS, argument),
+        forms::ELAPSED_MINUTES => Made(tags::ELAPSED_MINUTES, argument),
+        forms::ELAPSED_SECONDS => Made(tags::ELAPSED_SECONDS, argument),
         _ => Made(0, 0),
     }
 }
@@ -134,26 +134,17 @@ fn item_of(form: u16, argument: u16, date: bool, hours: bool, digit: u16) -> Mad
 fn seconds_at(form: u16) -> bool
     ensures { λ r. ⌜ r ≡ formSeconds form ⌝ }
 {
-    if form == 19 {
-        return true;
-    }
-    form == 22
+    (form == forms::SECONDS) | (form == forms::ELAPSED_SECONDS)
 }
 
 // Whether the nearest run behind a token is hours.
 fn hours_after(form: u16, hours: bool) -> bool
     ensures { λ r. ⌜ r ≡ formHours form hours ⌝ }
 {
-    if form < 15 {
-        return hours;
+    if (forms::YEARS <= form) & (form <= forms::ELAPSED_SECONDS) {
+        return (form == forms::HOURS) | (form == forms::ELAPSED_HOURS);
     }
-    if 22 < form {
-        return hours;
-    }
-    if form == 18 {
-        return true;
-    }
-    form == 20
+    hours
 }
 
 // The power of the next digit behind a token, and 15. It stays at 0 behind the fifteenth decimal place, as the table's definition
@@ -161,23 +152,20 @@ fn hours_after(form: u16, hours: bool) -> bool
 fn digit_after(form: u16, digit: u16) -> u16
     ensures { λ r. ⌜ r ≡ formDigit form digit ⌝ }
 {
-    if form < 4 {
-        return digit;
+    if (forms::ZERO_PLACE <= form) & (form <= forms::SPACE_PLACE) {
+        if digit == 0 {
+            return 0;
+        }
+        return digit - 1;
     }
-    if 6 < form {
-        return digit;
-    }
-    if digit == 0 {
-        return 0;
-    }
-    digit - 1
+    digit
 }
 
 // How many fills follow behind a token.
 fn fills_after(form: u16, fills: u16) -> u16
     ensures { λ r. ⌜ r ≡ formFills form fills ⌝ }
 {
-    if form == 3 {
+    if form == forms::FILL {
         if fills == 0 {
             return 0;
         }
@@ -190,10 +178,7 @@ fn fills_after(form: u16, fills: u16) -> u16
 fn fill_goes(form: u16, fills: u16) -> bool
     ensures { λ r. ⌜ r ≡ (eqb form 3 && ltb 1 fills) ⌝ }
 {
-    if form == 3 {
-        return 1 < fills;
-    }
-    false
+    (form == forms::FILL) & (1 < fills)
 }
 
 // How many zeros follow from the place i of the body on, up to three.
@@ -207,7 +192,7 @@ fn zeros_from(body: &[u16], i: usize) -> u16
         if body.len() <= j + 2 {
             return n;
         }
-        if body[j] != 4 {
+        if body[j] != forms::ZERO_PLACE {
             return n;
         }
         n += 1;
@@ -222,16 +207,10 @@ fn part_zeros(body: &[u16], i: usize, form: u16, date: bool, behind: bool) -> u1
     requires { ⌜ (length (now body) ≤ 762) × (i ≤ 800) ⌝ }
     ensures { λ r. ⌜ r ≡ cond (date && behind && eqb form 7) (min 3 (leadingZeros (tokensIn [] (drop i (now (body .entry)))))) 0 ⌝ }
 {
-    if !date {
-        return 0;
+    if date & behind & (form == forms::POINT) {
+        return zeros_from(body, i);
     }
-    if !behind {
-        return 0;
-    }
-    if form != 7 {
-        return 0;
-    }
-    zeros_from(body, i)
+    0
 }
 
 // Puts the words of a token; where n is not 0, those of the part of a second with n zeros that it starts.
@@ -250,9 +229,9 @@ fn put_form(
     ensures near { λ r. ⌜ r ≤ w .at + 510 ⌝ }
 {
     if 0 < n {
-        return put_entry(room, w.at, 17, n);
+        return put_entry(room, w.at, tags::PART, n);
     }
-    if form == 0 {
+    if form == forms::LITERAL {
         return put_literals(room, w.at, code, start as usize + 1, argument);
     }
     if fill_goes(form, w.fills) {

@@ -18,7 +18,7 @@ use Rattle.formats.specs.Where.{implies}
 use Rattle.formats.specs.Limits.{writtenWithin}
 use Rattle.formats.specs.WellFormed.{conditionInRange}
 use Rattle.formats.proofs.FormedBools.{or-right}
-use Rattle.formats.proofs.TokenRanges.{belowTen, writtenInRange, conditionDigits}
+use Rattle.formats.proofs.TokenRanges.{writtenInRange, conditionDigits}
 
 -- a digit more: the algebra over plain variables
 digit-more : (v d p : ℕ) → d < 10 → suc (10 * v + d) * p ≤ suc v * (p * 10)

@@ -5,10 +5,10 @@ use mathlib.Core.Bool.{Bool, true, false, cond, not, _&&_, _||_}
 use mathlib.Core.List.{List, [], _∷_, _++_, map}
 use mathlib.Core.Option.{Option, none, some}
 use lib.ListN.{length}
-use lib.Dec.{leb, eqb}
+use lib.Dec.{eqb}
 use Rattle.lists.specs.Lists.{every, any, count}
 use Rattle.formats.specs.Tokens as token
-use Rattle.formats.specs.Tokens.{Token, Place, zeroPlace, hashPlace, spacePlace, Letter, letterY, letterM, letterD, letterH, letterS, Elapsed, HalfDay, Comparison, Written, numberFrom}
+use Rattle.formats.specs.Tokens.{Token, Place, zeroPlace, hashPlace, spacePlace, Letter, letterY, letterM, letterD, letterH, letterS, Written, numberFrom}
 use Rattle.formats.specs.Items as item
 use Rattle.formats.specs.Items.{Item, Condition, Section, Kind, literalKind, generalKind, numberKind, textKind, dateKind, sameKind, kindFrom, isFill, itemsFit, settled, isSecondsElapsed}
 
@@ -30,6 +30,9 @@ formOf (token.run l n) = 12
 formOf (token.elapsed e n) = 13
 formOf (token.colour n) = 14
 formOf (token.condition w) = 15
+
+abbrev pub isFillToken : Token → Bool
+isFillToken t = eqb (formOf t) 3
 
 abbrev pub isPlace : Token → Bool
 isPlace t = eqb (formOf t) 4

@@ -5,8 +5,6 @@ use Rattle.emitting.specs.Emit.{formFills}
 use borrow.Author.Needs.{needs}
 use Rattle.emitting.proofs.fills_after.Statement.{statement}
 use Rattle.emitting.proofs.fills_after.Tie as tie
-use Rattle.emitting.proofs.fills_after.Reads as reads
-use Rattle.emitting.proofs.fills_after.Lts as lts
 
 returns : tie.Need-returns
 unfolding formFills

@@ -6,11 +6,6 @@ use Rattle.emitting.proofs.Forms.{power-words}
 use borrow.Author.Needs.{needs}
 use Rattle.emitting.proofs.item_of.Statement.{statement}
 use Rattle.emitting.proofs.item_of.Tie as tie
-use Rattle.emitting.proofs.item_of.Reads as reads
-use Rattle.emitting.proofs.item_of.Lts as lts
-use Rattle.emitting.proofs.comma_of.Reads as comma-of-reads
-use Rattle.emitting.proofs.month_of.Reads as month-of-reads
-use Rattle.emitting.proofs.point_of.Reads as point-of-reads
 
 add-t7 : tie.Need-add-t7
 add-t7 c = search needs

@@ -2,8 +2,6 @@
 -- Assumes nothing.
 use Rattle.emitting.proofs.point_of.Statement.{statement}
 use Rattle.emitting.proofs.point_of.Tie as tie
-use Rattle.emitting.proofs.point_of.Reads as reads
-use Rattle.emitting.proofs.point_of.Lts as lts
 
 returns : tie.Need-returns
 returns c = rw (c .if1 .taken)

@@ -1,12 +1,9 @@
 -- `emitting::put_entry` meets its contract.
 -- Assumes nothing.
 use Rattle.writing.proofs.Laws.{put-put}
-use Rattle.writing.proofs.put_unit.Reads as put-unit-reads
 use borrow.Author.Needs.{needs}
 use Rattle.emitting.proofs.put_entry.Statement.{statement}
 use Rattle.emitting.proofs.put_entry.Tie as tie
-use Rattle.emitting.proofs.put_entry.Reads as reads
-use Rattle.emitting.proofs.put_entry.Lts as lts
 
 put-unit-requires : tie.Need-put-unit-requires
 put-unit-requires c κs = search needs

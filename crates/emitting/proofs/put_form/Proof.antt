@@ -9,13 +9,6 @@ use Rattle.emitting.proofs.Turns.{piece-part, piece-literal, piece-goes
 use borrow.Author.Needs.{needs}
 use Rattle.emitting.proofs.put_form.Statement.{statement}
 use Rattle.emitting.proofs.put_form.Tie as tie
-use Rattle.emitting.proofs.put_form.Reads as reads
-use Rattle.emitting.proofs.put_form.Lts as lts
-use Rattle.emitting.proofs.fill_goes.Reads as fill-goes-reads
-use Rattle.emitting.proofs.item_of.Reads as item-of-reads
-use Rattle.emitting.proofs.put_entry.Reads as put-entry-reads
-use Rattle.emitting.proofs.put_literals.Reads as put-literals-reads
-use Rattle.emitting.proofs.put_made.Reads as put-made-reads
 
 put-entry-requires : tie.Need-put-entry-requires
 put-entry-requires c κs = search needs

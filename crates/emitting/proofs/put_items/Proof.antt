@@ -8,9 +8,6 @@ use Rattle.emitting.proofs.Going.{Going, going-start, going-step, going
 use borrow.Author.Needs.{needs}
 use Rattle.emitting.proofs.put_items.Statement.{statement}
 use Rattle.emitting.proofs.put_items.Tie as tie
-use Rattle.emitting.proofs.put_items.Reads as reads
-use Rattle.emitting.proofs.put_items.Lts as lts
-use Rattle.emitting.proofs.put_token.Reads as put-token-reads
 
 abbrev Inv-loop : tie.InvT-loop
 Inv-loop code body date fills integers room₀ at w₀ i₀ room w i = Going date code body room₀ at room w i

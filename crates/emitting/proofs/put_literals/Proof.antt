@@ -12,9 +12,6 @@ use Rattle.emitting.proofs.Buffer.{literals-first, literals-none, liter
 use borrow.Author.Needs.{needs}
 use Rattle.emitting.proofs.put_literals.Statement.{statement}
 use Rattle.emitting.proofs.put_literals.Tie as tie
-use Rattle.emitting.proofs.put_literals.Reads as reads
-use Rattle.emitting.proofs.put_literals.Lts as lts
-use Rattle.emitting.proofs.put_entry.Reads as put-entry-reads
 
 abbrev Inv-loop : tie.InvT-loop
 Inv-loop room₀ at code from count o₀ i₀ more₀ room o i more =

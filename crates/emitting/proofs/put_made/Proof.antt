@@ -5,9 +5,6 @@ use Rattle.writing.proofs.Laws.{put-none}
 use borrow.Author.Needs.{needs}
 use Rattle.emitting.proofs.put_made.Statement.{statement}
 use Rattle.emitting.proofs.put_made.Tie as tie
-use Rattle.emitting.proofs.put_made.Reads as reads
-use Rattle.emitting.proofs.put_made.Lts as lts
-use Rattle.emitting.proofs.put_entry.Reads as put-entry-reads
 
 returns : tie.Need-returns
 returns c = rw (c .if1 .taken) (put-none _ _)

@@ -5,12 +5,6 @@ use Rattle.emitting.proofs.Turns.{turn-past, turn-put}
 use borrow.Author.Needs.{needs}
 use Rattle.emitting.proofs.put_token.Statement.{statement}
 use Rattle.emitting.proofs.put_token.Tie as tie
-use Rattle.emitting.proofs.put_token.Reads as reads
-use Rattle.emitting.proofs.put_token.Lts as lts
-use Rattle.emitting.proofs.part_zeros.Reads as part-zeros-reads
-use Rattle.emitting.proofs.passed.Reads as passed-reads
-use Rattle.emitting.proofs.put_form.Reads as put-form-reads
-use Rattle.emitting.proofs.walked.Reads as walked-reads
 
 passed-requires : tie.Need-passed-requires
 passed-requires c κs = search needs

@@ -3,12 +3,6 @@
 use borrow.Author.Needs.{needs}
 use Rattle.emitting.proofs.walked.Statement.{statement}
 use Rattle.emitting.proofs.walked.Tie as tie
-use Rattle.emitting.proofs.walked.Reads as reads
-use Rattle.emitting.proofs.walked.Lts as lts
-use Rattle.emitting.proofs.digit_after.Reads as digit-after-reads
-use Rattle.emitting.proofs.fills_after.Reads as fills-after-reads
-use Rattle.emitting.proofs.hours_after.Reads as hours-after-reads
-use Rattle.emitting.proofs.seconds_at.Reads as seconds-at-reads
 
 seconds-at-requires : tie.Need-seconds-at-requires
 seconds-at-requires c κs = search needs

@@ -13,8 +13,6 @@ use Rattle.emitting.proofs.Buffer.{zeros-next, zeros-stop, zeros-end, z
 use borrow.Author.Needs.{needs}
 use Rattle.emitting.proofs.zeros_from.Statement.{statement}
 use Rattle.emitting.proofs.zeros_from.Tie as tie
-use Rattle.emitting.proofs.zeros_from.Reads as reads
-use Rattle.emitting.proofs.zeros_from.Lts as lts
 
 abbrev Inv-loop : tie.InvT-loop
 Inv-loop body i n₀ j₀ n j =

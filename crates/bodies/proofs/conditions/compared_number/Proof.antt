@@ -57,20 +57,17 @@ number-requires-2 c κs =
     let a = d .before .before .before .args in
     (omega arith, rw (decimals-part (now (a .us)) _ _ (d .before .digits .ensures) (d .least .ensures)) (search needs))
 
-add-both : tie.Need-add-both
-add-both c =
+add-t16 : tie.Need-add-t16
+add-t16 c =
     let d = c .before .before .before .before .before .before in
     let a = d .before .before .before .args in
     omega (arith, whole-room (now (a .us)) _ _ (d .before .digits .ensures) (d .least .ensures) (a .operator) (a .negative) (search needs) (search needs) (search needs) (c .before .before .before .if2 .left) _ _ (c .before .number .ensures .0) (c .before .number .ensures .1) (c .number2 .ensures .0) (c .number2 .ensures .1))
 
-both-requires : tie.Need-both-requires
-both-requires c κs = search needs
-
 returns-3 : tie.Need-returns-3
 returns-3 c =
-    let d = c .before .before .before .before .before .before .before in
+    let d = c .before .before .before .before .before .before in
     let a = d .before .before .before .args in
-    compared (now (a .us)) _ _ (d .before .digits .ensures) (d .least .ensures) (a .operator) (a .negative) (search needs) (search needs) (search needs) (c .before .before .before .before .if2 .left) _ _ (c .before .before .number .ensures .0) (c .before .before .number .ensures .1) (c .before .number2 .ensures .0) (c .before .number2 .ensures .1) _ (c .both .ensures)
+    compared (now (a .us)) _ _ (d .before .digits .ensures) (d .least .ensures) (a .operator) (a .negative) (search needs) (search needs) (search needs) (c .before .before .before .if2 .left) _ _ (c .before .number .ensures .0) (c .before .number .ensures .1) (c .number2 .ensures .0) (c .number2 .ensures .1)
 
 pub compared-number-spec : {M : Type 1} → statement M
 compared-number-spec =
@@ -90,6 +87,5 @@ compared-number-spec =
     slice-aggregate-number
     number-requires
     number-requires-2
-    add-both
-    both-requires
+    add-t16
     returns-3)

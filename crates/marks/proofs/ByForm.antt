@@ -2,25 +2,18 @@
 -- Assumes nothing.
 use Prim.Native.Nat.{ℕ, zero, suc, _+_, _≤_, _<_}
 use mathlib.Core.Path.{_≡_, refl, sym, ap, _∙_}
+use mathlib.Core.Bool.{_&&_, _||_}
 use mathlib.Core.List.{List, [], _∷_, map}
 use native.Mathlib.Omega.{arith}
 use native.Mathlib.Nat.{le-of-suc-le-suc}
-use borrow.Author.Tests.{ne-eqb, le-leb, ltb-true, ltb-false}
+use borrow.Author.Tests.{ne-eqb, le-leb, lt-leb, ltb-true, ltb-false}
 use lib.Dec.{leb, ltb, eqb}
 use lib.ListN.{take, getD, List·getD-map, List·getD-eq-default, length-map}
 use Rattle.lists.proofs.Bools.{by-cases}
-use Rattle.formats.specs.Tokens.{zeroPlace, hashPlace, spacePlace, letterY, letterM, letterD, letterH, letterS, hours, minutes, seconds, short, long, Token, literal, bare, blank, fill, place, point, comma, percent, at, semicolon, general, half, run, elapsed, colour}
-use Rattle.formats.specs.Kinds.{isSemicolon, isColour, isCondition, colourIn}
+use Rattle.formats.specs.Tokens.{Token}
+use Rattle.formats.specs.Items.{isSecondsElapsed}
+use Rattle.formats.specs.Kinds.{isPlace, isPoint, isSemicolon, isColour, isCondition, isFillToken, colourIn, isSecondsLetter, isSecondsToken, isZeroIn, isZero}
 use Rattle.marks.specs.Marks.{markRows, markToken, conditionOf}
-
--- the forms below 24, with the argument a
-abbrev pub rows : ℕ → List ℕ → List Token
-rows a us =
-    literal us ∷ bare a ∷ blank a ∷ fill a
-    ∷ place zeroPlace ∷ place hashPlace ∷ place spacePlace ∷ point ∷ comma ∷ percent ∷ at ∷ semicolon
-    ∷ general ∷ half short ∷ half long
-    ∷ run letterY a ∷ run letterM a ∷ run letterD a ∷ run letterH a ∷ run letterS a
-    ∷ elapsed hours a ∷ elapsed minutes a ∷ elapsed seconds a ∷ colour a ∷ []
 
 -- the numbers from k on, n of them
 unfoldable pub upFrom : ℕ → ℕ → List ℕ
@@ -36,35 +29,55 @@ module _ {B : Type 0} (h : ℕ → B) where
 
 -- what g says of a token is what h says of its form and argument: a computed test of the forms below 24, and one of a condition
 module _ {B : Type 0} (g : Token → B) (h : ℕ → B) (a : ℕ) (us : List ℕ) where
-  pub by-form : map g (rows a (take a us)) ≡ map h (upFrom 0 24) → ((f : ℕ) → 24 ≤ f → g (conditionOf (take a us)) ≡ h f)
+  pub by-form : map g (markRows a us) ≡ map h (upFrom 0 24) → ((f : ℕ) → 24 ≤ f → g (conditionOf (take a us)) ≡ h f)
       → (f : ℕ) → g (markToken f a us) ≡ h f
-  unfolding markToken markRows upFrom
+  unfolding markToken upFrom
   by-form e last f =
       let d = conditionOf (take a us) in
-      sym (List·getD-map g (rows a (take a us)) f d) ∙ ap (λ (bs : List B). getD bs f (g d)) e
+      sym (List·getD-map g (markRows a us) f d) ∙ ap (λ (bs : List B). getD bs f (g d)) e
       ∙ by-cases (ltb f 24)
       (λ t. at-up h 0 24 f (g d) (ltb-true f 24 t) ∙ ap h (omega arith))
       (λ t. let p = ltb-false f 24 t in List·getD-eq-default (map h (upFrom 0 24)) (g d) {n = f} (rw (length-map (upFrom 0 24) h) p) ∙ last f p)
 
 -- a condition stands for every form from 24 on
-from-24 : (f a : ℕ) (us : List ℕ) → 24 ≤ f → markToken f a us ≡ conditionOf (take a us)
+pub from-24 : (f a : ℕ) (us : List ℕ) → 24 ≤ f → markToken f a us ≡ conditionOf (take a us)
 unfolding markToken markRows
-from-24 f a us h = List·getD-eq-default (rows a (take a us)) (conditionOf (take a us)) h
+from-24 f a us h = List·getD-eq-default (markRows a us) (conditionOf (take a us)) h
 
 pub condition-24 : (f a : ℕ) (us : List ℕ) → 24 ≤ f → markToken f a us ≡ markToken 24 a us
 condition-24 f a us h = from-24 f a us h ∙ sym (from-24 24 a us (omega arith))
 
 module _ (f a : ℕ) (us : List ℕ) where
+  pub fill-form : isFillToken (markToken f a us) ≡ eqb f 3
+  unfolding markRows upFrom conditionOf
+  fill-form = by-form isFillToken (λ (n : ℕ). eqb n 3) a us refl (λ n h. sym (ne-eqb n 3 (omega arith))) f
+
+  pub zero-form : isZero (markToken f a us) ≡ eqb f 4
+  unfolding markRows upFrom conditionOf isZero isZeroIn
+  zero-form = by-form isZero (λ (n : ℕ). eqb n 4) a us refl (λ n h. sym (ne-eqb n 4 (omega arith))) f
+
+  pub place-form : isPlace (markToken f a us) ≡ (leb 4 f && leb f 6)
+  unfolding markRows upFrom conditionOf
+  place-form = by-form isPlace (λ (n : ℕ). leb 4 n && leb n 6) a us refl (λ n h. sym (simp (le-leb 4 n (omega arith), lt-leb n 6 (omega arith)))) f
+
+  pub point-form : isPoint (markToken f a us) ≡ eqb f 7
+  unfolding markRows upFrom conditionOf
+  point-form = by-form isPoint (λ (n : ℕ). eqb n 7) a us refl (λ n h. sym (ne-eqb n 7 (omega arith))) f
+
   pub semicolon-form : isSemicolon (markToken f a us) ≡ eqb f 11
-  unfolding upFrom conditionOf
+  unfolding markRows upFrom conditionOf
   semicolon-form = by-form isSemicolon (λ (n : ℕ). eqb n 11) a us refl (λ n h. sym (ne-eqb n 11 (omega arith))) f
 
+  pub seconds-form : isSecondsToken (markToken f a us) ≡ (eqb f 19 || eqb f 22)
+  unfolding markRows upFrom conditionOf isSecondsToken isSecondsLetter isSecondsElapsed
+  seconds-form = by-form isSecondsToken (λ (n : ℕ). eqb n 19 || eqb n 22) a us refl (λ n h. sym (simp (ne-eqb n 19 (omega arith), ne-eqb n 22 (omega arith)))) f
+
   pub colour-form : isColour (markToken f a us) ≡ eqb f 23
-  unfolding upFrom conditionOf
+  unfolding markRows upFrom conditionOf
   colour-form = by-form isColour (λ (n : ℕ). eqb n 23) a us refl (λ n h. sym (ne-eqb n 23 (omega arith))) f
 
   pub condition-form : isCondition (markToken f a us) ≡ leb 24 f
-  unfolding upFrom conditionOf
+  unfolding markRows upFrom conditionOf
   condition-form = by-form isCondition (λ (n : ℕ). leb 24 n) a us refl (λ n h. sym (le-leb 24 n h)) f
 
   pub colour-argument : f ≡ 23 → colourIn (markToken f a us) ≡ a
