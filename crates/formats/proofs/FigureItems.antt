@@ -4,8 +4,8 @@ use mathlib.Core.Path.{_≡_, refl, sym, ap, _∙_}
 use Prim.Native.Nat.{ℕ, zero, suc, _+_, _-_, _*_, _/_, _%_, _^_, _≤_, _<_}
 use native.Mathlib.Nat.{div-eq-of-lt}
 use native.Mathlib.Omega.{arith}
-use mathlib.Core.Bool.{true, false, true≢false}
-use mathlib.Core.List.{List, [], _∷_, _++_, append-assoc}
+use mathlib.Core.Bool.{Bool, true, false, cond, true≢false}
+use mathlib.Core.List.{List, [], _∷_, _++_, map, append-assoc, flatten}
 use borrow.Author.Tests.{eqb-true, ltb-true, lt-ltb, eq-eqb, ne-eqb}
 use lib.Dec.{eqb, ltb}
 use Rattle.lists.specs.Lists.{any, count}
@@ -14,31 +14,71 @@ use Rattle.lists.proofs.Counts.{any-count}
 use Rattle.figures.specs.Digits.{digit}
 use Rattle.figures.proofs.Digits.{digit-small, mod-next}
 use Rattle.formats.specs.Tokens.{Place}
-use Rattle.formats.specs.Items.{Item, literal, blank, fill, place, point, percent, general, at, year, month, day, hour, minute, second, part, elapsed, half, isPlace, isPoint, integerPlaces, decimalPlaces}
-use Rattle.formats.specs.Text.{Context, figureUnits, extraUnits, placeUnits, pointUnits, itemUnits, digitAfter}
-use Rattle.formats.specs.Figures.{itemFigures, figuresShown, decimalsRead, integerRead, unitsRead}
+use Rattle.formats.specs.Items.{Item, literal, blank, fill, place, point, percent, general, at, year, month, day, hour, minute, second, part, elapsed, half, Kind, textKind, generalKind, dateKind, numberKind, literalKind, sameKind, kindFrom, itemMakes, itemsKind, isPlace, isPoint, integerPlaces, decimalPlaces}
+use Rattle.formats.specs.Text.{Context, firstDigit, firstDecimal, figureUnits, extraUnits, unitsBeyond, placeUnits, pointUnits, itemUnits, digitAfter, itemsUnits}
+use Rattle.formats.specs.Figures.{decimalsRead, integerRead, unitsRead, figurePieces}
 use Rattle.formats.proofs.FigureUnits.{decimal-step, figure-read, extra-read, decimal-units, idle-nought}
+
+-- the pieces of a section's text, one an item
+unfoldable pub itemPieces : Context → ℕ → List Item → List (List ℕ)
+itemPieces c q [] = []
+itemPieces c q (i ∷ is) = itemUnits c q i ∷ itemPieces c (digitAfter q i) is
+
+pub pieces-joined : (c : Context) (q : ℕ) (is : List Item) → itemsUnits c q is ≡ flatten (itemPieces c q is)
+unfolding itemsUnits itemPieces flatten
+pieces-joined c q [] = refl
+pieces-joined c q (i ∷ is) = ap (λ (us : List ℕ). itemUnits c q i ++ us) (pieces-joined c (digitAfter q i) is)
+
+-- the units of the figure pieces
+abbrev pub figuresShown : Context → ℕ → List Item → List ℕ
+figuresShown c q is = figurePieces is (itemPieces c q is)
 
 -- an item is a place, the point, or neither
 item-case : (P : Item → Type 0) → ((p : Place) → P (place p)) → P point
-    → ((i : Item) → isPlace i ≡ false → isPoint i ≡ false → P i) → (i : Item) → P i
+    → ((i : Item) → isPlace i ≡ false → isPoint i ≡ false → sameKind numberKind (itemMakes i) ≡ false → P i) → (i : Item) → P i
+unfolding itemMakes
 item-case P f g h (place p) = f p
 item-case P f g h point = g
-item-case P f g h (literal u) = h (literal u) refl refl
-item-case P f g h (blank u) = h (blank u) refl refl
-item-case P f g h (fill u) = h (fill u) refl refl
-item-case P f g h percent = h percent refl refl
-item-case P f g h general = h general refl refl
-item-case P f g h at = h at refl refl
-item-case P f g h (year n) = h (year n) refl refl
-item-case P f g h (month n) = h (month n) refl refl
-item-case P f g h (day n) = h (day n) refl refl
-item-case P f g h (hour n) = h (hour n) refl refl
-item-case P f g h (minute n) = h (minute n) refl refl
-item-case P f g h (second n) = h (second n) refl refl
-item-case P f g h (part n) = h (part n) refl refl
-item-case P f g h (elapsed e n) = h (elapsed e n) refl refl
-item-case P f g h (half a) = h (half a) refl refl
+item-case P f g h (literal u) = h (literal u) refl refl refl
+item-case P f g h (blank u) = h (blank u) refl refl refl
+item-case P f g h (fill u) = h (fill u) refl refl refl
+item-case P f g h percent = h percent refl refl refl
+item-case P f g h general = h general refl refl refl
+item-case P f g h at = h at refl refl refl
+item-case P f g h (year n) = h (year n) refl refl refl
+item-case P f g h (month n) = h (month n) refl refl refl
+item-case P f g h (day n) = h (day n) refl refl refl
+item-case P f g h (hour n) = h (hour n) refl refl refl
+item-case P f g h (minute n) = h (minute n) refl refl refl
+item-case P f g h (second n) = h (second n) refl refl refl
+item-case P f g h (part n) = h (part n) refl refl refl
+item-case P f g h (elapsed e n) = h (elapsed e n) refl refl refl
+item-case P f g h (half a) = h (half a) refl refl refl
+
+-- a number section has a place
+makes-place : (i : Item) → sameKind numberKind (itemMakes i) ≡ isPlace i
+unfolding itemMakes
+makes-place = item-case (λ (i : Item). sameKind numberKind (itemMakes i) ≡ isPlace i) (λ p. refl) refl (λ i notPlace notPoint other. rw (notPlace, other))
+
+any-makes : (is : List Item) → any (sameKind numberKind) (map itemMakes is) ≡ any isPlace is
+unfolding any
+any-makes [] = refl
+any-makes (i ∷ is) = rw (makes-place i, any-makes is)
+
+number-last : (a b c d : Bool)
+    → cond a textKind (cond b generalKind (cond c dateKind (cond d numberKind literalKind))) ≡ numberKind → d ≡ true
+number-last a b c true e = refl
+number-last true b c false e = cc
+number-last false true c false e = cc
+number-last false false true false e = cc
+number-last false false false false e = cc
+
+number-place : (is : List Item) → itemsKind is ≡ numberKind → any isPlace is ≡ true
+unfolding itemsKind kindFrom
+number-place is e =
+    let ks : List Kind = map itemMakes is in
+    sym (any-makes is)
+    ∙ number-last (any (sameKind textKind) ks) (any (sameKind generalKind) ks) (any (sameKind dateKind) ks) (any (sameKind numberKind) ks) e
 
 -- a number without a digit below a place has none below the next lower one
 lower : (n q : ℕ) → n % 10 ^ suc q ≡ 0 → n % 10 ^ q ≡ 0
@@ -63,7 +103,7 @@ module _ (c : Context) where
       (λ e. rw e)
 
   place-first : (p : Place) (q : ℕ) → 0 < c .integerPlaces → suc q ≡ 15 + c .integerPlaces
-      → placeUnits c p q ≡ extraUnits (c .figures) (c .grouped) (suc q) (39 - q) ++ figureUnits (c .figures) (c .grouped) p q
+      → placeUnits c p q ≡ unitsBeyond c q ++ figureUnits (c .figures) (c .grouped) p q
   unfolding placeUnits
   place-first p q h e = rw (lt-ltb 0 (c .integerPlaces) h, eq-eqb (suc q) (15 + c .integerPlaces) e)
 
@@ -72,19 +112,19 @@ module _ (c : Context) where
   Nought is = (q v k : ℕ) → q < 15 → any isPoint is ≡ false → c .figures % 10 ^ suc q ≡ 0 → decimalsRead v k (figuresShown c q is) ≡ v
 
   nought-place : (p : Place) (is : List Item) → Nought is → Nought (place p ∷ is)
-  unfolding figuresShown itemFigures itemUnits digitAfter any
+  unfolding figurePieces itemPieces itemUnits digitAfter any
   nought-place p is rest q v k small noPoint none =
       rw (place-later p q (λ h. omega arith), decimal-units (c .figures) (c .grouped) p q small, none)
       (idle-nought v p (figuresShown c (q - 1) is) (λ j. rest (q - 1) v j (omega arith) noPoint (lower-next (c .figures) q none)) k)
 
   decimals-nought : (is : List Item) → Nought is
-  unfolding decimalsRead figuresShown itemFigures itemUnits digitAfter any
+  unfolding decimalsRead figurePieces itemPieces itemUnits digitAfter any
   decimals-nought [] = λ q v k small noPoint none. refl
   decimals-nought (i ∷ is) =
       item-case (λ (j : Item). Nought (j ∷ is))
       (λ p. nought-place p is (decimals-nought is))
       (λ q v k small noPoint none. absurd (true≢false noPoint))
-      (λ j notPlace notPoint. rw (notPlace, notPoint) (decimals-nought is))
+      (λ j notPlace notPoint other. rw (notPlace, notPoint) (decimals-nought is))
       i
 
   -- v and the k lowest digits make up the number; the r lowest of these have no place and are noughts
@@ -111,7 +151,7 @@ module _ (c : Context) where
       ∙ rest q r (v + digit n q * 10 ^ q) (omega arith) noPoint places none (omega (arith, mod-next n q)))))
 
   decimals-place : (p : Place) (is : List Item) → Decimals is → Decimals (place p ∷ is)
-  unfolding figuresShown itemFigures itemUnits digitAfter any count
+  unfolding figurePieces itemPieces itemUnits digitAfter any count
   decimals-place p is rest zero r v small noPoint places none e = absurd (omega arith)
   decimals-place p is rest (suc q) r v small noPoint places none e =
       let f : suc q - 1 ≡ q = omega arith in
@@ -119,7 +159,7 @@ module _ (c : Context) where
       (decimals-digit p is rest q r v small noPoint (omega arith) none e)
 
   decimals-read : (is : List Item) → Decimals is
-  unfolding decimalsRead figuresShown itemFigures itemUnits digitAfter any count
+  unfolding decimalsRead figurePieces itemPieces itemUnits digitAfter any count
   decimals-read [] = λ k r v small noPoint places none e.
       let f : k ≡ r = omega arith in
       let g : c .figures % 10 ^ k ≡ 0 = rw f none in
@@ -128,7 +168,7 @@ module _ (c : Context) where
       item-case (λ (j : Item). Decimals (j ∷ is))
       (λ p. decimals-place p is (decimals-read is))
       (λ k r v small noPoint places none e. absurd (true≢false noPoint))
-      (λ j notPlace notPoint. rw (notPlace, notPoint) (decimals-read is))
+      (λ j notPlace notPoint other. rw (notPlace, notPoint) (decimals-read is))
       i
 
   -- what stands behind the point
@@ -146,12 +186,12 @@ module _ (c : Context) where
       → integerRead (c .figures / 10 ^ (15 + k)) (figuresShown c (14 + k) is) ≡ c .figures
 
   later-point : (is : List Item) → Later (point ∷ is)
-  unfolding integerRead figuresShown itemFigures itemUnits pointUnits digitAfter count integerPlaces decimalPlaces
+  unfolding integerRead figurePieces itemPieces itemUnits pointUnits digitAfter count integerPlaces decimalPlaces
   later-point is k places before onePoint most none =
       rw (places, ne-eqb (c .integerPlaces) 0 (λ e. omega arith)) (behind-point is (omega arith) most none)
 
   later-place : (p : Place) (is : List Item) → Later is → Later (place p ∷ is)
-  unfolding figuresShown itemFigures itemUnits digitAfter count integerPlaces decimalPlaces
+  unfolding figurePieces itemPieces itemUnits digitAfter count integerPlaces decimalPlaces
   later-place p is rest zero places before onePoint most none = absurd (omega arith)
   later-place p is rest (suc k) places before onePoint most none =
       let n : ℕ = c .figures in
@@ -164,13 +204,13 @@ module _ (c : Context) where
       ∙ rest k (omega arith) (omega arith) onePoint most none)
 
   later-read : (is : List Item) → Later is
-  unfolding integerRead figuresShown itemFigures itemUnits digitAfter count integerPlaces decimalPlaces
+  unfolding integerRead figurePieces itemPieces itemUnits digitAfter count integerPlaces decimalPlaces
   later-read [] = λ k places before onePoint most none. rw places (omega arith)
   later-read (i ∷ is) =
       item-case (λ (j : Item). Later (j ∷ is))
       (λ p. later-place p is (later-read is))
       (later-point is)
-      (λ j notPlace notPoint. rw (notPlace, notPoint) (later-read is))
+      (λ j notPlace notPoint other. rw (notPlace, notPoint) (later-read is))
       i
 
   -- up to the first integer place, or to the point: nothing has been read
@@ -191,21 +231,21 @@ module _ (c : Context) where
         ∙ extra-read n (c .grouped) q (40 - q) us least
 
     first-point : (is : List Item) → First (point ∷ is)
-    unfolding integerRead figuresShown itemFigures itemUnits pointUnits digitAfter count integerPlaces decimalPlaces
+    unfolding integerRead figurePieces itemPieces itemUnits pointUnits digitAfter count integerPlaces decimalPlaces
     first-point is places some onePoint bound none =
         let e : 14 + c .integerPlaces ≡ 14 = omega arith in
-        rw (eq-eqb (c .integerPlaces) 0 (sym places), e, append-assoc (extraUnits (c .figures) (c .grouped) 15 25) (46 ∷ []) (figuresShown c 14 is))
+        rw (eq-eqb (c .integerPlaces) 0 (sym places), e, append-assoc (unitsBeyond c firstDecimal) (46 ∷ []) (figuresShown c 14 is))
         (beyond 15 (46 ∷ figuresShown c 14 is) (omega arith) (omega arith)
         ∙ behind-point is (omega arith) bound none)
 
     first-place : (p : Place) (is : List Item) → First (place p ∷ is)
-    unfolding figuresShown itemFigures itemUnits digitAfter count integerPlaces decimalPlaces
+    unfolding figurePieces itemPieces itemUnits digitAfter count integerPlaces decimalPlaces
     first-place p is places some onePoint bound none =
         let n : ℕ = c .figures in
         let k : ℕ = integerPlaces is in
         let q : ℕ = 15 + k in
         let e : 14 + c .integerPlaces ≡ q = omega arith in
-        let f : 39 - q ≡ 40 - suc q = omega arith in
+        let f : firstDigit - q ≡ 40 - suc q = omega arith in
         let g : q - 1 ≡ 14 + k = omega arith in
         let rest : List ℕ = figuresShown c (14 + k) is in
         rw (
@@ -220,20 +260,19 @@ module _ (c : Context) where
         ∙ later-read is k refl (omega arith) onePoint bound none)
 
     first-read : (is : List Item) → First is
-    unfolding integerRead figuresShown itemFigures itemUnits digitAfter any count integerPlaces decimalPlaces
+    unfolding integerRead figurePieces itemPieces itemUnits digitAfter any count integerPlaces decimalPlaces
     first-read [] = λ places some onePoint bound none. absurd (true≢false (sym some))
     first-read (i ∷ is) =
         item-case (λ (j : Item). First (j ∷ is))
         (λ p. first-place p is)
         (first-point is)
-        (λ j notPlace notPoint. rw (notPlace, notPoint) (first-read is))
+        (λ j notPlace notPoint other. rw (notPlace, notPoint) (first-read is))
         i
 
--- the figures that a number's items show, read, are that number, a count of 10^-15
+-- the figure pieces that a number section shows, read, are that number, a count of 10^-15
 pub figures-read : (c : Context) (is : List Item) → c .figures < 10 ^ 40 → c .integerPlaces ≡ integerPlaces is
-    → integerPlaces is ≤ 20 → decimalPlaces is ≤ 15 → count isPoint is ≤ 1 → any isPlace is ≡ true
-    → c .figures % 10 ^ (15 - decimalPlaces is) ≡ 0 → unitsRead (figuresShown c (14 + integerPlaces is) is) ≡ c .figures
+    → integerPlaces is ≤ 20 → decimalPlaces is ≤ 15 → count isPoint is ≤ 1 → itemsKind is ≡ numberKind
+    → c .figures % 10 ^ (15 - decimalPlaces is) ≡ 0 → unitsRead (figurePieces is (itemPieces c (14 + c .integerPlaces) is)) ≡ c .figures
 unfolding unitsRead
-figures-read c is small places integers decimals onePoint some none =
-    ap (λ (k : ℕ). integerRead 0 (figuresShown c (14 + k) is)) (sym places)
-    ∙ first-read c small (omega arith) is (sym places) some onePoint decimals none
+figures-read c is small places integers decimals onePoint kind none =
+    first-read c small (omega arith) is (sym places) (number-place is kind) onePoint decimals none

@@ -4,20 +4,62 @@ use mathlib.Core.Path.{_≡_, refl, ap, _∙_}
 use Prim.Native.Nat.{ℕ, zero, suc, _+_, _-_, _*_, _/_, _%_, _^_, _≤_, _<_}
 use native.Mathlib.Nat.{zero-mul, add-zero}
 use native.Mathlib.Omega.{arith}
-use mathlib.Core.Bool.{Bool, true, false, cond, _&&_}
+use mathlib.Core.Bool.{Bool, true, false, cond, _&&_, and-false}
 use mathlib.Core.List.{List, [], _∷_, _++_, append-assoc}
 use borrow.Author.Tests.{eqb-true, le-leb, lt-leb, le-ltb, ne-eqb}
-use lib.Dec.{eqb}
-use Rattle.lists.proofs.Bools.{by-cases}
+use lib.Dec.{T, eqb}
+use Rattle.lists.specs.Lists.{every}
+use Rattle.lists.proofs.Bools.{by-cases, cond-both, every-append}
 use Rattle.figures.specs.Digits.{digit, digitUnit}
 use Rattle.figures.proofs.Digits.{digit-small, div-next}
 use Rattle.formats.specs.Tokens.{Place, zeroPlace, hashPlace, spacePlace, isDigit, digitOf}
-use Rattle.formats.specs.Text.{insignificant, idleUnits, endsGroup, withSeparator, figureUnits, extraUnits}
-use Rattle.formats.specs.Figures.{decimalsRead, integerRead}
+use Rattle.formats.specs.Text.{Context, insignificant, idleUnits, endsGroup, withSeparator, figureUnits, extraUnits, unitsBeyond, atFirstInteger, placeUnits}
+use Rattle.formats.specs.Figures.{decimalsRead, integerRead, isFigure}
 
 digit-test : (d : ℕ) → d < 10 → isDigit (48 + d) ≡ true
 unfolding isDigit
 digit-test d h = rw (le-leb 48 (48 + d) (omega arith), le-leb (48 + d) 57 (omega arith))
+
+-- what places show is digits, commas and spaces
+abbrev Plain : List ℕ → Type 0
+Plain us = T (every isFigure us)
+
+none-plain : Plain []
+unfolding every
+none-plain = tt
+
+idle-plain : (p : Place) → Plain (idleUnits p)
+unfolding every idleUnits isDigit
+idle-plain zeroPlace = tt
+idle-plain hashPlace = tt
+idle-plain spacePlace = tt
+
+digit-plain : (d : ℕ) → d < 10 → Plain (digitUnit d ∷ [])
+unfolding every
+digit-plain d h = rw (digit-test d h) tt
+
+separated-plain : (b : Bool) (us : List ℕ) → Plain us → Plain (cond b (withSeparator us) us)
+unfolding withSeparator every isDigit
+separated-plain false us t = t
+separated-plain true [] t = tt
+separated-plain true (u ∷ us) t = cond-both (λ (v : ℕ). Plain (u ∷ v ∷ us)) (eqb u 32) {x = 32} {y = 44} t t
+
+figure-plain : (n : ℕ) (grouped : Bool) (p : Place) (q : ℕ) → Plain (figureUnits n grouped p q)
+unfolding figureUnits
+figure-plain n grouped p q =
+    separated-plain (grouped && endsGroup q) _ (cond-both Plain (insignificant n q) (idle-plain p) (digit-plain _ (digit-small n _)))
+
+extra-plain : (n : ℕ) (grouped : Bool) (q count : ℕ) → Plain (extraUnits n grouped q count)
+unfolding extraUnits
+extra-plain n grouped q zero = none-plain
+extra-plain n grouped q (suc count) = every-append isFigure _ _ (figure-plain n grouped hashPlace _) (extra-plain n grouped q count)
+
+pub beyond-plain : (c : Context) (b : Bool) (q : ℕ) → Plain (cond b (unitsBeyond c q) [])
+beyond-plain c b q = cond-both Plain b (extra-plain (c .figures) (c .grouped) _ _) none-plain
+
+pub place-plain : (c : Context) (p : Place) (q : ℕ) → Plain (placeUnits c p q)
+unfolding placeUnits
+place-plain c p q = every-append isFigure _ _ (beyond-plain c (atFirstInteger c q) q) (figure-plain (c .figures) (c .grouped) p q)
 
 -- a digit
 pub integer-step : (v d : ℕ) (us : List ℕ) → d < 10 → integerRead v (digitUnit d ∷ us) ≡ integerRead (v * 10 + d) us
@@ -90,14 +132,10 @@ extra-read n grouped q (suc count) us h =
     (figure-read n grouped hashPlace (q + count) (rest ++ us) (omega arith) ∙ extra-read n grouped q count us h)
 
 -- a decimal place
-never : (b : Bool) → b && false ≡ false
-never true = refl
-never false = refl
-
 pub decimal-units : (n : ℕ) (grouped : Bool) (p : Place) (q : ℕ) → q < 15
     → figureUnits n grouped p q ≡ cond (eqb (n % 10 ^ suc q) 0) (idleUnits p) (digitUnit (digit n q) ∷ [])
 unfolding figureUnits insignificant endsGroup
-decimal-units n grouped p q h = rw (lt-leb 15 q h, le-ltb 15 q (omega arith), never grouped)
+decimal-units n grouped p q h = rw (lt-leb 15 q h, le-ltb 15 q (omega arith), and-false grouped)
 
 -- an insignificant zero before nothing but noughts
 pub idle-nought : (v : ℕ) (p : Place) (us : List ℕ) → ((k : ℕ) → decimalsRead v k us ≡ v)

@@ -15,7 +15,7 @@ pub mod FigureUnits
 pub mod FigureItems
 pub mod GeneralFigures
 pub mod Chosen
-pub mod Shown
 pub mod Lexing
 pub mod First
 pub mod Accepted
+pub mod Shown

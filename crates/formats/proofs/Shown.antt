@@ -1,201 +1,236 @@
--- What is promised of the figures of a number's text holds: of number sections, and of General.
+-- What is promised of the units that a number is shown as holds.
 -- Assumes nothing.
-use mathlib.Core.Path.{_≡_, refl, sym, ap, _∙_}
+use mathlib.Core.Path.{_≡_, refl, sym, ap, _∙_, subst}
 use Prim.Native.Nat.{ℕ, _+_, _*_, _^_, _≤_, _<_}
 use native.Mathlib.Omega.{arith}
-use mathlib.Core.Bool.{Bool, true, false, cond, not, _&&_, _||_}
-use mathlib.Core.List.{List, [], _∷_, map}
-use borrow.Author.Tests.{eq-eqb}
-use lib.Dec.{T, eqb, leb→le, ltb→lt}
+use mathlib.Core.Bool.{Bool, true, false, cond, not, _&&_, or-true, true≢false}
+use mathlib.Core.List.{List, [], _∷_}
+use borrow.Author.Tests.{eq-eqb, eqb-true}
+use lib.ListN.{length}
+use lib.Dec.{T, leb, eqb, leb→le, ltb→lt}
 use lib.IntN.{natAbs}
+use Rattle.answers.specs.declared.Answer.the-variants as answer
 use Rattle.values.specs.declared.Number.{Number}
+use Rattle.values.specs.declared.Value.the-variants as value
+use Rattle.values.specs.declared.Ask.{Ask}
 use Rattle.values.specs.Ranges.{numberInRange}
-use Rattle.lists.specs.Lists.{every, any, count, isEmpty}
-use Rattle.lists.proofs.Bools.{cond-both, and-left, and-right}
-use Rattle.figures.specs.Rounding.{Magnitude, scaled}
-use Rattle.figures.specs.Bounds.{Near}
+use Rattle.lists.specs.Lists.{every, count, isEmpty}
+use Rattle.lists.proofs.Bools.{cond-both, cond-case, and-left, and-right, every-head, every-tail, T-true, true-T, not-false}
+use Rattle.figures.specs.Rounding.{Magnitude, scaled, rounded}
 use Rattle.figures.specs.Powers.{powered}
-use Rattle.figures.specs.General.{generalDecimals, generalRounded}
+use Rattle.figures.specs.General.{generalDecimals, generalRounded, generalTooWide, generalUnits}
 use Rattle.figures.proofs.Tens.{ten-pos}
 use Rattle.figures.proofs.Rounding.{half-unit, scaled-powered, scaled-small, rounded-small}
-use Rattle.formats.specs.Items.{Item, literal, blank, fill, place, point, percent, general, at, year, month, day, hour, minute, second, part, elapsed, half, Section, Kind, textKind, generalKind, dateKind, numberKind, literalKind, kindIndex, sameKind, kindFrom, itemMakes, itemsKind, kindOf, isPlace, isPoint, isPercent, itemsFit, integerPlaces, decimalPlaces}
+use Rattle.calendar.specs.Names.{units}
+use Rattle.formats.specs.Items.{Item, literal, blank, fill, place, point, percent, general, at, year, month, day, hour, minute, second, part, elapsed, half, Section, Kind, textKind, generalKind, dateKind, numberKind, literalKind, kindIndex, sameKind, kindOf, itemBelongs, itemAllowed, isPoint, isPercent, itemsFit, integerPlaces, decimalPlaces}
 use Rattle.formats.specs.Limits.{sectionWithin}
-use Rattle.formats.specs.WellFormed.{sectionFormed, wellFormed}
-use Rattle.formats.specs.Choice.{Exact, numberExact, zeroExact, lessThan, counted, Reason, chosen, choose}
-use Rattle.formats.specs.Minus.{Sign, isOwn, firstHasCondition, exceptionA, signFor, signUnits}
-use Rattle.formats.specs.Text.{sectionUnits, itemUnits}
-use Rattle.formats.specs.Reading.{showsGeneral, sectionRounded, standingRounded, numberContext, showsNought, numberSign, numberUnits}
-use Rattle.formats.specs.Figures.{sectionRead, NumberShown, generalRead, GeneralShown}
-use Rattle.formats.proofs.FigureItems.{figures-read}
+use Rattle.formats.specs.WellFormed.{isUnit, sectionFormed, wellFormed}
+use Rattle.formats.specs.Choice.{Exact, numberExact, zeroExact, lessThan, counted, Reason, Choice, nothing, chosen, choose}
+use Rattle.formats.specs.Minus.{Sign, minus, notNegative, noItem, forNegatives, nought, isOwn, firstHasCondition, exceptionA, signFor, signUnits}
+use Rattle.formats.specs.Text.{placeUnits, pointUnits, itemUnits, digitAfter, sectionUnits}
+use Rattle.formats.specs.Accept.{sectionsIn, Accepted, sections, refusal, accept}
+use Rattle.formats.specs.Reading.{Reading, refused, shown, within, takesNumber, showsGeneral, sectionRounded, standingRounded, numberContext, showsNought, numberSign, numberUnits, readNumber, readValue, reading, readAccepted, codeReading}
+use Rattle.formats.specs.Figures.{unitsRead, FiguresOf, GeneralFigures, PieceOf, ofLiteral, ofBlank, ofFill, ofPercent, ofPlace, ofPoint, ofGeneral, ofAt, PiecesOf, none, more, figurePieces, NumberShown}
+use Rattle.formats.proofs.FigureUnits.{place-plain, beyond-plain}
+use Rattle.formats.proofs.FigureItems.{itemPieces, pieces-joined, figures-read}
 use Rattle.formats.proofs.GeneralFigures.{general-read}
 use Rattle.formats.proofs.Chosen.{chosen-passes}
-
--- a number section has a place
-makes-place : (i : Item) → sameKind numberKind (itemMakes i) ≡ isPlace i
-unfolding itemMakes
-makes-place (place p) = refl
-makes-place point = refl
-makes-place (literal u) = refl
-makes-place (blank u) = refl
-makes-place (fill u) = refl
-makes-place percent = refl
-makes-place general = refl
-makes-place at = refl
-makes-place (year n) = refl
-makes-place (month n) = refl
-makes-place (day n) = refl
-makes-place (hour n) = refl
-makes-place (minute n) = refl
-makes-place (second n) = refl
-makes-place (part n) = refl
-makes-place (elapsed e n) = refl
-makes-place (half h) = refl
-
-any-makes : (is : List Item) → any (sameKind numberKind) (map itemMakes is) ≡ any isPlace is
-unfolding any
-any-makes [] = refl
-any-makes (i ∷ is) = rw (makes-place i, any-makes is)
-
-number-last : (a b c d : Bool)
-    → cond a textKind (cond b generalKind (cond c dateKind (cond d numberKind literalKind))) ≡ numberKind → d ≡ true
-number-last a b c true e = refl
-number-last true b c false e = let f : _≡_ {A = ℕ} 0 3 = ap kindIndex e in absurd (omega arith)
-number-last false true c false e = let f : _≡_ {A = ℕ} 1 3 = ap kindIndex e in absurd (omega arith)
-number-last false false true false e = let f : _≡_ {A = ℕ} 2 3 = ap kindIndex e in absurd (omega arith)
-number-last false false false false e = let f : _≡_ {A = ℕ} 4 3 = ap kindIndex e in absurd (omega arith)
-
-number-place : (is : List Item) → itemsKind is ≡ numberKind → any isPlace is ≡ true
-unfolding itemsKind kindFrom
-number-place is e =
-    let ks : List Kind = map itemMakes is in
-    sym (any-makes is)
-    ∙ number-last (any (sameKind textKind) ks) (any (sameKind generalKind) ks) (any (sameKind dateKind) ks) (any (sameKind numberKind) ks) e
+use Rattle.formats.proofs.Accepted.{accepted-sections, accepted-formed}
 
 -- no exact scaled number is divided by 0
 scaled-pos : (m s p t : ℕ) → 0 < (scaled m s p t) .below
 unfolding powered
 scaled-pos m s p t = rw (scaled-powered m s p t) (ten-pos (s + 3 * t))
 
-or-true : (b : Bool) → b || true ≡ true
-or-true true = refl
-or-true false = refl
-
--- the limits that figures need
-record Limits (s : Section) : Type 0 where
+-- the rules that figures need
+record Rules (s : Section) : Type 0 where
+  allowed : T (every (itemAllowed (kindOf s)) (s .items))
+  onePoint : count isPoint (s .items) ≤ 1
   integers : integerPlaces (s .items) ≤ 20
   decimals : decimalPlaces (s .items) ≤ 15
   percents : count isPercent (s .items) ≤ 5
 
-limits : (s : Section) → T (sectionWithin s) → Limits s
-unfolding sectionWithin
-limits s t = search (and-left, and-right, leb→le)
+rules : (ss : List Section) (x : Exact) (i : ℕ) (s : Section) (why : Reason) → T (wellFormed ss) → choose ss x ≡ chosen i s why → Rules s
+unfolding wellFormed sectionFormed sectionWithin itemsFit kindOf
+rules ss x i s why formed e =
+    let all : T (every sectionFormed ss) = search (and-left, and-right) in
+    let one : T (sectionFormed s) = chosen-passes sectionFormed ss x i s why all e in
+    record {
+      allowed = search (and-left, and-right) depth 16;
+      onePoint = search (and-left, and-right, leb→le) depth 16;
+      integers = search (and-left, and-right, leb→le) depth 16;
+      decimals = search (and-left, and-right, leb→le) depth 16;
+      percents = search (and-left, and-right, leb→le) depth 16;
+    }
 
-one-point : (is : List Item) → T (itemsFit is) → count isPoint is ≤ 1
-unfolding itemsFit
-one-point is t = search (and-left, and-right, leb→le)
+-- a sign is one minus or nothing
+isMinus : Sign → Bool
+isMinus g = not (isEmpty (signUnits g))
+
+sign-units : (g : Sign) → signUnits g ≡ cond (isMinus g) (45 ∷ []) []
+unfolding isMinus isEmpty signUnits
+sign-units minus = refl
+sign-units notNegative = refl
+sign-units noItem = refl
+sign-units forNegatives = refl
+sign-units nought = refl
 
 -- figures that are nought have no added minus
-nought-unsigned : (x : Exact) (s : Section) (a : Bool) → signUnits (signFor x s a true) ≡ []
-unfolding signFor signUnits
+nought-unsigned : (x : Exact) (s : Section) (a : Bool) → isMinus (signFor x s a true) ≡ false
+unfolding signFor signUnits isMinus isEmpty
 nought-unsigned x s a =
-    let Unsigned : Sign → Type 0 = λ g. signUnits g ≡ [] in
+    let Unsigned : Sign → Type 0 = λ g. isMinus g ≡ false in
     cond-both Unsigned (not (lessThan x zeroExact)) refl (cond-both Unsigned (isEmpty (s .items)) refl (cond-both Unsigned a refl refl))
 
-module _ (ss : List Section) (i : ℕ) (s : Section) (why : Reason) (x : Number) where
-  unsigned : showsNought s x ≡ true → signUnits (numberSign ss i s why x) ≡ []
+-- units that are read as the rounded number are its figures
+figures-of : (m : Magnitude) (d : ℕ) (added : Bool) (us : List ℕ) → 0 < m .below → d ≤ 15
+    → unitsRead us ≡ rounded m d → (rounded m d ≡ 0 → added ≡ false) → FiguresOf m d added us
+figures-of m d added us pos most e unsigned =
+    record { read = e; near = rw e (half-unit m d pos most); noMinusAtNought = λ z. unsigned (sym e ∙ z) }
+
+-- General's rounded number has forty digits
+standing-fits : (x : Number) → T (numberInRange x) → standingRounded x < 10 ^ 40
+unfolding standingRounded generalRounded generalDecimals numberExact
+standing-fits x range =
+    let m : ℕ = natAbs (x .coefficient) in
+    let small : m < 10 ^ 15 = search (and-left, ltb→lt) in
+    let size : _≡_ {A = Magnitude} (record { above = m; below = 10 ^ (x .scale) }) (powered m 0 (x .scale)) =
+    unfold powered in ap {B = Magnitude} (λ (a : ℕ). record { above = a; below = 10 ^ (x .scale) }) (omega arith) in
+    rw size (rounded-small m 0 (x .scale) _ small (omega arith) (omega arith))
+
+no-date : (k : Kind) → takesNumber k ≡ true → T (sameKind dateKind k) → ⊥
+unfolding takesNumber
+no-date textKind e t = t
+no-date generalKind e t = t
+no-date dateKind e t = true≢false (sym e)
+no-date numberKind e t = t
+no-date literalKind e t = t
+
+-- a number that went to section i and is taken by it
+module _ (ss : List Section) (i : ℕ) (s : Section) (why : Reason) (x : Number)
+    (r : Rules s) (range : T (numberInRange x)) (takes : takesNumber (kindOf s) ≡ true) where
+  abbrev added : Bool
+  added = isMinus (numberSign ss i s why x)
+
+  unsigned : showsNought s x ≡ true → added ≡ false
   unfolding numberSign
   unsigned e = rw e (nought-unsigned (numberExact x) s (exceptionA (counted ss) i (isOwn why) (firstHasCondition ss)))
 
-  section-unsigned : kindOf s ≡ numberKind → sectionRounded s x ≡ 0 → signUnits (numberSign ss i s why x) ≡ []
-  section-unsigned kind e = unsigned (unfold showsNought in rw (kind, eq-eqb (sectionRounded s x) 0 e))
+  abbrev pieces : List (List ℕ)
+  pieces = itemPieces (numberContext s x) (14 + (numberContext s x) .integerPlaces) (s .items)
 
-  general-unsigned : showsGeneral (kindOf s) ≡ true → standingRounded x ≡ 0 → signUnits (numberSign ss i s why x) ≡ []
-  general-unsigned shows e =
-      unsigned
-      (unfold showsNought in rw (shows, eq-eqb (standingRounded x) 0 e) (or-true (sameKind (kindOf s) numberKind && eqb (sectionRounded s x) 0)))
-
--- the exact scaled number of a section, rounded
-module _ (s : Section) (x : Number) (within : T (sectionWithin s)) where
-  pub rounded-near : Near (scaled (natAbs (x .coefficient)) (x .scale) (count isPercent (s .items)) (s .thousands))
-      (decimalPlaces (s .items)) (sectionRounded s x)
-  unfolding sectionRounded
-  rounded-near =
+  section-figures : kindOf s ≡ numberKind
+      → FiguresOf (scaled (natAbs (x .coefficient)) (x .scale) (count isPercent (s .items)) (s .thousands))
+      (decimalPlaces (s .items)) added (figurePieces (s .items) pieces)
+  unfolding numberContext sectionRounded kindOf
+  section-figures kind =
       let m : ℕ = natAbs (x .coefficient) in
       let p : ℕ = count isPercent (s .items) in
-      half-unit (scaled m (x .scale) p (s .thousands)) (decimalPlaces (s .items)) (scaled-pos m (x .scale) p (s .thousands))
-      (limits s within .decimals)
+      let d : ℕ = decimalPlaces (s .items) in
+      let exact : Magnitude = scaled m (x .scale) p (s .thousands) in
+      let pos : 0 < exact .below = scaled-pos m (x .scale) p (s .thousands) in
+      let small : m < 10 ^ 15 = search (and-left, ltb→lt) in
+      figures-of exact d added (figurePieces (s .items) pieces) pos (r .decimals)
+      (figures-read (numberContext s x) (s .items) (scaled-small m (x .scale) p (s .thousands) d small (r .percents) (r .decimals)) refl
+      (r .integers) (r .decimals) (r .onePoint) kind (half-unit exact d pos (r .decimals) .whole))
+      (λ z. unsigned (unfold showsNought in rw (kind, eq-eqb (sectionRounded s x) 0 z)))
 
-  pub rounded-fits : T (numberInRange x) → sectionRounded s x < 10 ^ 40
-  unfolding sectionRounded
-  rounded-fits range =
-      let l : Limits s = limits s within in
-      let small : natAbs (x .coefficient) < 10 ^ 15 = search (and-left, ltb→lt) in
-      scaled-small (natAbs (x .coefficient)) (x .scale) (count isPercent (s .items)) (s .thousands) (decimalPlaces (s .items))
-      small (l .percents) (l .decimals)
+  general-figures : showsGeneral (kindOf s) ≡ true → GeneralFigures x added (generalUnits (standingRounded x))
+  unfolding standingRounded generalRounded numberExact
+  general-figures shows =
+      let size : Magnitude = (numberExact x) .size in
+      record {
+        units = refl;
+        figures =
+            figures-of size (generalDecimals size) added (generalUnits (standingRounded x)) (ten-pos (x .scale)) (unfold generalDecimals in omega arith)
+            (general-read (standingRounded x) (standing-fits x range))
+            (λ z. unsigned (unfold showsNought in rw (shows, eq-eqb (standingRounded x) 0 z, or-true)));
+      }
 
--- the figures of a number section, read, are its rounded number
-pub section-read : (s : Section) (x : Number) → kindOf s ≡ numberKind → T (itemsFit (s .items)) → T (sectionWithin s)
-    → T (numberInRange x) → sectionRead s x ≡ sectionRounded s x
-unfolding sectionRead numberContext kindOf
-section-read s x kind fit within range =
-    let l : Limits s = limits s within in
-    figures-read (numberContext s x) (s .items) (rounded-fits s x within range) refl (l .integers) (l .decimals)
-    (one-point (s .items) fit) (number-place (s .items) kind) (rounded-near s x within .whole)
+  piece : (q : ℕ) (j : Item) → T (itemAllowed (kindOf s) j) → PieceOf x added j (itemUnits (numberContext s x) q j)
+  unfolding itemAllowed itemBelongs itemUnits pointUnits units numberContext showsGeneral
+  piece q (literal u) a = ofLiteral u
+  piece q (blank u) a = ofBlank u
+  piece q (fill u) a = ofFill u
+  piece q percent a = ofPercent
+  piece q (place p) a = ofPlace p (placeUnits (numberContext s x) p q) (place-plain (numberContext s x) p q)
+  piece q point a = ofPoint _ (beyond-plain (numberContext s x) (eqb (integerPlaces (s .items)) 0) 14)
+  piece q general a = ofGeneral _ (general-figures (rw (← (eqb-true 1 (kindIndex (kindOf s)) (T-true _ a))) refl))
+  piece q at a = ofAt _ (general-figures (rw (← (eqb-true 0 (kindIndex (kindOf s)) (T-true _ a))) refl))
+  piece q (year n) a = absurd (no-date (kindOf s) takes a)
+  piece q (month n) a = absurd (no-date (kindOf s) takes a)
+  piece q (day n) a = absurd (no-date (kindOf s) takes a)
+  piece q (hour n) a = absurd (no-date (kindOf s) takes a)
+  piece q (minute n) a = absurd (no-date (kindOf s) takes a)
+  piece q (second n) a = absurd (no-date (kindOf s) takes a)
+  piece q (part n) a = absurd (no-date (kindOf s) takes a)
+  piece q (elapsed e n) a = absurd (no-date (kindOf s) takes a)
+  piece q (half h) a = absurd (no-date (kindOf s) takes a)
 
--- the law of number sections
-pub number-shown : (ss : List Section) (i : ℕ) (s : Section) (why : Reason) (x : Number)
-    → kindOf s ≡ numberKind → T (itemsFit (s .items)) → T (sectionWithin s) → T (numberInRange x) → NumberShown ss i s why x
-unfolding numberUnits sectionUnits numberContext
-number-shown ss i s why x kind fit within range =
-    let e : sectionRead s x ≡ sectionRounded s x = section-read s x kind fit within range in
-    record {
-      text = refl;
-      near = rw e (rounded-near s x within);
-      noMinusAtNought = λ z. section-unsigned ss i s why x kind (sym e ∙ z);
-    }
+  each-piece : (q : ℕ) (is : List Item) → T (every (itemAllowed (kindOf s)) is) → PiecesOf x added is (itemPieces (numberContext s x) q is)
+  unfolding itemPieces
+  each-piece q [] t = none
+  each-piece q (j ∷ is) t =
+      more j (itemUnits (numberContext s x) q j) is (itemPieces (numberContext s x) (digitAfter q j) is)
+      (piece q j (every-head (itemAllowed (kindOf s)) j is t)) (each-piece (digitAfter q j) is (every-tail (itemAllowed (kindOf s)) j is t))
 
--- General: its rounded number, and the figures read
-module _ (x : Number) where
-  standing-near : Near ((numberExact x) .size) (generalDecimals ((numberExact x) .size)) (standingRounded x)
-  unfolding numberExact standingRounded generalRounded generalDecimals
-  standing-near = half-unit ((numberExact x) .size) (generalDecimals ((numberExact x) .size)) (ten-pos (x .scale)) (omega arith)
+  text-shown : choose ss (numberExact x) ≡ chosen i s why → NumberShown ss x (numberUnits ss i s why x) (s .colour) i
+  unfolding numberUnits sectionUnits
+  text-shown e =
+      record {
+        taker = s;
+        why = why;
+        minus = added;
+        pieces = pieces;
+        goes = e;
+        coloured = refl;
+        text = rw (sign-units (numberSign ss i s why x), pieces-joined (numberContext s x) (14 + (numberContext s x) .integerPlaces) (s .items));
+        each = each-piece (14 + (numberContext s x) .integerPlaces) (s .items) (r .allowed);
+        figures = section-figures;
+      }
 
-  size-powered : (numberExact x) .size ≡ powered (natAbs (x .coefficient)) 0 (x .scale)
-  unfolding numberExact powered
-  size-powered = ap {B = Magnitude} (λ (m : ℕ). record { above = m; below = 10 ^ (x .scale) }) (omega arith)
+-- of a reading that shows a text
+abbrev WhereShown : (List ℕ → ℕ → ℕ → Type 0) → Reading → Type 0
+WhereShown P (refused a) = Unit {0}
+WhereShown P (shown t colour section) = P t colour section
 
-  standing-fits : T (numberInRange x) → standingRounded x < 10 ^ 40
-  unfolding standingRounded generalRounded generalDecimals
-  standing-fits range =
-      let small : natAbs (x .coefficient) < 10 ^ 15 = search (and-left, ltb→lt) in
-      rw size-powered (rounded-small (natAbs (x .coefficient)) 0 (x .scale) _ small (omega arith) (omega arith))
+choice-shown : (ss : List Section) (x : Number) (room : ℕ) → T (wellFormed ss) → T (numberInRange x) → (c : Choice) → choose ss (numberExact x) ≡ c
+    → WhereShown (NumberShown ss x) (readNumber ss x room c)
+unfolding readNumber within
+choice-shown ss x room formed range nothing e = tt
+choice-shown ss x room formed range (chosen i s why) e =
+    let P : Reading → Type 0 = WhereShown (NumberShown ss x) in
+    cond-case P (not (takesNumber (kindOf s))) (λ h. tt)
+    (λ h.
+    cond-both P (showsGeneral (kindOf s) && generalTooWide ((numberExact x) .size)) tt
+    (cond-both P (leb (length (numberUnits ss i s why x)) room)
+    (text-shown ss i s why x (rules ss (numberExact x) i s why formed e) range (not-false (takesNumber (kindOf s)) h) e) tt))
 
-  pub general-figures : T (numberInRange x) → generalRead x ≡ standingRounded x
-  unfolding generalRead
-  general-figures range = general-read (standingRounded x) (standing-fits range)
+reading-shown : (ss : List Section) (ask : Ask) (x : Number) (text : List ℕ) (room : ℕ) → T (wellFormed ss) → ask .value ≡ value.Number x
+    → WhereShown (NumberShown ss x) (reading ss ask text room)
+unfolding reading readValue
+reading-shown ss ask x text room formed isNumber =
+    let P : Reading → Type 0 = WhereShown (NumberShown ss x) in
+    rw isNumber (cond-case P (numberInRange x) (λ h. choice-shown ss x room formed (true-T h) (choose ss (numberExact x)) refl) (λ h. tt))
 
--- the law of General
-pub general-shown : (ss : List Section) (i : ℕ) (s : Section) (why : Reason) (x : Number)
-    → showsGeneral (kindOf s) ≡ true → T (numberInRange x) → GeneralShown ss i s why x
-unfolding numberUnits sectionUnits numberContext itemUnits
-general-shown ss i s why x shows range =
-    let e : generalRead x ≡ standingRounded x = general-figures x range in
-    record {
-      text = refl;
-      standsForGeneral = λ q. refl;
-      standsForAt = λ q. refl;
-      near = rw e (standing-near x);
-      noMinusAtNought = λ z. general-unsigned ss i s why x shows (sym e ∙ z);
-    }
+accepted-shown : (code : List ℕ) (ask : Ask) (x : Number) (text : List ℕ) (room : ℕ) → T (every isUnit code) → ask .value ≡ value.Number x
+    → (a : Accepted) → accept code ≡ a → WhereShown (NumberShown (sectionsIn code) x) (readAccepted a ask text room)
+unfolding readAccepted
+accepted-shown code ask x text room known isNumber (refusal a k) h = tt
+accepted-shown code ask x text room known isNumber (sections ss) h =
+    rw (accepted-sections code ss h .1) (reading-shown ss ask x text room (accepted-formed code ss known h) isNumber)
 
--- the same where choice leads to the section
-pub chosen-shown : (ss : List Section) (i : ℕ) (s : Section) (why : Reason) (x : Number)
-    → T (wellFormed ss) → T (numberInRange x) → choose ss (numberExact x) ≡ chosen i s why → kindOf s ≡ numberKind
-    → NumberShown ss i s why x
-unfolding wellFormed sectionFormed
-chosen-shown ss i s why x formed range e kind =
-    let all : T (every sectionFormed ss) = search (and-left, and-right) in
-    let one : T (sectionFormed s) = chosen-passes sectionFormed ss (numberExact x) i s why all e in
-    let fit : T (itemsFit (s .items)) = search (and-left, and-right) depth 12 in
-    let within : T (sectionWithin s) = search (and-left, and-right) depth 12 in
-    number-shown ss i s why x kind fit within range
+-- the law of a number that sections show
+pub number-shown : (ss : List Section) (ask : Ask) (x : Number) (text : List ℕ) (room : ℕ) (t : List ℕ) (colour section : ℕ)
+    → T (wellFormed ss) → ask .value ≡ value.Number x → reading ss ask text room ≡ shown t colour section
+    → NumberShown ss x t colour section
+number-shown ss ask x text room t colour section formed isNumber e =
+    subst (WhereShown (NumberShown ss x)) e (reading-shown ss ask x text room formed isNumber)
+
+-- and of one that a code shows
+pub code-number-shown : (code : List ℕ) (ask : Ask) (x : Number) (text : List ℕ) (room : ℕ) (t : List ℕ) (colour section : ℕ)
+    → T (every isUnit code) → ask .value ≡ value.Number x → codeReading code ask text room ≡ shown t colour section
+    → NumberShown (sectionsIn code) x t colour section
+unfolding codeReading
+code-number-shown code ask x text room t colour section known isNumber e =
+    subst (WhereShown (NumberShown (sectionsIn code) x)) e (accepted-shown code ask x text room known isNumber (accept code) refl)

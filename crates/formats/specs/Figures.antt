@@ -1,30 +1,20 @@
--- "A number's decimal figures": how the figures that a text shows are read back as a number, and what is promised of them.
+-- "A number's decimal figures": how units of a text are read back as a number, and what is promised of the units that a number is shown as.
 -- Assumes nothing.
 use mathlib.Core.Path.{_≡_}
 use Prim.Native.Nat.{ℕ, zero, suc, _+_, _*_, _^_}
-use mathlib.Core.Bool.{cond, _||_}
-use mathlib.Core.List.{List, [], _∷_, _++_}
-use lib.Dec.{eqb}
+use mathlib.Core.Bool.{Bool, false, cond, _||_}
+use mathlib.Core.List.{List, [], _∷_, _++_, flatten}
+use lib.Dec.{T, eqb}
 use lib.IntN.{natAbs}
 use Rattle.values.specs.declared.Number.{Number}
-use Rattle.lists.specs.Lists.{count}
-use Rattle.figures.specs.Rounding.{scaled}
+use Rattle.lists.specs.Lists.{every, count}
+use Rattle.figures.specs.Rounding.{Magnitude, scaled, rounded}
 use Rattle.figures.specs.General.{generalDecimals, generalUnits}
 use Rattle.figures.specs.Bounds.{Near}
-use Rattle.formats.specs.Tokens.{isDigit, digitOf}
-use Rattle.formats.specs.Items.{Item, general, at, Section, isPlace, isPoint, isPercent, decimalPlaces, integerPlaces}
-use Rattle.formats.specs.Choice.{Reason, numberExact}
-use Rattle.formats.specs.Minus.{signUnits}
-use Rattle.formats.specs.Text.{Context, itemUnits, digitAfter, itemsUnits}
-use Rattle.formats.specs.Reading.{standingRounded, numberContext, numberSign, numberUnits}
-
--- what the places and the point show, in order: the items' text without that of literals, blanks, fills and percents
-unfoldable pub itemFigures : Context → ℕ → Item → List ℕ
-itemFigures c q i = cond (isPlace i || isPoint i) (itemUnits c q i) []
-
-unfoldable pub figuresShown : Context → ℕ → List Item → List ℕ
-figuresShown c q [] = []
-figuresShown c q (i ∷ is) = itemFigures c q i ++ figuresShown c (digitAfter q i) is
+use Rattle.formats.specs.Tokens.{Place, isDigit, digitOf}
+use Rattle.formats.specs.Items.{Item, literal, blank, fill, place, point, percent, general, at, Section, numberKind, kindOf, isPlace, isPoint, isPercent, decimalPlaces}
+use Rattle.formats.specs.Choice.{Reason, numberExact, chosen, choose}
+use Rattle.formats.specs.Reading.{standingRounded}
 
 -- Units read as a decimal number, a count of 10^-15. A unit that is no digit, as a comma or a space, is set aside.
 -- The decimals are added to v: where k + 1 decimals are left, the next is worth 10^k; none is left behind that of 10^-15.
@@ -47,33 +37,59 @@ integerRead v (u ∷ us) =
 unfoldable pub unitsRead : List ℕ → ℕ
 unitsRead us = integerRead 0 us
 
--- the number that a section's figures are
-unfoldable pub sectionRead : Section → Number → ℕ
-sectionRead s x = unitsRead (figuresShown (numberContext s x) (14 + integerPlaces (s .items)) (s .items))
+-- The units us are figures of the exact number m to d decimals: read, they are m rounded to d decimals, and so within half a unit of
+-- the last decimal place of m, halves away from zero. Figures that are nought have no added minus.
+pub record FiguresOf (m : Magnitude) (d : ℕ) (minus : Bool) (us : List ℕ) : Type 0 where
+  pub read : unitsRead us ≡ rounded m d
+  pub near : Near m d (unitsRead us)
+  pub noMinusAtNought : unitsRead us ≡ 0 → minus ≡ false
 
--- What a number section shows of the number x, which went to it as section i of ss:
--- its text is the added minus, or nothing, and then its items' text;
--- the figures in it are within half a unit of the last decimal place of the exact scaled number, halves away from zero;
--- figures that are nought have no added minus.
-pub record NumberShown (ss : List Section) (i : ℕ) (s : Section) (why : Reason) (x : Number) : Type 0 where
-  pub text : numberUnits ss i s why x
-      ≡ signUnits (numberSign ss i s why x) ++ itemsUnits (numberContext s x) (14 + integerPlaces (s .items)) (s .items)
-  pub near : Near (scaled (natAbs (x .coefficient)) (x .scale) (count isPercent (s .items)) (s .thousands))
-      (decimalPlaces (s .items)) (sectionRead s x)
-  pub noMinusAtNought : sectionRead s x ≡ 0 → signUnits (numberSign ss i s why x) ≡ []
+-- General's figures of a number
+pub record GeneralFigures (x : Number) (minus : Bool) (us : List ℕ) : Type 0 where
+  pub units : us ≡ generalUnits (standingRounded x)
+  pub figures : FiguresOf ((numberExact x) .size) (generalDecimals ((numberExact x) .size)) minus us
 
--- the number that General's figures are
-unfoldable pub generalRead : Number → ℕ
-generalRead x = unitsRead (generalUnits (standingRounded x))
+-- a unit of a place: a digit, a comma or a space
+abbrev pub isFigure : ℕ → Bool
+isFigure u = isDigit u || eqb u 44 || eqb u 32
 
--- What a section that shows General shows of the number x, which went to it as section i of ss:
--- its text is the added minus, or nothing, and then its items' text, in which General and `@` are General's figures;
--- these are within half a unit of General's last decimal place of the number, halves away from zero;
--- figures that are nought have no added minus.
-pub record GeneralShown (ss : List Section) (i : ℕ) (s : Section) (why : Reason) (x : Number) : Type 0 where
-  pub text : numberUnits ss i s why x
-      ≡ signUnits (numberSign ss i s why x) ++ itemsUnits (numberContext s x) (14 + integerPlaces (s .items)) (s .items)
-  pub standsForGeneral : (q : ℕ) → itemUnits (numberContext s x) q general ≡ generalUnits (standingRounded x)
-  pub standsForAt : (q : ℕ) → itemUnits (numberContext s x) q at ≡ generalUnits (standingRounded x)
-  pub near : Near ((numberExact x) .size) (generalDecimals ((numberExact x) .size)) (generalRead x)
-  pub noMinusAtNought : generalRead x ≡ 0 → signUnits (numberSign ss i s why x) ≡ []
+-- What an item shows of the number x. A place's piece is digits, commas and spaces; the point's is such units, where there is no integer
+-- place, and then a point. No other item stands in a section that takes a number.
+pub data PieceOf (x : Number) (minus : Bool) : Item → List ℕ → Type 0 where
+  ofLiteral : (u : ℕ) → PieceOf x minus (literal u) (u ∷ [])
+  ofBlank : (u : ℕ) → PieceOf x minus (blank u) (32 ∷ [])
+  ofFill : (u : ℕ) → PieceOf x minus (fill u) []
+  ofPercent : PieceOf x minus percent (37 ∷ [])
+  ofPlace : (p : Place) (us : List ℕ) → T (every isFigure us) → PieceOf x minus (place p) us
+  ofPoint : (us : List ℕ) → T (every isFigure us) → PieceOf x minus point (us ++ (46 ∷ []))
+  ofGeneral : (us : List ℕ) → GeneralFigures x minus us → PieceOf x minus general us
+  ofAt : (us : List ℕ) → GeneralFigures x minus us → PieceOf x minus at us
+
+-- one piece an item, in order
+pub data PiecesOf (x : Number) (minus : Bool) : List Item → List (List ℕ) → Type 0 where
+  none : PiecesOf x minus [] []
+  more : (i : Item) (us : List ℕ) (is : List Item) (pieces : List (List ℕ))
+      → PieceOf x minus i us → PiecesOf x minus is pieces → PiecesOf x minus (i ∷ is) (us ∷ pieces)
+
+-- the units of the figure pieces, that is of places and of the point, in order
+unfoldable pub figurePieces : List Item → List (List ℕ) → List ℕ
+figurePieces [] pieces = []
+figurePieces (i ∷ is) [] = []
+figurePieces (i ∷ is) (us ∷ pieces) = cond (isPlace i || isPoint i) us [] ++ figurePieces is pieces
+
+-- What the text t is, where the number x is shown by the sections ss, with this colour and section number:
+-- a minus in front or none, and then a piece for each item of the section that x goes to.
+-- Of a number section the figure pieces together are figures of the exact scaled number to the section's decimals.
+-- Of a section that shows General each piece of General or `@` is General's figures; a literal section has no figures.
+pub record NumberShown (ss : List Section) (x : Number) (t : List ℕ) (colour section : ℕ) : Type 0 where
+  pub taker : Section
+  pub why : Reason
+  pub minus : Bool
+  pub pieces : List (List ℕ)
+  pub goes : choose ss (numberExact x) ≡ chosen section taker why
+  pub coloured : colour ≡ taker .colour
+  pub text : t ≡ cond minus (45 ∷ []) [] ++ flatten pieces
+  pub each : PiecesOf x minus (taker .items) pieces
+  pub figures : kindOf taker ≡ numberKind
+      → FiguresOf (scaled (natAbs (x .coefficient)) (x .scale) (count isPercent (taker .items)) (taker .thousands))
+      (decimalPlaces (taker .items)) minus (figurePieces (taker .items) pieces)

@@ -1,7 +1,7 @@
 -- "Figures" and "Days": the text of each item, and of a section.
 -- Assumes nothing.
-use Prim.Native.Nat.{ℕ, zero, suc, _+_, _-_, _*_, _/_, _%_, _^_}
-use mathlib.Core.Bool.{Bool, true, false, cond, not, _&&_}
+use Prim.Native.Nat.{ℕ, zero, suc, _+_, _-_, _/_, _%_, _^_}
+use mathlib.Core.Bool.{Bool, true, false, cond, _&&_}
 use mathlib.Core.List.{List, [], _∷_, _++_}
 use lib.Dec.{leb, ltb, eqb}
 use Rattle.figures.specs.Digits.{digit, digitUnit, digitUnits, numeral}
@@ -22,10 +22,20 @@ pub record Context : Type 0 where
   pub twelve : Bool
   pub elapsed : ℕ
 
--- A digit of the rounded number n, a count of 10^-15, is told by its power of ten and 15: 15 is the last integer digit's.
+-- "The rounded number is forty digits by value, 25 before the point and 15 after." It is a count of 10^-15, and each of its digits is
+-- told by its power of ten and 15, from the first down.
+abbrev pub firstDigit : ℕ
+firstDigit = 39
+
+abbrev pub lastInteger : ℕ
+lastInteger = 15
+
+abbrev pub firstDecimal : ℕ
+firstDecimal = 14
+
 -- "An insignificant integer zero has no nonzero integer digit before it, an insignificant decimal zero no nonzero digit after it."
 unfoldable pub insignificant : ℕ → ℕ → Bool
-insignificant n q = cond (leb 15 q) (eqb (n / 10 ^ q) 0) (eqb (n % 10 ^ suc q) 0)
+insignificant n q = cond (leb lastInteger q) (eqb (n / 10 ^ q) 0) (eqb (n % 10 ^ suc q) 0)
 
 -- "An insignificant zero shows 0 under `0`, nothing under `#`, a space under `?`."
 unfoldable pub idleUnits : Place → List ℕ
@@ -35,7 +45,7 @@ idleUnits spacePlace = 32 ∷ []
 
 -- the digit of 10^3, 10^6 and so on
 unfoldable pub endsGroup : ℕ → Bool
-endsGroup q = ltb 15 q && eqb ((q - 15) % 3) 0
+endsGroup q = ltb lastInteger q && eqb ((q - lastInteger) % 3) 0
 
 -- "the digit or 0 [..] is followed by a comma, such a space by a space"
 unfoldable pub withSeparator : List ℕ → List ℕ
@@ -53,15 +63,21 @@ unfoldable pub extraUnits : ℕ → Bool → ℕ → ℕ → List ℕ
 extraUnits n grouped q zero = []
 extraUnits n grouped q (suc count) = figureUnits n grouped hashPlace (q + count) ++ extraUnits n grouped q count
 
+-- the significant digits before the digit q
+abbrev pub unitsBeyond : Context → ℕ → List ℕ
+unitsBeyond c q = extraUnits (c .figures) (c .grouped) (suc q) (firstDigit - q)
+
+-- the digit q is that of the first integer place
+abbrev pub atFirstInteger : Context → ℕ → Bool
+atFirstInteger c q = ltb 0 (c .integerPlaces) && eqb (suc q) (lastInteger + c .integerPlaces)
+
 -- "Integer digits beyond the places go in at the first integer place, or before the point if there is none."
 unfoldable pub placeUnits : Context → Place → ℕ → List ℕ
-placeUnits c p q =
-    cond (ltb 0 (c .integerPlaces) && eqb (suc q) (15 + c .integerPlaces)) (extraUnits (c .figures) (c .grouped) (suc q) (39 - q)) []
-    ++ figureUnits (c .figures) (c .grouped) p q
+placeUnits c p q = cond (atFirstInteger c q) (unitsBeyond c q) [] ++ figureUnits (c .figures) (c .grouped) p q
 
 -- "The point always shows."
 unfoldable pub pointUnits : Context → List ℕ
-pointUnits c = cond (eqb (c .integerPlaces) 0) (extraUnits (c .figures) (c .grouped) 15 25) [] ++ (46 ∷ [])
+pointUnits c = cond (eqb (c .integerPlaces) 0) (unitsBeyond c firstDecimal) [] ++ (46 ∷ [])
 
 unfoldable pub yearUnits : ℕ → ℕ → List ℕ
 yearUnits n y = cond (eqb n 2) (numeral 2 (y % 100)) (numeral 4 y)
@@ -120,6 +136,6 @@ unfoldable pub itemsUnits : Context → ℕ → List Item → List ℕ
 itemsUnits c q [] = []
 itemsUnits c q (i ∷ is) = itemUnits c q i ++ itemsUnits c (digitAfter q i) is
 
--- the items of a section: its last integer place has the digit 15, its first decimal place 14
+-- the items of a section: so its last integer place has the last integer digit, its first decimal place the first decimal digit
 unfoldable pub sectionUnits : Context → List Item → List ℕ
-sectionUnits c is = itemsUnits c (14 + c .integerPlaces) is
+sectionUnits c is = itemsUnits c (firstDecimal + c .integerPlaces) is
