@@ -11,13 +11,12 @@ use lib.Dec.{eqb, ltb}
 use Rattle.lists.specs.Lists.{any, count}
 use Rattle.lists.proofs.Bools.{by-cases}
 use Rattle.lists.proofs.Counts.{any-count}
-use Rattle.figures.specs.Digits.{digit}
-use Rattle.figures.proofs.Digits.{digit-small, mod-next}
-use Rattle.formats.specs.Tokens.{Place}
+use Rattle.figures.proofs.Digits.{mod-next}
+use Rattle.formats.specs.Tokens.{Place, isDigit}
 use Rattle.formats.specs.Items.{Item, literal, blank, fill, place, point, percent, general, at, year, month, day, hour, minute, second, part, elapsed, half, Kind, textKind, generalKind, dateKind, numberKind, literalKind, sameKind, kindFrom, itemMakes, itemsKind, isPlace, isPoint, integerPlaces, decimalPlaces}
-use Rattle.formats.specs.Text.{Context, firstDigit, firstDecimal, figureUnits, extraUnits, unitsBeyond, placeUnits, pointUnits, itemUnits, digitAfter, itemsUnits}
-use Rattle.formats.specs.Figures.{decimalsRead, integerRead, unitsRead, figurePieces}
-use Rattle.formats.proofs.FigureUnits.{decimal-step, figure-read, extra-read, decimal-units, idle-nought}
+use Rattle.formats.specs.Text.{Context, firstDigit, firstDecimal, figureUnits, unitsBeyond, placeUnits, pointUnits, itemUnits, digitAfter, itemsUnits}
+use Rattle.formats.specs.Figures.{readFrom, unitsRead, Counts, figurePieces}
+use Rattle.formats.proofs.FigureUnits.{digit-in, figure-read, extra-read, decimal-units, idle-nought, cut-exact}
 
 -- the pieces of a section's text, one an item
 unfoldable pub itemPieces : Context → ℕ → List Item → List (List ℕ)
@@ -56,7 +55,7 @@ item-case P f g h (elapsed e n) = h (elapsed e n) refl refl refl
 item-case P f g h (half a) = h (half a) refl refl refl
 
 -- a number section has a place
-makes-place : (i : Item) → sameKind numberKind (itemMakes i) ≡ isPlace i
+pub makes-place : (i : Item) → sameKind numberKind (itemMakes i) ≡ isPlace i
 unfolding itemMakes
 makes-place = item-case (λ (i : Item). sameKind numberKind (itemMakes i) ≡ isPlace i) (λ p. refl) refl (λ i notPlace notPoint other. rw (notPlace, other))
 
@@ -109,84 +108,75 @@ module _ (c : Context) where
 
   -- places below the last digit of the number show noughts
   abbrev Nought : List Item → Type 0
-  Nought is = (q v k : ℕ) → q < 15 → any isPoint is ≡ false → c .figures % 10 ^ suc q ≡ 0 → decimalsRead v k (figuresShown c q is) ≡ v
+  Nought is = (q v w : ℕ) → q < 15 → any isPoint is ≡ false → c .figures % 10 ^ suc q ≡ 0 → v * 10 ^ 15 ≡ c .figures * w
+      → Counts (readFrom true v w (figuresShown c q is)) (c .figures)
 
   nought-place : (p : Place) (is : List Item) → Nought is → Nought (place p ∷ is)
   unfolding figurePieces itemPieces itemUnits digitAfter any
-  nought-place p is rest q v k small noPoint none =
+  nought-place p is rest q v w small noPoint none e =
       rw (place-later p q (λ h. omega arith), decimal-units (c .figures) (c .grouped) p q small, none)
-      (idle-nought v p (figuresShown c (q - 1) is) (λ j. rest (q - 1) v j (omega arith) noPoint (lower-next (c .figures) q none)) k)
+      (idle-nought (c .figures) v w p (figuresShown c (q - 1) is)
+      (λ v w. rest (q - 1) v w (omega arith) noPoint (lower-next (c .figures) q none)) e)
 
   decimals-nought : (is : List Item) → Nought is
-  unfolding decimalsRead figurePieces itemPieces itemUnits digitAfter any
-  decimals-nought [] = λ q v k small noPoint none. refl
+  unfolding readFrom figurePieces itemPieces itemUnits digitAfter any
+  decimals-nought [] = λ q v w small noPoint none e. e
   decimals-nought (i ∷ is) =
       item-case (λ (j : Item). Nought (j ∷ is))
       (λ p. nought-place p is (decimals-nought is))
-      (λ q v k small noPoint none. absurd (true≢false noPoint))
+      (λ q v w small noPoint none e. absurd (true≢false noPoint))
       (λ j notPlace notPoint other. rw (notPlace, notPoint) (decimals-nought is))
       i
 
-  -- v and the k lowest digits make up the number; the r lowest of these have no place and are noughts
+  -- behind j decimals k digits are left; the r lowest of these have no place and are noughts
   abbrev Decimals : List Item → Type 0
-  Decimals is = (k r v : ℕ) → k ≤ 15 → any isPoint is ≡ false → k ≡ count isPlace is + r → c .figures % 10 ^ r ≡ 0
-      → v + c .figures % 10 ^ k ≡ c .figures → decimalsRead v k (figuresShown c (k - 1) is) ≡ c .figures
-
-  decimals-digit : (p : Place) (is : List Item) → Decimals is → (q r v : ℕ) → q < 15 → any isPoint is ≡ false
-      → q ≡ count isPlace is + r → c .figures % 10 ^ r ≡ 0 → v + c .figures % 10 ^ suc q ≡ c .figures
-      → decimalsRead v (suc q) (figureUnits (c .figures) (c .grouped) p q ++ figuresShown c (q - 1) is) ≡ c .figures
-  decimals-digit p is rest q r v small noPoint places none e =
-      let n : ℕ = c .figures in
-      rw (decimal-units n (c .grouped) p q small)
-      (by-cases (eqb (n % 10 ^ suc q) 0)
-      (λ f.
-      let zeros : n % 10 ^ suc q ≡ 0 = eqb-true (n % 10 ^ suc q) 0 f in
-      rw f
-      (idle-nought v p (figuresShown c (q - 1) is)
-      (λ j. decimals-nought is (q - 1) v j (omega arith) noPoint (lower-next n q zeros)) (suc q)
-      ∙ omega arith))
-      (λ f.
-      rw f
-      (decimal-step v (digit n q) q (figuresShown c (q - 1) is) (digit-small n q)
-      ∙ rest q r (v + digit n q * 10 ^ q) (omega arith) noPoint places none (omega (arith, mod-next n q)))))
+  Decimals is = (k j r : ℕ) → k + j ≡ 15 → any isPoint is ≡ false → k ≡ count isPlace is + r → c .figures % 10 ^ r ≡ 0
+      → Counts (readFrom true (c .figures / 10 ^ k) (10 ^ j) (figuresShown c (k - 1) is)) (c .figures)
 
   decimals-place : (p : Place) (is : List Item) → Decimals is → Decimals (place p ∷ is)
   unfolding figurePieces itemPieces itemUnits digitAfter any count
-  decimals-place p is rest zero r v small noPoint places none e = absurd (omega arith)
-  decimals-place p is rest (suc q) r v small noPoint places none e =
+  decimals-place p is rest zero j r sum noPoint places none = absurd (omega arith)
+  decimals-place p is rest (suc q) j r sum noPoint places none =
+      let n : ℕ = c .figures in
+      let us : List ℕ = figuresShown c (q - 1) is in
       let f : suc q - 1 ≡ q = omega arith in
-      rw (f, place-later p q (λ h. omega arith))
-      (decimals-digit p is rest q r v small noPoint (omega arith) none e)
+      let next : 10 ^ j * 10 ≡ 10 ^ suc j = omega arith in
+      rw (f, place-later p q (λ h. omega arith), decimal-units n (c .grouped) p q (omega arith))
+      (by-cases (eqb (n % 10 ^ suc q) 0)
+      (λ z.
+      let zeros : n % 10 ^ suc q ≡ 0 = eqb-true (n % 10 ^ suc q) 0 z in
+      rw z
+      (idle-nought n (n / 10 ^ suc q) (10 ^ j) p us
+      (λ v w. decimals-nought is (q - 1) v w (omega arith) noPoint (lower-next n q zeros)) (cut-exact n (suc q) j sum zeros)))
+      (λ z. rw (z, digit-in true n (10 ^ j) q us, next) (rest q (suc j) r (omega arith) noPoint (omega arith) none)))
 
   decimals-read : (is : List Item) → Decimals is
-  unfolding decimalsRead figurePieces itemPieces itemUnits digitAfter any count
-  decimals-read [] = λ k r v small noPoint places none e.
+  unfolding readFrom figurePieces itemPieces itemUnits digitAfter any count
+  decimals-read [] = λ k j r sum noPoint places none.
       let f : k ≡ r = omega arith in
-      let g : c .figures % 10 ^ k ≡ 0 = rw f none in
-      omega arith
+      cut-exact (c .figures) k j sum (rw f none)
   decimals-read (i ∷ is) =
       item-case (λ (j : Item). Decimals (j ∷ is))
       (λ p. decimals-place p is (decimals-read is))
-      (λ k r v small noPoint places none e. absurd (true≢false noPoint))
+      (λ k j r sum noPoint places none. absurd (true≢false noPoint))
       (λ j notPlace notPoint other. rw (notPlace, notPoint) (decimals-read is))
       i
 
   -- what stands behind the point
   behind-point : (is : List Item) → count isPoint is ≡ 0 → count isPlace is ≤ 15 → c .figures % 10 ^ (15 - count isPlace is) ≡ 0
-      → decimalsRead (c .figures / 10 ^ 15 * 10 ^ 15) 15 (figuresShown c 14 is) ≡ c .figures
+      → Counts (readFrom true (c .figures / 10 ^ 15) 1 (figuresShown c 14 is)) (c .figures)
   behind-point is onePoint most none =
-      let n : ℕ = c .figures in
       let noPoint : any isPoint is ≡ false = by-cases (any isPoint is) (λ e. absurd (omega (arith, any-count isPoint is e))) (λ e. e) in
-      decimals-read is 15 (15 - count isPlace is) (n / 10 ^ 15 * 10 ^ 15) (omega arith) noPoint (omega arith) none (omega arith)
+      decimals-read is 15 0 (15 - count isPlace is) (omega arith) noPoint (omega arith) none
 
   -- behind the first integer place, where k integer places are left: the digits above theirs have been read
   abbrev Later : List Item → Type 0
   Later is = (k : ℕ) → k ≡ integerPlaces is → k < c .integerPlaces → count isPoint is ≤ 1 → decimalPlaces is ≤ 15
       → c .figures % 10 ^ (15 - decimalPlaces is) ≡ 0
-      → integerRead (c .figures / 10 ^ (15 + k)) (figuresShown c (14 + k) is) ≡ c .figures
+      → Counts (readFrom false (c .figures / 10 ^ (15 + k)) 1 (figuresShown c (14 + k) is)) (c .figures)
 
   later-point : (is : List Item) → Later (point ∷ is)
-  unfolding integerRead figurePieces itemPieces itemUnits pointUnits digitAfter count integerPlaces decimalPlaces
+  unfolding readFrom isDigit figurePieces itemPieces itemUnits pointUnits digitAfter count integerPlaces decimalPlaces
   later-point is k places before onePoint most none =
       rw (places, ne-eqb (c .integerPlaces) 0 (λ e. omega arith)) (behind-point is (omega arith) most none)
 
@@ -194,17 +184,21 @@ module _ (c : Context) where
   unfolding figurePieces itemPieces itemUnits digitAfter count integerPlaces decimalPlaces
   later-place p is rest zero places before onePoint most none = absurd (omega arith)
   later-place p is rest (suc k) places before onePoint most none =
-      let n : ℕ = c .figures in
       let q : ℕ = 15 + k in
       let e : 14 + suc k ≡ q = omega arith in
       let f : 15 + suc k ≡ suc q = omega arith in
       let g : q - 1 ≡ 14 + k = omega arith in
-      rw (e, f, place-later p q (λ h. omega arith), g)
-      (figure-read n (c .grouped) p q (figuresShown c (14 + k) is) (omega arith)
-      ∙ rest k (omega arith) (omega arith) onePoint most none)
+      rw (
+        e,
+        f,
+        place-later p q (λ h. omega arith),
+        g,
+        figure-read (c .figures) (c .grouped) p q (figuresShown c (14 + k) is) (omega arith),
+      )
+      (rest k (omega arith) (omega arith) onePoint most none)
 
   later-read : (is : List Item) → Later is
-  unfolding integerRead figurePieces itemPieces itemUnits digitAfter count integerPlaces decimalPlaces
+  unfolding readFrom figurePieces itemPieces itemUnits digitAfter count integerPlaces decimalPlaces
   later-read [] = λ k places before onePoint most none. rw places (omega arith)
   later-read (i ∷ is) =
       item-case (λ (j : Item). Later (j ∷ is))
@@ -218,25 +212,29 @@ module _ (c : Context) where
     abbrev First : List Item → Type 0
     First is = integerPlaces is ≡ c .integerPlaces → any isPlace is ≡ true → count isPoint is ≤ 1 → decimalPlaces is ≤ 15
         → c .figures % 10 ^ (15 - decimalPlaces is) ≡ 0
-        → integerRead 0 (figuresShown c (14 + c .integerPlaces) is) ≡ c .figures
+        → Counts (readFrom false 0 1 (figuresShown c (14 + c .integerPlaces) is)) (c .figures)
 
     -- the digits beyond the places
-    beyond : (q : ℕ) (us : List ℕ) → 15 ≤ q → q ≤ 40
-        → integerRead 0 (extraUnits (c .figures) (c .grouped) q (40 - q) ++ us) ≡ integerRead (c .figures / 10 ^ q) us
+    beyond : (q : ℕ) (us : List ℕ) → 14 ≤ q → q < 40 → readFrom false 0 1 (unitsBeyond c q ++ us) ≡ readFrom false (c .figures / 10 ^ suc q) 1 us
     beyond q us least bound =
         let n : ℕ = c .figures in
-        let e : q + (40 - q) ≡ 40 = omega arith in
-        let f : n / 10 ^ (q + (40 - q)) ≡ 0 = ap (λ (x : ℕ). n / 10 ^ x) e ∙ div-eq-of-lt {n = n} {m = 10 ^ 40} small in
-        ap (λ (v : ℕ). integerRead v (extraUnits n (c .grouped) q (40 - q) ++ us)) (sym f)
-        ∙ extra-read n (c .grouped) q (40 - q) us least
+        let e : suc q + (firstDigit - q) ≡ 40 = omega arith in
+        let f : n / 10 ^ (suc q + (firstDigit - q)) ≡ 0 = ap (λ (x : ℕ). n / 10 ^ x) e ∙ div-eq-of-lt {n = n} {m = 10 ^ 40} small in
+        ap (λ (v : ℕ). readFrom false v 1 (unitsBeyond c q ++ us)) (sym f)
+        ∙ extra-read n (c .grouped) (suc q) (firstDigit - q) us (omega arith)
 
     first-point : (is : List Item) → First (point ∷ is)
-    unfolding integerRead figurePieces itemPieces itemUnits pointUnits digitAfter count integerPlaces decimalPlaces
+    unfolding readFrom isDigit figurePieces itemPieces itemUnits pointUnits digitAfter count integerPlaces decimalPlaces
     first-point is places some onePoint bound none =
         let e : 14 + c .integerPlaces ≡ 14 = omega arith in
-        rw (eq-eqb (c .integerPlaces) 0 (sym places), e, append-assoc (unitsBeyond c firstDecimal) (46 ∷ []) (figuresShown c 14 is))
-        (beyond 15 (46 ∷ figuresShown c 14 is) (omega arith) (omega arith)
-        ∙ behind-point is (omega arith) bound none)
+        let us : List ℕ = figuresShown c 14 is in
+        rw (
+          eq-eqb (c .integerPlaces) 0 (sym places),
+          e,
+          append-assoc (unitsBeyond c firstDecimal) (46 ∷ []) us,
+          beyond firstDecimal (46 ∷ us) (omega arith) (omega arith),
+        )
+        (behind-point is (omega arith) bound none)
 
     first-place : (p : Place) (is : List Item) → First (place p ∷ is)
     unfolding figurePieces itemPieces itemUnits digitAfter count integerPlaces decimalPlaces
@@ -245,22 +243,21 @@ module _ (c : Context) where
         let k : ℕ = integerPlaces is in
         let q : ℕ = 15 + k in
         let e : 14 + c .integerPlaces ≡ q = omega arith in
-        let f : firstDigit - q ≡ 40 - suc q = omega arith in
         let g : q - 1 ≡ 14 + k = omega arith in
         let rest : List ℕ = figuresShown c (14 + k) is in
+        let here : List ℕ = figureUnits n (c .grouped) p q in
         rw (
           e,
           place-first p q (omega arith) (omega arith),
-          f,
           g,
-          append-assoc (extraUnits n (c .grouped) (suc q) (40 - suc q)) (figureUnits n (c .grouped) p q) rest,
+          append-assoc (unitsBeyond c q) here rest,
+          beyond q (here ++ rest) (omega arith) (omega arith),
+          figure-read n (c .grouped) p q rest (omega arith),
         )
-        (beyond (suc q) (figureUnits n (c .grouped) p q ++ rest) (omega arith) (omega arith)
-        ∙ figure-read n (c .grouped) p q rest (omega arith)
-        ∙ later-read is k refl (omega arith) onePoint bound none)
+        (later-read is k refl (omega arith) onePoint bound none)
 
     first-read : (is : List Item) → First is
-    unfolding integerRead figurePieces itemPieces itemUnits digitAfter any count integerPlaces decimalPlaces
+    unfolding figurePieces itemPieces itemUnits digitAfter any count integerPlaces decimalPlaces
     first-read [] = λ places some onePoint bound none. absurd (true≢false (sym some))
     first-read (i ∷ is) =
         item-case (λ (j : Item). First (j ∷ is))
@@ -272,7 +269,7 @@ module _ (c : Context) where
 -- the figure pieces that a number section shows, read, are that number, a count of 10^-15
 pub figures-read : (c : Context) (is : List Item) → c .figures < 10 ^ 40 → c .integerPlaces ≡ integerPlaces is
     → integerPlaces is ≤ 20 → decimalPlaces is ≤ 15 → count isPoint is ≤ 1 → itemsKind is ≡ numberKind
-    → c .figures % 10 ^ (15 - decimalPlaces is) ≡ 0 → unitsRead (figurePieces is (itemPieces c (14 + c .integerPlaces) is)) ≡ c .figures
+    → c .figures % 10 ^ (15 - decimalPlaces is) ≡ 0 → Counts (unitsRead (figurePieces is (itemPieces c (14 + c .integerPlaces) is))) (c .figures)
 unfolding unitsRead
 figures-read c is small places integers decimals onePoint kind none =
     first-read c small (omega arith) is (sym places) (number-place is kind) onePoint decimals none

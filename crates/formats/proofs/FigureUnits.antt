@@ -1,10 +1,11 @@
--- What one place shows, read back: an integer digit goes in behind those before it, a decimal adds its worth.
+-- What one place shows: which units, and that they are read as its digit.
 -- Assumes nothing.
-use mathlib.Core.Path.{_≡_, refl, ap, _∙_}
+use mathlib.Core.Path.{_≡_, refl, sym, ap, _∙_}
 use Prim.Native.Nat.{ℕ, zero, suc, _+_, _-_, _*_, _/_, _%_, _^_, _≤_, _<_}
-use native.Mathlib.Nat.{zero-mul, add-zero}
+use native.Mathlib.Nat.{mul-assoc, div-add-mod'}
+use lib.Pow.{pow-add}
 use native.Mathlib.Omega.{arith}
-use mathlib.Core.Bool.{Bool, true, false, cond, _&&_, and-false}
+use mathlib.Core.Bool.{Bool, true, false, cond, _&&_, and-false, or-false}
 use mathlib.Core.List.{List, [], _∷_, _++_, append-assoc}
 use borrow.Author.Tests.{eqb-true, le-leb, lt-leb, le-ltb, ne-eqb}
 use lib.Dec.{T, eqb}
@@ -14,7 +15,7 @@ use Rattle.figures.specs.Digits.{digit, digitUnit}
 use Rattle.figures.proofs.Digits.{digit-small, div-next}
 use Rattle.formats.specs.Tokens.{Place, zeroPlace, hashPlace, spacePlace, isDigit, digitOf}
 use Rattle.formats.specs.Text.{Context, insignificant, idleUnits, endsGroup, withSeparator, figureUnits, extraUnits, unitsBeyond, atFirstInteger, placeUnits}
-use Rattle.formats.specs.Figures.{decimalsRead, integerRead, isFigure}
+use Rattle.formats.specs.Figures.{readFrom, Counts, isFigure}
 
 digit-test : (d : ℕ) → d < 10 → isDigit (48 + d) ≡ true
 unfolding isDigit
@@ -61,34 +62,25 @@ pub place-plain : (c : Context) (p : Place) (q : ℕ) → Plain (placeUnits c p 
 unfolding placeUnits
 place-plain c p q = every-append isFigure _ _ (beyond-plain c (atFirstInteger c q) q) (figure-plain (c .figures) (c .grouped) p q)
 
--- a digit
-pub integer-step : (v d : ℕ) (us : List ℕ) → d < 10 → integerRead v (digitUnit d ∷ us) ≡ integerRead (v * 10 + d) us
-unfolding integerRead digitOf
-integer-step v d us h =
-    let e : 48 + d - 48 ≡ d = omega arith in
-    rw (digit-test d h, ne-eqb (48 + d) 46 (λ p. omega arith), e)
-
-pub decimal-step : (v d k : ℕ) (us : List ℕ) → d < 10
-    → decimalsRead v (suc k) (digitUnit d ∷ us) ≡ decimalsRead (v + d * 10 ^ k) k us
-unfolding decimalsRead digitOf
-decimal-step v d k us h =
-    let e : 48 + d - 48 ≡ d = omega arith in
-    rw (digit-test d h, e)
-
 -- behind the digits of n above 10^q, that of 10^q
-pub integer-digit : (n q : ℕ) (us : List ℕ) → integerRead (n / 10 ^ suc q) (digitUnit (digit n q) ∷ us) ≡ integerRead (n / 10 ^ q) us
-integer-digit n q us =
-    integer-step (n / 10 ^ suc q) (digit n q) us (digit-small n q)
-    ∙ ap (λ (v : ℕ). integerRead v us) (omega (arith, div-next n q))
+pub digit-in : (behind : Bool) (n w q : ℕ) (us : List ℕ)
+    → readFrom behind (n / 10 ^ suc q) w (digitUnit (digit n q) ∷ us) ≡ readFrom behind (n / 10 ^ q) (cond behind (w * 10) w) us
+unfolding readFrom digitOf
+digit-in behind n w q us =
+    let d : ℕ = digit n q in
+    let small : d < 10 = digit-small n q in
+    let e : 48 + d - 48 ≡ d = omega arith in
+    let f : n / 10 ^ suc q * 10 + d ≡ n / 10 ^ q = omega (arith, div-next n q) in
+    rw (digit-test d small, ne-eqb (48 + d) 46 (λ p. omega arith), e, f, or-false behind)
 
-separator-aside : (v u : ℕ) (us : List ℕ) → integerRead v (cond (eqb u 32) 32 44 ∷ us) ≡ integerRead v us
-unfolding integerRead isDigit
-separator-aside v u us = by-cases (eqb u 32) (λ e. rw e) (λ e. rw e)
+separator-aside : (v w u : ℕ) (us : List ℕ) → readFrom false v w (cond (eqb u 32) 32 44 ∷ us) ≡ readFrom false v w us
+unfolding readFrom isDigit
+separator-aside v w u us = by-cases (eqb u 32) (λ e. rw e) (λ e. rw e)
 
 -- an insignificant zero and a digit, with their separator or without
 idle-read : (b : Bool) (p : Place) (us : List ℕ)
-    → integerRead 0 (cond b (withSeparator (idleUnits p)) (idleUnits p) ++ us) ≡ integerRead 0 us
-unfolding integerRead isDigit digitOf withSeparator idleUnits
+    → readFrom false 0 1 (cond b (withSeparator (idleUnits p)) (idleUnits p) ++ us) ≡ readFrom false 0 1 us
+unfolding readFrom isDigit digitOf withSeparator idleUnits
 idle-read true zeroPlace us = refl
 idle-read true hashPlace us = refl
 idle-read true spacePlace us = refl
@@ -97,17 +89,17 @@ idle-read false hashPlace us = refl
 idle-read false spacePlace us = refl
 
 digit-read : (b : Bool) (n q : ℕ) (us : List ℕ)
-    → integerRead (n / 10 ^ suc q) (cond b (withSeparator (digitUnit (digit n q) ∷ [])) (digitUnit (digit n q) ∷ []) ++ us)
-    ≡ integerRead (n / 10 ^ q) us
+    → readFrom false (n / 10 ^ suc q) 1 (cond b (withSeparator (digitUnit (digit n q) ∷ [])) (digitUnit (digit n q) ∷ []) ++ us)
+    ≡ readFrom false (n / 10 ^ q) 1 us
 unfolding withSeparator
 digit-read true n q us =
-    integer-digit n q (cond (eqb (digitUnit (digit n q)) 32) 32 44 ∷ us)
-    ∙ separator-aside (n / 10 ^ q) (digitUnit (digit n q)) us
-digit-read false n q us = integer-digit n q us
+    digit-in false n 1 q (cond (eqb (digitUnit (digit n q)) 32) 32 44 ∷ us)
+    ∙ separator-aside (n / 10 ^ q) 1 (digitUnit (digit n q)) us
+digit-read false n q us = digit-in false n 1 q us
 
 -- an integer place
 pub figure-read : (n : ℕ) (grouped : Bool) (p : Place) (q : ℕ) (us : List ℕ) → 15 ≤ q
-    → integerRead (n / 10 ^ suc q) (figureUnits n grouped p q ++ us) ≡ integerRead (n / 10 ^ q) us
+    → readFrom false (n / 10 ^ suc q) 1 (figureUnits n grouped p q ++ us) ≡ readFrom false (n / 10 ^ q) 1 us
 unfolding figureUnits insignificant
 figure-read n grouped p q us h =
     rw (le-leb 15 q h)
@@ -120,7 +112,7 @@ figure-read n grouped p q us h =
 
 -- the digits beyond the places
 pub extra-read : (n : ℕ) (grouped : Bool) (q count : ℕ) (us : List ℕ) → 15 ≤ q
-    → integerRead (n / 10 ^ (q + count)) (extraUnits n grouped q count ++ us) ≡ integerRead (n / 10 ^ q) us
+    → readFrom false (n / 10 ^ (q + count)) 1 (extraUnits n grouped q count ++ us) ≡ readFrom false (n / 10 ^ q) 1 us
 unfolding extraUnits
 extra-read n grouped q zero us h =
     let e : q + 0 ≡ q = omega arith in
@@ -138,11 +130,20 @@ unfolding figureUnits insignificant endsGroup
 decimal-units n grouped p q h = rw (lt-leb 15 q h, le-ltb 15 q (omega arith), and-false grouped)
 
 -- an insignificant zero before nothing but noughts
-pub idle-nought : (v : ℕ) (p : Place) (us : List ℕ) → ((k : ℕ) → decimalsRead v k us ≡ v)
-    → (k : ℕ) → decimalsRead v k (idleUnits p ++ us) ≡ v
-unfolding decimalsRead idleUnits isDigit digitOf
-idle-nought v zeroPlace us h zero = refl
-idle-nought v zeroPlace us h (suc k) = rw (zero-mul (10 ^ k), add-zero v) (h k)
-idle-nought v hashPlace us h k = h k
-idle-nought v spacePlace us h zero = refl
-idle-nought v spacePlace us h (suc k) = h (suc k)
+pub idle-nought : (n v w : ℕ) (p : Place) (us : List ℕ)
+    → ((v w : ℕ) → v * 10 ^ 15 ≡ n * w → Counts (readFrom true v w us) n)
+    → v * 10 ^ 15 ≡ n * w → Counts (readFrom true v w (idleUnits p ++ us)) n
+unfolding readFrom idleUnits isDigit digitOf
+idle-nought n v w zeroPlace us h e = h (v * 10 + 0) (w * 10) (omega arith)
+idle-nought n v w hashPlace us h e = h v w e
+idle-nought n v w spacePlace us h e = h v w e
+
+-- the digits of n above its k lowest, which are noughts and have been cut
+pub cut-exact : (n k j : ℕ) → k + j ≡ 15 → n % 10 ^ k ≡ 0 → n / 10 ^ k * 10 ^ 15 ≡ n * 10 ^ j
+cut-exact n k j e none =
+    let a : ℕ = n / 10 ^ k in
+    let f : a * 10 ^ k ≡ n = omega (arith, div-add-mod' n (10 ^ k)) in
+    ap (λ (x : ℕ). a * 10 ^ x) (sym e)
+    ∙ ap (λ (x : ℕ). a * x) (pow-add 10 k j)
+    ∙ sym (mul-assoc a (10 ^ k) (10 ^ j))
+    ∙ ap (λ (x : ℕ). x * 10 ^ j) f

@@ -1,51 +1,50 @@
 -- The figures of General, read back, are the number that it shows.
 -- Assumes nothing.
-use mathlib.Core.Path.{_≡_, refl, sym, ap, _∙_}
-use Prim.Native.Nat.{ℕ, zero, suc, _+_, _*_, _/_, _%_, _^_, _<_, max}
-use native.Mathlib.Nat.{zero-mul, add-zero, div-eq-of-lt, div-lt-iff-lt-mul, lt-of-lt-of-le}
+use mathlib.Core.Path.{_≡_, refl, sym, ap, ap₂, _∙_}
+use Prim.Native.Nat.{ℕ, zero, suc, _+_, _*_, _/_, _^_, _<_, max}
+use native.Mathlib.Nat.{div-eq-of-lt, div-lt-iff-lt-mul, lt-of-lt-of-le}
 use native.Mathlib.Omega.{arith}
-use mathlib.Core.Bool.{cond, _&&_}
+use mathlib.Core.Bool.{true, false, cond, _&&_}
 use mathlib.Core.List.{List, [], _∷_, _++_}
 use borrow.Author.Tests.{eqb-true}
 use lib.Dec.{eqb}
 use Rattle.lists.specs.Lists.{isEmpty}
 use Rattle.lists.proofs.Bools.{by-cases}
-use Rattle.figures.specs.Digits.{digit, digitUnits, width, numeral}
+use Rattle.figures.specs.Digits.{digitUnits, width, numeral}
+use Rattle.figures.specs.Rounding.{Magnitude}
 use Rattle.figures.specs.General.{withoutEndZeros, pointed, generalUnits}
 use Rattle.figures.proofs.Tens.{ten-pos, ten-le}
-use Rattle.figures.proofs.Digits.{digit-small, mod-next, width-above}
+use Rattle.figures.proofs.Digits.{width-above}
 use Rattle.formats.specs.Tokens.{isDigit, digitOf}
-use Rattle.formats.specs.Figures.{decimalsRead, integerRead, unitsRead}
-use Rattle.formats.proofs.FigureUnits.{decimal-step, integer-digit}
+use Rattle.formats.specs.Figures.{readFrom, unitsRead, Counts}
+use Rattle.formats.proofs.FigureUnits.{digit-in}
 
--- the w lowest digits of m, behind those above them
-integer-digits : (m w : ℕ) (us : List ℕ) → integerRead (m / 10 ^ w) (digitUnits w m ++ us) ≡ integerRead m us
+-- the k lowest digits of n, behind those above them
+integer-digits : (n k : ℕ) (us : List ℕ) → readFrom false (n / 10 ^ k) 1 (digitUnits k n ++ us) ≡ readFrom false n 1 us
 unfolding digitUnits
-integer-digits m zero us = ap (λ (v : ℕ). integerRead v us) (omega arith)
-integer-digits m (suc w) us = integer-digit m w (digitUnits w m ++ us) ∙ integer-digits m w us
+integer-digits n zero us = ap (λ (v : ℕ). readFrom false v 1 us) (omega arith)
+integer-digits n (suc k) us = digit-in false n 1 k (digitUnits k n ++ us) ∙ integer-digits n k us
 
-decimal-digits : (n k v : ℕ) → decimalsRead v k (digitUnits k n) ≡ v + n % 10 ^ k
-unfolding digitUnits decimalsRead
-decimal-digits n zero v = omega arith
-decimal-digits n (suc k) v =
-    decimal-step v (digit n k) k (digitUnits k n) (digit-small n k)
-    ∙ decimal-digits n k (v + digit n k * 10 ^ k)
-    ∙ omega (arith, mod-next n k)
+decimal-digits : (n k w : ℕ) → readFrom true (n / 10 ^ k) w (digitUnits k n) ≡ record { above = n; below = w * 10 ^ k }
+unfolding digitUnits readFrom
+decimal-digits n zero w = ap₂ {C = Magnitude} (λ (a b : ℕ). record { above = a; below = b }) (omega arith) (omega arith)
+decimal-digits n (suc k) w =
+    let next : 10 ^ suc k ≡ 10 ^ k * 10 = omega arith in
+    digit-in true n w k (digitUnits k n)
+    ∙ decimal-digits n k (w * 10)
+    ∙ ap {B = Magnitude} (λ (b : ℕ). record { above = n; below = b }) (rw next (omega arith))
 
 -- zeros at the end of the decimals are worth nothing
 abbrev Alike : List ℕ → List ℕ → Type 0
-Alike us vs = (v k : ℕ) → decimalsRead v k us ≡ decimalsRead v k vs
+Alike us vs = (v w n : ℕ) → Counts (readFrom true v w vs) n → Counts (readFrom true v w us) n
 
 alike-cons : (u : ℕ) (us vs : List ℕ) → Alike us vs → Alike (u ∷ us) (u ∷ vs)
-unfolding decimalsRead
-alike-cons u us vs h v zero = refl
-alike-cons u us vs h v (suc k) =
-    by-cases (isDigit u) (λ e. rw e (h (v + digitOf u * 10 ^ k) k)) (λ e. rw e (h v (suc k)))
+unfolding readFrom
+alike-cons u us vs h v w n = h (cond (isDigit u) (v * 10 + digitOf u) v) (cond (isDigit u && true) (w * 10) w) n
 
 alike-zero : (vs : List ℕ) → Alike [] vs → Alike [] (48 ∷ vs)
-unfolding decimalsRead isDigit digitOf
-alike-zero vs h v zero = refl
-alike-zero vs h v (suc k) = rw (zero-mul (10 ^ k), add-zero v) (h v k)
+unfolding readFrom isDigit digitOf
+alike-zero vs h v w n e = let f : (v * 10 + 0) * 10 ^ 15 ≡ n * (w * 10) = h (v * 10 + 0) (w * 10) n e in omega arith
 
 alike-end : (u : ℕ) (us vs : List ℕ) → Alike us vs → Alike (cond (isEmpty us && eqb u 48) [] (u ∷ us)) (u ∷ vs)
 unfolding isEmpty
@@ -55,26 +54,25 @@ alike-end u (w ∷ us) vs h = alike-cons u (w ∷ us) vs h
 
 end-zeros : (us : List ℕ) → Alike (withoutEndZeros us) us
 unfolding withoutEndZeros
-end-zeros [] = λ v k. refl
+end-zeros [] = λ v w n e. e
 end-zeros (u ∷ us) = alike-end u (withoutEndZeros us) us (end-zeros us)
 
-pointed-read : (v : ℕ) (us : List ℕ) → integerRead v (pointed us) ≡ decimalsRead (v * 10 ^ 15) 15 us
-unfolding integerRead decimalsRead pointed isDigit
+pointed-read : (v : ℕ) (us : List ℕ) → readFrom false v 1 (pointed us) ≡ readFrom true v 1 us
+unfolding readFrom pointed isDigit
 pointed-read v [] = refl
 pointed-read v (u ∷ us) = refl
 
-pub general-read : (n : ℕ) → n < 10 ^ 40 → unitsRead (generalUnits n) ≡ n
+pub general-read : (n : ℕ) → n < 10 ^ 40 → Counts (unitsRead (generalUnits n)) n
 unfolding unitsRead generalUnits numeral
 general-read n h =
     let m : ℕ = n / 10 ^ 15 in
-    let w : ℕ = max 1 (width m) in
+    let k : ℕ = max 1 (width m) in
     let us : List ℕ = digitUnits 15 n in
     let rest : List ℕ = pointed (withoutEndZeros us) in
     let small : m < 10 ^ 25 = div-lt-iff-lt-mul {k = 10 ^ 15} {x = n} {y = 10 ^ 25} (ten-pos 15) .1 h in
-    let wide : m < 10 ^ w = lt-of-lt-of-le (width-above m small) (ten-le (width m) w (omega arith)) in
-    ap (λ (v : ℕ). integerRead v (digitUnits w m ++ rest)) (sym (div-eq-of-lt {n = m} {m = 10 ^ w} wide))
-    ∙ integer-digits m w rest
-    ∙ pointed-read m (withoutEndZeros us)
-    ∙ end-zeros us (m * 10 ^ 15) 15
-    ∙ decimal-digits n 15 (m * 10 ^ 15)
-    ∙ omega arith
+    let wide : m < 10 ^ k = lt-of-lt-of-le (width-above m small) (ten-le (width m) k (omega arith)) in
+    let integers : readFrom false 0 1 (digitUnits k m ++ rest) ≡ readFrom true m 1 (withoutEndZeros us) =
+    ap (λ (v : ℕ). readFrom false v 1 (digitUnits k m ++ rest)) (sym (div-eq-of-lt {n = m} {m = 10 ^ k} wide))
+    ∙ integer-digits m k rest
+    ∙ pointed-read m (withoutEndZeros us) in
+    rw integers (end-zeros us m 1 n (rw (decimal-digits n 15 1) (omega arith)))

@@ -1,6 +1,6 @@
 -- What is promised of the units that a number is shown as holds.
 -- Assumes nothing.
-use mathlib.Core.Path.{_≡_, refl, sym, ap, _∙_, subst}
+use mathlib.Core.Path.{_≡_, refl, sym, ap, subst}
 use Prim.Native.Nat.{ℕ, _+_, _*_, _^_, _≤_, _<_}
 use native.Mathlib.Omega.{arith}
 use mathlib.Core.Bool.{Bool, true, false, cond, not, _&&_, or-true, true≢false}
@@ -30,7 +30,7 @@ use Rattle.formats.specs.Minus.{Sign, minus, notNegative, noItem, forNeg
 use Rattle.formats.specs.Text.{placeUnits, pointUnits, itemUnits, digitAfter, sectionUnits}
 use Rattle.formats.specs.Accept.{sectionsIn, Accepted, sections, refusal, accept}
 use Rattle.formats.specs.Reading.{Reading, refused, shown, within, takesNumber, showsGeneral, sectionRounded, standingRounded, numberContext, showsNought, numberSign, numberUnits, readNumber, readValue, reading, readAccepted, codeReading}
-use Rattle.formats.specs.Figures.{unitsRead, FiguresOf, GeneralFigures, PieceOf, ofLiteral, ofBlank, ofFill, ofPercent, ofPlace, ofPoint, ofGeneral, ofAt, PiecesOf, none, more, figurePieces, NumberShown}
+use Rattle.formats.specs.Figures.{unitsRead, Counts, FiguresOf, GeneralFigures, PieceOf, ofLiteral, ofBlank, ofFill, ofPercent, ofPlace, ofPoint, ofGeneral, ofAt, PiecesOf, empty, more, figurePieces, NumberShown}
 use Rattle.formats.proofs.FigureUnits.{place-plain, beyond-plain}
 use Rattle.formats.proofs.FigureItems.{itemPieces, pieces-joined, figures-read}
 use Rattle.formats.proofs.GeneralFigures.{general-read}
@@ -55,13 +55,7 @@ unfolding wellFormed sectionFormed sectionWithin itemsFit kindOf
 rules ss x i s why formed e =
     let all : T (every sectionFormed ss) = search (and-left, and-right) in
     let one : T (sectionFormed s) = chosen-passes sectionFormed ss x i s why all e in
-    record {
-      allowed = search (and-left, and-right) depth 16;
-      onePoint = search (and-left, and-right, leb→le) depth 16;
-      integers = search (and-left, and-right, leb→le) depth 16;
-      decimals = search (and-left, and-right, leb→le) depth 16;
-      percents = search (and-left, and-right, leb→le) depth 16;
-    }
+    search (and-left, and-right, leb→le) depth 16
 
 -- a sign is one minus or nothing
 isMinus : Sign → Bool
@@ -84,9 +78,9 @@ nought-unsigned x s a =
 
 -- units that are read as the rounded number are its figures
 figures-of : (m : Magnitude) (d : ℕ) (added : Bool) (us : List ℕ) → 0 < m .below → d ≤ 15
-    → unitsRead us ≡ rounded m d → (rounded m d ≡ 0 → added ≡ false) → FiguresOf m d added us
+    → Counts (unitsRead us) (rounded m d) → (rounded m d ≡ 0 → added ≡ false) → FiguresOf m d added us
 figures-of m d added us pos most e unsigned =
-    record { read = e; near = rw e (half-unit m d pos most); noMinusAtNought = λ z. unsigned (sym e ∙ z) }
+    record { number = rounded m d; read = e; rounds = refl; near = half-unit m d pos most; noMinusAtNought = unsigned }
 
 -- General's rounded number has forty digits
 standing-fits : (x : Number) → T (numberInRange x) → standingRounded x < 10 ^ 40
@@ -169,7 +163,7 @@ module _ (ss : List Section) (i : ℕ) (s : Section) (why : Reason) (x : Number)
 
   each-piece : (q : ℕ) (is : List Item) → T (every (itemAllowed (kindOf s)) is) → PiecesOf x added is (itemPieces (numberContext s x) q is)
   unfolding itemPieces
-  each-piece q [] t = none
+  each-piece q [] t = empty
   each-piece q (j ∷ is) t =
       more j (itemUnits (numberContext s x) q j) is (itemPieces (numberContext s x) (digitAfter q j) is)
       (piece q j (every-head (itemAllowed (kindOf s)) j is t)) (each-piece (digitAfter q j) is (every-tail (itemAllowed (kindOf s)) j is t))

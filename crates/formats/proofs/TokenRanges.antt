@@ -281,10 +281,6 @@ split-passes g f h (t ∷ ts) a =
     (λ e. every-cons (every f) [] (split ts) tt r)
     (λ e. joined-passes f t (split ts) (h t e (every-head g t ts a)) r)
 
-pub sections-in-range : (code : List ℕ) → T (every isUnit code) → T (every (every tokenInRange) (split (tokensOf (placedOf (lex code)))))
-sections-in-range code t =
-    split-passes tokenInRange tokenInRange (λ x e h. h) (tokensOf (placedOf (lex code))) (tokens-in-range code t)
-
 -- the parts of a section
 unfoldable pub conditionDigits : Option Written → Bool
 conditionDigits none = true

@@ -1,8 +1,8 @@
 -- "A number's decimal figures": how units of a text are read back as a number, and what is promised of the units that a number is shown as.
 -- Assumes nothing.
 use mathlib.Core.Path.{_≡_}
-use Prim.Native.Nat.{ℕ, zero, suc, _+_, _*_, _^_}
-use mathlib.Core.Bool.{Bool, false, cond, _||_}
+use Prim.Native.Nat.{ℕ, _+_, _*_, _^_}
+use mathlib.Core.Bool.{Bool, false, cond, _&&_, _||_}
 use mathlib.Core.List.{List, [], _∷_, _++_, flatten}
 use lib.Dec.{T, eqb}
 use lib.IntN.{natAbs}
@@ -16,33 +16,29 @@ use Rattle.formats.specs.Items.{Item, literal, blank, fill, place, point
 use Rattle.formats.specs.Choice.{Reason, numberExact, chosen, choose}
 use Rattle.formats.specs.Reading.{standingRounded}
 
--- Units read as a decimal number, a count of 10^-15. A unit that is no digit, as a comma or a space, is set aside.
--- The decimals are added to v: where k + 1 decimals are left, the next is worth 10^k; none is left behind that of 10^-15.
-unfoldable pub decimalsRead : ℕ → ℕ → List ℕ → ℕ
-decimalsRead v k [] = v
-decimalsRead v zero (u ∷ us) = v
-decimalsRead v (suc k) (u ∷ us) =
-    let digit = decimalsRead (v + digitOf u * 10 ^ k) k us in
-    let other = decimalsRead v (suc k) us in
-    cond (isDigit u) digit other
-
--- the integer digits go in behind those of v, up to the point; fifteen decimals follow it
-unfoldable pub integerRead : ℕ → List ℕ → ℕ
-integerRead v [] = v * 10 ^ 15
-integerRead v (u ∷ us) =
-    let r = integerRead (cond (isDigit u) (v * 10 + digitOf u) v) us in
-    cond (eqb u 46) (decimalsRead (v * 10 ^ 15) 15 us) r
+-- Units read as a decimal number, the fraction v / w. A digit goes in behind those of v, and behind the point it makes the fraction ten
+-- times finer. Any other unit, as a comma or a space, is set aside.
+unfoldable pub readFrom : Bool → ℕ → ℕ → List ℕ → Magnitude
+readFrom behind v w [] = record { above = v; below = w }
+readFrom behind v w (u ∷ us) =
+    readFrom (behind || eqb u 46) (cond (isDigit u) (v * 10 + digitOf u) v) (cond (isDigit u && behind) (w * 10) w) us
 
 -- units from their start
-unfoldable pub unitsRead : List ℕ → ℕ
-unitsRead us = integerRead 0 us
+unfoldable pub unitsRead : List ℕ → Magnitude
+unitsRead us = readFrom false 0 1 us
 
--- The units us are figures of the exact number m to d decimals: read, they are m rounded to d decimals, and so within half a unit of
--- the last decimal place of m, halves away from zero. Figures that are nought have no added minus.
+-- the fraction m is n / 10^15
+abbrev pub Counts : Magnitude → ℕ → Type 0
+Counts m n = m .above * 10 ^ 15 ≡ n * m .below
+
+-- The units us are figures of the exact number m to d decimals: they are read as m rounded to d decimals, a count of 10^-15, which is
+-- within half a unit of the last decimal place of m, halves away from zero. Figures that are nought have no added minus.
 pub record FiguresOf (m : Magnitude) (d : ℕ) (minus : Bool) (us : List ℕ) : Type 0 where
-  pub read : unitsRead us ≡ rounded m d
-  pub near : Near m d (unitsRead us)
-  pub noMinusAtNought : unitsRead us ≡ 0 → minus ≡ false
+  pub number : ℕ
+  pub read : Counts (unitsRead us) number
+  pub rounds : number ≡ rounded m d
+  pub near : Near m d number
+  pub noMinusAtNought : number ≡ 0 → minus ≡ false
 
 -- General's figures of a number
 pub record GeneralFigures (x : Number) (minus : Bool) (us : List ℕ) : Type 0 where
@@ -67,7 +63,7 @@ pub data PieceOf (x : Number) (minus : Bool) : Item → List ℕ → Type 0 wher
 
 -- one piece an item, in order
 pub data PiecesOf (x : Number) (minus : Bool) : List Item → List (List ℕ) → Type 0 where
-  none : PiecesOf x minus [] []
+  empty : PiecesOf x minus [] []
   more : (i : Item) (us : List ℕ) (is : List Item) (pieces : List (List ℕ))
       → PieceOf x minus i us → PiecesOf x minus is pieces → PiecesOf x minus (i ∷ is) (us ∷ pieces)
 
