@@ -1,21 +1,34 @@
--- "Cases to settle by hand" and "Easy slips": for each one list, and a single statement over its rows.
+-- "Cases to settle by hand", what is easily got wrong, refusals with their places, and parts of codes: for each one list, and a
+-- single statement over its rows.
 -- Assumes nothing.
 use Prim.Native.Nat.{ℕ}
 use Prim.Native.String.{String}
-use mathlib.Core.List.{List, [], _∷_}
+use mathlib.Core.List.{List, [], _∷_, map}
 use mathlib.Core.Path.{_≡_, refl}
 use lib.IntN.{ℤ, pos, negsuc}
+use lib.ListN.{length, replicate}
+use Rattle.answers.specs.declared.Answer.{Answer}
 use Rattle.answers.specs.declared.Answer.the-variants as answer
 use Rattle.values.specs.declared.Ask.{Ask}
 use Rattle.values.specs.declared.Value.the-variants as value
 use Rattle.lists.specs.Lists.{All}
 use Rattle.calendar.specs.Names.{units}
+use Rattle.formats.specs.Accept as accept
+use Rattle.formats.specs.Accept.{Verdict, fine, verdict, Span, sectionSpan, sectionPart}
 use Rattle.formats.specs.Reading.{Reading, refused, shown, codeReading}
 use Rattle.formats.proofs.Evaluate.{evaluated}
 
+-- rows whose computed lists are one list are right, each of them
+pub all-equal : {A B : Type 0} (f g : A → B) (xs : List A) → map f xs ≡ map g xs → All (λ (x : A). f x ≡ g x) xs
+all-equal f g [] e = tt
+all-equal f g (x ∷ xs) e = (cc, all-equal f g xs (cc))
+
+-- a code, what is asked of it with the text and the room that are lent, and its reading
 pub record Case : Type 0 where
   pub code : String
   pub ask : Ask
+  pub text : List ℕ
+  pub room : ℕ
   pub answer : Reading
 
 abbrev pub number : ℤ → ℕ → Ask
@@ -24,9 +37,35 @@ number c scale = record { value = value.Number (record { coefficient = c; scale 
 abbrev pub instant : ℕ → ℕ → Ask
 instant day ms = record { value = value.Instant (record { 0 = day }) (record { 0 = ms }) }
 
+abbrev pub aText : Ask
+aText = record { value = value.Text }
+
+-- without a text, in a room of 4,096 units
+abbrev pub gives : String → Ask → Reading → Case
+gives code ask answer = record { code = code; ask = ask; text = []; room = 4096; answer = answer }
+
 abbrev pub shows : String → Ask → String → ℕ → Case
 unfolding units
-shows code ask text section = record { code = code; ask = ask; answer = shown (units text) 0 section }
+shows code ask text section = gives code ask (shown (units text) 0 section)
+
+abbrev pub colours : String → Ask → String → ℕ → ℕ → Case
+unfolding units
+colours code ask text colour section = gives code ask (shown (units text) colour section)
+
+abbrev pub denies : String → Ask → Answer → Case
+denies code ask a = gives code ask (refused a)
+
+-- a text, and what is shown of it
+abbrev pub ofText : String → String → String → ℕ → ℕ → Case
+unfolding units
+ofText code text result colour section =
+    record { code = code; ask = aText; text = units text; room = 4096; answer = shown (units result) colour section }
+
+abbrev pub read : Case → Reading
+read c = codeReading (units (c .code)) (c .ask) (c .text) (c .room)
+
+abbrev pub Right : Case → Type 0
+Right c = read c ≡ c .answer
 
 unfoldable pub cases : List Case
 unfolding units shows
@@ -40,35 +79,149 @@ cases =
     ∷ shows "0.0" (number (negsuc 4) 2) "-0.1" 0
     ∷ shows "[>100]0;0" (number (negsuc 4) 0) "-5" 1
     ∷ shows "#,##0;(#,##0)" (number (negsuc 2) 0) "(3)" 1
-    ∷ record { code = "[>=10]0;[<0]0"; ask = number (pos 5) 0; answer = refused answer.NoSection }
+    ∷ denies "[>=10]0;[<0]0" (number (pos 5) 0) answer.NoSection
     ∷ shows "h.mm AM/PM" (instant 0 53760000) "2.56 PM" 0
     ∷ shows "d-mmm-yy" (instant 28086 0) "22-Nov-76" 0
     ∷ []
 
--- a code shows its value as its case says, in a room of 4,096 units
-abbrev pub Right : Case → Type 0
-Right c = codeReading (units (c .code)) (c .ask) [] 4096 ≡ c .answer
-
 pub cases-right : All Right cases
 unfolding cases evaluated
-cases-right = (refl, (refl, (refl, (refl, (refl, (refl, (refl, (refl, (refl, (refl, (refl, (refl, tt))))))))))))
+cases-right = all-equal read (λ (c : Case). c .answer) cases refl
 
--- "Splitting at a semicolon inside quotes. Dropping the minus in `[>100]0;0` for -5" (above). A section's own condition keeps the
--- minus. A bound belongs to `>=`. A text that is longer than the room is refused whole; here the room is short.
+-- in the order of document 01
 unfoldable pub slips : List Case
-unfolding units shows
+unfolding units shows colours ofText
 slips =
-    shows "\"a;b\"0" (number (pos 1) 0) "a;b1" 0
-    ∷ shows "0;[<0](0)" (number (negsuc 4) 0) "-(5)" 1
-    ∷ shows "\"The End\"" (number (negsuc 12344) 2) "-The End" 0
-    ∷ shows "h;h;\"zero\"" (instant 0 0) "zero" 2
+    -- out of range: a scale of 16, a day that is no more, where General would refuse it by 11, a text of 1,025 units
+    denies "0" (number (pos 1) 16) answer.Range
+    ∷ denies "General" (instant 2958466 0) answer.Range
+    ∷ record { code = "@"; ask = aText; text = replicate 1025 97; room = 4096; answer = refused answer.Range }
+    -- a semicolon in quotes; an elapsed run of nine letters
+    ∷ shows "\"a;b\"0" (number (pos 1) 0) "a;b1" 0
+    ∷ shows "[sssssssss]" (instant 0 5999) "000000005" 0
+    -- a colour by its number and by its name, of a number, an instant and a text
+    ∷ colours "[Red]0;[Color56]0" (number (negsuc 4) 0) "5" 56 1
+    ∷ colours "[Green]h:mm" (instant 0 53760000) "14:56" 4 0
+    ∷ ofText "[Blue]\"<\"@\">\"" "ab" "<ab>" 5 0
+    -- each comparison at its bound
+    ∷ shows "[<5]\"a\";\"b\"" (number (pos 5) 0) "b" 1
+    ∷ shows "[<=5]\"a\";\"b\"" (number (pos 5) 0) "a" 0
+    ∷ shows "[>5]\"a\";\"b\"" (number (pos 5) 0) "b" 1
     ∷ shows "[>=10]\"a\";\"b\"" (number (pos 100) 1) "a" 0
-    ∷ record { code = "00000000000000000"; ask = number (pos 1) 0; answer = refused answer.TextRoom }
+    ∷ shows "[<>5]\"a\";\"b\"" (number (pos 5) 0) "b" 1
+    -- compared exactly: the last millionth, a part of it, and a millisecond to either side of noon
+    ∷ shows "[=0.000001]\"a\";\"b\"" (number (pos 1) 6) "a" 0
+    ∷ shows "[=0]\"a\";\"b\"" (number (pos 1) 7) "b" 1
+    ∷ shows "[=0.5]h;m" (instant 0 43199999) "1" 1
+    ∷ shows "[=0.5]h;m" (instant 0 43200000) "12" 0
+    ∷ shows "[=0.5]h;m" (instant 0 43200001) "1" 1
+    -- without conditions: three sections at 0; 10 comes before 11; N = 0 shows a number as General and refuses an instant
+    ∷ shows "h;h;\"zero\"" (instant 0 0) "zero" 2
+    ∷ denies "[>=10]h;[<0]h" (number (pos 5) 0) answer.NoSection
+    ∷ shows "\"x\"@\"y\"@" (number (negsuc 14) 1) "-x1.5y1.5" 0
+    ∷ denies "@" (instant 1 0) answer.Sort
+    -- a text: in the fourth section, where General stands for it; in a text section; by no section
+    ∷ ofText "0;0;0;\"x\"General" "ab" "xab" 0 3
+    ∷ ofText "0;0;0;" "ab" "" 0 3
+    ∷ ofText "0;\"t\"@" "ab" "tab" 0 1
+    ∷ ofText "[Red]General" "ab" "ab" 0 4
+    -- sorts that a section refuses
+    ∷ denies "0" (instant 1 0) answer.Sort
+    ∷ denies "General" (instant 1 0) answer.Sort
+    ∷ denies "h" (number (pos 1) 0) answer.Sort
+    -- the minus: of a literal section, by an own condition, held back by (a) where N = 3, by no item
+    ∷ shows "\"The End\"" (number (negsuc 12344) 2) "-The End" 0
+    ∷ shows "0;[<0](0)" (number (negsuc 4) 0) "-(5)" 1
+    ∷ shows "[>100]0;0;0" (number (negsuc 4) 0) "5" 1
+    ∷ colours "[Red]" (number (negsuc 4) 0) "" 3 0
+    -- General up to 10^11
+    ∷ shows "General" (number (pos 999999999994) 1) "99999999999" 0
+    ∷ denies "General" (number (pos 999999999995) 1) answer.General
+    -- noon; a part of a second; a month behind seconds; elapsed hours; minutes behind them
+    ∷ shows "h:mm AM/PM" (instant 0 43200000) "12:00 PM" 0
+    ∷ shows "s.00" (instant 0 1239) "1.23" 0
+    ∷ shows "s m" (instant 60 307000) "7 2" 0
+    ∷ shows "[h]:mm" (instant 1 3660000) "25:01" 0
+    -- a text that is longer than the room is refused whole
+    ∷ record { code = "00000000000000000"; ask = number (pos 1) 0; text = []; room = 16; answer = refused answer.TextRoom }
     ∷ []
 
-abbrev pub RightInShortRoom : Case → Type 0
-RightInShortRoom c = codeReading (units (c .code)) (c .ask) [] 16 ≡ c .answer
-
-pub slips-right : All RightInShortRoom slips
+pub slips-right : All Right slips
 unfolding slips evaluated
-slips-right = (refl, (refl, (refl, (refl, (refl, (refl, tt))))))
+slips-right = all-equal read (λ (c : Case). c .answer) slips refl
+
+-- a code, and what the tests 1 to 6 say of it
+pub record Judged : Type 0 where
+  pub code : List ℕ
+  pub says : Verdict
+
+abbrev pub refuses : String → Answer → ℕ → Judged
+unfolding units
+refuses code a place = record { code = units code; says = accept.refused a place }
+
+-- each of the tests is made over the whole code before the next, and names the first that offends
+unfoldable pub judgements : List Judged
+unfolding units refuses
+judgements =
+    -- 1: no unit, 255 units; 254 are not too many
+    refuses "" answer.CodeLength 0
+    ∷ record { code = replicate 255 32; says = accept.refused answer.CodeLength 0 }
+    ∷ record { code = replicate 254 32; says = fine }
+    -- 2: before 3; the unit that starts the broken token; the first of two
+    ∷ refuses ";;;;x" answer.Token 4
+    ∷ refuses "0\"abc" answer.Token 1
+    ∷ refuses "0yyy;x" answer.Token 1
+    -- 3: before 4; a semicolon in quotes is none; a fifth semicolon
+    ∷ refuses ".;;;;" answer.SectionCount 4
+    ∷ refuses "0;\";\";0;0;0;0" answer.SectionCount 9
+    -- 4: before 5; the first of two
+    ∷ refuses "0;@;." answer.Kind 2
+    ∷ refuses "0;.;." answer.Kind 1
+    -- 5: before 6; the first of two
+    ∷ refuses "[>1234567890]0" answer.Standing 0
+    ∷ refuses "0;@;@;0" answer.Standing 1
+    -- 6: the first of two, in a later section; one more than each limit, and all limits reached
+    ∷ refuses "0;[>1234567890]0;000000000000000000000" answer.Limit 1
+    ∷ refuses "000000000000000000000" answer.Limit 0
+    ∷ refuses ".0000000000000000" answer.Limit 0
+    ∷ refuses "0%%%%%%" answer.Limit 0
+    ∷ refuses "0,,,,,," answer.Limit 0
+    ∷ refuses "[>1.0000000]General" answer.Limit 0
+    ∷ refuses "[hhhhhhhhhh]" answer.Limit 0
+    ∷ record { code = units "[>123456789.123456]00000000000000000000.000000000000000%%%%%,,,,,;[hhhhhhhhh]"; says = fine }
+    ∷ []
+
+pub judgements-right : All (λ (j : Judged). verdict (j .code) ≡ j .says) judgements
+unfolding judgements evaluated
+judgements-right = all-equal (λ (j : Judged). verdict (j .code)) (λ (j : Judged). j .says) judgements refl
+
+-- a section of a code: where it starts, and its units
+pub record Part : Type 0 where
+  pub code : String
+  pub section : ℕ
+  pub start : ℕ
+  pub units : String
+
+abbrev pub part : String → ℕ → ℕ → String → Part
+part code section start us = record { code = code; section = section; start = start; units = us }
+
+-- without its semicolons, one in quotes being none; an empty section; a missing one; a section of a refused code
+unfoldable pub parts : List Part
+parts =
+    part "0;\"a;b\";d" 0 0 "0"
+    ∷ part "0;\"a;b\";d" 1 2 "\"a;b\""
+    ∷ part "0;\"a;b\";d" 2 8 "d"
+    ∷ part "0;;0" 1 2 ""
+    ∷ part "0;;0" 3 0 ""
+    ∷ part "0;@;0" 2 0 ""
+    ∷ []
+
+-- the span of a section, and the units that stand there
+abbrev pub Cut : Part → Type 0
+Cut p =
+    (sectionSpan (p .section) (units (p .code)) ≡ record { start = p .start; size = length (units (p .units)) })
+    × (sectionPart (p .section) (units (p .code)) ≡ units (p .units))
+
+pub parts-right : All Cut parts
+unfolding parts evaluated
+parts-right = ((refl, refl), ((refl, refl), ((refl, refl), ((refl, refl), ((refl, refl), ((refl, refl), tt))))))

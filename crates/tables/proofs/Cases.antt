@@ -1,24 +1,25 @@
 -- "Cases to settle by hand", through the tables made from their codes; some codes with the words of their tables;
 -- and tables that no code makes.
 -- Assumes nothing.
-use Prim.Native.Nat.{ℕ}
+use Prim.Native.Nat.{ℕ, zero, suc, pred}
 use Prim.Native.String.{String}
-use mathlib.Core.Bool.{Bool, true, false}
+use mathlib.Core.Bool.{true, false}
 use mathlib.Core.List.{List, [], _∷_}
 use mathlib.Core.Path.{_≡_, refl}
-use Rattle.lists.specs.Lists.{All}
+use Rattle.lists.specs.Lists.{All, every, any}
 use Rattle.calendar.specs.Names.{units}
-use Rattle.formats.proofs.Cases.{Case, cases}
+use Rattle.formats.specs.Reading.{Reading}
+use Rattle.formats.proofs.Cases.{all-equal, Case, cases}
 use Rattle.tables.specs.Rules.{passes}
 use Rattle.tables.specs.Calls.{tableOf, tableReading}
 use Rattle.tables.proofs.Evaluate.{evaluatedTable}
 
-abbrev pub RightThroughTable : Case → Type 0
-RightThroughTable c = tableReading (tableOf (units (c .code))) (c .ask) [] 4096 ≡ c .answer
+abbrev pub readThroughTable : Case → Reading
+readThroughTable c = tableReading (tableOf (units (c .code))) (c .ask) (c .text) (c .room)
 
-pub cases-through-table : All RightThroughTable cases
+pub cases-through-table : All (λ (c : Case). readThroughTable c ≡ c .answer) cases
 unfolding cases evaluatedTable
-cases-through-table = (refl, (refl, (refl, (refl, (refl, (refl, (refl, (refl, (refl, (refl, (refl, (refl, tt))))))))))))
+cases-through-table = all-equal readThroughTable (λ (c : Case). c .answer) cases refl
 
 pub record Made : Type 0 where
   pub code : String
@@ -43,49 +44,109 @@ made =
     ∷ makes "*a0*b" (1 ∷ 2 ∷ 0 ∷ 0 ∷ 0 ∷ 0 ∷ 0 ∷ 0 ∷ 0 ∷ 15 ∷ 0 ∷ 0 ∷ 2 ∷ 4 ∷ 16 ∷ 3 ∷ 98 ∷ [])
     ∷ []
 
-abbrev pub RightWords : Made → Type 0
-RightWords m = tableOf (units (m .code)) ≡ m .words
+abbrev pub wordsMade : Made → List ℕ
+wordsMade m = tableOf (units (m .code))
 
-pub made-right : All RightWords made
+pub made-right : All (λ (m : Made). wordsMade m ≡ m .words) made
 unfolding made evaluatedTable
-made-right = (refl, (refl, (refl, (refl, (refl, (refl, (refl, (refl, (refl, (refl, tt))))))))))
+made-right = all-equal wordsMade (λ (m : Made). m .words) made refl
 
--- tables that break a rule: grouping with one integer place; a decimal place before the point; a kind that its items do not give; a half-day mark without a date; a shift of no dividing commas; a shift that multiplies; a whole part of ten digits; a minus zero; a number without an operator; a part of a second behind a fill; a month behind hours; a word behind the end; colour 57; two fills; a power
--- that does not fit its place; a shift of a third of a comma
+-- the twelve words of a section without colour and condition, in front of what follows
+abbrev pub plain : ℕ → ℕ → ℕ → ℕ → ℕ → List ℕ → List ℕ
+plain kind shift flags decimals items ws = kind ∷ 0 ∷ 0 ∷ 0 ∷ 0 ∷ 0 ∷ 0 ∷ 0 ∷ shift ∷ flags ∷ decimals ∷ items ∷ ws
+
+-- n items of the same two words
+unfoldable pub copies : ℕ → ℕ → ℕ → List ℕ → List ℕ
+copies zero tag argument ws = ws
+copies (suc n) tag argument ws = tag ∷ argument ∷ copies n tag argument ws
+
+-- n places `0`, their words running down by one from p
+unfoldable pub placesDown : ℕ → ℕ → List ℕ → List ℕ
+placesDown zero p ws = ws
+placesDown (suc n) p ws = 4 ∷ p ∷ placesDown n (pred p) ws
+
+-- in the order of the table rules' sentence
 unfoldable pub brokenTables : List (List ℕ)
+unfolding copies placesDown
 brokenTables =
-    (1 ∷ 2 ∷ 0 ∷ 0 ∷ 0 ∷ 0 ∷ 0 ∷ 0 ∷ 0 ∷ 15 ∷ 1 ∷ 1 ∷ 3 ∷ 4 ∷ 16 ∷ 7 ∷ 0 ∷ 4 ∷ 15 ∷ [])
-    ∷ (1 ∷ 2 ∷ 0 ∷ 0 ∷ 0 ∷ 0 ∷ 0 ∷ 0 ∷ 0 ∷ 15 ∷ 0 ∷ 1 ∷ 3 ∷ 4 ∷ 16 ∷ 4 ∷ 15 ∷ 7 ∷ 0 ∷ [])
-    ∷ (1 ∷ 2 ∷ 0 ∷ 0 ∷ 0 ∷ 0 ∷ 0 ∷ 0 ∷ 0 ∷ 15 ∷ 0 ∷ 0 ∷ 0 ∷ [])
-    ∷ (1 ∷ 4 ∷ 0 ∷ 0 ∷ 0 ∷ 0 ∷ 0 ∷ 0 ∷ 0 ∷ 0 ∷ 4 ∷ 0 ∷ 1 ∷ 21 ∷ 1 ∷ [])
-    ∷ (1 ∷ 2 ∷ 0 ∷ 0 ∷ 0 ∷ 0 ∷ 0 ∷ 0 ∷ 0 ∷ 16 ∷ 0 ∷ 0 ∷ 1 ∷ 4 ∷ 16 ∷ [])
-    ∷ (1 ∷ 2 ∷ 0 ∷ 0 ∷ 0 ∷ 0 ∷ 0 ∷ 0 ∷ 0 ∷ 18 ∷ 0 ∷ 0 ∷ 1 ∷ 4 ∷ 16 ∷ [])
+    -- no section; five sections; a word behind the end; a word missing; 255 items
+    (0 ∷ [])
+    ∷ (5 ∷ plain 0 0 0 0 0 (plain 0 0 2 0 0 (plain 0 0 0 0 0 (plain 0 0 0 0 0 (plain 0 0 0 0 0 [])))))
+    ∷ (1 ∷ plain 0 0 0 0 0 (0 ∷ []))
+    ∷ (1 ∷ plain 1 0 0 0 1 (9 ∷ []))
+    ∷ (2 ∷ plain 0 0 0 0 127 (plain 0 0 2 0 128 (copies 255 1 65 [])))
+    -- words out of range: colour 57; operator 7; a whole part of ten digits; flags of 8
+    ∷ (1 ∷ 0 ∷ 57 ∷ 0 ∷ 0 ∷ 0 ∷ 0 ∷ 0 ∷ 0 ∷ 0 ∷ 0 ∷ 0 ∷ 0 ∷ [])
+    ∷ (1 ∷ 1 ∷ 0 ∷ 7 ∷ 0 ∷ 5 ∷ 0 ∷ 0 ∷ 0 ∷ 0 ∷ 0 ∷ 0 ∷ 1 ∷ 9 ∷ 0 ∷ [])
     ∷ (1 ∷ 1 ∷ 0 ∷ 1 ∷ 0 ∷ 51712 ∷ 15258 ∷ 0 ∷ 0 ∷ 0 ∷ 0 ∷ 0 ∷ 1 ∷ 9 ∷ 0 ∷ [])
+    ∷ (1 ∷ plain 2 15 8 0 1 (4 ∷ 16 ∷ []))
+    -- a minus zero; a number without an operator
     ∷ (1 ∷ 1 ∷ 0 ∷ 1 ∷ 1 ∷ 0 ∷ 0 ∷ 0 ∷ 0 ∷ 0 ∷ 0 ∷ 0 ∷ 1 ∷ 9 ∷ 0 ∷ [])
     ∷ (1 ∷ 1 ∷ 0 ∷ 0 ∷ 0 ∷ 5 ∷ 0 ∷ 0 ∷ 0 ∷ 0 ∷ 0 ∷ 0 ∷ 1 ∷ 9 ∷ 0 ∷ [])
-    ∷ (1 ∷ 4 ∷ 0 ∷ 0 ∷ 0 ∷ 0 ∷ 0 ∷ 0 ∷ 0 ∷ 0 ∷ 0 ∷ 0 ∷ 3 ∷ 16 ∷ 1 ∷ 3 ∷ 65 ∷ 17 ∷ 1 ∷ [])
-    ∷ (1 ∷ 4 ∷ 0 ∷ 0 ∷ 0 ∷ 0 ∷ 0 ∷ 0 ∷ 0 ∷ 0 ∷ 0 ∷ 0 ∷ 2 ∷ 14 ∷ 1 ∷ 12 ∷ 1 ∷ [])
-    ∷ (1 ∷ 0 ∷ 0 ∷ 0 ∷ 0 ∷ 0 ∷ 0 ∷ 0 ∷ 0 ∷ 0 ∷ 0 ∷ 0 ∷ 0 ∷ 0 ∷ [])
-    ∷ (1 ∷ 0 ∷ 57 ∷ 0 ∷ 0 ∷ 0 ∷ 0 ∷ 0 ∷ 0 ∷ 0 ∷ 0 ∷ 0 ∷ 0 ∷ [])
-    ∷ (1 ∷ 0 ∷ 0 ∷ 0 ∷ 0 ∷ 0 ∷ 0 ∷ 0 ∷ 0 ∷ 0 ∷ 0 ∷ 0 ∷ 2 ∷ 3 ∷ 1 ∷ 3 ∷ 1 ∷ [])
-    ∷ (1 ∷ 2 ∷ 0 ∷ 0 ∷ 0 ∷ 0 ∷ 0 ∷ 0 ∷ 0 ∷ 15 ∷ 0 ∷ 0 ∷ 1 ∷ 4 ∷ 17 ∷ [])
-    ∷ (1 ∷ 2 ∷ 0 ∷ 0 ∷ 0 ∷ 0 ∷ 0 ∷ 0 ∷ 0 ∷ 14 ∷ 0 ∷ 0 ∷ 1 ∷ 4 ∷ 16 ∷ [])
+    -- items out of range: tags 0 and 22; runs of three y and of ten elapsed h; a part of four digits; a point with an argument
+    ∷ (1 ∷ plain 4 0 4 0 2 (13 ∷ 1 ∷ 0 ∷ 1 ∷ []))
+    ∷ (1 ∷ plain 4 0 4 0 2 (13 ∷ 1 ∷ 22 ∷ 1 ∷ []))
+    ∷ (1 ∷ plain 4 0 0 0 1 (11 ∷ 3 ∷ []))
+    ∷ (1 ∷ plain 4 0 0 0 1 (18 ∷ 10 ∷ []))
+    ∷ (1 ∷ plain 4 0 0 0 2 (16 ∷ 1 ∷ 17 ∷ 4 ∷ []))
+    ∷ (1 ∷ plain 2 15 0 0 2 (4 ∷ 16 ∷ 7 ∷ 1 ∷ []))
+    -- items and kinds: a kind that its items do not give; a half-day mark without a date; a part of a second behind a fill
+    ∷ (1 ∷ plain 2 15 0 0 0 [])
+    ∷ (1 ∷ plain 4 0 4 0 1 (21 ∷ 1 ∷ []))
+    ∷ (1 ∷ plain 4 0 0 0 3 (16 ∷ 1 ∷ 3 ∷ 65 ∷ 17 ∷ 1 ∷ []))
+    -- where: text that is not last; a single condition beside a place; a condition on a third section; a coloured fourth
+    ∷ (2 ∷ plain 3 0 0 0 1 (plain 2 15 0 0 1 (10 ∷ 0 ∷ 4 ∷ 16 ∷ [])))
+    ∷ (1 ∷ 2 ∷ 0 ∷ 1 ∷ 0 ∷ 5 ∷ 0 ∷ 0 ∷ 0 ∷ 15 ∷ 0 ∷ 0 ∷ 1 ∷ 4 ∷ 16 ∷ [])
+    ∷ (3 ∷ plain 0 0 0 0 0 (plain 0 0 2 0 0 (0 ∷ 0 ∷ 1 ∷ 0 ∷ 5 ∷ 0 ∷ 0 ∷ 0 ∷ 0 ∷ 0 ∷ 0 ∷ 0 ∷ [])))
+    ∷ (4 ∷ plain 0 0 0 0 0 (plain 0 0 2 0 0 (plain 0 0 0 0 0 (0 ∷ 3 ∷ 0 ∷ 0 ∷ 0 ∷ 0 ∷ 0 ∷ 0 ∷ 0 ∷ 0 ∷ 0 ∷ 0 ∷ []))))
+    -- limits: 21 integer places; 16 decimal places; six percents; six dividing commas
+    ∷ (1 ∷ plain 2 15 0 0 21 (placesDown 21 36 []))
+    ∷ (1 ∷ plain 2 15 0 16 17 (7 ∷ 0 ∷ placesDown 16 15 []))
+    ∷ (1 ∷ plain 2 24 0 0 7 (4 ∷ 16 ∷ copies 6 8 0 []))
+    ∷ (1 ∷ plain 2 1 0 0 3 (4 ∷ 16 ∷ 8 ∷ 0 ∷ 8 ∷ 0 ∷ []))
+    -- two fills
+    ∷ (1 ∷ plain 0 0 0 0 2 (3 ∷ 1 ∷ 3 ∷ 1 ∷ []))
+    -- powers: one that does not fit its place; a decimal place before the point
+    ∷ (1 ∷ plain 2 15 0 0 1 (4 ∷ 17 ∷ []))
+    ∷ (1 ∷ plain 2 15 0 1 3 (4 ∷ 16 ∷ 4 ∷ 15 ∷ 7 ∷ 0 ∷ []))
+    -- grouping with one integer place; a month behind hours
+    ∷ (1 ∷ plain 2 15 1 1 3 (4 ∷ 16 ∷ 7 ∷ 0 ∷ 4 ∷ 15 ∷ []))
+    ∷ (1 ∷ plain 4 0 0 0 2 (14 ∷ 1 ∷ 12 ∷ 1 ∷ []))
+    -- shifts: of no dividing commas; one that multiplies; of a third of a comma; of a literal section
+    ∷ (1 ∷ plain 2 16 0 0 1 (4 ∷ 16 ∷ []))
+    ∷ (1 ∷ plain 2 18 0 0 1 (4 ∷ 16 ∷ []))
+    ∷ (1 ∷ plain 2 14 0 0 1 (4 ∷ 16 ∷ []))
+    ∷ (1 ∷ plain 0 15 0 0 0 [])
+    -- flags: 2 where (a) does not hold, and not where it does; 4 without a half-day mark, and a mark without 4
+    ∷ (1 ∷ plain 2 15 2 0 1 (4 ∷ 16 ∷ []))
+    ∷ (2 ∷ plain 2 15 0 0 1 (plain 2 15 0 0 1 (4 ∷ 16 ∷ 4 ∷ 16 ∷ [])))
+    ∷ (1 ∷ plain 4 0 4 0 1 (13 ∷ 1 ∷ []))
+    ∷ (1 ∷ plain 4 0 0 0 2 (13 ∷ 1 ∷ 21 ∷ 1 ∷ []))
+    -- decimal places: none told where there is one; one told where there is none
+    ∷ (1 ∷ plain 2 15 0 0 2 (7 ∷ 0 ∷ 4 ∷ 15 ∷ []))
+    ∷ (1 ∷ plain 4 0 0 1 2 (16 ∷ 1 ∷ 17 ∷ 1 ∷ []))
     ∷ []
 
-pub broken-refused : All (λ (ws : List ℕ). passes ws ≡ false) brokenTables
+pub broken-refused : any passes brokenTables ≡ false
 unfolding brokenTables evaluatedTable
-broken-refused = (refl, (refl, (refl, (refl, (refl, (refl, (refl, (refl, (refl, (refl, (refl, (refl, (refl, (refl, (refl, (refl, tt))))))))))))))))
+broken-refused = refl
 
--- tables that pass: a point and decimals alone; a dividing shift of five; a percent and a comma; equal runs side by side; the greatest condition
+-- tables that pass: 254 items; all places and percents that may be; five dividing commas; the greatest condition; a point and decimals
+-- alone; a percent and a comma; equal runs side by side; an elapsed run of nine; an empty section
 unfoldable pub soundTables : List (List ℕ)
+unfolding copies placesDown
 soundTables =
-    (1 ∷ 2 ∷ 0 ∷ 0 ∷ 0 ∷ 0 ∷ 0 ∷ 0 ∷ 0 ∷ 15 ∷ 0 ∷ 1 ∷ 2 ∷ 7 ∷ 0 ∷ 4 ∷ 15 ∷ [])
-    ∷ (1 ∷ 2 ∷ 0 ∷ 0 ∷ 0 ∷ 0 ∷ 0 ∷ 0 ∷ 0 ∷ 0 ∷ 0 ∷ 0 ∷ 1 ∷ 4 ∷ 16 ∷ [])
-    ∷ (1 ∷ 2 ∷ 0 ∷ 0 ∷ 0 ∷ 0 ∷ 0 ∷ 0 ∷ 0 ∷ 14 ∷ 0 ∷ 0 ∷ 2 ∷ 4 ∷ 16 ∷ 8 ∷ 0 ∷ [])
-    ∷ (1 ∷ 4 ∷ 0 ∷ 0 ∷ 0 ∷ 0 ∷ 0 ∷ 0 ∷ 0 ∷ 0 ∷ 0 ∷ 0 ∷ 2 ∷ 11 ∷ 2 ∷ 11 ∷ 2 ∷ [])
-    ∷ (1 ∷ 1 ∷ 0 ∷ 1 ∷ 0 ∷ 51711 ∷ 15258 ∷ 0 ∷ 0 ∷ 0 ∷ 0 ∷ 0 ∷ 1 ∷ 9 ∷ 0 ∷ [])
+    (2 ∷ plain 0 0 0 0 127 (plain 0 0 2 0 127 (copies 254 1 65535 [])))
+    ∷ (1 ∷ plain 2 25 1 15 41 (placesDown 20 35 (7 ∷ 0 ∷ placesDown 15 15 (copies 5 8 0 []))))
+    ∷ (1 ∷ plain 2 0 0 0 1 (4 ∷ 16 ∷ []))
+    ∷ (1 ∷ 1 ∷ 0 ∷ 1 ∷ 0 ∷ 51711 ∷ 15258 ∷ 16959 ∷ 15 ∷ 0 ∷ 0 ∷ 0 ∷ 1 ∷ 9 ∷ 0 ∷ [])
+    ∷ (1 ∷ plain 2 15 0 1 2 (7 ∷ 0 ∷ 4 ∷ 15 ∷ []))
+    ∷ (1 ∷ plain 2 14 0 0 2 (4 ∷ 16 ∷ 8 ∷ 0 ∷ []))
+    ∷ (1 ∷ plain 4 0 0 0 2 (11 ∷ 2 ∷ 11 ∷ 2 ∷ []))
+    ∷ (1 ∷ plain 4 0 0 0 1 (18 ∷ 9 ∷ []))
+    ∷ (1 ∷ plain 0 0 0 0 0 [])
     ∷ []
 
-pub sound-pass : All (λ (ws : List ℕ). passes ws ≡ true) soundTables
+pub sound-pass : every passes soundTables ≡ true
 unfolding soundTables evaluatedTable
-sound-pass = (refl, (refl, (refl, (refl, (refl, tt)))))
+sound-pass = refl
