@@ -1,16 +1,14 @@
 -- The sections that a code is accepted as are well formed.
 -- Assumes nothing.
-use Prim.Native.Nat.{ℕ, zero, suc, _≤_}
+use Prim.Native.Nat.{ℕ, suc, _≤_}
 use native.Mathlib.Omega.{arith}
-use mathlib.Core.Path.{_≡_, refl, sym, _∙_, ap}
-use mathlib.Core.Bool.{Bool, true, false, not, _&&_}
+use mathlib.Core.Path.{_≡_, refl}
+use mathlib.Core.Bool.{Bool}
 use mathlib.Core.List.{List, [], _∷_, map}
 use mathlib.Core.Option.{Option, none, some}
 use lib.ListN.{length}
 use lib.Dec.{T, leb, le→leb}
-use Rattle.answers.specs.declared.Answer.{Answer}
 use Rattle.answers.specs.declared.Answer.the-variants as answer
-use Rattle.values.specs.Ranges.{between}
 use Rattle.lists.specs.Lists.{every, firstFailing, isSome}
 use Rattle.lists.proofs.Bools.{and-in, every-head, every-tail, every-cons, true-T, by-cases}
 use Rattle.formats.specs.Items.{Section}
@@ -18,12 +16,12 @@ use Rattle.formats.specs.Kinds.{Parts, sectionOf, fits}
 use Rattle.formats.specs.Where.{standsAt}
 use Rattle.formats.specs.Limits.{withinLimits}
 use Rattle.formats.specs.WellFormed.{isUnit, sectionFormed, itemsInAll, allStand, wellFormed}
-use Rattle.formats.specs.Accept.{partsIn, sectionsIn, semicolons, placedOf, Verdict, fine, refused, sectionVerdict, kindVerdict, whereVerdict, limitVerdict, verdict, Accepted, sections, refusal, acceptedBy, accept}
+use Rattle.formats.specs.Accept.{partsIn, sectionsIn, semicolons, placedOf, Verdict, fine, refused, kindVerdict, whereVerdict, limitVerdict, verdict, sections, acceptedBy, accept}
 use Rattle.formats.specs.Tokens.{lex}
 use Rattle.formats.proofs.TokenRanges.{partsInRange, parts-in-range}
 use Rattle.formats.proofs.ItemCount.{items-most, section-count}
 use Rattle.formats.proofs.Formed.{section-formed}
-use Rattle.formats.proofs.First.{AllFine, verdict-fine, length-bounds, count-few}
+use Rattle.formats.proofs.First.{AllFine, verdict-fine, length-bounds, fine-none, count-few}
 
 -- where no element fails, every element passes
 none-every : {A : Type 0} (f : A → Bool) (k : ℕ) (xs : List A) → firstFailing (λ (i : ℕ) (x : A). f x) k xs ≡ none → T (every f xs)
@@ -36,11 +34,6 @@ none-every f k (x ∷ xs) e =
   where
     some-none : (k : ℕ) → _≡_ {A = Option ℕ} (some k) none → _≡_ {A = ℕ} 0 1
     some-none k e = cc
-
-fine-none : (a : Answer) (o : Option ℕ) → sectionVerdict a o ≡ fine → o ≡ none
-unfolding sectionVerdict
-fine-none a none e = refl
-fine-none a (some k) e = let z : _≡_ {A = ℕ} 0 1 = cc in absurd (omega arith)
 
 -- every section of parts that are in range, fit and keep the limits is formed
 all-formed : (ps : List Parts) → T (every partsInRange ps) → T (every fits ps) → T (every withinLimits ps)

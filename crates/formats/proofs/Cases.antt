@@ -14,7 +14,7 @@ use Rattle.values.specs.declared.Value.the-variants as value
 use Rattle.lists.specs.Lists.{All}
 use Rattle.calendar.specs.Names.{units}
 use Rattle.formats.specs.Accept as accept
-use Rattle.formats.specs.Accept.{Verdict, fine, verdict, Span, sectionSpan, sectionPart}
+use Rattle.formats.specs.Accept.{Verdict, fine, verdict, sectionSpan, sectionPart}
 use Rattle.formats.specs.Reading.{Reading, refused, shown, codeReading}
 use Rattle.formats.proofs.Evaluate.{evaluated}
 

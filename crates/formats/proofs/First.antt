@@ -1,30 +1,32 @@
--- Each refusal names the first that offends: no earlier test refuses, no earlier unit or section offends, and the named one does.
+-- A code is refused by an answer at a place exactly when what that answer says holds there (Given.antt): no earlier test refuses, no
+-- earlier unit or section offends, and the named one does.
 -- Assumes nothing.
-use Prim.Native.Nat.{ℕ, zero, suc, _+_, _-_, _≤_, _<_}
+use Prim.Native.Nat.{ℕ, zero, suc, _+_, _≤_, _<_}
 use native.Mathlib.Omega.{arith}
+use native.Mathlib.Nat.{zero-add}
 use mathlib.Core.Path.{_≡_, refl, sym, ap, _∙_}
 use mathlib.Core.Bool.{Bool, true, _||_, true≢false}
-use mathlib.Core.Logic.{_⊎_, inl, inr}
+use mathlib.Core.Logic.{_⊎_, inl, inr, _↔_}
 use mathlib.Core.List.{List, [], _∷_}
 use mathlib.Core.Option.{Option, none, some}
-use lib.ListN.{length, drop, getD, length-drop}
+use lib.ListN.{length, drop, getD}
 use lib.Dec.{ltb, eqb}
-use borrow.Author.Tests.{ltb-true, ltb-false, eqb-true, eqb-false, eq-eqb}
+use borrow.Author.Tests.{ltb-true, ltb-false, eqb-true, eqb-false, lt-ltb, le-ltb, eq-eqb, ne-eqb}
 use Rattle.answers.specs.declared.Answer.{Answer}
 use Rattle.answers.specs.declared.Answer.the-variants as answer
 use Rattle.answers.specs.Number.{numberOf}
 use Rattle.lists.specs.Lists.{any, All, firstFailing}
 use Rattle.lists.proofs.Bools.{by-cases, cond-both, or-false}
-use Rattle.lists.proofs.First.{FirstFailing, first-failing, pass-all}
+use Rattle.lists.proofs.First.{first-exactly}
 use Rattle.formats.specs.Tokens as token
 use Rattle.formats.specs.Tokens.{Token, semicolon, broken, Placed, Lexed, good, bad, onto, lexFrom, lex}
 use Rattle.formats.specs.Starts.{StepIs, TokenStart, begin, next, ReadsAt, SemicolonAt}
-use Rattle.formats.specs.Items.{Section}
 use Rattle.formats.specs.Kinds.{Parts, fits, isSemicolon}
 use Rattle.formats.specs.Where.{standsAt}
 use Rattle.formats.specs.Limits.{withinLimits}
 use Rattle.formats.specs.Accept.{placedOf, semicolons, partsIn, sectionsIn, Verdict, fine, refused, orElse, lengthVerdict, tokenVerdict, countVerdict, sectionVerdict, kindVerdict, whereVerdict, limitVerdict, verdict}
-use Rattle.formats.proofs.Lexing.{LexesTo, ends, breaks, reads, lexes, lexes-at, lex-front, at-start, step-inside}
+use Rattle.formats.specs.Given.{tests, FineBelow, RefusedBy, WrongLength, FirstBroken, StandsIn, SemicolonPlaces, FourthSemicolon, FirstSection}
+use Rattle.formats.proofs.Lexing.{LexesTo, ends, breaks, reads, lexes, lexes-at, lex-front, lex-front-broken, at-start, step-inside}
 
 -- what cannot be
 not-refused : {P : Type 0} {a : Answer} {k : ℕ} → fine ≡ refused a k → P
@@ -34,21 +36,6 @@ not-bad : {P : Type 0} {ps : List Placed} {k : ℕ} → good ps ≡ bad k → P
 not-bad e = let z : _≡_ {A = ℕ} 0 1 = cc in absurd (omega arith)
 
 -- ---- the tests in their order
-
--- the tests of a code, each at the place of its answer's number
-abbrev pub tests : List ℕ → List Verdict
-tests code =
-    fine ∷ lengthVerdict code ∷ tokenVerdict (lex code) ∷ countVerdict (semicolons (placedOf (lex code)))
-    ∷ kindVerdict (partsIn code) ∷ whereVerdict (sectionsIn code) ∷ limitVerdict (partsIn code) ∷ []
-
--- no test before number n refuses the code
-abbrev pub FineBelow : List ℕ → ℕ → Type 0
-FineBelow code n = (i : ℕ) → i < n → getD (tests code) i fine ≡ fine
-
--- what the verdict refuses, the test of that answer refuses, and no earlier test refuses anything
-pub record RefusedBy (code : List ℕ) (a : Answer) (k : ℕ) : Type 0 where
-  pub refuses : getD (tests code) (numberOf a) fine ≡ refused a k
-  pub before : FineBelow code (numberOf a)
 
 -- a test that refuses by the answer of number n alone
 abbrev Says : ℕ → Verdict → Type 0
@@ -132,6 +119,19 @@ refused-by code a k e =
     let same : numberOf a ≡ r .index = omega arith in
     record { refuses = rw same (r .refuses); before = rw same (r .before) }
 
+of-first : (vs : List Verdict) (n : ℕ) (a : Answer) (k : ℕ) → getD vs n fine ≡ refused a k
+    → ((i : ℕ) → i < n → getD vs i fine ≡ fine) → firstOf vs ≡ refused a k
+unfolding firstOf orElse
+of-first [] n a k e b = not-refused e
+of-first (v ∷ vs) zero a k e b = rw e
+of-first (v ∷ vs) (suc n) a k e b = rw (b 0 (omega arith)) (of-first vs n a k e (λ i h. b (suc i) (omega arith)))
+
+by-refused : (code : List ℕ) (a : Answer) (k : ℕ) → RefusedBy code a k → verdict code ≡ refused a k
+by-refused code a k r = verdict-first code ∙ of-first (tests code) (numberOf a) a k (r .refuses) (r .before)
+
+pub refused-exactly : (code : List ℕ) (a : Answer) (k : ℕ) → (verdict code ≡ refused a k) ↔ RefusedBy code a k
+refused-exactly code a k = (refused-by code a k, by-refused code a k)
+
 -- every test finds nothing
 pub record AllFine (code : List ℕ) : Type 0 where
   pub length-fine : lengthVerdict code ≡ fine
@@ -183,16 +183,30 @@ length-bounds code e = by-cases (eqb (length code) 0 || ltb 254 (length code))
     let few = ltb-false 254 (length code) q in
     (omega arith, omega arith))
 
-pub length-refused : (code : List ℕ) (k : ℕ) → verdict code ≡ refused answer.CodeLength k
-    → (k ≡ 0) × ((length code ≡ 0) ⊎ (254 < length code))
+bounds-length : (code : List ℕ) → 1 ≤ length code → length code ≤ 254 → lengthVerdict code ≡ fine
 unfolding lengthVerdict
-length-refused code k e =
-    let r = (refused-by code answer.CodeLength k e) .refuses in
-    by-cases (eqb (length code) 0)
-    (λ t. let q : refused answer.CodeLength 0 ≡ refused answer.CodeLength k = rw t at r in (cc, inl (eqb-true (length code) 0 t)))
-    (λ t. by-cases (ltb 254 (length code))
-    (λ u. let q : refused answer.CodeLength 0 ≡ refused answer.CodeLength k = rw (t, u) at r in (cc, inr (ltb-true 254 (length code) u)))
-    (λ u. not-refused (rw (t, u) at r)))
+bounds-length code l m = rw (ne-eqb (length code) 0 (λ e. omega arith), le-ltb 254 (length code) m)
+
+pub length-exactly : (code : List ℕ) (k : ℕ) → (verdict code ≡ refused answer.CodeLength k) ↔ WrongLength code k
+unfolding lengthVerdict
+length-exactly code k = (λ e. wrong (refused-by code answer.CodeLength k e .refuses), λ w. by-refused code answer.CodeLength k (refusing w))
+  where
+    wrong : lengthVerdict code ≡ refused answer.CodeLength k → WrongLength code k
+    wrong r =
+        by-cases (eqb (length code) 0)
+        (λ t. let q : refused answer.CodeLength 0 ≡ refused answer.CodeLength k = rw t at r in
+        record { place = cc; wrong = inl (eqb-true (length code) 0 t) })
+        (λ t. by-cases (ltb 254 (length code))
+        (λ u. let q : refused answer.CodeLength 0 ≡ refused answer.CodeLength k = rw (t, u) at r in
+        record { place = cc; wrong = inr (ltb-true 254 (length code) u) })
+        (λ u. not-refused (rw (t, u) at r)))
+
+    test : (length code ≡ 0) ⊎ (254 < length code) → lengthVerdict code ≡ refused answer.CodeLength 0
+    test (inl e) = rw (eq-eqb (length code) 0 e)
+    test (inr l) = rw (ne-eqb (length code) 0 (λ e. omega arith), lt-ltb 254 (length code) l)
+
+    refusing : WrongLength code k → RefusedBy code answer.CodeLength k
+    refusing w = record { refuses = rw (w .place) (test (w .wrong)); before = λ i h. let z : i ≡ 0 = omega arith in rw z }
 
 -- ---- 2: the tokens
 
@@ -228,22 +242,6 @@ module _ (code : List ℕ) where
   reads-or-breaks j l k (breaks i s) b h = let same : k ≡ i = cc in absurd (omega arith)
   reads-or-breaks j l k (reads i t more m s r) b h = record { token = t; more = more; step = s }
 
-  reads-or-ends : (j : ℕ) (l : Lexed) → LexesTo code j l → tokenVerdict l ≡ fine → j < length code → ReadsAt code j
-  unfolding tokenVerdict
-  reads-or-ends j l (ends i e) b h = let n : 0 ≡ length code - i = rw e at (length-drop i code) in absurd (omega arith)
-  reads-or-ends j l (breaks i s) b h = not-refused (sym b)
-  reads-or-ends j l (reads i t more m s r) b h = record { token = t; more = more; step = s }
-
--- "a unit starts no token, or its token is broken": the token that starts at place k is, and every earlier one is read
-pub record FirstBroken (code : List ℕ) (k : ℕ) : Type 0 where
-  pub least : 1 ≤ length code
-  pub most : length code ≤ 254
-  pub starts : TokenStart code k
-  pub breaks-there : StepIs code k broken
-  pub inside : k < length code
-  pub earlier : (j : ℕ) → TokenStart code j → j < k → ReadsAt code j
-  pub last : (j : ℕ) → TokenStart code j → j ≤ k
-
 token-bad : (l : Lexed) (a : Answer) (k : ℕ) → tokenVerdict l ≡ refused a k → l ≡ bad k
 unfolding tokenVerdict
 token-bad (good ps) a k e = not-refused e
@@ -265,63 +263,76 @@ token-refused code k e =
       last = λ j h. (broken-from code j _ k (lexes-at code j) h (at-start code (λ (l : Lexed). l ≡ bad k) (onto-bad k) whole j h)) .later;
     }
 
--- where test 2 refuses nothing, every token is read
-pub tokens-read : (code : List ℕ) → tokenVerdict (lex code) ≡ fine → (j : ℕ) → TokenStart code j → j < length code → ReadsAt code j
-tokens-read code e j h =
-    reads-or-ends code j _ (lexes-at code j) (at-start code (λ (l : Lexed). tokenVerdict l ≡ fine) onto-fine e j h)
+-- a token's start from which lexing is bad makes the whole so
+bad-behind : (code : List ℕ) (k : ℕ) → StepIs code k broken → (j : ℕ) → TokenStart code j → lexFrom j 0 (drop j code) ≡ bad k → lex code ≡ bad k
+unfolding lex onto
+bad-behind code k s j begin e = e
+bad-behind code k s j (next i t more h r) e = bad-behind code k s i h (lex-front code i t more r ∙ rw e)
+
+pub token-exactly : (code : List ℕ) (k : ℕ) → (verdict code ≡ refused answer.Token k) ↔ FirstBroken code k
+unfolding tokenVerdict
+token-exactly code k = (token-refused code k, λ b. by-refused code answer.Token k (refusing b))
+  where
+    refusing : FirstBroken code k → RefusedBy code answer.Token k
+    refusing b =
+        record {
+          refuses = rw (bad-behind code k (b .breaks-there) k (b .starts) (lex-front-broken code k (b .breaks-there)));
+          before = earlier;
+        }
+      where
+        earlier : FineBelow code 2
+        earlier zero h = refl
+        earlier (suc zero) h = bounds-length code (b .least) (b .most)
+        earlier (suc (suc i)) h = absurd (omega arith)
 
 -- ---- 4, 5 and 6: the sections
 
--- no test before number n refuses the code, and section k is the first of xs that fails the test f
-pub record FirstSection {A : Type 0} (code : List ℕ) (n : ℕ) (f : ℕ → A → Bool) (xs : List A) (k : ℕ) : Type 0 where
-  pub before : FineBelow code n
-  pub first : (d : A) → FirstFailing f d 0 xs k
+pub fine-none : (a : Answer) (o : Option ℕ) → sectionVerdict a o ≡ fine → o ≡ none
+unfolding sectionVerdict
+fine-none a none e = refl
+fine-none a (some j) e = not-refused (sym e)
 
 section-some : (a b : Answer) (o : Option ℕ) (k : ℕ) → sectionVerdict a o ≡ refused b k → o ≡ some k
 unfolding sectionVerdict
 section-some a b none k e = not-refused e
 section-some a b (some j) k e = let same : j ≡ k = cc in ap some same
 
-section-none : (a : Answer) (o : Option ℕ) → sectionVerdict a o ≡ fine → o ≡ none
-unfolding sectionVerdict
-section-none a none e = refl
-section-none a (some j) e = not-refused (sym e)
+-- a test over sections refuses by the answer a at place k exactly when section k is the first that fails
+module _ {A : Type 0} (f : ℕ → A → Bool) (xs : List A) (a : Answer) (code : List ℕ) (k : ℕ) where
+  section-exactly : (getD (tests code) (numberOf a) fine ≡ sectionVerdict a (firstFailing f 0 xs))
+      → (verdict code ≡ refused a k) ↔ FirstSection code (numberOf a) f xs k
+  unfolding sectionVerdict
+  section-exactly is = (first, λ r. by-refused code a k (record { refuses = is ∙ rw (found r); before = r .before }))
+    where
+      first : verdict code ≡ refused a k → FirstSection code (numberOf a) f xs k
+      first e =
+          let r = refused-by code a k e in
+          let g = first-exactly f xs k .0 (section-some a a (firstFailing f 0 xs) k (sym is ∙ r .refuses)) in
+          record {
+            before = r .before;
+            within = g .within;
+            fails = λ d. rw (zero-add k) at (g .fails d);
+            earlier = λ d j h. rw (zero-add j) at (g .earlier d j h);
+          }
 
-module _ {A : Type 0} (f : ℕ → A → Bool) (xs : List A) (a : Answer) where
-  first-section : (code : List ℕ) (n k : ℕ) → FineBelow code n → sectionVerdict a (firstFailing f 0 xs) ≡ refused a k → FirstSection code n f xs k
-  first-section code n k b e = record { before = b; first = λ d. first-failing f d 0 xs k (section-some a a (firstFailing f 0 xs) k e) }
+      found : FirstSection code (numberOf a) f xs k → firstFailing f 0 xs ≡ some k
+      found r = first-exactly f xs k .1
+          (record { within = r .within; fails = λ d. rw (zero-add k) (r .fails d); earlier = λ d j h. rw (zero-add j) (r .earlier d j h) })
 
-  -- where the test refuses none, every section passes
-  sections-pass : sectionVerdict a (firstFailing f 0 xs) ≡ fine → (d : A) (j : ℕ) → j < length xs → f j (getD xs j d) ≡ true
-  sections-pass e d = pass-all f d xs (section-none a (firstFailing f 0 xs) e)
-
-pub kind-refused : (code : List ℕ) (k : ℕ) → verdict code ≡ refused answer.Kind k
-    → FirstSection code 4 (λ (i : ℕ) (p : Parts). fits p) (partsIn code) k
+pub kind-exactly : (code : List ℕ) (k : ℕ)
+    → (verdict code ≡ refused answer.Kind k) ↔ FirstSection code 4 (λ (i : ℕ) (p : Parts). fits p) (partsIn code) k
 unfolding kindVerdict
-kind-refused code k e = let r = refused-by code answer.Kind k e in first-section _ _ answer.Kind code 4 k (r .before) (r .refuses)
+kind-exactly code k = section-exactly _ _ answer.Kind code k refl
 
-pub standing-refused : (code : List ℕ) (k : ℕ) → verdict code ≡ refused answer.Standing k
-    → FirstSection code 5 (standsAt (length (sectionsIn code))) (sectionsIn code) k
+pub standing-exactly : (code : List ℕ) (k : ℕ)
+    → (verdict code ≡ refused answer.Standing k) ↔ FirstSection code 5 (standsAt (length (sectionsIn code))) (sectionsIn code) k
 unfolding whereVerdict
-standing-refused code k e = let r = refused-by code answer.Standing k e in first-section _ _ answer.Standing code 5 k (r .before) (r .refuses)
+standing-exactly code k = section-exactly _ _ answer.Standing code k refl
 
-pub limit-refused : (code : List ℕ) (k : ℕ) → verdict code ≡ refused answer.Limit k
-    → FirstSection code 6 (λ (i : ℕ) (p : Parts). withinLimits p) (partsIn code) k
+pub limit-exactly : (code : List ℕ) (k : ℕ)
+    → (verdict code ≡ refused answer.Limit k) ↔ FirstSection code 6 (λ (i : ℕ) (p : Parts). withinLimits p) (partsIn code) k
 unfolding limitVerdict
-limit-refused code k e = let r = refused-by code answer.Limit k e in first-section _ _ answer.Limit code 6 k (r .before) (r .refuses)
-
-pub kinds-pass : (ps : List Parts) → kindVerdict ps ≡ fine → (d : Parts) (j : ℕ) → j < length ps → fits (getD ps j d) ≡ true
-unfolding kindVerdict
-kinds-pass ps = sections-pass (λ (i : ℕ) (p : Parts). fits p) ps answer.Kind
-
-pub standing-pass : (ss : List Section) → whereVerdict ss ≡ fine → (d : Section) (j : ℕ) → j < length ss
-    → standsAt (length ss) j (getD ss j d) ≡ true
-unfolding whereVerdict
-standing-pass ss = sections-pass (standsAt (length ss)) ss answer.Standing
-
-pub limits-pass : (ps : List Parts) → limitVerdict ps ≡ fine → (d : Parts) (j : ℕ) → j < length ps → withinLimits (getD ps j d) ≡ true
-unfolding limitVerdict
-limits-pass ps = sections-pass (λ (i : ℕ) (p : Parts). withinLimits p) ps answer.Limit
+limit-exactly code k = section-exactly _ _ answer.Limit code k refl
 
 -- ---- 3: the semicolons
 
@@ -349,12 +360,6 @@ all-at : (P : ℕ → Type 0) (xs : List ℕ) → All P xs → (i : ℕ) → i <
 all-at P [] a i h = absurd (omega arith)
 all-at P (x ∷ xs) a zero h = a .0
 all-at P (x ∷ xs) a (suc i) h = all-at P xs (a .1) i (omega arith)
-
--- where a number stands in a list
-pub record StandsIn (m : ℕ) (xs : List ℕ) : Type 0 where
-  pub index : ℕ
-  pub within : index < length xs
-  pub same : getD xs index 0 ≡ m
 
 any-stands : (m : ℕ) (xs : List ℕ) → any (eqb m) xs ≡ true → StandsIn m xs
 unfolding any
@@ -432,12 +437,6 @@ module _ (code : List ℕ) where
       stands (good ps) f h = h j (rw (eq-eqb j j refl))
       stands (bad k) f h = not-refused (sym f)
 
--- these are the places of the code's semicolons, in their order, each once
-pub record SemicolonPlaces (code : List ℕ) (places : List ℕ) : Type 0 where
-  pub ascend : (i j : ℕ) → i < j → j < length places → getD places i 0 < getD places j 0
-  pub each : (i : ℕ) → i < length places → SemicolonAt code (getD places i 0)
-  pub all : (j : ℕ) → SemicolonAt code j → StandsIn j places
-
 pub semicolon-places : (code : List ℕ) → tokenVerdict (lex code) ≡ fine → SemicolonPlaces code (semicolons (placedOf (lex code)))
 semicolon-places code e =
     let places = semicolons (placedOf (lex code)) in
@@ -447,29 +446,33 @@ semicolon-places code e =
       all = semicolons-all code e;
     }
 
--- "more than four sections": a fourth semicolon stands at place k. Every token is read, and the semicolons that start before k
--- are the first three
-pub record FourthSemicolon (code : List ℕ) (k : ℕ) : Type 0 where
-  pub before : FineBelow code 3
-  pub all-read : (j : ℕ) → TokenStart code j → j < length code → ReadsAt code j
-  pub places : SemicolonPlaces code (semicolons (placedOf (lex code)))
-  pub many : 3 < length (semicolons (placedOf (lex code)))
-  pub fourth : getD (semicolons (placedOf (lex code))) 3 0 ≡ k
-  pub here : SemicolonAt code k
-  pub three : (j : ℕ) → SemicolonAt code j → j < k → (s : StandsIn j (semicolons (placedOf (lex code)))) × (s .index < 3)
+not-above : (xs : List ℕ) → ((i j : ℕ) → i < j → j < length xs → getD xs i 0 < getD xs j 0) → (i j : ℕ) → i ≤ j → j < length xs
+    → getD xs i 0 ≤ getD xs j 0
+not-above xs ascend i j h l = by-cases (ltb i j)
+    (λ t. omega (arith, ascend i j (ltb-true i j t) l))
+    (λ t. let n = ltb-false i j t in let same : i ≡ j = omega arith in rw same (omega arith))
 
--- of ascending places those below the fourth are the first three
-below-fourth : (places : List ℕ) (j k : ℕ) → ((i n : ℕ) → i < n → n < length places → getD places i 0 < getD places n 0)
-    → getD places 3 0 ≡ k → (s : StandsIn j places) → j < k → s .index < 3
-below-fourth places j k ascend e s h = by-cases (ltb (s .index) 3)
-    (λ t. ltb-true (s .index) 3 t)
-    (λ t. by-cases (ltb 3 (s .index))
-    (λ u. absurd (omega (arith, ascend 3 (s .index) (ltb-true 3 (s .index) u) (s .within), s .same)))
-    (λ u. let p = ltb-false (s .index) 3 t in
-    let q = ltb-false 3 (s .index) u in
-    let three : s .index ≡ 3 = omega arith in
-    let same : getD places 3 0 ≡ j = rw three at (s .same) in
-    absurd (omega arith)))
+-- of two lists of a code's semicolons the second is as long as the first, and no place of it comes later
+module _ (code : List ℕ) (ps qs : List ℕ) (p : SemicolonPlaces code ps) (q : SemicolonPlaces code qs) where
+  stands : (i : ℕ) → i < length ps → StandsIn (getD ps i 0) qs
+  stands i h = q .all (getD ps i 0) (p .each i h)
+
+  not-before : (i : ℕ) (h : i < length ps) → i ≤ (stands i h) .index
+  not-before zero h = omega arith
+  not-before (suc i) h =
+      let l : i < length ps = omega arith in
+      let s = stands i l in
+      let t = stands (suc i) h in
+      by-cases (ltb (s .index) (t .index))
+      (λ b. omega (arith, ltb-true (s .index) (t .index) b, not-before i l))
+      (λ b. let n = ltb-false (s .index) (t .index) b in
+      absurd (omega (arith, not-above qs (q .ascend) (t .index) (s .index) n (s .within), p .ascend i (suc i) (omega arith) h, s .same, t .same)))
+
+  no-later : (i : ℕ) → i < length ps → (i < length qs) × (getD qs i 0 ≤ getD ps i 0)
+  no-later i h =
+      let s = stands i h in
+      let n = not-before i h in
+      (omega (arith, s .within), omega (arith, s .same, not-above qs (q .ascend) i (s .index) n (s .within)))
 
 count-many : (places : List ℕ) (a : Answer) (k : ℕ) → countVerdict places ≡ refused a k → (3 < length places) × (getD places 3 0 ≡ k)
 unfolding countVerdict
@@ -492,10 +495,21 @@ count-refused code k e =
     let c = count-many (semicolons (placedOf (lex code))) answer.SectionCount k (r .refuses) in
     record {
       before = r .before;
-      all-read = tokens-read code sound;
-      places = p;
+      places = semicolons (placedOf (lex code));
+      semicolons = p;
       many = c .0;
       fourth = c .1;
       here = rw (c .1) at (p .each 3 (c .0));
-      three = λ j s h. (p .all j s, below-fourth _ j k (p .ascend) (c .1) (p .all j s) h);
     }
+
+pub count-exactly : (code : List ℕ) (k : ℕ) → (verdict code ≡ refused answer.SectionCount k) ↔ FourthSemicolon code k
+unfolding countVerdict
+count-exactly code k = (count-refused code k, λ f. by-refused code answer.SectionCount k (record { refuses = counted f; before = f .before }))
+  where
+    counted : FourthSemicolon code k → countVerdict (semicolons (placedOf (lex code))) ≡ refused answer.SectionCount k
+    counted f =
+        let found = semicolon-places code (f .before 2 (omega arith)) in
+        let far = no-later code (f .places) _ (f .semicolons) found 3 (f .many) in
+        let near = no-later code _ (f .places) found (f .semicolons) 3 (far .0) in
+        let same : getD (semicolons (placedOf (lex code))) 3 0 ≡ k = omega (arith, f .fourth, far .1, near .1) in
+        rw (lt-ltb 3 (length (semicolons (placedOf (lex code)))) (far .0), same)

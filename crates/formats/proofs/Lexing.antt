@@ -9,10 +9,10 @@ use mathlib.Core.Path.{_≡_, refl, sym, ap, subst, _∙_}
 use mathlib.Core.Bool.{Bool, true, _||_, true≢false}
 use mathlib.Core.List.{List, [], _∷_}
 use mathlib.Core.Option.{Option, none, some}
-use lib.ListN.{length, getD, take, drop, length-drop, drop-of-length-le}
+use lib.ListN.{length, take, drop, length-drop}
 use lib.Dec.{eqb}
 use borrow.Author.Tests.{eqb-false}
-use lib.Seq.{drop-cons, drop-drop, drop-nil}
+use lib.Seq.{drop-drop, drop-nil}
 use Rattle.calendar.specs.Names.{units}
 use Rattle.lists.specs.Lists.{any}
 use Rattle.lists.proofs.Bools.{by-cases, cond-both, cond-case, or-false}
@@ -118,10 +118,6 @@ step-within u us t more e = subst (Within (length us)) e (by-within (firstIn fir
 -- ---- at a place of a code
 
 module _ (code : List ℕ) (k : ℕ) where
-  -- the step in the terms of a loop over the code
-  pub step-here : (s : Step) → k < length code → stepAt (getD code k 0) (drop (suc k) code) ≡ s → StepIs code k s
-  step-here s h e = record { unit = getD code k 0; behind = drop (suc k) code; stands = drop-cons code k 0 h; step = e }
-
   -- what lexing gives at a token's start: its token in front of the lexing of what follows, or its place where it is broken
   pub lex-front : (t : Token) (more : ℕ) → StepIs code k (read t more)
       → lexFrom k 0 (drop k code) ≡ onto (record { token = t; start = k }) (lexFrom (k + suc more) 0 (drop (k + suc more) code))
@@ -131,10 +127,6 @@ module _ (code : List ℕ) (k : ℕ) where
 
   pub lex-front-broken : StepIs code k broken → lexFrom k 0 (drop k code) ≡ bad k
   lex-front-broken s = rw (s .stands) (lex-broken k (s .unit) (s .behind) (s .step))
-
-  pub lex-front-end : length code ≤ k → lexFrom k 0 (drop k code) ≡ good []
-  unfolding lexFrom
-  lex-front-end h = rw (drop-of-length-le code {i = k} h)
 
   units-left : (s : Step) (h : StepIs code k s) → suc (length (h .behind)) ≡ length code - k
   units-left s h = rw (h .stands) at (length-drop k code)

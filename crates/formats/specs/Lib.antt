@@ -11,3 +11,4 @@ pub mod Text
 pub mod Reading
 pub mod Figures
 pub mod Starts
+pub mod Given

@@ -1,14 +1,14 @@
 -- Tests and counts over joined and mapped lists.
 -- Assumes nothing.
-use Prim.Native.Nat.{ℕ, zero, suc, _+_, _≤_, _<_}
+use Prim.Native.Nat.{_+_, _≤_, _<_}
 use native.Mathlib.Omega.{arith}
-use mathlib.Core.Path.{_≡_, refl, sym, _∙_, ap}
-use mathlib.Core.Bool.{Bool, true, false, cond, not, _&&_, _||_, true≢false}
+use mathlib.Core.Path.{_≡_, refl, sym}
+use mathlib.Core.Bool.{Bool, true, false, _&&_, _||_, true≢false}
 use mathlib.Core.List.{List, [], _∷_, _++_, map}
 use lib.ListN.{length}
 use lib.Dec.{T}
 use Rattle.lists.specs.Lists.{every, any, count}
-use Rattle.lists.proofs.Bools.{by-cases, every-cons, every-head, every-tail, T-true, true-T}
+use Rattle.lists.proofs.Bools.{by-cases, every-cons, every-head, every-tail}
 
 module _ {A : Type 0} (f : A → Bool) where
   pub count-append : (xs ys : List A) → count f (xs ++ ys) ≡ count f xs + count f ys
@@ -46,15 +46,7 @@ module _ {A : Type 0} (f : A → Bool) where
   none-count (x ∷ xs) e =
       by-cases (f x) (λ h. absurd (true≢false (rw h at e))) (λ h. rw h (none-count xs (rw h at e)))
 
-  pub count-any : (xs : List A) → 0 < count f xs → any f xs ≡ true
-  count-any xs h = by-cases (any f xs) (λ e. e) (λ e. absurd (omega (arith, none-count xs e)))
-
 module _ {A B : Type 0} (f : B → Bool) (g : A → B) where
-  pub count-map : (xs : List A) → count f (map g xs) ≡ count (λ (x : A). f (g x)) xs
-  unfolding count
-  count-map [] = refl
-  count-map (x ∷ xs) = by-cases (f (g x)) (λ e. rw e (ap suc (count-map xs))) (λ e. rw e (count-map xs))
-
   pub any-map : (xs : List A) → any f (map g xs) ≡ any (λ (x : A). f (g x)) xs
   unfolding any
   any-map [] = refl
