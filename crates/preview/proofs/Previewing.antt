@@ -1,22 +1,20 @@
 -- What is shown through the table made from a code is what is read off the code.
 -- Assumes nothing.
-use Prim.Native.Nat.{ℕ, zero, suc, _≤_, _<_}
+use Prim.Native.Nat.{ℕ, suc, _≤_, _<_}
 use native.Mathlib.Omega.{arith}
 use mathlib.Core.Path.{_≡_, refl, sym, ap, _∙_}
-use mathlib.Core.Bool.{Bool, true, false, cond}
+use mathlib.Core.Bool.{true}
 use mathlib.Core.List.{List, [], _∷_}
 use lib.ListN.{length, getD, take}
 use lib.Seq.{take-append-seam}
-use lib.Dec.{T, leb, ltb, lt→ltb}
+use lib.Dec.{T, leb, lt→ltb}
 use borrow.Author.Tests.{leb-true, le-leb}
-use Rattle.answers.specs.declared.Answer.{Answer}
-use Rattle.answers.specs.declared.Answer.the-variants as answer
 use Rattle.answers.specs.declared.Prepared.{Prepared}
 use Rattle.answers.specs.declared.Shown.{Shown}
 use Rattle.answers.specs.Number.{numberOf}
 use Rattle.values.specs.declared.Ask.{Ask}
 use Rattle.lists.specs.Lists.{overlay, every}
-use Rattle.lists.proofs.Bools.{by-cases, every-cons}
+use Rattle.lists.proofs.Bools.{cond-case, every-cons}
 use Rattle.formats.specs.Items.{Section}
 use Rattle.formats.specs.WellFormed.{isUnit}
 use Rattle.formats.specs.Accept.{Verdict, fine, refused, verdict, Accepted, sections, refusal, acceptedBy, accept, sectionsIn}
@@ -25,10 +23,9 @@ use Rattle.formats.specs.Reading as reading-of
 use Rattle.formats.proofs.First.{refused-by}
 use Rattle.tables.specs.Encode.{encode}
 use Rattle.tables.specs.Calls.{wordsOf, tableOf, preparedAs, prepared, written, tableAfter, tableReading, shownAs, textAs, showing, roomAfter}
-use Rattle.tables.specs.Promise.{TableOfCode}
 use Rattle.tables.proofs.Promise.{table-of-code}
 use Rattle.preview.specs.declared.Previewed.{Previewed}
-use Rattle.preview.specs.Preview.{refusedPreview, previewedAs, previewOf, previewed, previewTextOf, previewText}
+use Rattle.preview.specs.Preview.{refusedPreview, previewedAs, previewOf, previewed, previewText}
 
 -- the units of a lent run are units
 pub units-known : (l : List ℕ) → ((i : ℕ) → getD l i 0 < 65536) → T (every isUnit l)
@@ -36,52 +33,12 @@ unfolding every
 units-known [] h = tt
 units-known (u ∷ l) h = every-cons isUnit u l (lt→ltb u 65536 (h 0)) (units-known l (λ i. h (suc i)))
 
--- ---- preparing refused
-module _ (ask : Ask) (text : List ℕ) (size room : ℕ) where
-  refused-as : (x : Accepted) → (numberOf (preparedAs x size .answer) ≡ 0 → ⊥)
-      → (refusedPreview (preparedAs x size .answer) (preparedAs x size .place) ≡ previewOf x (length (wordsOf x)) ask text size room)
-      × (previewTextOf x (length (wordsOf x)) ask text size room ≡ [])
-  unfolding preparedAs previewOf previewTextOf wordsOf
-  refused-as (refusal a k) h = (refl, refl)
-  refused-as (sections ss) h =
-      by-cases (leb (length (encode ss)) size) (λ t. absurd (h (rw t))) (λ t. (rw t, rw t))
-
-pub refused-shows : (code : List ℕ) (ask : Ask) (text old : List ℕ) (size : ℕ) (p : Prepared) (n : ℕ) → p ≡ prepared code size → n ≡ numberOf (p .answer)
-    → (n ≡ 0 → ⊥)
-    → (refusedPreview (p .answer) (p .place) ≡ previewed code ask text size (length old))
-    × (old ≡ overlay (previewText code ask text size (length old)) old)
-unfolding prepared previewed previewText tableOf overlay
-refused-shows code ask text old size p n e m h =
-    let r = refused-as ask text size (length old) (accept code) (λ z. h (m ∙ ap (λ (q : Prepared). numberOf (q .answer)) e ∙ z)) in
-    (rw e (r .0), rw (r .1))
-
--- ---- preparing made a table
-pub record Made (code : List ℕ) (size : ℕ) (p : Prepared) : Type 0 where
-  pub accepted : List Section
-  pub is : accept code ≡ sections accepted
-  pub fits : length (tableOf code) ≤ size
-  pub words : p .words ≡ length (tableOf code)
-
-not-refused : (code : List ℕ) (a : Answer) (k : ℕ) → verdict code ≡ refused a k → numberOf a ≡ 0 → ⊥
-not-refused code a k v z =
-    let e = refused-by code a k v .refuses in
-    let f = rw z at e in
+-- a code that is refused is answered by a number above 0
+refused-number : (code : List ℕ) (a : _) (k : ℕ) → verdict code ≡ refused a k → numberOf a ≡ 0 → ⊥
+refused-number code a k v z =
+    let e = rw z at (refused-by code a k v .refuses) in
     let y : _≡_ {A = ℕ} 0 1 = cc in
     absurd (omega arith)
-
-made-by : (code : List ℕ) (size : ℕ) (v : Verdict) → verdict code ≡ v → numberOf (preparedAs (acceptedBy v (sectionsIn code)) size .answer) ≡ 0
-    → Made code size (preparedAs (acceptedBy v (sectionsIn code)) size)
-unfolding accept acceptedBy preparedAs tableOf wordsOf
-made-by code size (refused a k) v z = absurd (not-refused code a k v z)
-made-by code size fine v z =
-    let ss = sectionsIn code in
-    by-cases (leb (length (encode ss)) size)
-    (λ t. record { accepted = ss; is = rw v; fits = rw v (leb-true (length (encode ss)) size t); words = rw (v, t) })
-    (λ t. let y = rw t at z in absurd (omega arith))
-
-pub made : (code : List ℕ) (size : ℕ) (p : Prepared) (n : ℕ) → p ≡ prepared code size → n ≡ numberOf (p .answer) → n ≡ 0 → Made code size p
-unfolding prepared accept
-made code size p n e m z = rw e (made-by code size (verdict code) refl (sym (m ∙ ap (λ (q : Prepared). numberOf (q .answer)) e) ∙ z))
 
 as-shown : (d : Reading) → _≡_ {A = Previewed}
     (record { answer = shownAs d .answer; place = 0; length = shownAs d .length; colour = shownAs d .colour; section = shownAs d .section })
@@ -90,28 +47,76 @@ unfolding shownAs previewedAs
 as-shown (reading-of.refused a) = refl
 as-shown (shown text colour section) = refl
 
-module _ (code : List ℕ) (ask : Ask) (text old before after : List ℕ) (p : Prepared) (u : T (every isUnit code)) (m : Made code (length before) p)
-    (e : after ≡ tableAfter code before) where
-  -- the words in front of the table room are the table
-  table-taken : take (p .words) after ≡ tableOf code
-  unfolding tableAfter written overlay
-  table-taken =
-      rw (e, le-leb (length (tableOf code)) (length before) (m .fits), m .words) (take-append-seam (tableOf code) _)
+-- preparing reports no more words than the room for them has
+within-as : (x : Accepted) (size : ℕ) → preparedAs x size .words ≤ size
+unfolding preparedAs
+within-as (refusal a k) size = omega arith
+within-as (sections ss) size =
+    cond-case (λ (q : Prepared). q .words ≤ size) (leb (length (encode ss)) size) (leb-true (length (encode ss)) size) (λ t. omega arith)
 
-  same-reading : tableReading (take (p .words) after) ask text (length old) ≡ reading (m .accepted) ask text (length old)
-  unfolding codeReading readAccepted
-  same-reading =
-      rw table-taken (table-of-code code (m .accepted) u (m .is) .sameReading ask text (length old) ∙ rw (m .is))
+pub words-within : (code : List ℕ) {p : Prepared} (size : ℕ) → p ≡ prepared code size → p .words ≤ size
+unfolding prepared
+words-within code size e = rw e (within-as (accept code) size)
 
-  pub made-shows : (s : Shown) → s ≡ showing (take (p .words) after) ask text (length old)
-      → _≡_ {A = Previewed} (record { answer = s .answer; place = 0; length = s .length; colour = s .colour; section = s .section })
-      (previewed code ask text (length before) (length old))
-  unfolding showing previewed previewOf
-  made-shows s h =
-      let d = reading (m .accepted) ask text (length old) in
-      rw (h ∙ ap shownAs same-reading, m .is, le-leb (length (tableOf code)) (length before) (m .fits)) (as-shown d)
+-- a code prepared in a table room of 557 words
+module _ (code : List ℕ) (u : T (every isUnit code)) (p : Prepared) {n size : ℕ} (e : p ≡ prepared code size) (m : n ≡ numberOf (p .answer))
+    (room : 557 ≡ size) where
+  -- its table fits
+  fits : (ss : List Section) → accept code ≡ sections ss → length (encode ss) ≤ size
+  unfolding tableOf wordsOf
+  fits ss a = omega (arith, room, rw a at (table-of-code code ss u a .mostWords))
 
-  pub made-room : {out : List ℕ} → out ≡ roomAfter (take (p .words) after) ask text old
-      → out ≡ overlay (previewText code ask text (length before) (length old)) old
-  unfolding roomAfter previewText previewTextOf
-  made-room h = h ∙ rw (same-reading, m .is, le-leb (length (tableOf code)) (length before) (m .fits))
+  -- ---- preparing refused
+  refused-at : (x : Accepted) → accept code ≡ x → (numberOf (preparedAs x size .answer) ≡ 0 → ⊥) → (ask : Ask) (text : List ℕ) (r : ℕ)
+      → (refusedPreview (preparedAs x size .answer) (preparedAs x size .place) ≡ previewOf x ask text r) × (textAs (readAccepted x ask text r) ≡ [])
+  unfolding preparedAs previewOf readAccepted textAs
+  refused-at (refusal a k) c h ask text r = (refl, refl)
+  refused-at (sections ss) c h ask text r = absurd (h (rw (le-leb (length (encode ss)) size (fits ss c))))
+
+  pub refused-shows : (n ≡ 0 → ⊥) → (ask : Ask) (text old : List ℕ)
+      → (refusedPreview (p .answer) (p .place) ≡ previewed code ask text (length old))
+      × (old ≡ overlay (previewText code ask text (length old)) old)
+  unfolding prepared previewed previewText codeReading overlay
+  refused-shows h ask text old =
+      let r = refused-at (accept code) refl (λ z. h (m ∙ ap (λ (q : Prepared). numberOf (q .answer)) e ∙ z)) ask text (length old) in
+      (rw e (r .0), rw (r .1))
+
+  -- ---- preparing made a table
+  pub record Made : Type 0 where
+    pub accepted : List Section
+    pub is : accept code ≡ sections accepted
+    pub words : p .words ≡ length (tableOf code)
+
+  made-by : (v : Verdict) → verdict code ≡ v → numberOf (prepared code size .answer) ≡ 0 → Made
+  unfolding prepared accept acceptedBy preparedAs tableOf wordsOf
+  made-by (refused a k) v z = absurd (refused-number code a k v (rw v at z))
+  made-by fine v z =
+      let f : length (encode (sectionsIn code)) ≤ size = fits (sectionsIn code) (rw v) in
+      record {
+        accepted = sectionsIn code;
+        is = rw v;
+        words = rw e (rw (v, le-leb (length (encode (sectionsIn code))) size f));
+      }
+
+  pub made : n ≡ 0 → Made
+  made z = made-by (verdict code) refl (sym (m ∙ ap (λ (q : Prepared). numberOf (q .answer)) e) ∙ z)
+
+  -- what is shown through the words in front of the table room, which are the table
+  module _ (d : Made) (before : List ℕ) {after : List ℕ} (t : size ≡ length before) (f : after ≡ tableAfter code before) (ask : Ask) (text old : List ℕ) where
+    table-taken : take (p .words) after ≡ tableOf code
+    unfolding tableAfter written overlay
+    table-taken =
+        let l : length (tableOf code) ≤ length before = omega (arith, d .words, words-within code size e) in
+        rw (f, le-leb (length (tableOf code)) (length before) l, d .words) (take-append-seam (tableOf code) _)
+
+    same-reading : tableReading (take (p .words) after) ask text (length old) ≡ codeReading code ask text (length old)
+    same-reading = rw table-taken (table-of-code code (d .accepted) u (d .is) .sameReading ask text (length old))
+
+    pub made-shows : (s : Shown) {out : List ℕ} → s ≡ showing (take (p .words) after) ask text (length old)
+        → out ≡ roomAfter (take (p .words) after) ask text old
+        → (_≡_ {A = Previewed} (record { answer = s .answer; place = 0; length = s .length; colour = s .colour; section = s .section })
+        (previewed code ask text (length old)))
+        × (out ≡ overlay (previewText code ask text (length old)) old)
+    unfolding showing roomAfter previewed previewOf previewText codeReading readAccepted
+    made-shows s h r =
+        (rw (h ∙ ap shownAs same-reading, d .is) (as-shown (reading (d .accepted) ask text (length old))), r ∙ rw same-reading)
