@@ -18,14 +18,13 @@ use Rattle.lists.proofs.Bools.{cond-case, every-cons}
 use Rattle.formats.specs.Items.{Section}
 use Rattle.formats.specs.WellFormed.{isUnit}
 use Rattle.formats.specs.Accept.{Verdict, fine, refused, verdict, Accepted, sections, refusal, acceptedBy, accept, sectionsIn}
-use Rattle.formats.specs.Reading.{Reading, shown, reading, readAccepted, codeReading}
-use Rattle.formats.specs.Reading as reading-of
+use Rattle.formats.specs.Reading.{readAccepted, codeReading}
 use Rattle.formats.proofs.First.{refused-by}
 use Rattle.tables.specs.Encode.{encode}
 use Rattle.tables.specs.Calls.{wordsOf, tableOf, preparedAs, prepared, written, tableAfter, tableReading, shownAs, textAs, showing, roomAfter}
 use Rattle.tables.proofs.Promise.{table-of-code}
 use Rattle.preview.specs.declared.Previewed.{Previewed}
-use Rattle.preview.specs.Preview.{refusedPreview, previewedAs, previewOf, previewed, previewText}
+use Rattle.preview.specs.Preview.{refusedPreview, placeOf, previewed, previewText}
 
 -- the units of a lent run are units
 pub units-known : (l : List ℕ) → ((i : ℕ) → getD l i 0 < 65536) → T (every isUnit l)
@@ -40,13 +39,6 @@ refused-number code a k v z =
     let y : _≡_ {A = ℕ} 0 1 = cc in
     absurd (omega arith)
 
-as-shown : (d : Reading) → _≡_ {A = Previewed}
-    (record { answer = shownAs d .answer; place = 0; length = shownAs d .length; colour = shownAs d .colour; section = shownAs d .section })
-    (previewedAs d)
-unfolding shownAs previewedAs
-as-shown (reading-of.refused a) = refl
-as-shown (shown text colour section) = refl
-
 -- preparing reports no more words than the room for them has
 within-as : (x : Accepted) (size : ℕ) → preparedAs x size .words ≤ size
 unfolding preparedAs
@@ -58,6 +50,10 @@ pub words-within : (code : List ℕ) {p : Prepared} (size : ℕ) → p ≡ prepa
 unfolding prepared
 words-within code size e = rw e (within-as (accept code) size)
 
+-- what is told of a code and of what is shown
+abbrev told : Accepted → Shown → Previewed
+told x s = record { answer = s .answer; place = placeOf x; length = s .length; colour = s .colour; section = s .section }
+
 -- a code prepared in a table room of 557 words
 module _ (code : List ℕ) (u : T (every isUnit code)) (p : Prepared) {n size : ℕ} (e : p ≡ prepared code size) (m : n ≡ numberOf (p .answer))
     (room : 557 ≡ size) where
@@ -68,8 +64,9 @@ module _ (code : List ℕ) (u : T (every isUnit code)) (p : Prepared) {n size : 
 
   -- ---- preparing refused
   refused-at : (x : Accepted) → accept code ≡ x → (numberOf (preparedAs x size .answer) ≡ 0 → ⊥) → (ask : Ask) (text : List ℕ) (r : ℕ)
-      → (refusedPreview (preparedAs x size .answer) (preparedAs x size .place) ≡ previewOf x ask text r) × (textAs (readAccepted x ask text r) ≡ [])
-  unfolding preparedAs previewOf readAccepted textAs
+      → (refusedPreview (preparedAs x size .answer) (preparedAs x size .place) ≡ told x (shownAs (readAccepted x ask text r)))
+      × (textAs (readAccepted x ask text r) ≡ [])
+  unfolding preparedAs placeOf readAccepted shownAs textAs
   refused-at (refusal a k) c h ask text r = (refl, refl)
   refused-at (sections ss) c h ask text r = absurd (h (rw (le-leb (length (encode ss)) size (fits ss c))))
 
@@ -117,6 +114,5 @@ module _ (code : List ℕ) (u : T (every isUnit code)) (p : Prepared) {n size : 
         → (_≡_ {A = Previewed} (record { answer = s .answer; place = 0; length = s .length; colour = s .colour; section = s .section })
         (previewed code ask text (length old)))
         × (out ≡ overlay (previewText code ask text (length old)) old)
-    unfolding showing roomAfter previewed previewOf previewText codeReading readAccepted
-    made-shows s h r =
-        (rw (h ∙ ap shownAs same-reading, d .is) (as-shown (reading (d .accepted) ask text (length old))), r ∙ rw same-reading)
+    unfolding showing roomAfter previewed placeOf previewText
+    made-shows s h r = (rw (h ∙ ap shownAs same-reading, d .is), r ∙ rw same-reading)
