@@ -33,7 +33,7 @@ fill-case P f (elapsed s n) e = absurd (true≢false (sym e))
 fill-case P f (half h) e = absurd (true≢false (sym e))
 
 -- what holds of every fill holds of an item that is left out
-dropped : (P : Item → Type 0) → ((u : ℕ) → P (fill u)) → (i : Item) (is : List Item) → (isFill i && any isFill is) ≡ true → P i
+pub dropped : (P : Item → Type 0) → ((u : ℕ) → P (fill u)) → (i : Item) (is : List Item) → (isFill i && any isFill is) ≡ true → P i
 dropped P f i is h = fill-case P f i (T-true (isFill i) (and-left (isFill i) (any isFill is) (true-T h)))
 
 -- a test that fails at fills passes for some item exactly where it did before fills were left out
@@ -130,7 +130,7 @@ unfolding any settledFrom
 any-settled f g e [] = refl
 any-settled f g e (i ∷ is) = rw (settled-kept f g e (firstRun is) i, any-settled f g (nearer (runOf i) e) is)
 
-count-settled : (f : Item → Bool) → ((n : ℕ) → f (minute n) ≡ f (month n)) → (e : Run) (is : List Item) → count f (settledFrom e is) ≡ count f is
+pub count-settled : (f : Item → Bool) → ((n : ℕ) → f (minute n) ≡ f (month n)) → (e : Run) (is : List Item) → count f (settledFrom e is) ≡ count f is
 unfolding count settledFrom
 count-settled f g e [] = refl
 count-settled f g e (i ∷ is) = rw (settled-kept f g e (firstRun is) i, count-settled f g (nearer (runOf i) e) is)

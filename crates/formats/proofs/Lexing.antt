@@ -1,7 +1,7 @@
 -- Laws of lexing: what is skipped is dropped, what lexing gives at a token's start, that tokens end within the code, and lexing as
 -- a relation of places.
 -- Assumes nothing.
-use Prim.Native.Nat.{ℕ, zero, suc, _+_, _-_, _≤_, _<_}
+use Prim.Native.Nat.{ℕ, zero, suc, _+_, _-_, _*_, _≤_, _<_}
 use native.Mathlib.Omega.{arith}
 use native.Mathlib.Nat.{add-zero}
 use native.Mathlib.Numerals.{add-one}
@@ -16,7 +16,7 @@ use lib.Seq.{drop-drop, drop-nil}
 use Rattle.calendar.specs.Names.{units}
 use Rattle.lists.specs.Lists.{any}
 use Rattle.lists.proofs.Bools.{by-cases, cond-both, cond-case, or-false}
-use Rattle.formats.specs.Tokens.{Token, Step, read, broken, before, leading, startsWith, quoted, marked, generalWord, halfDayWord, runAllowed, runStep, insideOf, closed, bracketed, First, quote, backslash, underscore, asterisk, openBracket, capitalG, capitalA, letter, single, other, firstRows, firstIn, bareLiterals, stepBy, stepAt, Placed, Lexed, good, bad, onto, afterStep, lexFrom, lex}
+use Rattle.formats.specs.Tokens.{Token, Step, read, broken, before, leading, startsWith, quoted, marked, generalWord, halfDayWord, runAllowed, runStep, numberFrom, insideOf, closed, bracketed, First, quote, backslash, underscore, asterisk, openBracket, capitalG, capitalA, letter, single, other, firstRows, firstIn, bareLiterals, stepBy, stepAt, Placed, Lexed, good, bad, onto, afterStep, lexFrom, lex}
 use Rattle.formats.specs.Starts.{StepIs, TokenStart, begin, next}
 
 -- what is skipped is dropped
@@ -25,6 +25,12 @@ unfolding lexFrom
 lex-skip k skip [] = rw (drop-nil skip)
 lex-skip k zero (u ∷ us) = rw (add-zero k)
 lex-skip k (suc skip) (u ∷ us) = lex-skip (suc k) skip us ∙ ap (λ (n : ℕ). lexFrom n 0 (drop skip us)) (omega arith)
+
+-- more digits make no smaller number
+pub number-grows : (v : ℕ) (ds : List ℕ) → v ≤ numberFrom v ds
+unfolding numberFrom
+number-grows v [] = omega arith
+number-grows v (d ∷ ds) = omega (arith, number-grows (10 * v + d) ds)
 
 -- a token that is read stands in front of what follows it
 pub lex-read : (k u : ℕ) (us : List ℕ) (t : Token) (more : ℕ) → stepAt u us ≡ read t more
@@ -44,7 +50,7 @@ abbrev Within : ℕ → Step → Type 0
 Within m (read t more) = more ≤ m
 Within m broken = Unit {0}
 
-before-most : (u : ℕ) (us : List ℕ) → before u us ≤ length us
+pub before-most : (u : ℕ) (us : List ℕ) → before u us ≤ length us
 unfolding before
 before-most u [] = omega arith
 before-most u (v ∷ vs) = cond-both (λ (n : ℕ). n ≤ suc (length vs)) (eqb v u) (omega arith) (omega (arith, before-most u vs))

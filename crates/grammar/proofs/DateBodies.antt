@@ -14,9 +14,10 @@ use Rattle.formats.specs.Items as item
 use Rattle.formats.specs.Items.{Item, textKind, generalKind, dateKind, sameKind, itemAllowed, sortOf, isFill, isElapsed, Run, noRun, runOf, nearer, firstRun, settledItem, settledFrom, settled, isSecondsElapsed}
 use Rattle.formats.specs.Kinds.{isPlace, isPoint, noBracket, tokenMakes, bodyKind, isSolidus, startsWithPlace, solidusFrom, solidusFits, commasFit, isSecondsLetter, isSecondsToken, runItem, tokenItems, piecesFrom, dateItems, bodyItems, lastFill}
 use Rattle.formats.specs.Limits.{elapsedShort}
+use Rattle.formats.proofs.FormedItems.{dropped}
 use Rattle.grammar.specs.Bodies.{free-string, free-repeat, free-space, free-bare, Behind, behindOther, NFAbsTimeToken, NFPartAbsHour, NFPartAbsSecond, NFPartAbsMinute, NFDateTimeToken, NFPartYear, NFPartMonth, NFPartMonth-long, NFPartDay, NFPartHour, NFPartMinute, NFPartSecond, absolute, NFPartSubSecond, tenths, hundredths, thousandths, Between, between-free, between-AMPM, between-comma, between-point, DateTimeRest, rest-end, rest-token, rest-sub-second, rest-between, DateTimeFrom, from-token, from-between, isAbsolute, NFDateTime}
 use Rattle.grammar.proofs.Tests.{no, and-parts, every-parts, every-in}
-use Rattle.grammar.proofs.Kept.{sorts, count-kept, allowed-kept, foreign, no-integers, no-decimals, dropped-fill}
+use Rattle.grammar.proofs.Kept.{sorts, count-kept, allowed-kept, foreign, no-integers, no-decimals}
 use Rattle.grammar.proofs.Facts.{kept, Fitting}
 use Rattle.grammar.proofs.Plain.{inBody, has, kind-date, kind-has}
 use Rattle.grammar.proofs.PlainBodies.{body-tokens, body-brackets, NoSemicolon}
@@ -183,42 +184,22 @@ rest-elapsed {abs} {b} (rest-between {ts = ts} x d) =
 
 -- ---- fills left out change no date
 
-fill-case : (P : Item → Type 0) → ((u : ℕ) → P (item.fill u)) → (i : Item) → sortOf i ≡ 2 → P i
-fill-case P f (item.fill u) e = f u
-fill-case P f (item.literal u) e = absurd (omega arith)
-fill-case P f (item.blank u) e = absurd (omega arith)
-fill-case P f (item.place p) e = absurd (omega arith)
-fill-case P f item.point e = absurd (omega arith)
-fill-case P f item.percent e = absurd (omega arith)
-fill-case P f item.general e = absurd (omega arith)
-fill-case P f item.at e = absurd (omega arith)
-fill-case P f (item.year n) e = absurd (omega arith)
-fill-case P f (item.month n) e = absurd (omega arith)
-fill-case P f (item.day n) e = absurd (omega arith)
-fill-case P f (item.hour n) e = absurd (omega arith)
-fill-case P f (item.minute n) e = absurd (omega arith)
-fill-case P f (item.second n) e = absurd (omega arith)
-fill-case P f (item.part n) e = absurd (omega arith)
-fill-case P f (item.elapsed x n) e = absurd (omega arith)
-fill-case P f (item.half h) e = absurd (omega arith)
-
-fill-run : (i : Item) → sortOf i ≡ 2 → runOf i ≡ noRun
+fill-run : (u : ℕ) → runOf (item.fill u) ≡ noRun
 unfolding runOf
-fill-run i e = fill-case (λ (i : Item). runOf i ≡ noRun) (λ u. refl) i e
+fill-run u = refl
 
 first-fill : (is : List Item) → firstRun (lastFill is) ≡ firstRun is
 unfolding firstRun lastFill nearer
 first-fill [] = refl
 first-fill (i ∷ is) =
     by-cases (isFill i && any isFill is)
-    (λ h. rw (h, fill-run i (dropped-fill i is h)) (first-fill is))
+    (λ h. rw (h, dropped (λ (j : Item). runOf j ≡ noRun) fill-run i is h) (first-fill is))
     (λ h. rw (h, first-fill is))
 
-fill-dated : (abs : Option Elapsed) (r : Run) (is : List Item) (i : Item) → sortOf i ≡ 2
-    → every (dateItem abs) (settledFrom r (i ∷ is)) ≡ every (dateItem abs) (settledFrom r is)
+fill-dated : (abs : Option Elapsed) (r : Run) (is : List Item) (u : ℕ)
+    → every (dateItem abs) (settledFrom r (item.fill u ∷ is)) ≡ every (dateItem abs) (settledFrom r is)
 unfolding every settledFrom settledItem dateItem runOf nearer
-fill-dated abs r is i e =
-    fill-case (λ (i : Item). every (dateItem abs) (settledFrom r (i ∷ is)) ≡ every (dateItem abs) (settledFrom r is)) (λ u. refl) i e
+fill-dated abs r is u = refl
 
 kept-front : (abs : Option Elapsed) (r : Run) (i : Item) (is : List Item)
     → every (dateItem abs) (settledFrom (nearer (runOf i) r) (lastFill is)) ≡ every (dateItem abs) (settledFrom (nearer (runOf i) r) is)
@@ -231,7 +212,9 @@ unfolding lastFill
 dated-fill abs r [] = refl
 dated-fill abs r (i ∷ is) =
     by-cases (isFill i && any isFill is)
-    (λ h. rw h (dated-fill abs r is ∙ sym (fill-dated abs r is i (dropped-fill i is h))))
+    (λ h.
+    let skipped = dropped (λ (j : Item). every (dateItem abs) (settledFrom r (j ∷ is)) ≡ every (dateItem abs) (settledFrom r is)) (fill-dated abs r is) i is h in
+    rw h (dated-fill abs r is ∙ sym skipped))
     (λ h. rw h (kept-front abs r i is (dated-fill abs (nearer (runOf i) r) is)))
 
 -- ---- NFDateTime

@@ -20,71 +20,23 @@ use Rattle.formats.specs.Where.{standsAt}
 use Rattle.formats.specs.Limits.{withinLimits}
 use Rattle.formats.specs.Accept.{Verdict, refused, placedOf, tokensOf, semicolons, split, partsIn, sectionsIn, fine, lengthVerdict, tokenVerdict, countVerdict, sectionVerdict, kindVerdict, whereVerdict, limitVerdict, verdict, sections, acceptedBy, accept}
 use Rattle.formats.proofs.ItemCount.{split-length, semicolons-length}
-use Rattle.formats.proofs.First.{AllFine, verdict-fine, fine-verdict, length-bounds, count-few}
-use Rattle.grammar.specs.Units.{Spells, Spelled, done, token, NFPart1To56, one-digit, two-digits, fifty, fifties, INTL-COLOR, black, blue, cyan, green, magenta, red, white, yellow, NFPartYear-2, NFPartYear-4, NFPartMonth, NFPartDay, NFPartHour, NFPartAbsHour, NFPartMinute, NFPartAbsMinute, NFPartSecond, NFPartAbsSecond, NFPartCond, NFPartColor-name, NFPartColor-number, NFPartNumToken1-number-sign, NFPartNumToken1-question-mark, NFPartNumToken1-zero, ASCII-PERCENT-SIGN, ASCII-COMMERCIAL-AT, ASCII-SEMICOLON, LITERAL-CHAR, LITERAL-CHAR-REPEAT, LITERAL-STRING, LITERAL-CHAR-SPACE, INTL-CHAR-DECIMAL-SEP, INTL-CHAR-NUMGRP-SEP, bare-literal, INTL-NUMFMT-GENERAL, INTL-AMPM-long, INTL-AMPM-short}
+use Rattle.formats.proofs.First.{AllFine, verdict-fine, fine-verdict, length-bounds, count-few, fine-none}
+use Rattle.grammar.specs.Units.{Spelled, done, token}
 use Rattle.grammar.specs.Codes as codes
 use Rattle.grammar.specs.Codes.{all-condition, all-one, all-two, all-three, all-four, Derives}
 use Rattle.grammar.proofs.Tests.{every-in}
+use Rattle.grammar.proofs.Fronts.{colourShown, spells-front}
 use Rattle.grammar.proofs.Lexed.{Gives, lex-spelled, spelled-lex}
 use Rattle.grammar.proofs.PlainBodies.{NoSemicolon}
-use Rattle.grammar.proofs.Sections.{colourShown, Passes, derive-any, derive-no-text, derive-third, derive-neither, derive-fourth, derive-one, any-passes, no-text-passes, single-passes, third-passes, neither-passes, fourth-passes, condition-passes}
+use Rattle.grammar.proofs.Sections.{Passes, derive-any, derive-no-text, derive-third, derive-neither, derive-fourth, derive-one, any-passes, no-text-passes, single-passes, third-passes, neither-passes, fourth-passes, condition-passes}
 use Rattle.grammar.proofs.Split.{behind, join, join-split, split-each, split-plain, split-one, split-before}
 
 -- ---- a colour that units spell is above 0
 
-name-shown : {n : ℕ} {ws : List ℕ} → INTL-COLOR n ws → colourShown (colour n) ≡ true
-unfolding colourIn
-name-shown black = refl
-name-shown blue = refl
-name-shown cyan = refl
-name-shown green = refl
-name-shown magenta = refl
-name-shown red = refl
-name-shown white = refl
-name-shown yellow = refl
-
-number-shown : {n : ℕ} {ws : List ℕ} → NFPart1To56 n ws → colourShown (colour n) ≡ true
-unfolding colourIn
-number-shown {n} (one-digit u d) = let a = d .0 in le-leb 1 n (omega arith)
-number-shown {n} (two-digits u v d e) = let a = d .0 in le-leb 1 n (omega arith)
-number-shown fifty = refl
-number-shown {n} (fifties v d) = le-leb 1 n (omega arith)
-
-spells-shown : {t : Token} {us vs : List ℕ} → Spells t us vs → colourShown t ≡ true
-spells-shown (NFPartYear-2 r) = refl
-spells-shown (NFPartYear-4 r) = refl
-spells-shown (NFPartMonth h k r) = refl
-spells-shown (NFPartDay h k r) = refl
-spells-shown (NFPartHour h k r) = refl
-spells-shown (NFPartAbsHour h b) = refl
-spells-shown (NFPartMinute h k r) = refl
-spells-shown (NFPartAbsMinute h b) = refl
-spells-shown (NFPartSecond h k r) = refl
-spells-shown (NFPartAbsSecond h b) = refl
-spells-shown (NFPartCond o d b) = refl
-spells-shown (NFPartColor-name d b) = name-shown d
-spells-shown (NFPartColor-number d b) = number-shown d
-spells-shown NFPartNumToken1-number-sign = refl
-spells-shown NFPartNumToken1-question-mark = refl
-spells-shown NFPartNumToken1-zero = refl
-spells-shown ASCII-PERCENT-SIGN = refl
-spells-shown ASCII-COMMERCIAL-AT = refl
-spells-shown ASCII-SEMICOLON = refl
-spells-shown LITERAL-CHAR = refl
-spells-shown LITERAL-CHAR-REPEAT = refl
-spells-shown (LITERAL-STRING a e) = refl
-spells-shown LITERAL-CHAR-SPACE = refl
-spells-shown INTL-CHAR-DECIMAL-SEP = refl
-spells-shown INTL-CHAR-NUMGRP-SEP = refl
-spells-shown (bare-literal b) = refl
-spells-shown (INTL-NUMFMT-GENERAL e) = refl
-spells-shown (INTL-AMPM-long e) = refl
-spells-shown (INTL-AMPM-short e) = refl
-
 spelled-shown : {us : List ℕ} {ts : List Token} → Spelled us ts → every colourShown ts ≡ true
 unfolding every
 spelled-shown done = refl
-spelled-shown (token {t = t} {ts = ts} s d) = every-in colourShown t ts (spells-shown s) (spelled-shown d)
+spelled-shown (token {t = t} {ts = ts} s d) = every-in colourShown t ts ((spells-front s) .shown) (spelled-shown d)
 
 -- ---- the tests of each section
 
@@ -216,11 +168,6 @@ unfolding tokenVerdict placedOf
 good-lexed (good ps) e = refl
 good-lexed (bad k) e = let z : _≡_ {A = ℕ} 0 1 = cc in absurd (omega arith)
 
-fine-none : (a : Answer) (o : Option ℕ) → sectionVerdict a o ≡ fine → o ≡ none
-unfolding sectionVerdict
-fine-none a none e = refl
-fine-none a (some k) e = let z : _≡_ {A = ℕ} 0 1 = cc in absurd (omega arith)
-
 sections-length : (ss : List (List Token)) → length (map sectionOf (map partsOf ss)) ≡ length ss
 sections-length ss = length-map (map partsOf ss) sectionOf ∙ length-map ss partsOf
 
@@ -285,14 +232,3 @@ derives-accepted code d =
 -- "A code is accepted when none of 1 to 6 is given": exactly when the grammar derives it
 pub accepts-exactly : (code : List ℕ) → (verdict code ≡ fine) ↔ Derives code
 accepts-exactly code = (accepted-derives code, derives-accepted code)
-
--- the same of `accept`
-accepted-fine : (v : Verdict) (ss : List Section) → acceptedBy v ss ≡ sections ss → v ≡ fine
-unfolding acceptedBy
-accepted-fine fine ss e = refl
-accepted-fine (refused a k) ss e = let z : _≡_ {A = ℕ} 0 1 = cc in absurd (omega arith)
-
-pub accept-exactly : (code : List ℕ) → (accept code ≡ sections (sectionsIn code)) ↔ Derives code
-unfolding accept acceptedBy
-accept-exactly code =
-    ((λ e. accepted-derives code (accepted-fine (verdict code) (sectionsIn code) e)), (λ d. rw (derives-accepted code d)))

@@ -3,31 +3,45 @@
 use Prim.Native.Nat.{ℕ, zero, suc, _+_, _-_, _*_, _≤_}
 use native.Mathlib.Omega.{arith}
 use mathlib.Core.Path.{_≡_, refl, sym, ap, _∙_}
-use mathlib.Core.Bool.{Bool, true, false, not, and-false}
+use mathlib.Core.Bool.{Bool, true, false, cond, not, and-false, true≢false}
 use mathlib.Core.List.{List, [], _∷_, _++_, map, append-nil}
 use mathlib.Core.Logic.{_≢_}
 use mathlib.Core.Option.{none, some}
 use Prim.Native.String.{String}
 use lib.ListN.{length, take, drop, replicate, length-append, length-replicate}
 use lib.Seq.{take-at, drop-at, drop-append-add, take-length, drop-length}
-use lib.Dec.{T, eqb}
-use borrow.Author.Tests.{ne-eqb, eq-eqb, le-leb}
+use lib.Dec.{T, leb, eqb}
+use borrow.Author.Tests.{ne-eqb, eq-eqb, eqb-true, le-leb, not-true}
 use Rattle.lists.specs.Lists.{every, any, isEmpty, All}
-use Rattle.lists.proofs.Bools.{cond-left, cond-right}
+use Rattle.lists.proofs.Bools.{by-cases, cond-left, cond-right}
 use Rattle.calendar.specs.Names.{units}
-use Rattle.formats.specs.Tokens.{Token, literal, bare, run, elapsed, colour, condition, Letter, letterY, letterM, letterD, letterH, letterS, Elapsed, hours, minutes, seconds, Comparison, equal, less, greater, atMost, atLeast, unequal, Step, read, broken, before, leading, startsWith, same, quoted, marked, generalWord, halfDayWord, runAllowed, runStep, isDigit, digitOf, numberFrom, colourNames, namedFrom, noLeadingZero, colourDigits, numbered, elapsedInside, decimalsOf, wholeOf, signedOf, conditionInside, firstForm, insideOf, closed, bracketed, letter, firstRows, firstIn, bareLiterals, stepBy, stepAt}
-use Rattle.grammar.specs.Units.{Ended, WholeRun, Bracketed, ASCII-DIGIT, NFPartCompOper, oper-less, oper-at-most, oper-unequal, oper-equal, oper-greater, oper-at-least, NFPartIntNum, int-num, NFPartCondNum, cond-num-whole, cond-num-point, cond-num-minus, digit, NFPart1To56, one-digit, two-digits, fifty, fifties, INTL-COLOR, black, blue, cyan, green, magenta, red, white, yellow, BareLiteral, dollar, hyphen, plus, solidus, left-parenthesis, right-parenthesis, colon, exclamation, circumflex, ampersand, apostrophe, tilde, left-curly, right-curly, less-than, greater-than, equals, space, Spells, NFPartYear-2, NFPartYear-4, NFPartMonth, NFPartDay, NFPartHour, NFPartAbsHour, NFPartMinute, NFPartAbsMinute, NFPartSecond, NFPartAbsSecond, NFPartCond, NFPartColor-name, NFPartColor-number, NFPartNumToken1-number-sign, NFPartNumToken1-question-mark, NFPartNumToken1-zero, ASCII-PERCENT-SIGN, ASCII-COMMERCIAL-AT, ASCII-SEMICOLON, LITERAL-CHAR, LITERAL-CHAR-REPEAT, LITERAL-STRING, LITERAL-CHAR-SPACE, INTL-CHAR-DECIMAL-SEP, INTL-CHAR-NUMGRP-SEP, bare-literal, INTL-NUMFMT-GENERAL, INTL-AMPM-long, INTL-AMPM-short}
+use Rattle.formats.specs.Tokens.{Token, literal, bare, run, elapsed, colour, condition, Letter, letterY, letterM, letterD, letterH, letterS, Elapsed, hours, minutes, seconds, Comparison, equal, less, greater, atMost, atLeast, unequal, Step, read, broken, before, leading, startsWith, same, quoted, marked, generalWord, halfDayWord, runAllowed, runStep, isDigit, digitOf, numberFrom, colourNames, namedFrom, noLeadingZero, colourDigits, numbered, elapsedInside, decimalsOf, wholeOf, signedOf, conditionInside, firstForm, insideOf, closed, bracketed, FirstRow, letter, other, firstRows, firstIn, bareLiterals, stepBy, stepAt}
+use Rattle.formats.specs.Kinds.{isColour, colourIn}
+use Rattle.grammar.proofs.Tests.{every-parts}
+use Rattle.grammar.specs.Units.{Ended, WholeRun, Bracketed, ASCII-DIGIT, NFPartCompOper, oper-less, oper-at-most, oper-unequal, oper-equal, oper-greater, oper-at-least, NFPartIntNum, int-num, NFPartCondNum, cond-num-whole, cond-num-point, cond-num-minus, digit, NFPart1To56, one-digit, two-digits, fifty, fifties, INTL-COLOR, black, blue, cyan, green, magenta, red, white, yellow, BareLiteral, Spells, NFPartYear-2, NFPartYear-4, NFPartMonth, NFPartDay, NFPartHour, NFPartAbsHour, NFPartMinute, NFPartAbsMinute, NFPartSecond, NFPartAbsSecond, NFPartCond, NFPartColor-name, NFPartColor-number, NFPartNumToken1-number-sign, NFPartNumToken1-question-mark, NFPartNumToken1-zero, ASCII-PERCENT-SIGN, ASCII-COMMERCIAL-AT, ASCII-SEMICOLON, LITERAL-CHAR, LITERAL-CHAR-REPEAT, LITERAL-STRING, LITERAL-CHAR-SPACE, INTL-CHAR-DECIMAL-SEP, INTL-CHAR-NUMGRP-SEP, bare-literal, INTL-NUMFMT-GENERAL, INTL-AMPM-long, INTL-AMPM-short}
 
 -- the step from the first of the units
 abbrev pub stepOf : List ℕ → Step
 stepOf [] = broken
 stepOf (u ∷ us) = stepAt u us
 
+-- a colour is above 0: one that is 0 would stand for none
+abbrev pub colourShown : Token → Bool
+colourShown t = cond (isColour t) (leb 1 (colourIn t)) true
+
 -- lexing reads t at the front of us and leaves vs
 pub record Front (t : Token) (us vs : List ℕ) : Type 0 where
   pub more : ℕ
   pub step : stepOf us ≡ read t more
   pub left : drop (suc more) us ≡ vs
+  pub shown : colourShown t ≡ true
+
+abbrev pub letterUnit : Letter → ℕ
+letterUnit letterY = 121
+letterUnit letterM = 109
+letterUnit letterD = 100
+letterUnit letterH = 104
+letterUnit letterS = 115
 
 -- ---- units in front of others
 
@@ -62,28 +76,38 @@ not-whole q ws vs = ne-eqb (length ws) (length (ws ++ q ∷ vs)) (λ e. omega (a
 
 -- ---- runs
 
-run-front : (l : Letter) (u n : ℕ) (us vs : List ℕ) → firstIn firstRows u ≡ letter l → 1 ≤ n → runAllowed l n ≡ true
-    → WholeRun u n us vs → Front (run l n) us vs
+letter-first : (l : Letter) → firstIn firstRows (letterUnit l) ≡ letter l
+unfolding firstIn firstRows
+letter-first letterY = refl
+letter-first letterM = refl
+letter-first letterD = refl
+letter-first letterH = refl
+letter-first letterS = refl
+
+run-front : (l : Letter) (n : ℕ) (us vs : List ℕ) → 1 ≤ n → runAllowed l n ≡ true → WholeRun (letterUnit l) n us vs → Front (run l n) us vs
 unfolding stepAt stepBy runStep
-run-front l u zero us vs e h a r = absurd (omega arith)
-run-front l u (suc m) us vs e h a r =
+run-front l zero us vs h a r = absurd (omega arith)
+run-front l (suc m) us vs h a r =
+    let u = letterUnit l in
     let n : leading (eqb u) (replicate m u ++ vs) ≡ m
     = leading-all (eqb u) (replicate m u) vs (all-same u m) (leading-other u vs (r .ends)) ∙ length-replicate m u in
     record {
       more = m;
-      step = rw (r .stands, e, n, a);
+      step = rw (r .stands, letter-first l, n, a);
       left = rw (r .stands) (drop-at (replicate m u) vs m (length-replicate m u));
+      shown = refl;
     }
 
 -- ---- brackets
 
-bracket-front : (t : Token) (ws us vs : List ℕ) → All (λ (w : ℕ). w ≢ 93) ws → insideOf ws ≡ some t → Bracketed ws us vs → Front t us vs
+bracket-front : (t : Token) (ws us vs : List ℕ) → All (λ (w : ℕ). w ≢ 93) ws → insideOf ws ≡ some t → colourShown t ≡ true → Bracketed ws us vs → Front t us vs
 unfolding stepAt stepBy firstIn firstRows bracketed closed
-bracket-front t ws us vs a i e =
+bracket-front t ws us vs a i s e =
     record {
       more = suc (length ws);
       step = rw (e, before-all 93 ws vs a, not-whole 93 ws vs, take-at ws (93 ∷ vs) (length ws) refl, i);
       left = rw e (past 93 ws vs);
+      shown = s;
     }
 
 -- no name in front of these units
@@ -99,27 +123,17 @@ none-named n (name ∷ names) us t =
     not-so true t = absurd t
     not-so false t = refl
 
-named-inside : (n : ℕ) (ws : List ℕ) → INTL-COLOR n ws → insideOf ws ≡ some (colour n)
-unfolding insideOf firstForm namedFrom colourNames same startsWith units
-named-inside n ws black = refl
-named-inside n ws blue = refl
-named-inside n ws cyan = refl
-named-inside n ws green = refl
-named-inside n ws magenta = refl
-named-inside n ws red = refl
-named-inside n ws white = refl
-named-inside n ws yellow = refl
-
-named-open : (n : ℕ) (ws : List ℕ) → INTL-COLOR n ws → T (every (λ (w : ℕ). not (eqb w 93)) ws)
-unfolding every units
-named-open n ws black = tt
-named-open n ws blue = tt
-named-open n ws cyan = tt
-named-open n ws green = tt
-named-open n ws magenta = tt
-named-open n ws red = tt
-named-open n ws white = tt
-named-open n ws yellow = tt
+-- a colour's name: what it stands for, that no closing bracket is in it, and that its number is above 0
+named : (n : ℕ) (ws : List ℕ) → INTL-COLOR n ws → (insideOf ws ≡ some (colour n)) × T (every (λ (w : ℕ). not (eqb w 93)) ws) × (leb 1 n ≡ true)
+unfolding insideOf firstForm namedFrom colourNames same startsWith units every
+named n ws black = (refl, tt, refl)
+named n ws blue = (refl, tt, refl)
+named n ws cyan = (refl, tt, refl)
+named n ws green = (refl, tt, refl)
+named n ws magenta = (refl, tt, refl)
+named n ws red = (refl, tt, refl)
+named n ws white = (refl, tt, refl)
+named n ws yellow = (refl, tt, refl)
 
 -- ---- no closing bracket inside a bracket
 
@@ -188,26 +202,36 @@ number-open n ws (two-digits u v d e) = let a = d .1 in let b = e .1 in ((λ e. 
 number-open n ws fifty = ((λ e. omega arith), ((λ e. omega arith), tt))
 number-open n ws (fifties v d) = let b = d .1 in ((λ e. omega arith), ((λ e. omega arith), tt))
 
+number-shown : (n : ℕ) (ws : List ℕ) → NFPart1To56 n ws → leb 1 n ≡ true
+number-shown n ws (one-digit u d) = let a = d .0 in le-leb 1 n (omega arith)
+number-shown n ws (two-digits u v d e) = let a = d .0 in le-leb 1 n (omega arith)
+number-shown n ws fifty = refl
+number-shown n ws (fifties v d) = le-leb 1 n (omega arith)
+
 number-inside : (n : ℕ) (ws : List ℕ) → NFPart1To56 n ws → insideOf (units "Color" ++ ws) ≡ some (colour n)
 unfolding insideOf firstForm numbered startsWith units every colourNames
 number-inside n ws d = rw (none-named 1 colourNames (units "Color" ++ ws) tt, number-digits n ws d)
 
 -- ---- elapsed runs
 
-hours-inside : (n : ℕ) → insideOf (replicate (suc n) 104) ≡ some (elapsed hours (suc n))
+abbrev elapsedUnit : Elapsed → ℕ
+elapsedUnit hours = 104
+elapsedUnit minutes = 109
+elapsedUnit seconds = 115
+
+elapsed-inside : (x : Elapsed) (n : ℕ) → insideOf (replicate (suc n) (elapsedUnit x)) ≡ some (elapsed x (suc n))
 unfolding insideOf firstForm numbered startsWith units elapsedInside isEmpty every colourNames
-hours-inside n =
+elapsed-inside hours n =
     rw (none-named 1 colourNames (replicate (suc n) 104) tt, every-true (eqb 104) (replicate n 104) (all-same 104 n), length-replicate {A = ℕ} n 104)
-
-minutes-inside : (n : ℕ) → insideOf (replicate (suc n) 109) ≡ some (elapsed minutes (suc n))
-unfolding insideOf firstForm numbered startsWith units elapsedInside isEmpty every colourNames
-minutes-inside n =
+elapsed-inside minutes n =
     rw (none-named 1 colourNames (replicate (suc n) 109) tt, every-true (eqb 109) (replicate n 109) (all-same 109 n), length-replicate {A = ℕ} n 109)
-
-seconds-inside : (n : ℕ) → insideOf (replicate (suc n) 115) ≡ some (elapsed seconds (suc n))
-unfolding insideOf firstForm numbered startsWith units elapsedInside isEmpty every colourNames
-seconds-inside n =
+elapsed-inside seconds n =
     rw (none-named 1 colourNames (replicate (suc n) 115) tt, every-true (eqb 115) (replicate n 115) (all-same 115 n), length-replicate {A = ℕ} n 115)
+
+elapsed-open : (x : Elapsed) (n : ℕ) → Open (replicate n (elapsedUnit x))
+elapsed-open hours n = open-same 104 n (λ e. omega arith)
+elapsed-open minutes n = open-same 109 n (λ e. omega arith)
+elapsed-open seconds n = open-same 115 n (λ e. omega arith)
 
 -- ---- conditions
 
@@ -294,10 +318,9 @@ cond-open (cond-num-minus d) = ((λ e. omega arith), cond-open d)
 
 -- ---- each form of token
 
-elapsed-front : (e : Elapsed) (u n : ℕ) (us vs : List ℕ) → u ≢ 93 → ((m : ℕ) → insideOf (replicate (suc m) u) ≡ some (elapsed e (suc m))) → 1 ≤ n
-    → Bracketed (replicate n u) us vs → Front (elapsed e n) us vs
-elapsed-front e u zero us vs h i l b = absurd (omega arith)
-elapsed-front e u (suc m) us vs h i l b = bracket-front (elapsed e (suc m)) (replicate (suc m) u) us vs (open-same u (suc m) h) (i m) b
+elapsed-front : (x : Elapsed) (n : ℕ) (us vs : List ℕ) → 1 ≤ n → Bracketed (replicate n (elapsedUnit x)) us vs → Front (elapsed x n) us vs
+elapsed-front x zero us vs l b = absurd (omega arith)
+elapsed-front x (suc m) us vs l b = bracket-front (elapsed x (suc m)) (replicate (suc m) (elapsedUnit x)) us vs (elapsed-open x (suc m)) (elapsed-inside x m) refl b
 
 string-front : (u : ℕ) (ws us vs : List ℕ) → All (λ (w : ℕ). w ≢ 34) (u ∷ ws) → us ≡ 34 ∷ ((u ∷ ws) ++ 34 ∷ vs) → Front (literal (u ∷ ws)) us vs
 unfolding stepAt stepBy firstIn firstRows quoted
@@ -312,61 +335,55 @@ string-front u ws us vs a e =
         take-at (u ∷ ws) (34 ∷ vs) (suc (length ws)) refl,
       );
       left = rw e (past 34 (u ∷ ws) vs);
+      shown = refl;
     }
 
+-- a unit of these literals is in no row that starts another token
+no-row : (ls : List ℕ) (u : ℕ) → any (eqb u) ls ≡ true → (rs : List FirstRow) → every (λ (r : FirstRow). not (any (eqb (r .unit)) ls)) rs ≡ true → firstIn rs u ≡ other
+unfolding firstIn
+no-row ls u m [] e = refl
+no-row ls u m (r ∷ rs) e =
+    let (a, b) = every-parts (λ (r : FirstRow). not (any (eqb (r .unit)) ls)) r rs e in
+    by-cases (eqb (r .unit) u)
+    (λ h. absurd (true≢false (sym m ∙ ap (λ (v : ℕ). any (eqb v) ls) (sym (eqb-true (r .unit) u h)) ∙ not-true (any (eqb (r .unit)) ls) a)))
+    (λ h. rw h (no-row ls u m rs b))
+
 bare-step : {u : ℕ} (us : List ℕ) → BareLiteral u → stepAt u us ≡ read (bare u) 0
-unfolding stepAt stepBy firstIn firstRows any bareLiterals units
-bare-step us dollar = refl
-bare-step us hyphen = refl
-bare-step us plus = refl
-bare-step us solidus = refl
-bare-step us left-parenthesis = refl
-bare-step us right-parenthesis = refl
-bare-step us colon = refl
-bare-step us exclamation = refl
-bare-step us circumflex = refl
-bare-step us ampersand = refl
-bare-step us apostrophe = refl
-bare-step us tilde = refl
-bare-step us left-curly = refl
-bare-step us right-curly = refl
-bare-step us less-than = refl
-bare-step us greater-than = refl
-bare-step us equals = refl
-bare-step us space = refl
+unfolding stepAt stepBy firstRows any every bareLiterals units
+bare-step {u} us m = rw (no-row bareLiterals u m firstRows refl, m)
 
 pub spells-front : {t : Token} {us vs : List ℕ} → Spells t us vs → Front t us vs
-unfolding stepAt stepBy firstIn firstRows marked generalWord halfDayWord startsWith units runAllowed every
-spells-front {us = us} {vs = vs} (NFPartYear-2 r) = run-front letterY 121 2 us vs refl (omega arith) refl r
-spells-front {us = us} {vs = vs} (NFPartYear-4 r) = run-front letterY 121 4 us vs refl (omega arith) refl r
-spells-front {us = us} {vs = vs} (NFPartMonth {n = n} h k r) = run-front letterM 109 n us vs refl h (rw (le-leb 1 n h, le-leb n 5 k)) r
-spells-front {us = us} {vs = vs} (NFPartDay {n = n} h k r) = run-front letterD 100 n us vs refl h (rw (le-leb 1 n h, le-leb n 4 k)) r
-spells-front {us = us} {vs = vs} (NFPartHour {n = n} h k r) = run-front letterH 104 n us vs refl h (rw (le-leb 1 n h, le-leb n 2 k)) r
-spells-front {us = us} {vs = vs} (NFPartAbsHour {n = n} h b) = elapsed-front hours 104 n us vs (λ e. omega arith) hours-inside h b
-spells-front {us = us} {vs = vs} (NFPartMinute {n = n} h k r) = run-front letterM 109 n us vs refl h (rw (le-leb 1 n h, le-leb n 5 (omega arith))) r
-spells-front {us = us} {vs = vs} (NFPartAbsMinute {n = n} h b) = elapsed-front minutes 109 n us vs (λ e. omega arith) minutes-inside h b
-spells-front {us = us} {vs = vs} (NFPartSecond {n = n} h k r) = run-front letterS 115 n us vs refl h (rw (le-leb 1 n h, le-leb n 2 k)) r
-spells-front {us = us} {vs = vs} (NFPartAbsSecond {n = n} h b) = elapsed-front seconds 115 n us vs (λ e. omega arith) seconds-inside h b
+unfolding stepAt stepBy firstIn firstRows marked generalWord halfDayWord startsWith units runAllowed every colourIn
+spells-front {us = us} {vs = vs} (NFPartYear-2 r) = run-front letterY 2 us vs (omega arith) refl r
+spells-front {us = us} {vs = vs} (NFPartYear-4 r) = run-front letterY 4 us vs (omega arith) refl r
+spells-front {us = us} {vs = vs} (NFPartMonth {n = n} h k r) = run-front letterM n us vs h (rw (le-leb 1 n h, le-leb n 5 k)) r
+spells-front {us = us} {vs = vs} (NFPartDay {n = n} h k r) = run-front letterD n us vs h (rw (le-leb 1 n h, le-leb n 4 k)) r
+spells-front {us = us} {vs = vs} (NFPartHour {n = n} h k r) = run-front letterH n us vs h (rw (le-leb 1 n h, le-leb n 2 k)) r
+spells-front {us = us} {vs = vs} (NFPartAbsHour {n = n} h b) = elapsed-front hours n us vs h b
+spells-front {us = us} {vs = vs} (NFPartMinute {n = n} h k r) = run-front letterM n us vs h (rw (le-leb 1 n h, le-leb n 5 (omega arith))) r
+spells-front {us = us} {vs = vs} (NFPartAbsMinute {n = n} h b) = elapsed-front minutes n us vs h b
+spells-front {us = us} {vs = vs} (NFPartSecond {n = n} h k r) = run-front letterS n us vs h (rw (le-leb 1 n h, le-leb n 2 k)) r
+spells-front {us = us} {vs = vs} (NFPartAbsSecond {n = n} h b) = elapsed-front seconds n us vs h b
 spells-front {us = us} {vs = vs} (NFPartCond {os = os} {ns = ns} o d b) =
-    bracket-front _ (os ++ ns) us vs (open-append os ns (oper-open o) (cond-open d)) (condition-inside o d) b
+    bracket-front _ (os ++ ns) us vs (open-append os ns (oper-open o) (cond-open d)) (condition-inside o d) refl b
 spells-front {us = us} {vs = vs} (NFPartColor-name {n = n} {ws = ws} d b) =
-    bracket-front (colour n) ws us vs (open-from ws (named-open n ws d)) (named-inside n ws d) b
+    let (i, o, h) = named n ws d in bracket-front (colour n) ws us vs (open-from ws o) i h b
 spells-front {us = us} {vs = vs} (NFPartColor-number {n = n} {ws = ws} d b) =
     bracket-front (colour n) (units "Color" ++ ws) us vs
-    (open-append (units "Color") ws (open-from (units "Color") tt) (number-open n ws d)) (number-inside n ws d) b
-spells-front NFPartNumToken1-number-sign = record { more = 0; step = refl; left = refl }
-spells-front NFPartNumToken1-question-mark = record { more = 0; step = refl; left = refl }
-spells-front NFPartNumToken1-zero = record { more = 0; step = refl; left = refl }
-spells-front ASCII-PERCENT-SIGN = record { more = 0; step = refl; left = refl }
-spells-front ASCII-COMMERCIAL-AT = record { more = 0; step = refl; left = refl }
-spells-front ASCII-SEMICOLON = record { more = 0; step = refl; left = refl }
-spells-front LITERAL-CHAR = record { more = 1; step = refl; left = refl }
-spells-front LITERAL-CHAR-REPEAT = record { more = 1; step = refl; left = refl }
+    (open-append (units "Color") ws (open-from (units "Color") tt) (number-open n ws d)) (number-inside n ws d) (number-shown n ws d) b
+spells-front NFPartNumToken1-number-sign = record { more = 0; step = refl; left = refl; shown = refl }
+spells-front NFPartNumToken1-question-mark = record { more = 0; step = refl; left = refl; shown = refl }
+spells-front NFPartNumToken1-zero = record { more = 0; step = refl; left = refl; shown = refl }
+spells-front ASCII-PERCENT-SIGN = record { more = 0; step = refl; left = refl; shown = refl }
+spells-front ASCII-COMMERCIAL-AT = record { more = 0; step = refl; left = refl; shown = refl }
+spells-front ASCII-SEMICOLON = record { more = 0; step = refl; left = refl; shown = refl }
+spells-front LITERAL-CHAR = record { more = 1; step = refl; left = refl; shown = refl }
+spells-front LITERAL-CHAR-REPEAT = record { more = 1; step = refl; left = refl; shown = refl }
 spells-front {us = us} {vs = vs} (LITERAL-STRING {u = u} {ws = ws} a e) = string-front u ws us vs a e
-spells-front LITERAL-CHAR-SPACE = record { more = 1; step = refl; left = refl }
-spells-front INTL-CHAR-DECIMAL-SEP = record { more = 0; step = refl; left = refl }
-spells-front INTL-CHAR-NUMGRP-SEP = record { more = 0; step = refl; left = refl }
-spells-front {vs = vs} (bare-literal b) = record { more = 0; step = bare-step vs b; left = refl }
-spells-front (INTL-NUMFMT-GENERAL e) = record { more = 6; step = rw e; left = rw e }
-spells-front (INTL-AMPM-long e) = record { more = 4; step = rw e; left = rw e }
-spells-front (INTL-AMPM-short e) = record { more = 2; step = rw e; left = rw e }
+spells-front LITERAL-CHAR-SPACE = record { more = 1; step = refl; left = refl; shown = refl }
+spells-front INTL-CHAR-DECIMAL-SEP = record { more = 0; step = refl; left = refl; shown = refl }
+spells-front INTL-CHAR-NUMGRP-SEP = record { more = 0; step = refl; left = refl; shown = refl }
+spells-front {vs = vs} (bare-literal b) = record { more = 0; step = bare-step vs b; left = refl; shown = refl }
+spells-front (INTL-NUMFMT-GENERAL e) = record { more = 6; step = rw e; left = rw e; shown = refl }
+spells-front (INTL-AMPM-long e) = record { more = 4; step = rw e; left = rw e; shown = refl }
+spells-front (INTL-AMPM-short e) = record { more = 2; step = rw e; left = rw e; shown = refl }

@@ -13,7 +13,7 @@ use Rattle.formats.specs.Items.{Item, literal, blank, fill, place, point, perce
 use Rattle.formats.specs.Kinds.{lastFill}
 use Rattle.formats.specs.Limits.{elapsedShort}
 use Rattle.grammar.proofs.Tests.{no}
-use Rattle.formats.proofs.FormedItems.{settled-kept, places-lastFill, places-settled}
+use Rattle.formats.proofs.FormedItems.{settled-kept, count-settled, places-lastFill, places-settled}
 
 -- ---- fills left out, runs of m settled
 
@@ -46,11 +46,6 @@ every-settled : (f : Item → Bool) → ((n : ℕ) → f (minute n) ≡ f (month
 unfolding every settledFrom
 every-settled f g e [] = refl
 every-settled f g e (i ∷ is) = rw (settled-kept f g e (firstRun is) i, every-settled f g (nearer (runOf i) e) is)
-
-count-settled : (f : Item → Bool) → ((n : ℕ) → f (minute n) ≡ f (month n)) → (e : Run) (is : List Item) → count f (settledFrom e is) ≡ count f is
-unfolding count settledFrom
-count-settled f g e [] = refl
-count-settled f g e (i ∷ is) = rw (settled-kept f g e (firstRun is) i, count-settled f g (nearer (runOf i) e) is)
 
 -- a sort other than fill, month or minute is counted alike
 pub count-kept : (k : ℕ) → eqb 2 k ≡ false → eqb 12 k ≡ eqb 9 k → (is : List Item)

@@ -20,6 +20,7 @@ use Rattle.grammar.specs.Bodies.{Literals, NFGeneral, NFNumber, NFDateTi
 use Rattle.grammar.specs.Codes as codes
 use Rattle.grammar.specs.Codes.{OptColor, no-color, color, NFPartCond, OptCond, no-cond, some-cond, NFAny, any-number, any-text, any-date, any-general, any-literal, NFAnyNoText, no-text-number, no-text-date, no-text-general, no-text-literal, NFAnyNoCond, no-cond-number, no-cond-text, no-cond-date, no-cond-general, no-cond-literal, NFAnyNoTextNoCond, neither-number, neither-date, neither-general, neither-literal, Fourth, fourth-text, fourth-general, fourth-literal}
 use Rattle.grammar.proofs.Tests.{no, and-parts, every-parts}
+use Rattle.grammar.proofs.Fronts.{colourShown}
 use Rattle.grammar.proofs.Facts.{Fitting, fitting, fits-fitting, within-fitting}
 use Rattle.grammar.proofs.Plain.{views-body}
 use Rattle.grammar.proofs.PlainBodies.{body-plain, NoSemicolon, literals-views, general-views, text-views, derive-literals, literals-fit, derive-general, general-fits, derive-text, text-fits}
@@ -52,10 +53,6 @@ body-fits numberKind = number-fits
 body-fits literalKind = literals-fit
 
 -- ---- heads
-
--- a colour of 1 to 56: every colour that units spell is above 0
-abbrev pub colourShown : Token → Bool
-colourShown t = cond (isColour t) (leb 1 (colourIn t)) true
 
 data Colored : ℕ → List Token → List Token → Type 0 where
   uncolored : {ts : List Token} → Colored 0 ts ts

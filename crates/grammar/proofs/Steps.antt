@@ -8,16 +8,18 @@ use mathlib.Core.List.{List, [], _∷_, _++_, map, append-nil}
 use mathlib.Core.Logic.{_≢_}
 use mathlib.Core.Option.{Option, none, some}
 use Prim.Native.String.{String}
-use lib.ListN.{length, take, drop, replicate, take-append-drop}
+use lib.ListN.{length, take, drop, replicate, take-append-drop, drop-of-length-le}
+use lib.Seq.{length-take-le}
 use lib.Dec.{leb, eqb}
 use borrow.Author.Tests.{eqb-true, eqb-false, leb-true, leb-false, not-true}
 use Rattle.lists.specs.Lists.{every, any, isEmpty, All}
 use Rattle.lists.proofs.Bools.{by-cases, cond-case, or-false}
 use Rattle.calendar.specs.Names.{units}
-use Rattle.grammar.proofs.Fronts.{conditionToken}
+use Rattle.formats.proofs.Lexing.{number-grows, before-most, leading-most}
+use Rattle.grammar.proofs.Fronts.{letterUnit, conditionToken}
 use Rattle.grammar.proofs.Tests.{no, and-parts}
 use Rattle.formats.specs.Tokens.{Token, literal, blank, fill, run, elapsed, colour, Letter, letterY, letterM, letterD, letterH, letterS, Elapsed, hours, minutes, seconds, Comparison, equal, less, greater, atMost, atLeast, unequal, Step, read, broken, before, leading, startsWith, same, quoted, marked, generalWord, halfDayWord, runAllowed, runStep, isDigit, digitOf, numberFrom, colourNames, namedFrom, noLeadingZero, colourDigits, numbered, elapsedInside, decimalsOf, wholeOf, signedOf, conditionInside, firstForm, insideOf, closed, bracketed, First, FirstRow, other, firstRows, firstIn, bareLiterals, stepBy, stepAt}
-use Rattle.grammar.specs.Units.{Ended, WholeRun, Bracketed, ASCII-DIGIT, NFPartCompOper, oper-less, oper-at-most, oper-unequal, oper-equal, oper-greater, oper-at-least, NFPartIntNum, int-num, NFPartCondNum, cond-num-whole, cond-num-point, cond-num-minus, digit, NFPartNumber1To6, NFPartNumber1To9, NFPart1To56, one-digit, two-digits, fifty, fifties, INTL-COLOR, black, blue, cyan, green, magenta, red, white, yellow, BareLiteral, dollar, hyphen, plus, solidus, left-parenthesis, right-parenthesis, colon, exclamation, circumflex, ampersand, apostrophe, tilde, left-curly, right-curly, less-than, greater-than, equals, space, Spells, NFPartYear-2, NFPartYear-4, NFPartMonth, NFPartDay, NFPartHour, NFPartAbsHour, NFPartAbsMinute, NFPartSecond, NFPartAbsSecond, NFPartCond, NFPartColor-name, NFPartColor-number, NFPartNumToken1-number-sign, NFPartNumToken1-question-mark, NFPartNumToken1-zero, ASCII-PERCENT-SIGN, ASCII-COMMERCIAL-AT, ASCII-SEMICOLON, LITERAL-CHAR, LITERAL-CHAR-REPEAT, LITERAL-STRING, LITERAL-CHAR-SPACE, INTL-CHAR-DECIMAL-SEP, INTL-CHAR-NUMGRP-SEP, bare-literal, INTL-NUMFMT-GENERAL, INTL-AMPM-long, INTL-AMPM-short}
+use Rattle.grammar.specs.Units.{Ended, WholeRun, Bracketed, ASCII-DIGIT, NFPartCompOper, oper-less, oper-at-most, oper-unequal, oper-equal, oper-greater, oper-at-least, NFPartIntNum, int-num, NFPartCondNum, cond-num-whole, cond-num-point, cond-num-minus, digit, NFPartNumber1To6, NFPartNumber1To9, NFPart1To56, one-digit, two-digits, fifty, fifties, INTL-COLOR, black, blue, cyan, green, magenta, red, white, yellow, Spells, NFPartYear-2, NFPartYear-4, NFPartMonth, NFPartDay, NFPartHour, NFPartAbsHour, NFPartAbsMinute, NFPartSecond, NFPartAbsSecond, NFPartCond, NFPartColor-name, NFPartColor-number, NFPartNumToken1-number-sign, NFPartNumToken1-question-mark, NFPartNumToken1-zero, ASCII-PERCENT-SIGN, ASCII-COMMERCIAL-AT, ASCII-SEMICOLON, LITERAL-CHAR, LITERAL-CHAR-REPEAT, LITERAL-STRING, LITERAL-CHAR-SPACE, INTL-CHAR-DECIMAL-SEP, INTL-CHAR-NUMGRP-SEP, bare-literal, INTL-NUMFMT-GENERAL, INTL-AMPM-long, INTL-AMPM-short}
 
 -- ---- facts from tests
 
@@ -31,17 +33,12 @@ starts-with (w ∷ ws) (u ∷ us) e =
     (λ h. let r : us ≡ ws ++ drop (length ws) us = starts-with ws us (rw h at e) in rw (eqb-true w u h) (ap (_∷_ u) r))
     (λ h. no (rw h at e))
 
-whole-drop : (ws us : List ℕ) → length ws ≡ length us → drop (length ws) us ≡ []
-whole-drop [] [] e = refl
-whole-drop [] (u ∷ us) e = absurd (omega arith)
-whole-drop (w ∷ ws) [] e = refl
-whole-drop (w ∷ ws) (u ∷ us) e = whole-drop ws us (omega arith)
-
 same-eq : (ws us : List ℕ) → same ws us ≡ true → ws ≡ us
 unfolding same
 same-eq ws us e =
     let (l, s) = and-parts (eqb (length ws) (length us)) (startsWith ws us) e in
-    let d : drop (length ws) us ≡ [] = whole-drop ws us (eqb-true (length ws) (length us) l) in
+    let n = eqb-true (length ws) (length us) l in
+    let d : drop (length ws) us ≡ [] = drop-of-length-le us {i = length ws} (omega arith) in
     sym (starts-with ws us s ∙ (rw d (append-nil ws)))
 
 -- the units before the first q, and what follows
@@ -69,10 +66,8 @@ string-good : (ws us vs : List ℕ) → 0 < length ws → All (λ (w : ℕ). w �
 string-good [] us vs h a e = absurd (omega arith)
 string-good (w ∷ ws) us vs h a e = LITERAL-STRING a (ap (_∷_ 34) e)
 
-some-taken : (q : ℕ) (us : List ℕ) → before q us ≢ 0 → 0 < length (take (before q us) us)
-unfolding before
-some-taken q [] h = absurd (h refl)
-some-taken q (v ∷ vs) h = by-cases (eqb v q) (λ e. absurd (h (rw e))) (λ e. rw e (omega arith))
+some-taken : (n : ℕ) (us : List ℕ) → n ≤ length us → n ≢ 0 → 0 < length (take n us)
+some-taken n us h z = rw (length-take-le n us h) (omega arith)
 
 quoted-good : (us : List ℕ) → Good 34 us (quoted us)
 unfolding quoted
@@ -80,7 +75,7 @@ quoted-good us =
     cond-case (Good 34 us) (eqb (before 34 us) 0 || eqb (before 34 us) (length us)) (λ e. tt)
     (λ e.
     let (a, b) = or-false (eqb (before 34 us) 0) (eqb (before 34 us) (length us)) e in
-    string-good (take (before 34 us) us) us (drop (suc (before 34 us)) us) (some-taken 34 us (eqb-false (before 34 us) 0 a)) (before-none 34 us)
+    string-good (take (before 34 us) us) us (drop (suc (before 34 us)) us) (some-taken (before 34 us) us (before-most 34 us) (eqb-false (before 34 us) 0 a)) (before-none 34 us)
     (before-stands 34 us (eqb-false (before 34 us) (length us) b)))
 
 general-good : (us : List ℕ) → Good 71 us (generalWord (71 ∷ us))
@@ -114,38 +109,26 @@ leading-ends u (v ∷ vs) =
 whole-run : (u : ℕ) (us : List ℕ) → WholeRun u (suc (leading (eqb u) us)) (u ∷ us) (drop (leading (eqb u) us) us)
 whole-run u us = record { stands = ap (_∷_ u) (leading-same u us); ends = leading-ends u us }
 
-year-good : (n : ℕ) (us vs : List ℕ) → runAllowed letterY n ≡ true → WholeRun 121 n us vs → Spells (run letterY n) us vs
-unfolding runAllowed
-year-good n us vs a r =
-    by-cases (eqb n 2)
-    (λ e. let two : 2 ≡ n = sym (eqb-true n 2 e) in subst (λ (k : ℕ). Spells (run letterY k) us vs) two (NFPartYear-2 (rw (← two) at r)))
-    (λ e. let four : 4 ≡ n = sym (eqb-true n 4 (rw e at a)) in subst (λ (k : ℕ). Spells (run letterY k) us vs) four (NFPartYear-4 (rw (← four) at r)))
-
 bounds : (n k : ℕ) → (leb 1 n && leb n k) ≡ true → (1 ≤ n) × (n ≤ k)
 bounds n k a = let (l, m) = and-parts (leb 1 n) (leb n k) a in (leb-true 1 n l, leb-true n k m)
 
-run-good : (l : Letter) (u : ℕ) → ((n : ℕ) (us vs : List ℕ) → runAllowed l n ≡ true → WholeRun u n us vs → Spells (run l n) us vs)
-    → (us : List ℕ) → Good u us (runStep l u us)
+run-spelled : (l : Letter) (n : ℕ) (us vs : List ℕ) → runAllowed l n ≡ true → WholeRun (letterUnit l) n us vs → Spells (run l n) us vs
+unfolding runAllowed
+run-spelled letterY n us vs a r =
+    by-cases (eqb n 2)
+    (λ e. let two : 2 ≡ n = sym (eqb-true n 2 e) in subst (λ (k : ℕ). Spells (run letterY k) us vs) two (NFPartYear-2 (rw (← two) at r)))
+    (λ e. let four : 4 ≡ n = sym (eqb-true n 4 (rw e at a)) in subst (λ (k : ℕ). Spells (run letterY k) us vs) four (NFPartYear-4 (rw (← four) at r)))
+run-spelled letterM n us vs a r = let (h, k) = bounds n 5 a in NFPartMonth h k r
+run-spelled letterD n us vs a r = let (h, k) = bounds n 4 a in NFPartDay h k r
+run-spelled letterH n us vs a r = let (h, k) = bounds n 2 a in NFPartHour h k r
+run-spelled letterS n us vs a r = let (h, k) = bounds n 2 a in NFPartSecond h k r
+
+run-good : (l : Letter) (us : List ℕ) → Good (letterUnit l) us (runStep l (letterUnit l) us)
 unfolding runStep
-run-good l u f us =
+run-good l us =
+    let u = letterUnit l in
     let n = leading (eqb u) us in
-    cond-case (Good u us) (runAllowed l (suc n)) (λ e. f (suc n) (u ∷ us) (drop n us) e (whole-run u us)) (λ e. tt)
-
-month-good : (n : ℕ) (us vs : List ℕ) → runAllowed letterM n ≡ true → WholeRun 109 n us vs → Spells (run letterM n) us vs
-unfolding runAllowed
-month-good n us vs a r = let (h, k) = bounds n 5 a in NFPartMonth h k r
-
-day-good : (n : ℕ) (us vs : List ℕ) → runAllowed letterD n ≡ true → WholeRun 100 n us vs → Spells (run letterD n) us vs
-unfolding runAllowed
-day-good n us vs a r = let (h, k) = bounds n 4 a in NFPartDay h k r
-
-hour-good : (n : ℕ) (us vs : List ℕ) → runAllowed letterH n ≡ true → WholeRun 104 n us vs → Spells (run letterH n) us vs
-unfolding runAllowed
-hour-good n us vs a r = let (h, k) = bounds n 2 a in NFPartHour h k r
-
-second-good : (n : ℕ) (us vs : List ℕ) → runAllowed letterS n ≡ true → WholeRun 115 n us vs → Spells (run letterS n) us vs
-unfolding runAllowed
-second-good n us vs a r = let (h, k) = bounds n 2 a in NFPartSecond h k r
+    cond-case (Good u us) (runAllowed l (suc n)) (λ e. run-spelled l (suc n) (u ∷ us) (drop n us) e (whole-run u us)) (λ e. tt)
 
 -- ---- brackets
 
@@ -185,11 +168,6 @@ digit-facts (w ∷ ws) e =
     by-cases (isDigit w)
     (λ h. (digit-fact w h, digit-facts ws (rw h at e)))
     (λ h. no (rw h at e))
-
-number-grows : (v : ℕ) (ds : List ℕ) → v ≤ numberFrom v ds
-unfolding numberFrom
-number-grows v [] = omega arith
-number-grows v (d ∷ ds) = omega (arith, number-grows (10 * v + d) ds)
 
 two-good : (u v : ℕ) → NFPartNumber1To9 u → ASCII-DIGIT v → 10 * digit u + digit v ≤ 56 → NFPart1To56 (10 * digit u + digit v) (u ∷ v ∷ [])
 two-good u v a b h =
@@ -295,18 +273,13 @@ leading-digits [] = tt
 leading-digits (v ∷ vs) =
     cond-case (λ (n : ℕ). All ASCII-DIGIT (take n (v ∷ vs))) (isDigit v) (λ e. (digit-fact v e, leading-digits vs)) (λ e. tt)
 
-leading-some : (us : List ℕ) → leading isDigit us ≢ 0 → 0 < length (take (leading isDigit us) us)
-unfolding leading
-leading-some [] h = absurd (h refl)
-leading-some (v ∷ vs) h = by-cases (isDigit v) (λ e. rw e (omega arith)) (λ e. absurd (h (rw e)))
-
 whole-good : (c : Comparison) (negative : Bool) (ns : List ℕ) → Number c negative ns (wholeOf c negative ns)
 unfolding wholeOf
 whole-good c negative ns =
     let n = leading isDigit ns in
     cond-case (Number c negative ns) (eqb n 0) (λ e. tt)
     (λ e.
-    let d : NFPartIntNum (take n ns) = int-good (take n ns) (leading-some ns (eqb-false n 0 e)) (leading-digits ns) in
+    let d : NFPartIntNum (take n ns) = int-good (take n ns) (some-taken n ns (leading-most isDigit ns) (eqb-false n 0 e)) (leading-digits ns) in
     rw (take-append-drop n ns) at (decimals-good c negative (take n ns) (drop n ns) d))
 
 -- a condition with its operator os and its number ns, which is ms with its sign
@@ -366,56 +339,12 @@ first-case P [] u a o = o
 first-case P (r ∷ rs) u a o =
     cond-case (P u) (eqb (r .unit) u) (λ e. rw (eqb-true (r .unit) u e) at (a .0)) (λ e. first-case P rs u (a .1) o)
 
-any-case : (P : ℕ → Type 0) (ws : List ℕ) (u : ℕ) → All P ws → any (eqb u) ws ≡ true → P u
-unfolding any
-any-case P [] u a e = no e
-any-case P (w ∷ ws) u a e =
-    by-cases (eqb u w) (λ h. rw (eqb-true u w h) (a .0)) (λ h. any-case P ws u (a .1) (rw h at e))
-
-bare-literals : All BareLiteral bareLiterals
-unfolding bareLiterals units
-bare-literals = (
-  dollar,
-  (
-    hyphen,
-    (
-      plus,
-      (
-        solidus,
-        (
-          left-parenthesis,
-          (
-            right-parenthesis,
-            (
-              colon,
-              (
-                exclamation,
-                (
-                  circumflex,
-                  (
-                    ampersand,
-                    (
-                      apostrophe,
-                      (tilde, (left-curly, (right-curly, (less-than, (greater-than, (equals, (space, tt))))))),
-                    ),
-                  ),
-                ),
-              ),
-            ),
-          ),
-        ),
-      ),
-    ),
-  ),
-)
-
 abbrev FirstGood : ℕ → First → Type 0
 FirstGood u f = (us : List ℕ) → Good u us (stepBy f u us)
 
 bare-good : (u : ℕ) → FirstGood u other
-unfolding stepBy
-bare-good u us =
-    cond-case (Good u us) (any (eqb u) bareLiterals) (λ e. bare-literal (any-case BareLiteral bareLiterals u bare-literals e)) (λ e. tt)
+unfolding stepBy bareLiterals
+bare-good u us = cond-case (Good u us) (any (eqb u) bareLiterals) (λ e. bare-literal e) (λ e. tt)
 
 -- a mark and the unit behind it
 marked-good : (u : ℕ) (f : ℕ → Token) → ((v : ℕ) (us : List ℕ) → Spells (f v) (u ∷ v ∷ us) us) → (us : List ℕ) → Good u us (marked f us)
@@ -423,70 +352,32 @@ unfolding marked
 marked-good u f g [] = tt
 marked-good u f g (v ∷ us) = g v us
 
-rows-good : All (λ (r : FirstRow). FirstGood (r .unit) (r .first)) firstRows
+abbrev RowGood : FirstRow → Type 0
+RowGood r = FirstGood (r .unit) (r .first)
+
+-- the rows of the table, from the last ones on
+signs-good : All RowGood (drop 16 firstRows)
 unfolding firstRows stepBy
-rows-good = (
-  quoted-good,
-  (
-    marked-good 92 _ (λ v us. LITERAL-CHAR),
-    (
-      marked-good 95 blank (λ v us. LITERAL-CHAR-SPACE),
-      (
-        marked-good 42 fill (λ v us. LITERAL-CHAR-REPEAT),
-        (
-          bracketed-good,
-          (
-            general-good,
-            (
-              half-good,
-              (
-                run-good letterY 121 year-good,
-                (
-                  run-good letterM 109 month-good,
-                  (
-                    run-good letterD 100 day-good,
-                    (
-                      run-good letterH 104 hour-good,
-                      (
-                        run-good letterS 115 second-good,
-                        (
-                          (λ us. NFPartNumToken1-zero),
-                          (
-                            (λ us. NFPartNumToken1-number-sign),
-                            (
-                              (λ us. NFPartNumToken1-question-mark),
-                              (
-                                (λ us. INTL-CHAR-DECIMAL-SEP),
-                                (
-                                  (λ us. INTL-CHAR-NUMGRP-SEP),
-                                  (
-                                    (λ us. ASCII-PERCENT-SIGN),
-                                    (
-                                      (λ us. ASCII-COMMERCIAL-AT),
-                                      ((λ us. ASCII-SEMICOLON), tt),
-                                    ),
-                                  ),
-                                ),
-                              ),
-                            ),
-                          ),
-                        ),
-                      ),
-                    ),
-                  ),
-                ),
-              ),
-            ),
-          ),
-        ),
-      ),
-    ),
-  ),
-)
+signs-good = ((λ us. INTL-CHAR-NUMGRP-SEP), ((λ us. ASCII-PERCENT-SIGN), ((λ us. ASCII-COMMERCIAL-AT), ((λ us. ASCII-SEMICOLON), tt))))
+
+places-good : All RowGood (drop 12 firstRows)
+unfolding firstRows stepBy
+places-good =
+    ((λ us. NFPartNumToken1-zero), ((λ us. NFPartNumToken1-number-sign), ((λ us. NFPartNumToken1-question-mark), ((λ us. INTL-CHAR-DECIMAL-SEP), signs-good))))
+
+words-good : All RowGood (drop 4 firstRows)
+unfolding firstRows stepBy
+words-good =
+    (bracketed-good, (general-good, (half-good, (run-good letterY, (run-good letterM, (run-good letterD, (run-good letterH, (run-good letterS, places-good))))))))
+
+marks-good : All RowGood (drop 1 firstRows)
+unfolding firstRows stepBy
+marks-good =
+    (marked-good 92 _ (λ v us. LITERAL-CHAR), (marked-good 95 blank (λ v us. LITERAL-CHAR-SPACE), (marked-good 42 fill (λ v us. LITERAL-CHAR-REPEAT), words-good)))
 
 step-good : (u : ℕ) (us : List ℕ) → Good u us (stepAt u us)
-unfolding stepAt
-step-good u us = first-case FirstGood firstRows u rows-good (bare-good u) us
+unfolding stepAt firstRows stepBy
+step-good u us = first-case FirstGood firstRows u (quoted-good, marks-good) (bare-good u) us
 
 pub step-spells : (u : ℕ) (us : List ℕ) (t : Token) (more : ℕ) → stepAt u us ≡ read t more → Spells t (u ∷ us) (drop more us)
 step-spells u us t more e = subst (Good u us) e (step-good u us)

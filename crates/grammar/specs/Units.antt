@@ -7,7 +7,8 @@ use mathlib.Core.List.{List, [], _∷_, _++_, map}
 use mathlib.Core.Logic.{_≢_}
 use mathlib.Core.Path.{_≡_}
 use lib.ListN.{replicate}
-use Rattle.lists.specs.Lists.{All}
+use lib.Dec.{eqb}
+use Rattle.lists.specs.Lists.{any, All}
 use Rattle.calendar.specs.Names.{units}
 use Rattle.formats.specs.Tokens.{Token, literal, bare, blank, fill, place, point, comma, percent, at, semicolon, general, half, run, elapsed, colour, condition, zeroPlace, hashPlace, spacePlace, letterY, letterM, letterD, letterH, letterS, hours, minutes, seconds, short, long, Comparison, equal, less, greater, atMost, atLeast, unequal}
 
@@ -92,25 +93,8 @@ pub data INTL-COLOR : ℕ → List ℕ → Type 0 where
 -- ---- tokens
 
 -- added, "Literals without quotes: `$ - + / ( ) : ! ^ & ' ~ { } < > =` and space"
-pub data BareLiteral : ℕ → Type 0 where
-  dollar : BareLiteral (code "$")
-  hyphen : BareLiteral (code "-")
-  plus : BareLiteral (code "+")
-  solidus : BareLiteral (code "/")
-  left-parenthesis : BareLiteral (code "(")
-  right-parenthesis : BareLiteral (code ")")
-  colon : BareLiteral (code ":")
-  exclamation : BareLiteral (code "!")
-  circumflex : BareLiteral (code "^")
-  ampersand : BareLiteral (code "&")
-  apostrophe : BareLiteral (code "'")
-  tilde : BareLiteral (code "~")
-  left-curly : BareLiteral (code "{")
-  right-curly : BareLiteral (code "}")
-  less-than : BareLiteral (code "<")
-  greater-than : BareLiteral (code ">")
-  equals : BareLiteral (code "=")
-  space : BareLiteral (code " ")
+abbrev pub BareLiteral : ℕ → Type 0
+BareLiteral u = any (eqb u) (units "$-+/():!^&'~{}<>= ") ≡ true
 
 -- a token, the units that begin with it, the units that are left
 pub data Spells : Token → List ℕ → List ℕ → Type 0 where

@@ -26,7 +26,7 @@ use Rattle.lexing.specs.Scan.{member}
 use Rattle.marks.specs.Marks.{writtenOr, writtenIn, conditionOf, markToken, markRows}
 use Rattle.lexing.specs.Marks.{stepBehind, insideMeant, plainInside}
 use Rattle.lexing.specs.Brackets.{colourMeant, isRunOf, isWide, isNarrow, isPointed}
-use Rattle.formats.proofs.Lexing.{leading-most, word-most}
+use Rattle.formats.proofs.Lexing.{number-grows, leading-most, word-most}
 use Rattle.lexing.proofs.Scanning.{before-leading, every-leading}
 
 -- ---- named colours
@@ -65,11 +65,6 @@ number-two [] h = absurd (omega arith)
 number-two (u ∷ []) h = absurd (omega arith)
 number-two (u ∷ v ∷ []) h = omega arith
 number-two (u ∷ v ∷ w ∷ us) h = absurd (omega arith)
-
-number-least : (v : ℕ) (ds : List ℕ) → v ≤ numberFrom v ds
-unfolding numberFrom
-number-least v [] = omega arith
-number-least v (d ∷ ds) = omega (arith, number-least (10 * v + d) ds)
 
 -- the test of a colour's digits
 abbrev digitsTest : List ℕ → Bool
@@ -115,7 +110,7 @@ module _ (us : List ℕ) where
       large (u ∷ []) h k b m = omega arith
       large (u ∷ v ∷ []) h k b m = omega arith
       large (u ∷ v ∷ w ∷ vs) h k b m =
-          let least = number-least (10 * (10 * (10 * 0 + (u - 48)) + (v - 48)) + (w - 48)) (map digitOf vs) in
+          let least = number-grows (10 * (10 * (10 * 0 + (u - 48)) + (v - 48)) + (w - 48)) (map digitOf vs) in
           let first : 49 ≤ u = omega arith in
           omega arith
 
