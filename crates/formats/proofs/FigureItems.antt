@@ -6,7 +6,7 @@ use native.Mathlib.Nat.{div-eq-of-lt}
 use native.Mathlib.Omega.{arith}
 use mathlib.Core.Bool.{Bool, true, false, cond, true≢false}
 use mathlib.Core.List.{List, [], _∷_, _++_, map, append-assoc, flatten}
-use borrow.Author.Tests.{eqb-true, ltb-true, lt-ltb, eq-eqb, ne-eqb}
+use borrow.Author.Tests.{eqb-true, eqb-false, ltb-true, lt-ltb, eq-eqb, ne-eqb}
 use lib.Dec.{eqb, ltb}
 use Rattle.lists.specs.Lists.{any, count}
 use Rattle.lists.proofs.Bools.{by-cases}
@@ -169,50 +169,10 @@ module _ (c : Context) where
       let noPoint : any isPoint is ≡ false = by-cases (any isPoint is) (λ e. absurd (omega (arith, any-count isPoint is e))) (λ e. e) in
       decimals-read is 15 0 (15 - count isPlace is) (omega arith) noPoint (omega arith) none
 
-  -- behind the first integer place, where k integer places are left: the digits above theirs have been read
-  abbrev Later : List Item → Type 0
-  Later is = (k : ℕ) → k ≡ integerPlaces is → k < c .integerPlaces → count isPoint is ≤ 1 → decimalPlaces is ≤ 15
-      → c .figures % 10 ^ (15 - decimalPlaces is) ≡ 0
-      → Counts (readFrom false (c .figures / 10 ^ (15 + k)) 1 (figuresShown c (14 + k) is)) (c .figures)
-
-  later-point : (is : List Item) → Later (point ∷ is)
-  unfolding readFrom isDigit figurePieces itemPieces itemUnits pointUnits digitAfter count integerPlaces decimalPlaces
-  later-point is k places before onePoint most none =
-      rw (places, ne-eqb (c .integerPlaces) 0 (λ e. omega arith)) (behind-point is (omega arith) most none)
-
-  later-place : (p : Place) (is : List Item) → Later is → Later (place p ∷ is)
-  unfolding figurePieces itemPieces itemUnits digitAfter count integerPlaces decimalPlaces
-  later-place p is rest zero places before onePoint most none = absurd (omega arith)
-  later-place p is rest (suc k) places before onePoint most none =
-      let q : ℕ = 15 + k in
-      let e : 14 + suc k ≡ q = omega arith in
-      let f : 15 + suc k ≡ suc q = omega arith in
-      let g : q - 1 ≡ 14 + k = omega arith in
-      rw (
-        e,
-        f,
-        place-later p q (λ h. omega arith),
-        g,
-        figure-read (c .figures) (c .grouped) p q (figuresShown c (14 + k) is) (omega arith),
-      )
-      (rest k (omega arith) (omega arith) onePoint most none)
-
-  later-read : (is : List Item) → Later is
-  unfolding readFrom figurePieces itemPieces itemUnits digitAfter count integerPlaces decimalPlaces
-  later-read [] = λ k places before onePoint most none. rw places (omega arith)
-  later-read (i ∷ is) =
-      item-case (λ (j : Item). Later (j ∷ is))
-      (λ p. later-place p is (later-read is))
-      (later-point is)
-      (λ j notPlace notPoint other. rw (notPlace, notPoint) (later-read is))
-      i
-
-  -- up to the first integer place, or to the point: nothing has been read
   module _ (small : c .figures < 10 ^ 40) (most : c .integerPlaces ≤ 20) where
-    abbrev First : List Item → Type 0
-    First is = integerPlaces is ≡ c .integerPlaces → any isPlace is ≡ true → count isPoint is ≤ 1 → decimalPlaces is ≤ 15
-        → c .figures % 10 ^ (15 - decimalPlaces is) ≡ 0
-        → Counts (readFrom false 0 1 (figuresShown c (14 + c .integerPlaces) is)) (c .figures)
+    -- what has been read where k integer places are left: nothing before the first, and then the digits above theirs
+    abbrev seen : ℕ → ℕ
+    seen k = cond (eqb (c .integerPlaces) k) 0 (c .figures / 10 ^ (15 + k))
 
     -- the digits beyond the places
     beyond : (q : ℕ) (us : List ℕ) → 14 ≤ q → q < 40 → readFrom false 0 1 (unitsBeyond c q ++ us) ≡ readFrom false (c .figures / 10 ^ suc q) 1 us
@@ -223,47 +183,55 @@ module _ (c : Context) where
         ap (λ (v : ℕ). readFrom false v 1 (unitsBeyond c q ++ us)) (sym f)
         ∙ extra-read n (c .grouped) (suc q) (firstDigit - q) us (omega arith)
 
-    first-point : (is : List Item) → First (point ∷ is)
-    unfolding readFrom isDigit figurePieces itemPieces itemUnits pointUnits digitAfter count integerPlaces decimalPlaces
-    first-point is places some onePoint bound none =
-        let e : 14 + c .integerPlaces ≡ 14 = omega arith in
-        let us : List ℕ = figuresShown c 14 is in
-        rw (
-          eq-eqb (c .integerPlaces) 0 (sym places),
-          e,
-          append-assoc (unitsBeyond c firstDecimal) (46 ∷ []) us,
-          beyond firstDecimal (46 ∷ us) (omega arith) (omega arith),
-        )
-        (behind-point is (omega arith) bound none)
+    point-read : (us : List ℕ) → readFrom false (seen 0) 1 (pointUnits c ++ us) ≡ readFrom true (c .figures / 10 ^ 15) 1 us
+    unfolding readFrom isDigit pointUnits
+    point-read us =
+        by-cases (eqb (c .integerPlaces) 0)
+        (λ e. rw (e, append-assoc (unitsBeyond c firstDecimal) (46 ∷ []) us) (beyond firstDecimal (46 ∷ us) (omega arith) (omega arith)))
+        (λ e. rw e)
 
-    first-place : (p : Place) (is : List Item) → First (place p ∷ is)
-    unfolding figurePieces itemPieces itemUnits digitAfter count integerPlaces decimalPlaces
-    first-place p is places some onePoint bound none =
-        let n : ℕ = c .figures in
-        let k : ℕ = integerPlaces is in
+    place-read : (p : Place) (k : ℕ) (us : List ℕ) → k < c .integerPlaces
+        → readFrom false (seen (suc k)) 1 (placeUnits c p (15 + k) ++ us) ≡ readFrom false (c .figures / 10 ^ (15 + k)) 1 us
+    place-read p k us h =
         let q : ℕ = 15 + k in
-        let e : 14 + c .integerPlaces ≡ q = omega arith in
-        let g : q - 1 ≡ 14 + k = omega arith in
-        let rest : List ℕ = figuresShown c (14 + k) is in
-        let here : List ℕ = figureUnits n (c .grouped) p q in
-        rw (
-          e,
-          place-first p q (omega arith) (omega arith),
-          g,
-          append-assoc (unitsBeyond c q) here rest,
-          beyond q (here ++ rest) (omega arith) (omega arith),
-          figure-read n (c .grouped) p q rest (omega arith),
-        )
-        (later-read is k refl (omega arith) onePoint bound none)
+        let here : List ℕ = figureUnits (c .figures) (c .grouped) p q in
+        let f : 15 + suc k ≡ suc q = omega arith in
+        let digit-here : readFrom false (c .figures / 10 ^ suc q) 1 (here ++ us) ≡ readFrom false (c .figures / 10 ^ q) 1 us =
+        figure-read (c .figures) (c .grouped) p q us (omega arith) in
+        by-cases (eqb (c .integerPlaces) (suc k))
+        (λ e.
+        let first : c .integerPlaces ≡ suc k = eqb-true (c .integerPlaces) (suc k) e in
+        rw (e, place-first p q (omega arith) (omega arith), append-assoc (unitsBeyond c q) here us)
+        (beyond q (here ++ us) (omega arith) (omega arith) ∙ digit-here))
+        (λ e.
+        let other : c .integerPlaces ≡ suc k → ⊥ = eqb-false (c .integerPlaces) (suc k) e in
+        rw (e, f, place-later p q (λ some. omega arith)) digit-here)
 
-    first-read : (is : List Item) → First is
-    unfolding figurePieces itemPieces itemUnits digitAfter any count integerPlaces decimalPlaces
-    first-read [] = λ places some onePoint bound none. absurd (true≢false (sym some))
-    first-read (i ∷ is) =
-        item-case (λ (j : Item). First (j ∷ is))
-        (λ p. first-place p is)
-        (first-point is)
-        (λ j notPlace notPoint other. rw (notPlace, notPoint) (first-read is))
+    abbrev Integers : List Item → Type 0
+    Integers is = (k : ℕ) → k ≡ integerPlaces is → k ≤ c .integerPlaces → (eqb (c .integerPlaces) k ≡ true → any isPlace is ≡ true)
+        → count isPoint is ≤ 1 → decimalPlaces is ≤ 15 → c .figures % 10 ^ (15 - decimalPlaces is) ≡ 0
+        → Counts (readFrom false (seen k) 1 (figuresShown c (14 + k) is)) (c .figures)
+
+    integers-place : (p : Place) (is : List Item) → Integers is → Integers (place p ∷ is)
+    unfolding figurePieces itemPieces itemUnits digitAfter count integerPlaces decimalPlaces
+    integers-place p is rest zero places before some onePoint bound none = absurd (omega arith)
+    integers-place p is rest (suc k) places before some onePoint bound none =
+        let e : 14 + suc k ≡ 15 + k = omega arith in
+        let g : 15 + k - 1 ≡ 14 + k = omega arith in
+        let later : eqb (c .integerPlaces) k ≡ false = ne-eqb (c .integerPlaces) k (λ f. omega arith) in
+        rw (e, g, place-read p k (figuresShown c (14 + k) is) (omega arith))
+        (rw later at (rest k (omega arith) (omega arith) (λ z. absurd (true≢false (sym z ∙ later))) onePoint bound none))
+
+    integers-read : (is : List Item) → Integers is
+    unfolding readFrom figurePieces itemPieces itemUnits digitAfter any count integerPlaces decimalPlaces
+    integers-read [] = λ k places before some onePoint bound none.
+        by-cases (eqb (c .integerPlaces) k) (λ e. absurd (true≢false (sym (some e)))) (λ e. rw (e, places) (omega arith))
+    integers-read (i ∷ is) =
+        item-case (λ (j : Item). Integers (j ∷ is))
+        (λ p. integers-place p is (integers-read is))
+        (λ k places before some onePoint bound none.
+        rw (places, point-read (figuresShown c 14 is)) (behind-point is (omega arith) bound none))
+        (λ j notPlace notPoint other. rw (notPlace, notPoint) (integers-read is))
         i
 
 -- the figure pieces that a number section shows, read, are that number, a count of 10^-15
@@ -272,4 +240,6 @@ pub figures-read : (c : Context) (is : List Item) → c .figures < 10 ^ 40 → c
     → c .figures % 10 ^ (15 - decimalPlaces is) ≡ 0 → Counts (unitsRead (figurePieces is (itemPieces c (14 + c .integerPlaces) is))) (c .figures)
 unfolding unitsRead
 figures-read c is small places integers decimals onePoint kind none =
-    first-read c small (omega arith) is (sym places) (number-place is kind) onePoint decimals none
+    let k : ℕ = c .integerPlaces in
+    rw (eq-eqb k k refl)
+    at (integers-read c small (omega arith) is k places (omega arith) (λ e. number-place is kind) onePoint decimals none)
