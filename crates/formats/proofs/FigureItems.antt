@@ -6,7 +6,7 @@ use native.Mathlib.Nat.{div-eq-of-lt}
 use native.Mathlib.Omega.{arith}
 use mathlib.Core.Bool.{Bool, true, false, cond, true≢false}
 use mathlib.Core.List.{List, [], _∷_, _++_, map, append-assoc, flatten}
-use borrow.Author.Tests.{eqb-true, eqb-false, ltb-true, lt-ltb, eq-eqb, ne-eqb}
+use borrow.Author.Tests.{eqb-true, eqb-false, ltb-true, lt-ltb, lt-leb, eq-eqb, ne-eqb}
 use lib.Dec.{eqb, ltb}
 use Rattle.lists.specs.Lists.{any, count}
 use Rattle.lists.proofs.Bools.{by-cases}
@@ -14,9 +14,9 @@ use Rattle.lists.proofs.Counts.{any-count}
 use Rattle.figures.proofs.Digits.{mod-next}
 use Rattle.formats.specs.Tokens.{Place, isDigit}
 use Rattle.formats.specs.Items.{Item, literal, blank, fill, place, point, percent, general, at, year, month, day, hour, minute, second, part, elapsed, half, Kind, textKind, generalKind, dateKind, numberKind, literalKind, sameKind, kindFrom, itemMakes, itemsKind, isPlace, isPoint, integerPlaces, decimalPlaces}
-use Rattle.formats.specs.Text.{Context, firstDigit, firstDecimal, figureUnits, unitsBeyond, placeUnits, pointUnits, itemUnits, digitAfter, itemsUnits}
+use Rattle.formats.specs.Text.{Context, firstDigit, firstDecimal, insignificant, figureUnits, unitsBeyond, placeUnits, pointUnits, itemUnits, digitAfter, itemsUnits}
 use Rattle.formats.specs.Figures.{readFrom, unitsRead, Counts, figurePieces}
-use Rattle.formats.proofs.FigureUnits.{digit-in, figure-read, extra-read, decimal-units, idle-nought, cut-exact}
+use Rattle.formats.proofs.FigureUnits.{digit-in, figure-aside, figure-read, extra-read, idle-nought, cut-exact}
 
 -- the pieces of a section's text, one an item
 unfoldable pub itemPieces : Context → ℕ → List Item → List (List ℕ)
@@ -79,15 +79,13 @@ number-place is e =
     sym (any-makes is)
     ∙ number-last (any (sameKind textKind) ks) (any (sameKind generalKind) ks) (any (sameKind dateKind) ks) (any (sameKind numberKind) ks) e
 
--- a number without a digit below a place has none below the next lower one
-lower : (n q : ℕ) → n % 10 ^ suc q ≡ 0 → n % 10 ^ q ≡ 0
-lower n q e = omega (arith, mod-next n q)
+-- what has been read behind j decimals, where k digits of n are left: n itself where these are noughts, else the digits above them
+record Behind (n k j v w : ℕ) : Type 0 where
+  exact : n % 10 ^ k ≡ 0 → v * 10 ^ 15 ≡ n * w
+  digits : (n % 10 ^ k ≡ 0 → ⊥) → (v ≡ n / 10 ^ k) × (w ≡ 10 ^ j)
 
-lower-next : (n q : ℕ) → n % 10 ^ suc q ≡ 0 → n % 10 ^ suc (q - 1) ≡ 0
-lower-next n zero e = e
-lower-next n (suc q) e =
-    let f : suc (suc q - 1) ≡ suc q = omega arith in
-    rw f (lower n (suc q) e)
+behind : (n k j : ℕ) → k + j ≡ 15 → Behind n k j (n / 10 ^ k) (10 ^ j)
+behind n k j sum = record { exact = cut-exact n k j sum; digits = λ some. (refl, refl) }
 
 module _ (c : Context) where
   -- a place that is not the first integer place
@@ -106,59 +104,44 @@ module _ (c : Context) where
   unfolding placeUnits
   place-first p q h e = rw (lt-ltb 0 (c .integerPlaces) h, eq-eqb (suc q) (15 + c .integerPlaces) e)
 
-  -- places below the last digit of the number show noughts
-  abbrev Nought : List Item → Type 0
-  Nought is = (q v w : ℕ) → q < 15 → any isPoint is ≡ false → c .figures % 10 ^ suc q ≡ 0 → v * 10 ^ 15 ≡ c .figures * w
-      → Counts (readFrom true v w (figuresShown c q is)) (c .figures)
-
-  nought-place : (p : Place) (is : List Item) → Nought is → Nought (place p ∷ is)
-  unfolding figurePieces itemPieces itemUnits digitAfter any
-  nought-place p is rest q v w small noPoint none e =
-      rw (place-later p q (λ h. omega arith), decimal-units (c .figures) (c .grouped) p q small, none)
-      (idle-nought (c .figures) v w p (figuresShown c (q - 1) is)
-      (λ v w. rest (q - 1) v w (omega arith) noPoint (lower-next (c .figures) q none)) e)
-
-  decimals-nought : (is : List Item) → Nought is
-  unfolding readFrom figurePieces itemPieces itemUnits digitAfter any
-  decimals-nought [] = λ q v w small noPoint none e. e
-  decimals-nought (i ∷ is) =
-      item-case (λ (j : Item). Nought (j ∷ is))
-      (λ p. nought-place p is (decimals-nought is))
-      (λ q v w small noPoint none e. absurd (true≢false noPoint))
-      (λ j notPlace notPoint other. rw (notPlace, notPoint) (decimals-nought is))
-      i
-
-  -- behind j decimals k digits are left; the r lowest of these have no place and are noughts
+  -- the r lowest digits have no place and are noughts
   abbrev Decimals : List Item → Type 0
-  Decimals is = (k j r : ℕ) → k + j ≡ 15 → any isPoint is ≡ false → k ≡ count isPlace is + r → c .figures % 10 ^ r ≡ 0
-      → Counts (readFrom true (c .figures / 10 ^ k) (10 ^ j) (figuresShown c (k - 1) is)) (c .figures)
+  Decimals is = (k j r v w : ℕ) → k + j ≡ 15 → any isPoint is ≡ false → k ≡ count isPlace is + r → c .figures % 10 ^ r ≡ 0
+      → Behind (c .figures) k j v w → Counts (readFrom true v w (figuresShown c (k - 1) is)) (c .figures)
 
   decimals-place : (p : Place) (is : List Item) → Decimals is → Decimals (place p ∷ is)
-  unfolding figurePieces itemPieces itemUnits digitAfter any count
-  decimals-place p is rest zero j r sum noPoint places none = absurd (omega arith)
-  decimals-place p is rest (suc q) j r sum noPoint places none =
+  unfolding figurePieces itemPieces itemUnits digitAfter any count insignificant
+  decimals-place p is rest zero j r v w sum noPoint places none seen = absurd (omega arith)
+  decimals-place p is rest (suc q) j r v w sum noPoint places none seen =
       let n : ℕ = c .figures in
       let us : List ℕ = figuresShown c (q - 1) is in
       let f : suc q - 1 ≡ q = omega arith in
       let next : 10 ^ j * 10 ≡ 10 ^ suc j = omega arith in
-      rw (f, place-later p q (λ h. omega arith), decimal-units n (c .grouped) p q (omega arith))
+      let sum-next : q + suc j ≡ 15 = omega arith in
+      let places-next : q ≡ count isPlace is + r = omega arith in
+      rw (f, place-later p q (λ h. omega arith), figure-aside true v w n (c .grouped) p q us, lt-leb 15 q (omega arith))
       (by-cases (eqb (n % 10 ^ suc q) 0)
       (λ z.
       let zeros : n % 10 ^ suc q ≡ 0 = eqb-true (n % 10 ^ suc q) 0 z in
+      let lower : n % 10 ^ q ≡ 0 = omega (arith, mod-next n q) in
       rw z
-      (idle-nought n (n / 10 ^ suc q) (10 ^ j) p us
-      (λ v w. decimals-nought is (q - 1) v w (omega arith) noPoint (lower-next n q zeros)) (cut-exact n (suc q) j sum zeros)))
-      (λ z. rw (z, digit-in true n (10 ^ j) q us, next) (rest q (suc j) r (omega arith) noPoint (omega arith) none)))
+      (idle-nought n v w p us
+      (λ v w e. rest q (suc j) r v w sum-next noPoint places-next none (record { exact = λ h. e; digits = λ h. absurd (h lower) }))
+      (seen .exact zeros)))
+      (λ z.
+      let e = seen .digits (eqb-false (n % 10 ^ suc q) 0 z) in
+      rw (z, e .0, e .1, digit-in true n (10 ^ j) q us, next)
+      (rest q (suc j) r (n / 10 ^ q) (10 ^ suc j) sum-next noPoint places-next none (behind n q (suc j) sum-next))))
 
   decimals-read : (is : List Item) → Decimals is
   unfolding readFrom figurePieces itemPieces itemUnits digitAfter any count
-  decimals-read [] = λ k j r sum noPoint places none.
+  decimals-read [] = λ k j r v w sum noPoint places none seen.
       let f : k ≡ r = omega arith in
-      cut-exact (c .figures) k j sum (rw f none)
+      seen .exact (rw f none)
   decimals-read (i ∷ is) =
       item-case (λ (j : Item). Decimals (j ∷ is))
       (λ p. decimals-place p is (decimals-read is))
-      (λ k j r sum noPoint places none. absurd (true≢false noPoint))
+      (λ k j r v w sum noPoint places none seen. absurd (true≢false noPoint))
       (λ j notPlace notPoint other. rw (notPlace, notPoint) (decimals-read is))
       i
 
@@ -167,7 +150,7 @@ module _ (c : Context) where
       → Counts (readFrom true (c .figures / 10 ^ 15) 1 (figuresShown c 14 is)) (c .figures)
   behind-point is onePoint most none =
       let noPoint : any isPoint is ≡ false = by-cases (any isPoint is) (λ e. absurd (omega (arith, any-count isPoint is e))) (λ e. e) in
-      decimals-read is 15 0 (15 - count isPlace is) (omega arith) noPoint (omega arith) none
+      decimals-read is 15 0 (15 - count isPlace is) (c .figures / 10 ^ 15) 1 (omega arith) noPoint (omega arith) none (behind (c .figures) 15 0 (omega arith))
 
   module _ (small : c .figures < 10 ^ 40) (most : c .integerPlaces ≤ 20) where
     -- what has been read where k integer places are left: nothing before the first, and then the digits above theirs

@@ -5,9 +5,9 @@ use Prim.Native.Nat.{ℕ, zero, suc, _+_, _-_, _*_, _/_, _%_, _^_, _≤_, _<_}
 use native.Mathlib.Nat.{mul-assoc, div-add-mod'}
 use lib.Pow.{pow-add}
 use native.Mathlib.Omega.{arith}
-use mathlib.Core.Bool.{Bool, true, false, cond, _&&_, and-false, or-false}
+use mathlib.Core.Bool.{Bool, true, false, cond, _&&_, _||_, or-false}
 use mathlib.Core.List.{List, [], _∷_, _++_, append-assoc}
-use borrow.Author.Tests.{eqb-true, le-leb, lt-leb, le-ltb, ne-eqb}
+use borrow.Author.Tests.{eqb-true, le-leb, ne-eqb}
 use lib.Dec.{T, eqb}
 use Rattle.lists.specs.Lists.{every}
 use Rattle.lists.proofs.Bools.{by-cases, cond-both, every-append}
@@ -73,42 +73,41 @@ digit-in behind n w q us =
     let f : n / 10 ^ suc q * 10 + d ≡ n / 10 ^ q = omega (arith, div-next n q) in
     rw (digit-test d small, ne-eqb (48 + d) 46 (λ p. omega arith), e, f, or-false behind)
 
-separator-aside : (v w u : ℕ) (us : List ℕ) → readFrom false v w (cond (eqb u 32) 32 44 ∷ us) ≡ readFrom false v w us
-unfolding readFrom isDigit
-separator-aside v w u us = by-cases (eqb u 32) (λ e. rw e) (λ e. rw e)
+-- a separator is set aside
+separator-aside : (b behind : Bool) (v w : ℕ) (us vs : List ℕ)
+    → readFrom behind v w (cond b (withSeparator us) us ++ vs) ≡ readFrom behind v w (us ++ vs)
+unfolding readFrom withSeparator isDigit
+separator-aside false behind v w us vs = refl
+separator-aside true behind v w [] vs = refl
+separator-aside true behind v w (u ∷ us) vs =
+    let aside = or-false (behind || eqb u 46) in
+    by-cases (eqb u 32) (λ e. rw (e, aside)) (λ e. rw (e, aside))
 
--- an insignificant zero and a digit, with their separator or without
-idle-read : (b : Bool) (p : Place) (us : List ℕ)
-    → readFrom false 0 1 (cond b (withSeparator (idleUnits p)) (idleUnits p) ++ us) ≡ readFrom false 0 1 us
-unfolding readFrom isDigit digitOf withSeparator idleUnits
-idle-read true zeroPlace us = refl
-idle-read true hashPlace us = refl
-idle-read true spacePlace us = refl
-idle-read false zeroPlace us = refl
-idle-read false hashPlace us = refl
-idle-read false spacePlace us = refl
+pub figure-aside : (behind : Bool) (v w n : ℕ) (grouped : Bool) (p : Place) (q : ℕ) (us : List ℕ)
+    → readFrom behind v w (figureUnits n grouped p q ++ us)
+    ≡ readFrom behind v w (cond (insignificant n q) (idleUnits p) (digitUnit (digit n q) ∷ []) ++ us)
+unfolding figureUnits
+figure-aside behind v w n grouped p q us = separator-aside (grouped && endsGroup q) behind v w _ us
 
-digit-read : (b : Bool) (n q : ℕ) (us : List ℕ)
-    → readFrom false (n / 10 ^ suc q) 1 (cond b (withSeparator (digitUnit (digit n q) ∷ [])) (digitUnit (digit n q) ∷ []) ++ us)
-    ≡ readFrom false (n / 10 ^ q) 1 us
-unfolding withSeparator
-digit-read true n q us =
-    digit-in false n 1 q (cond (eqb (digitUnit (digit n q)) 32) 32 44 ∷ us)
-    ∙ separator-aside (n / 10 ^ q) 1 (digitUnit (digit n q)) us
-digit-read false n q us = digit-in false n 1 q us
+-- an insignificant integer zero
+idle-read : (p : Place) (us : List ℕ) → readFrom false 0 1 (idleUnits p ++ us) ≡ readFrom false 0 1 us
+unfolding readFrom isDigit digitOf idleUnits
+idle-read zeroPlace us = refl
+idle-read hashPlace us = refl
+idle-read spacePlace us = refl
 
 -- an integer place
 pub figure-read : (n : ℕ) (grouped : Bool) (p : Place) (q : ℕ) (us : List ℕ) → 15 ≤ q
     → readFrom false (n / 10 ^ suc q) 1 (figureUnits n grouped p q ++ us) ≡ readFrom false (n / 10 ^ q) 1 us
-unfolding figureUnits insignificant
+unfolding insignificant
 figure-read n grouped p q us h =
-    rw (le-leb 15 q h)
+    rw (figure-aside false (n / 10 ^ suc q) 1 n grouped p q us, le-leb 15 q h)
     (by-cases (eqb (n / 10 ^ q) 0)
     (λ e.
     let none : n / 10 ^ q ≡ 0 = eqb-true (n / 10 ^ q) 0 e in
     let above : n / 10 ^ suc q ≡ 0 = omega (arith, div-next n q) in
-    rw (e, none, above) (idle-read (grouped && endsGroup q) p us))
-    (λ e. rw e (digit-read (grouped && endsGroup q) n q us)))
+    rw (e, none, above) (idle-read p us))
+    (λ e. rw e (digit-in false n 1 q us)))
 
 -- the digits beyond the places
 pub extra-read : (n : ℕ) (grouped : Bool) (q count : ℕ) (us : List ℕ) → 15 ≤ q
@@ -122,12 +121,6 @@ extra-read n grouped q (suc count) us h =
     let rest : List ℕ = extraUnits n grouped q count in
     rw (e, append-assoc (figureUnits n grouped hashPlace (q + count)) rest us)
     (figure-read n grouped hashPlace (q + count) (rest ++ us) (omega arith) ∙ extra-read n grouped q count us h)
-
--- a decimal place
-pub decimal-units : (n : ℕ) (grouped : Bool) (p : Place) (q : ℕ) → q < 15
-    → figureUnits n grouped p q ≡ cond (eqb (n % 10 ^ suc q) 0) (idleUnits p) (digitUnit (digit n q) ∷ [])
-unfolding figureUnits insignificant endsGroup
-decimal-units n grouped p q h = rw (lt-leb 15 q h, le-ltb 15 q (omega arith), and-false grouped)
 
 -- an insignificant zero before nothing but noughts
 pub idle-nought : (n v w : ℕ) (p : Place) (us : List ℕ)
