@@ -29,7 +29,7 @@ pieces-joined c q [] = refl
 pieces-joined c q (i ∷ is) = ap (λ (us : List ℕ). itemUnits c q i ++ us) (pieces-joined c (digitAfter q i) is)
 
 -- the units of the figure pieces
-abbrev pub figuresShown : Context → ℕ → List Item → List ℕ
+abbrev figuresShown : Context → ℕ → List Item → List ℕ
 figuresShown c q is = figurePieces is (itemPieces c q is)
 
 -- an item is a place, the point, or neither

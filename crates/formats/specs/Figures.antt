@@ -49,8 +49,8 @@ pub record GeneralFigures (x : Number) (minus : Bool) (us : List ℕ) : Type 0 w
 abbrev pub isFigure : ℕ → Bool
 isFigure u = isDigit u || eqb u 44 || eqb u 32
 
--- What an item shows of the number x. A place's piece is digits, commas and spaces; the point's is such units, where there is no integer
--- place, and then a point. No other item stands in a section that takes a number.
+-- What an item shows of the number x. A place's piece is digits, commas and spaces; the point's is such units, or none, and then a
+-- point. No other item stands in a section that takes a number.
 pub data PieceOf (x : Number) (minus : Bool) : Item → List ℕ → Type 0 where
   ofLiteral : (u : ℕ) → PieceOf x minus (literal u) (u ∷ [])
   ofBlank : (u : ℕ) → PieceOf x minus (blank u) (32 ∷ [])
