@@ -11,11 +11,11 @@ use lib.ListN.{length, drop, getD}
 use Rattle.lists.specs.Lists.{every, any, count}
 use Rattle.formats.specs.Tokens.{Token}
 use Rattle.formats.specs.Items.{Kind, textKind, generalKind, dateKind, numberKind, literalKind, sameKind, kindFrom}
-use Rattle.formats.specs.Kinds.{isPlace, isPoint, isFillToken, isSolidus, startsWithPlace, solidusFrom, solidusFits, noBracket, tokenMakes, bodyKind}
+use Rattle.formats.specs.Kinds.{isPlace, isPoint, isFillToken, integerPlaceTokens, isSolidus, startsWithPlace, solidusFrom, solidusFits, noBracket, tokenMakes, bodyKind}
 use Rattle.marks.specs.Marks.{markRows, markToken, conditionOf, tokenAt, tokensIn}
 use Rattle.bodies.specs.declared.facts.Seen.{Seen}
 use Rattle.bodies.specs.Forms.{one, placeForm, rankOf}
-use Rattle.bodies.specs.Bodies.{integerPlaceTokens, factsOf, seeForm, see, seeAll, nothingSeen, seenFacts}
+use Rattle.bodies.specs.Bodies.{factsOf, seeForm, see, seeAll, nothingSeen, seenFacts}
 use Rattle.marks.proofs.ByForm.{upFrom, by-form}
 use Rattle.marks.proofs.Words.{tokens-first, tokens-end}
 
@@ -26,42 +26,35 @@ see-form s f a us = by-form (see s) (λ (n : ℕ). seeForm s n a) a us refl
     (λ n h. rw (ne-eqb n 10 (omega arith), ne-eqb n 12 (omega arith), ne-eqb n 7 (omega arith), ne-eqb n 3 (omega arith), ne-eqb n 1 (omega arith), lt-leb n 22 (omega arith), lt-leb n 6 (omega arith), le-leb 15 n (omega arith), le-leb 4 n (omega arith), ne-eqb n 23 (omega arith), le-ltb n 24 (omega arith))) f
 
 -- ---- the kind
+-- a list of kinds by those that it holds
+abbrev kindBy : Bool → Bool → Bool → Bool → Kind
+kindBy text general date number = cond text textKind (cond general generalKind (cond date dateKind (cond number numberKind literalKind)))
+
 -- a kind in front of others: the higher rank is the rank of all
+abbrev Higher : Kind → Bool → Bool → Bool → Bool → Type 0
+Higher k a b c d =
+    rankOf (kindBy (cond (sameKind textKind k) true a) (cond (sameKind generalKind k) true b) (cond (sameKind dateKind k) true c) (cond (sameKind numberKind k) true d))
+    ≡ rankOf k + (rankOf (kindBy a b c d) - rankOf k)
+
+five : (P : Bool → Bool → Bool → Bool → Type 0)
+    → ((b c d : Bool) → P true b c d) → ((c d : Bool) → P false true c d) → ((d : Bool) → P false false true d) → P false false false true → P false false false false
+    → (a b c d : Bool) → P a b c d
+five P t g u n l true b c d = t b c d
+five P t g u n l false true c d = g c d
+five P t g u n l false false true d = u d
+five P t g u n l false false false true = n
+five P t g u n l false false false false = l
+
+higher : (k : Kind) (a b c d : Bool) → Higher k a b c d
+higher textKind = five (Higher textKind) (λ b c d. refl) (λ c d. refl) (λ d. refl) refl refl
+higher generalKind = five (Higher generalKind) (λ b c d. refl) (λ c d. refl) (λ d. refl) refl refl
+higher dateKind = five (Higher dateKind) (λ b c d. refl) (λ c d. refl) (λ d. refl) refl refl
+higher numberKind = five (Higher numberKind) (λ b c d. refl) (λ c d. refl) (λ d. refl) refl refl
+higher literalKind = five (Higher literalKind) (λ b c d. refl) (λ c d. refl) (λ d. refl) refl refl
+
 rank-cons : (k : Kind) (ks : List Kind) → rankOf (kindFrom (k ∷ ks)) ≡ rankOf k + (rankOf (kindFrom ks) - rankOf k)
 unfolding kindFrom any
-rank-cons k ks = go k (any (sameKind textKind) ks) (any (sameKind generalKind) ks) (any (sameKind dateKind) ks) (any (sameKind numberKind) ks)
-  where
-    go : (k : Kind) (a b c d : Bool)
-        → rankOf (cond (cond (sameKind textKind k) true a) textKind
-        (cond (cond (sameKind generalKind k) true b) generalKind
-        (cond (cond (sameKind dateKind k) true c) dateKind
-        (cond (cond (sameKind numberKind k) true d) numberKind literalKind))))
-        ≡ rankOf k + (rankOf (cond a textKind (cond b generalKind (cond c dateKind (cond d numberKind literalKind)))) - rankOf k)
-    go textKind true b c d = refl
-    go textKind false true c d = refl
-    go textKind false false true d = refl
-    go textKind false false false true = refl
-    go textKind false false false false = refl
-    go generalKind true b c d = refl
-    go generalKind false true c d = refl
-    go generalKind false false true d = refl
-    go generalKind false false false true = refl
-    go generalKind false false false false = refl
-    go dateKind true b c d = refl
-    go dateKind false true c d = refl
-    go dateKind false false true d = refl
-    go dateKind false false false true = refl
-    go dateKind false false false false = refl
-    go numberKind true b c d = refl
-    go numberKind false true c d = refl
-    go numberKind false false true d = refl
-    go numberKind false false false true = refl
-    go numberKind false false false false = refl
-    go literalKind true b c d = refl
-    go literalKind false true c d = refl
-    go literalKind false false true d = refl
-    go literalKind false false false true = refl
-    go literalKind false false false false = refl
+rank-cons k ks = higher k (any (sameKind textKind) ks) (any (sameKind generalKind) ks) (any (sameKind dateKind) ks) (any (sameKind numberKind) ks)
 
 higher-higher : (a b c : ℕ) → a + (b - a) + (c - (a + (b - a))) ≡ a + (b + (c - b) - a)
 higher-higher a b c = omega arith

@@ -12,7 +12,8 @@ use Rattle.lists.specs.Lists.{any, count}
 use Rattle.lists.proofs.Bools.{by-cases}
 use Rattle.lists.proofs.Counts.{any-count, none-count}
 use Rattle.formats.specs.Tokens.{Token}
-use Rattle.formats.specs.Kinds.{formOf, isPlace, isPoint, isComma, CommaUse, groups, divides, misplaced, isGrouping, isDividing, isMisplaced, integerPlaceIn, commaUse, commaUsesFrom, commaUses}
+use Rattle.formats.specs.Kinds.{formOf, isPlace, isPoint, isComma, CommaUse, groups, divides, misplaced, isGrouping, isDividing, isMisplaced, integerPlaceIn, commaUses}
+use Rattle.formats.proofs.CommaUses.{commaUse, commaUsesFrom, comma-uses}
 use Rattle.marks.specs.Marks.{markRows, markToken, conditionOf, tokenAt, tokensIn}
 use Rattle.bodies.specs.declared.commas.Scan.{Scan}
 use Rattle.bodies.specs.Uses.{commasOf, met, atComma, atPoint, atPlace, scanForm, scanToken, scanAll, nothingScanned, scanCommas}
@@ -57,17 +58,13 @@ module _ (f : CommaUse → Bool) where
       + weigh (commaUse (s .point) true ts) (s .held) + count f (commaUsesFrom (s .point) (s .place) ts)
 
   module _ (s : Scan) (t : Token) (ts : List Token) where
-    -- a comma is held behind the point or a place, and misplaced elsewhere
+    -- a comma is held behind a place, and misplaced elsewhere
     total-comma : formOf t ≡ 6 → total s (t ∷ ts) ≡ total (scanToken s t) ts
     unfolding total commaUsesFrom commaUse integerPlaceIn any
-    total-comma k = by-cases (s .point)
-        (λ p. rw (k, p, or-none (s .place)) (omega (arith, held-more (commaUse true true ts), weigh-cons (commaUse true true ts) (commaUsesFrom true (s .place) ts))))
-        (λ p. by-cases (s .place)
-        (λ q. rw (k, p, q) (omega (arith, held-more (commaUse false true ts), weigh-cons (commaUse false true ts) (commaUsesFrom false true ts))))
-        (λ q. rw (k, p, q) (omega (arith, weigh-add misplaced (s .misplaced) 1, weigh-cons misplaced (commaUsesFrom false false ts)))))
-      where
-        held-more : (u : CommaUse) → weigh u (s .held + 1) ≡ weigh u (s .held) + weigh u 1
-        held-more u = weigh-add u (s .held) 1
+    total-comma k = by-cases (s .place)
+        (λ q. let u = commaUse (s .point) true ts in
+        rw (k, q, or-none (s .point)) (omega (arith, weigh-add u (s .held) 1, weigh-cons u (commaUsesFrom (s .point) true ts))))
+        (λ q. rw (k, q, or-none (s .point)) (omega (arith, weigh-add misplaced (s .misplaced) 1, weigh-cons misplaced (commaUsesFrom (s .point) false ts))))
 
     -- the first point ends the integer places
     total-point : formOf t ≡ 5 → total s (t ∷ ts) ≡ total (scanToken s t) ts
@@ -109,15 +106,15 @@ module _ (f : CommaUse → Bool) where
       → count f (commaUses ts)
       ≡ cond (f misplaced) ((scanAll nothingScanned ts) .misplaced) 0 + cond (f groups) ((scanAll nothingScanned ts) .grouping) 0
       + cond (f divides) ((scanAll nothingScanned ts) .dividing + (scanAll nothingScanned ts) .held) 0
-  unfolding commaUses total nothingScanned weigh
+  unfolding total nothingScanned weigh
   uses-counted ts =
       let s = nothingScanned in
       let a = weigh-none misplaced in
       let b = weigh-none groups in
       let d = weigh-none divides in
       let e = weigh-none (commaUse false true ts) in
-      let start : total s ts ≡ count f (commaUses ts) = omega arith in
-      sym start ∙ total-all s ts ∙ total-end (scanAll s ts)
+      let start : total s ts ≡ count f (commaUsesFrom false false ts) = omega arith in
+      ap (count f) (comma-uses ts) ∙ sym start ∙ total-all s ts ∙ total-end (scanAll s ts)
 
 any-some : {A : Type 0} (f : A → Bool) (xs : List A) → any f xs ≡ ltb 0 (count f xs)
 any-some f xs = by-cases (any f xs)
@@ -152,7 +149,7 @@ module _ (s r : Scan) (f : ℕ) where
 -- a token is one comma at most
 met-most : (s : Scan) (f : ℕ) → met (scanForm s f) ≤ met s + 1
 met-most s f = by-cases (eqb f 8)
-    (λ a. by-cases (s .point || s .place) (λ p. rw (a, p) (omega arith)) (λ p. rw (a, p) (omega arith)))
+    (λ a. by-cases (s .place) (λ p. rw (a, p) (omega arith)) (λ p. rw (a, p) (omega arith)))
     (λ a. by-cases (eqb f 7)
     (λ b. by-cases (s .point) (λ p. rw (a, b, p) (omega arith)) (λ p. rw (a, b, p) (omega arith)))
     (λ b. by-cases (leb 4 f && leb f 6)

@@ -1,21 +1,16 @@
 -- What a body's tokens say of it, token by token.
 -- Assumes nothing.
-use Prim.Native.Nat.{ℕ, suc, _+_, _-_}
-use mathlib.Core.Bool.{Bool, true, false, cond, not, _&&_, _||_}
+use Prim.Native.Nat.{ℕ, _+_, _-_}
+use mathlib.Core.Bool.{Bool, true, false, not, _&&_, _||_}
 use mathlib.Core.List.{List, [], _∷_}
 use lib.Dec.{ltb, eqb}
 use Rattle.lists.specs.Lists.{every, count}
 use Rattle.formats.specs.Tokens.{Token}
 use Rattle.formats.specs.Items.{dateKind, numberKind, sameKind}
-use Rattle.formats.specs.Kinds.{isPlace, isPoint, isFillToken, isSolidus, solidusFits, noBracket, tokenMakes, bodyKind}
+use Rattle.formats.specs.Kinds.{isPlace, isPoint, isFillToken, integerPlaceTokens, isSolidus, solidusFits, noBracket, tokenMakes, bodyKind}
 use Rattle.bodies.specs.declared.facts.Facts.{Facts}
 use Rattle.bodies.specs.declared.facts.Seen.{Seen}
 use Rattle.bodies.specs.Forms.{one, placeForm, rankOf, rankForm}
-
--- the places before the first point
-unfoldable pub integerPlaceTokens : List Token → ℕ
-integerPlaceTokens [] = 0
-integerPlaceTokens (t ∷ ts) = let r = integerPlaceTokens ts in cond (isPoint t) 0 (cond (isPlace t) (suc r) r)
 
 unfoldable pub factsOf : List Token → Facts
 factsOf ts =

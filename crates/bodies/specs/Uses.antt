@@ -23,10 +23,10 @@ commasOf ts =
 abbrev pub met : Scan → ℕ
 met s = s .held + s .misplaced + s .grouping + s .dividing
 
--- a comma behind the point or a place is held
+-- a comma behind a place is held
 abbrev pub atComma : Scan → Scan
 atComma s =
-    cond (s .point || s .place)
+    cond (s .place)
     (record { point = s .point; place = s .place; held = s .held + 1; misplaced = s .misplaced; grouping = s .grouping; dividing = s .dividing })
     (record { point = s .point; place = s .place; held = s .held; misplaced = s .misplaced + 1; grouping = s .grouping; dividing = s .dividing })
 

@@ -28,13 +28,13 @@ pub struct Scan {
     pub dividing: u16,
 }
 
-// A comma is misplaced before the first place and the point; behind these its use depends on what follows.
+// A comma is misplaced before the first place; behind it its use depends on what follows.
 fn at_comma(s: Scan) -> Scan
     requires { ⌜ met s ≤ 762 ⌝ }
     ensures { λ r. ⌜ r ≡ atComma s ⌝ }
 {
     let mut t = s;
-    if s.point | s.place {
+    if s.place {
         t.held += 1;
         return t;
     }

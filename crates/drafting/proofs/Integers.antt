@@ -13,11 +13,11 @@ use Rattle.lists.proofs.Bools.{by-cases}
 use Rattle.formats.specs.Tokens as token
 use Rattle.formats.specs.Tokens.{Token, Letter, letterY, letterM, letterD, letterH, letterS}
 use Rattle.formats.specs.Items.{Item, literal, integerPlaces, sameKind, dateKind}
-use Rattle.formats.specs.Kinds.{formOf, isPlace, isPoint, isZero, isZeroIn, isSecondsToken, leadingZeros, partZeros, Piece, whole, secondPart, piecesFrom, runItem, tokenItems, pieceItems, plainItems, dateItems, bodyKind, bodyItems}
+use Rattle.formats.specs.Kinds.{formOf, integerPlaceTokens, isPlace, isPoint, isZero, isZeroIn, isSecondsToken, leadingZeros, partZeros, Piece, whole, secondPart, piecesFrom, runItem, tokenItems, pieceItems, plainItems, dateItems, bodyKind, bodyItems}
 use Rattle.marks.specs.Marks.{markToken, tokenAt, tokensIn}
 use Rattle.bodies.specs.declared.facts.Facts.{Facts}
 use Rattle.bodies.specs.Forms.{placeForm}
-use Rattle.bodies.specs.Bodies.{integerPlaceTokens, factsOf}
+use Rattle.bodies.specs.Bodies.{factsOf}
 use Rattle.marks.proofs.ByForm.{place-form}
 use Rattle.marks.proofs.Words.{tokens-first, tokens-end, tokens-length}
 use Rattle.emitting.specs.Emit.{formSeconds}

@@ -1,19 +1,19 @@
 -- Grouping is asked for only with two integer places among the items.
 -- Assumes nothing.
-use Prim.Native.Nat.{ℕ, _+_, _≤_}
+use Prim.Native.Nat.{ℕ, suc, _+_, _≤_}
 use native.Mathlib.Omega.{arith}
 use mathlib.Core.Path.{_≡_, refl, sym, _∙_}
-use mathlib.Core.Bool.{Bool, true, false, cond, _&&_, _||_, true≢false}
-use mathlib.Core.List.{List, [], _∷_, _++_, map}
+use mathlib.Core.Bool.{Bool, true, false, cond, not, _&&_, true≢false}
+use mathlib.Core.List.{List, [], _∷_, _++_, map, append-assoc}
 use lib.Dec.{T, leb, le→leb}
-use borrow.Author.Tests.{eqb-true}
+use borrow.Author.Tests.{eqb-true, not-true}
 use Rattle.lists.specs.Lists.{any}
 use Rattle.lists.proofs.Bools.{by-cases, cond-both, and-left, and-right, T-true, true-T}
 use Rattle.formats.specs.Tokens as token
 use Rattle.formats.specs.Tokens.{Token, Letter, letterY, letterM, letterD, letterH, letterS}
 use Rattle.formats.specs.Items as item
 use Rattle.formats.specs.Items.{Item, numberKind, sameKind, kindIndex, integerPlaces, settled, noRun}
-use Rattle.formats.specs.Kinds.{formOf, isPlace, isPoint, isComma, Parts, bodyKind, CommaUse, divides, misplaced, isGrouping, integerPlaceIn, commaUse, commaUsesFrom, commaUses, runItem, tokenItems, plainItems, bodyItems, lastFill, sectionOf}
+use Rattle.formats.specs.Kinds.{formOf, isPlace, isPoint, isComma, Parts, bodyKind, CommaUse, divides, misplaced, isGrouping, integerPlaceTokens, integerPlaceIn, useOf, usesFrom, commaUses, runItem, tokenItems, plainItems, bodyItems, lastFill, sectionOf}
 use Rattle.formats.specs.WellFormed.{groupingFits}
 use Rattle.formats.proofs.FormedBools.{implies-in}
 use Rattle.formats.proofs.FormedItems.{places-lastFill, places-settled}
@@ -32,91 +32,79 @@ run-places letterH n is = refl
 run-places letterS n is = refl
 
 -- the integer places of a token's items in front of others
-token-places : (t : Token) (is : List Item)
-    → integerPlaces (tokenItems false t ++ is) ≡ cond (isPoint t) 0 (cond (isPlace t) 1 0 + integerPlaces is)
+pub token-places : (date : Bool) (t : Token) (is : List Item) → integerPlaces (tokenItems date t ++ is)
+    ≡ cond (isPoint t) (cond date (integerPlaces is) 0) (cond (isPlace t) (suc (integerPlaces is)) (integerPlaces is))
 unfolding integerPlaces tokenItems
-token-places (token.literal us) is = literals-places us is ∙ omega arith
-token-places (token.bare u) is = omega arith
-token-places (token.blank u) is = omega arith
-token-places (token.fill u) is = omega arith
-token-places (token.place p) is = omega arith
-token-places token.point is = refl
-token-places token.comma is = omega arith
-token-places token.percent is = omega arith
-token-places token.at is = omega arith
-token-places token.semicolon is = omega arith
-token-places token.general is = omega arith
-token-places (token.half h) is = omega arith
-token-places (token.run l n) is = run-places l n is ∙ omega arith
-token-places (token.elapsed e n) is = omega arith
-token-places (token.colour n) is = omega arith
-token-places (token.condition w) is = omega arith
+token-places date (token.literal us) is = literals-places us is
+token-places date (token.bare u) is = refl
+token-places date (token.blank u) is = refl
+token-places date (token.fill u) is = refl
+token-places date (token.place p) is = refl
+token-places true token.point is = refl
+token-places false token.point is = refl
+token-places true token.comma is = refl
+token-places false token.comma is = refl
+token-places date token.percent is = refl
+token-places date token.at is = refl
+token-places date token.semicolon is = refl
+token-places date token.general is = refl
+token-places date (token.half h) is = refl
+token-places date (token.run l n) is = run-places l n is
+token-places date (token.elapsed e n) is = refl
+token-places date (token.colour n) is = refl
+token-places date (token.condition w) is = refl
 
--- a place before the first point of the tokens is an integer place of the items
-place-in : (ts : List Token) → integerPlaceIn ts ≡ true → 1 ≤ integerPlaces (plainItems ts)
-unfolding integerPlaceIn plainItems
+pub places-plain : (ts : List Token) → integerPlaces (plainItems ts) ≡ integerPlaceTokens ts
+unfolding plainItems integerPlaces integerPlaceTokens
+places-plain [] = refl
+places-plain (t ∷ ts) = token-places false t (plainItems ts) ∙ rw (places-plain ts)
+
+place-in : (ts : List Token) → integerPlaceIn ts ≡ true → 1 ≤ integerPlaceTokens ts
+unfolding integerPlaceIn integerPlaceTokens
 place-in [] e = absurd (true≢false (sym e))
 place-in (t ∷ ts) e =
-    rw (token-places t (plainItems ts))
-    (by-cases (isPoint t)
-    (λ h. absurd (true≢false (sym (rw h at e))))
-    (λ h.
-    rw h
-    (by-cases (isPlace t)
-    (λ k. rw k (omega arith))
-    (λ k. let r : 1 ≤ integerPlaces (plainItems ts) = place-in ts (rw (h, k) at e) in rw k (omega arith)))))
-
--- no comma behind the point asks for grouping
-behind-point : (c : Bool) (ts : List Token) → any isGrouping (commaUsesFrom true c ts) ≡ false
-unfolding any commaUsesFrom commaUse
-behind-point c [] = refl
-behind-point c (t ∷ ts) =
-    by-cases (isComma t)
-    (λ h.
-    rw (h, cond-both (λ (u : CommaUse). isGrouping u ≡ false) (any isPlace ts) {x = misplaced} {y = divides} refl refl)
-    (behind-point (c || isPlace t) ts))
-    (λ h. rw h (behind-point (c || isPlace t) ts))
-
-flag : (c d : Bool) → cond (c || d) 1 0 ≤ cond c 1 0 + cond d 1 0
-flag true d = cond-both (λ n. 1 ≤ 1 + n) d (omega arith) (omega arith)
-flag false d = omega arith
-
--- a comma further on asks for grouping
-grouped-later : (c : Bool) (t : Token) (ts : List Token)
-    → (any isGrouping (commaUsesFrom false (c || isPlace t) ts) ≡ true → 2 ≤ cond (c || isPlace t) 1 0 + integerPlaces (plainItems ts))
-    → any isGrouping (commaUsesFrom (isPoint t) (c || isPlace t) ts) ≡ true → 2 ≤ cond c 1 0 + integerPlaces (plainItems (t ∷ ts))
-unfolding plainItems
-grouped-later c t ts f e =
     by-cases (isPoint t)
-    (λ h. absurd (true≢false (sym (rw h at e) ∙ behind-point (c || isPlace t) ts)))
+    (λ h. absurd (true≢false (sym (rw h at e))))
+    (λ h. rw h (by-cases (isPlace t) (λ k. rw k (omega arith)) (λ k. rw k (place-in ts (rw (h, k) at e)))))
+
+-- the integer places of tokens that hold no point, and of those that follow
+places-append : (xs ys : List Token) → any isPoint xs ≡ false → integerPlaceTokens (xs ++ ys) ≡ integerPlaceTokens xs + integerPlaceTokens ys
+unfolding any integerPlaceTokens
+places-append [] ys e = omega arith
+places-append (x ∷ xs) ys e =
+    by-cases (isPoint x)
+    (λ h. absurd (true≢false (rw h at e)))
+    (λ h. let r = places-append xs ys (rw h at e) in rw h (by-cases (isPlace x) (λ k. rw k (omega arith)) (λ k. rw k r)))
+
+-- a comma asks for grouping
+grouped-here : (before : List Token) (t : Token) (behind : List Token)
+    → isComma t ≡ true → isGrouping (useOf before behind) ≡ true → 2 ≤ integerPlaceTokens (before ++ (t ∷ behind))
+unfolding useOf integerPlaceTokens
+grouped-here before t behind c e =
+    let i = integerPlaceIn before in
+    let p = not (any isPoint before) in
+    let j = integerPlaceIn behind in
+    by-cases (i && p && j)
     (λ h.
-    let r : 2 ≤ cond (c || isPlace t) 1 0 + integerPlaces (plainItems ts) = f (rw h at e) in
-    let g : cond (c || isPlace t) 1 0 ≤ cond c 1 0 + cond (isPlace t) 1 0 = flag c (isPlace t) in
-    rw (token-places t (plainItems ts), h) (omega arith))
+    let a = and-left i p (and-left (i && p) j (true-T h)) in
+    let b = and-right i p (and-left (i && p) j (true-T h)) in
+    let n = not-true (any isPoint before) (T-true p b) in
+    let k = place-in before (T-true i a) in
+    let l = place-in behind (T-true j (and-right (i && p) j (true-T h))) in
+    rw (places-append before (t ∷ behind) n, eqb-true (formOf t) 6 c) (omega arith))
+    (λ h. absurd (true≢false (sym (rw h at e)
+    ∙ cond-both (λ (u : CommaUse). isGrouping u ≡ false) (i && p && not j) refl
+    (cond-both (λ (u : CommaUse). isGrouping u ≡ false) (any isPlace before && not (any isPlace behind)) {x = divides} {y = misplaced} refl refl))))
 
--- this comma asks for grouping
-grouped-here : (c : Bool) (t : Token) (ts : List Token)
-    → isComma t ≡ true → isGrouping (commaUse false c ts) ≡ true → 2 ≤ cond c 1 0 + integerPlaces (plainItems (t ∷ ts))
-unfolding plainItems commaUse
-grouped-here false t ts h e = absurd (true≢false (sym e))
-grouped-here true t ts h e =
-    by-cases (integerPlaceIn ts)
-    (λ k.
-    let r : 1 ≤ integerPlaces (plainItems ts) = place-in ts k in
-    rw (token-places t (plainItems ts), eqb-true (formOf t) 6 h) (omega arith))
-    (λ k. absurd (true≢false (sym (rw k at e))))
-
-grouped-two : (c : Bool) (ts : List Token)
-    → any isGrouping (commaUsesFrom false c ts) ≡ true → 2 ≤ cond c 1 0 + integerPlaces (plainItems ts)
-unfolding any commaUsesFrom
-grouped-two c [] e = absurd (true≢false (sym e))
-grouped-two c (t ∷ ts) e =
+grouped-two : (before ts : List Token) → any isGrouping (usesFrom before ts) ≡ true → 2 ≤ integerPlaceTokens (before ++ ts)
+unfolding any usesFrom
+grouped-two before [] e = absurd (true≢false (sym e))
+grouped-two before (t ∷ ts) e =
+    let later : any isGrouping (usesFrom (before ++ (t ∷ [])) ts) ≡ true → 2 ≤ integerPlaceTokens (before ++ (t ∷ ts))
+    = λ g. rw (append-assoc before (t ∷ []) ts) at (grouped-two (before ++ (t ∷ [])) ts g) in
     by-cases (isComma t)
-    (λ h.
-    by-cases (isGrouping (commaUse false c ts))
-    (λ k. grouped-here c t ts h k)
-    (λ k. grouped-later c t ts (λ g. grouped-two (c || isPlace t) ts g) (rw (h, k) at e)))
-    (λ h. grouped-later c t ts (λ g. grouped-two (c || isPlace t) ts g) (rw h at e))
+    (λ h. by-cases (isGrouping (useOf before ts)) (λ k. grouped-here before t ts h k) (λ k. later (rw (h, k) at e)))
+    (λ h. later (rw h at e))
 
 number-plain : (ts : List Token) → sameKind (bodyKind ts) numberKind ≡ true → bodyItems ts ≡ plainItems ts
 unfolding bodyItems
@@ -127,9 +115,9 @@ unfolding groupingFits sectionOf settled commaUses
 grouping-fits p =
     let ts = p .body in
     let n = sameKind (bodyKind ts) numberKind in
-    let g = any isGrouping (commaUsesFrom false false ts) in
+    let g = any isGrouping (usesFrom [] ts) in
     implies-in (n && g) (leb 2 (integerPlaces (settled (lastFill (bodyItems ts)))))
     (λ h.
-    let r : 2 ≤ 0 + integerPlaces (plainItems ts) = grouped-two false ts (T-true g (and-right n g (true-T h))) in
+    let r = grouped-two [] ts (T-true g (and-right n g (true-T h))) in
     le→leb 2 (integerPlaces (settled (lastFill (bodyItems ts))))
-    (rw (places-settled noRun (lastFill (bodyItems ts)), places-lastFill (bodyItems ts), number-plain ts (T-true n (and-left n g (true-T h)))) (omega arith)))
+    (rw (places-settled noRun (lastFill (bodyItems ts)), places-lastFill (bodyItems ts), number-plain ts (T-true n (and-left n g (true-T h))), places-plain ts) r))

@@ -3,6 +3,7 @@ pub mod Cases
 pub mod TokenRanges
 pub mod ItemCount
 pub mod FormedBools
+pub mod CommaUses
 pub mod FormedItems
 pub mod FormedPieces
 pub mod FormedKinds

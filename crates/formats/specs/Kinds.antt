@@ -146,25 +146,31 @@ isMisplaced groups = false
 isMisplaced divides = false
 isMisplaced misplaced = true
 
--- an integer place stands among these tokens: a place before their first point
+-- how many integer places stand among these tokens: places before their first point
+unfoldable pub integerPlaceTokens : List Token → ℕ
+integerPlaceTokens [] = 0
+integerPlaceTokens (t ∷ ts) = let r = integerPlaceTokens ts in cond (isPoint t) 0 (cond (isPlace t) (suc r) r)
+
 unfoldable pub integerPlaceIn : List Token → Bool
 integerPlaceIn [] = false
 integerPlaceIn (t ∷ ts) = let r = integerPlaceIn ts in cond (isPoint t) false (cond (isPlace t) true r)
 
--- the use of a comma: whether the point stands before it, whether an integer place does, and what follows it
-unfoldable pub commaUse : Bool → Bool → List Token → CommaUse
-commaUse behindPoint behindPlace later =
-    cond behindPoint (cond (any isPlace later) misplaced divides)
-    (cond behindPlace (cond (integerPlaceIn later) groups divides) misplaced)
+-- the use of a comma, by the tokens of its body before it and behind it: it groups between integer places; it divides between the
+-- last integer place and the point or end; it divides after the last place of all
+unfoldable pub useOf : List Token → List Token → CommaUse
+useOf before behind =
+    let beforePoint = not (any isPoint before) in
+    cond (integerPlaceIn before && beforePoint && integerPlaceIn behind) groups
+    (cond (integerPlaceIn before && beforePoint && not (integerPlaceIn behind)) divides
+    (cond (any isPlace before && not (any isPlace behind)) divides misplaced))
 
-unfoldable pub commaUsesFrom : Bool → Bool → List Token → List CommaUse
-commaUsesFrom behindPoint behindPlace [] = []
-commaUsesFrom behindPoint behindPlace (t ∷ ts) =
-    let r = commaUsesFrom (behindPoint || isPoint t) (behindPlace || isPlace t) ts in
-    cond (isComma t) (commaUse behindPoint behindPlace ts ∷ r) r
+-- the uses of the commas among the later tokens, in their order
+unfoldable pub usesFrom : List Token → List Token → List CommaUse
+usesFrom before [] = []
+usesFrom before (t ∷ ts) = let r = usesFrom (before ++ (t ∷ [])) ts in cond (isComma t) (useOf before ts ∷ r) r
 
 unfoldable pub commaUses : List Token → List CommaUse
-commaUses ts = commaUsesFrom false false ts
+commaUses ts = usesFrom [] ts
 
 -- "Date-time: comma is a literal."
 unfoldable pub commasFit : List Token → Bool
@@ -203,8 +209,8 @@ solidusFrom behindPlace (t ∷ ts) =
 unfoldable pub solidusFits : List Token → Bool
 solidusFits ts = solidusFrom false ts
 
--- "A point right after s, ss or an elapsed s, followed by one to three zeros, is a part of a second and shows its point."
--- A piece is a token, or such a point with its zeros.
+-- "A point right after s, ss or an elapsed s, followed by one to three zeros, is a part of a second and shows its point. Other
+-- points are literals; other places are 4." A piece is a token, or such a point with its zeros.
 pub data Piece : Type 0 where
   whole : Token → Piece
   secondPart : ℕ → Piece
@@ -257,18 +263,21 @@ isZero (token.elapsed e n) = false
 isZero (token.colour n) = false
 isZero (token.condition w) = false
 
+-- how many zeros stand at the start
 unfoldable pub leadingZeros : List Token → ℕ
 leadingZeros [] = 0
 leadingZeros (t ∷ ts) = let r = leadingZeros ts in cond (isZero t) (suc r) 0
 
--- the zeros of the part of a second that t starts, 0 where it starts none
+-- how many zeros the part of a second that starts with t takes of the tokens behind it: up to three, and 0 where t starts none.
+-- A fourth zero is one of the "other places".
 unfoldable pub partZeros : Bool → Token → List Token → ℕ
 partZeros behindSeconds t ts = cond (behindSeconds && isPoint t) (min 3 (leadingZeros ts)) 0
 
--- behindSeconds: the token just before is s, ss or an elapsed s; `skip` tokens belong to a part of a second
+-- the pieces of tokens, of which the first `taken` are the zeros of a part of a second that was met; behindSeconds: the token just
+-- before them is s, ss or an elapsed s
 unfoldable pub piecesFrom : Bool → ℕ → List Token → List Piece
-piecesFrom behindSeconds skip [] = []
-piecesFrom behindSeconds (suc skip) (t ∷ ts) = piecesFrom false skip ts
+piecesFrom behindSeconds taken [] = []
+piecesFrom behindSeconds (suc taken) (t ∷ ts) = piecesFrom false taken ts
 piecesFrom behindSeconds zero (t ∷ ts) =
     let n = partZeros behindSeconds t ts in
     let r = piecesFrom (isSecondsToken t) n ts in

@@ -14,7 +14,8 @@ use Rattle.formats.specs.Tokens.{Token, bare, place, Place}
 use Rattle.formats.specs.Items as item
 use Rattle.formats.specs.Items.{Item, textKind, generalKind, dateKind, numberKind, integerPlaces, itemAllowed}
 use Rattle.formats.specs.Kinds as kind
-use Rattle.formats.specs.Kinds.{isPlace, isPoint, bodyKind, tokenMakes, isDividing, commaUsesFrom, commaUses, commasFit, isSolidus, startsWithPlace, solidusFrom, solidusFits, tokenItems, plainItems, bodyItems}
+use Rattle.formats.specs.Kinds.{isPlace, isPoint, bodyKind, tokenMakes, isDividing, commasFit, isSolidus, startsWithPlace, solidusFrom, solidusFits, tokenItems, plainItems, bodyItems}
+use Rattle.formats.proofs.CommaUses.{commaUsesFrom, comma-uses}
 use Rattle.grammar.specs.Bodies.{Free, free-string, free-repeat, free-space, free-bare, leading, isPercent, wholePlaces, decimalPlaces, NFNumber}
 use Rattle.grammar.proofs.Tests.{no, and-parts}
 use Rattle.grammar.proofs.Quiet.{free-quiet, free-percent, passed-over, quiet-any, quiet-wholes, quiet-decimals}
@@ -165,7 +166,7 @@ solidus-of (v-next v-percent vs) b h n = rw (and-false b) (solidus-of vs false n
 -- ---- NFNumber
 
 pub derive-number : (ts : List Token) → NoSemicolon ts → bodyKind ts ≡ numberKind → Fitting ts → NFNumber ts
-unfolding solidusFits commaUses
+unfolding solidusFits
 derive-number ts s h f =
     let p = plain-facts ts numberKind h refl refl s f in
     let vs = p .views in
@@ -179,7 +180,7 @@ derive-number ts s h f =
       wholes-most = rw (items, wholes-alike vs) at (f .wholes);
       decimals-most = rw (items, decimals-alike vs) at (f .decimals);
       percents-most = rw (items, percents-alike vs) at (f .percents);
-      divisions-most = rw h at (f .divisions);
+      divisions-most = rw (h, comma-uses ts) at (f .divisions);
     }
 
 number-kind : (ts : List Token) → Views numberKind ts → any isPlace ts ≡ true → bodyKind ts ≡ numberKind
@@ -187,7 +188,7 @@ number-kind ts vs a =
     kind-number ts (views-has vs textKind refl refl) (views-has vs generalKind refl refl) (views-has vs dateKind refl refl) (has-place vs ∙ a)
 
 pub number-fits : (ts : List Token) → NFNumber ts → (bodyKind ts ≡ numberKind) × Fitting ts
-unfolding solidusFits commaUses commasFit sorts
+unfolding solidusFits commasFit sorts
 number-fits ts d =
     let vs = num-views (d .num) in
     let c = num-counted (d .num) in
@@ -201,7 +202,7 @@ number-fits ts d =
       h,
       record {
         brackets = body-brackets ts (views-body vs);
-        commas = rw (h, c .holds .placed);
+        commas = rw (h, comma-uses ts, c .holds .placed);
         solidus = solidus-of vs false never (d .no-fraction);
         allowed = rw h a;
         generals = omega arith;
@@ -211,7 +212,7 @@ number-fits ts d =
         wholes = rw (items, wholes-alike vs) (d .wholes-most);
         decimals = rw (items, decimals-alike vs) (d .decimals-most);
         percents = rw (items, percents-alike vs) (d .percents-most);
-        divisions = rw (h, c .counted) divided;
+        divisions = rw (h, comma-uses ts, c .counted) divided;
         short = short-none (kept ts) elapseds;
       },
     )

@@ -10,7 +10,8 @@ use Rattle.lists.specs.Lists.{any, count}
 use Rattle.lists.proofs.Bools.{by-cases}
 use Rattle.formats.specs.Tokens.{Token, comma}
 use Rattle.formats.specs.Items.{numberKind}
-use Rattle.formats.specs.Kinds.{isPlace, isPoint, CommaUse, groups, divides, misplaced, isMisplaced, isDividing, integerPlaceIn, commaUse, commaUsesFrom}
+use Rattle.formats.specs.Kinds.{isPlace, isPoint, CommaUse, groups, divides, misplaced, isMisplaced, isDividing, integerPlaceIn}
+use Rattle.formats.proofs.CommaUses.{commaUse, commaUsesFrom}
 use Rattle.grammar.specs.Bodies.{Part, leading, wholes, grouping, dividing, bared, decimals, trailing, Beside, beside-free, beside-percent, NFPartNum, beside, leading-place, leading-point, wholes-place, wholes-group, wholes-divide, wholes-point, wholes-end, grouping-place, grouping-comma, dividing-comma, dividing-point, dividing-end, bared-place, decimals-place, decimals-comma, decimals-end, trailing-comma, trailing-end}
 use Rattle.grammar.proofs.Tests.{no, no}
 use Rattle.grammar.proofs.Quiet.{Quiet, free-quiet, percent-quiet, passed-over, quiet-commas, quiet-any, quiet-integers}
@@ -219,9 +220,7 @@ num-of (v-next {ts = ts} v-comma vs) grouping h =
     at-comma grouping grouping groups ts (groups-between ts (h .ahead)) refl (h .ahead) (num-of vs) h (λ d. grouping-comma d)
 num-of (v-next {ts = ts} v-comma vs) dividing h =
     at-comma dividing dividing divides ts (divides-before ts (not-true (integerPlaceIn ts) (h .ahead))) refl (h .ahead) (num-of vs) h (λ d. dividing-comma d)
-num-of (v-next {ts = ts} v-comma vs) bared h =
-    let e : any isPlace ts ≡ true = h .ahead in
-    absurd (true≢false (rw e at (h .placed)))
+num-of (v-next v-comma vs) bared h = absurd (true≢false (h .placed))
 num-of (v-next {ts = ts} v-comma vs) decimals h =
     by-cases (any isPlace ts)
     (λ e. absurd (true≢false (rw e at (h .placed))))

@@ -11,7 +11,8 @@ use Rattle.lists.specs.Lists.{every, any, count}
 use Rattle.formats.specs.Tokens.{Token}
 use Rattle.formats.specs.Items as item
 use Rattle.formats.specs.Items.{Item, Kind, textKind, generalKind, dateKind, numberKind, literalKind, sameKind, sortOf, isGeneral, isPlace, isPercent, isPoint, isElapsed}
-use Rattle.formats.specs.Kinds.{isSemicolon, noBracket, bodyKind, tokenMakes, isMisplaced, commaUse, commaUsesFrom, commaUses, commasFit, solidusFrom, solidusFits, tokenItems, plainItems, bodyItems}
+use Rattle.formats.specs.Kinds.{isSemicolon, noBracket, bodyKind, tokenMakes, isMisplaced, commasFit, solidusFrom, solidusFits, tokenItems, plainItems, bodyItems}
+use Rattle.formats.proofs.CommaUses.{commaUse, commaUsesFrom, comma-uses}
 use Rattle.grammar.specs.Bodies.{Free, free-string, free-repeat, free-space, free-bare, Literals, literals-end, literals-free, NFGeneral, general-word, general-free, TextRest, text-end, text-more, text-literal, NFText, text-at, text-free}
 use Rattle.grammar.proofs.Tests.{no, and-parts, both, every-parts, every-in}
 use Rattle.grammar.proofs.Quiet.{free-quiet, quiet-commas, quiet-solidus}
@@ -65,11 +66,11 @@ pub record PlainFacts (k : Kind) (ts : List Token) : Type 0 where
 
 pub plain-facts : (ts : List Token) (k : Kind) → bodyKind ts ≡ k → sameKind dateKind k ≡ false → sameKind k dateKind ≡ false
     → every (λ (t : Token). not (isSemicolon t)) ts ≡ true → Fitting ts → PlainFacts k ts
-unfolding commasFit commaUses
+unfolding commasFit
 plain-facts ts k h d d′ s f =
     record {
       views = all-views k d ts (body-tokens ts s (f .brackets)) (rw (plain-body ts k h d′, h) at (f .allowed));
-      placed = not-true (any isMisplaced (commaUsesFrom false false ts)) (rw (h, d′) at (f .commas));
+      placed = not-true (any isMisplaced (commaUsesFrom false false ts)) (rw (h, d′, comma-uses ts) at (f .commas));
     }
 
 -- no place, so no solidus between two
@@ -88,7 +89,7 @@ bare-solidus (v-next v-general vs) n = bare-solidus vs n
 quiet-fitting : (ts : List Token) (k : Kind) → bodyKind ts ≡ k → sameKind k dateKind ≡ false → sameKind k numberKind ≡ false
     → sorts k 3 ≡ false → sorts k 4 ≡ false → sorts k 5 ≡ false → sorts k 15 ≡ false
     → Views k ts → commaUsesFrom false false ts ≡ [] → count isGeneral (plainItems ts) ≤ 1 → Fitting ts
-unfolding commasFit commaUses solidusFits any
+unfolding commasFit solidusFits any
 quiet-fitting ts k h d n s₃ s₄ s₅ s₁₅ vs c g =
     let a : every (item.itemAllowed k) (bodyItems ts) ≡ true = rw (plain-body ts k h d) (views-allowed vs) in
     let places : count isPlace (bodyItems ts) ≡ 0 = foreign k 3 s₃ (bodyItems ts) a in
@@ -97,7 +98,7 @@ quiet-fitting ts k h d n s₃ s₄ s₅ s₁₅ vs c g =
     let elapseds : count isElapsed (kept ts) ≡ 0 = count-kept 15 refl refl (bodyItems ts) ∙ foreign k 15 s₁₅ (bodyItems ts) a in
     record {
       brackets = body-brackets ts (views-body vs);
-      commas = rw (h, d, c);
+      commas = rw (h, d, comma-uses ts, c);
       solidus = bare-solidus vs n;
       allowed = rw h a;
       generals = rw (plain-body ts k h d) g;

@@ -5,7 +5,8 @@ use mathlib.Core.Bool.{Bool, false, or-false}
 use mathlib.Core.List.{List, _∷_}
 use Rattle.lists.specs.Lists.{any, count}
 use Rattle.formats.specs.Tokens.{Token, percent}
-use Rattle.formats.specs.Kinds.{isPlace, isPoint, isComma, integerPlaceIn, commaUsesFrom, solidusFrom}
+use Rattle.formats.specs.Kinds.{isPlace, isPoint, isComma, integerPlaceIn, solidusFrom}
+use Rattle.formats.proofs.CommaUses.{commaUsesFrom}
 use Rattle.grammar.specs.Bodies.{Free, free-string, free-repeat, free-space, free-bare, wholePlaces, decimalPlaces, isPercent}
 
 -- neither a place nor the point nor a comma
