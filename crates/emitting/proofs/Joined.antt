@@ -6,10 +6,10 @@ use mathlib.Core.Bool.{true, false, true≢false}
 use mathlib.Core.List.{List, [], _∷_, _++_}
 use Rattle.lists.specs.Lists.{any}
 use Rattle.lists.proofs.Bools.{by-cases}
-use Rattle.formats.specs.Items.{Item, literal, blank, fill, place, point, percent, general, at, year, month, day, hour, minute, second, part, elapsed, half, isFill, Run, hourRun, secondRun, otherRun, noRun, runOf, nearer, firstRun, meansMinutes, settledItem, settledFrom}
+use Rattle.formats.specs.Items.{Item, fill, isFill, Run, hourRun, secondRun, otherRun, noRun, runOf, nearer, firstRun, meansMinutes, settledItem, settledFrom}
 use Rattle.formats.specs.Kinds.{lastFill}
 use Rattle.formats.specs.Text.{digitAfter}
-use Rattle.formats.proofs.FormedItems.{settled-kept}
+use Rattle.formats.proofs.FormedItems.{settled-kept, settled-same}
 use Rattle.tables.specs.Words.{Entry, entriesWords}
 use Rattle.tables.specs.Encode.{entryOf, entriesFrom}
 use Rattle.emitting.specs.Emit.{itemsWords}
@@ -30,26 +30,6 @@ later-free hourRun l m = refl
 later-free secondRun l m = refl
 later-free otherRun l m = refl
 later-free noRun l m = refl
-
-settled-same : (e l f m : Run) → meansMinutes e l ≡ meansMinutes f m → (i : Item) → settledItem e l i ≡ settledItem f m i
-unfolding settledItem
-settled-same e l f m h (month n) = rw h
-settled-same e l f m h (minute n) = rw h
-settled-same e l f m h (literal u) = refl
-settled-same e l f m h (blank u) = refl
-settled-same e l f m h (fill u) = refl
-settled-same e l f m h (place p) = refl
-settled-same e l f m h point = refl
-settled-same e l f m h percent = refl
-settled-same e l f m h general = refl
-settled-same e l f m h at = refl
-settled-same e l f m h (year n) = refl
-settled-same e l f m h (day n) = refl
-settled-same e l f m h (hour n) = refl
-settled-same e l f m h (second n) = refl
-settled-same e l f m h (part n) = refl
-settled-same e l f m h (elapsed s n) = refl
-settled-same e l f m h (half d) = refl
 
 nearer-same : (r e f : Run) → meansMinutes e noRun ≡ meansMinutes f noRun → meansMinutes (nearer r e) noRun ≡ meansMinutes (nearer r f) noRun
 unfolding nearer

@@ -8,12 +8,12 @@ use mathlib.Core.List.{List, [], _∷_, _++_}
 use lib.Dec.{ltb, eqb}
 use borrow.Author.Tests.{eqb-true, lt-ltb, le-ltb}
 use Rattle.lists.specs.Lists.{any, count}
-use Rattle.lists.proofs.Bools.{by-cases, and-right, T-true, true-T}
+use Rattle.lists.proofs.Bools.{by-cases}
 use Rattle.lists.proofs.Counts.{count-append, any-count, none-count}
 use Rattle.formats.specs.Tokens as token
 use Rattle.formats.specs.Tokens.{Token}
 use Rattle.formats.specs.Items.{Item, literal, fill, part, dateKind, sameKind, isFill, noRun, meansMinutes, runOf, nearer, settledItem, settledFrom}
-use Rattle.formats.specs.Kinds.{formOf, isFillToken, isPoint, isZero, isSecondsToken, leadingZeros, partZeros, piecesFrom, pieceItems, plainItems, dateItems, bodyKind, bodyItems, runItem, tokenItems, lastFill}
+use Rattle.formats.specs.Kinds.{formOf, isFillToken, isZero, isSecondsToken, leadingZeros, partZeros, piecesFrom, pieceItems, plainItems, dateItems, bodyKind, bodyItems, runItem, tokenItems, lastFill}
 use Rattle.formats.specs.Text.{digitAfter}
 use Rattle.formats.proofs.FormedPieces.{zero-case, zeros-follow, zeros-point}
 use Rattle.marks.specs.Marks.{markRows, markToken}
@@ -76,10 +76,6 @@ token-fills date (token.elapsed e n) = refl
 token-fills date (token.colour n) = refl
 token-fills date (token.condition w) = refl
 
--- a part of a second starts with a point
-starts-point : (b : Bool) (t : Token) (ts : List Token) → eqb (partZeros b t ts) 0 ≡ false → isPoint t ≡ true
-starts-point b t ts e = T-true (isPoint t) (and-right b (isPoint t) (true-T (zeros-point b t ts e)))
-
 -- the fills among the items are those among the tokens: what a part of a second takes with it are zeros
 pub fills-emitted : (date b : Bool) (k : ℕ) (ts : List Token) → k ≤ leadingZeros ts → count isFill (emittedFrom date b k ts) ≡ count isFillToken ts
 unfolding emittedFrom count leadingZeros
@@ -96,7 +92,7 @@ fills-emitted date b zero (t ∷ ts) h =
     by-cases (eqb n 0)
     (λ e. rw e (count-append isFill (tokenItems date t) (emittedFrom date (isSecondsToken t) n ts) ∙ rw (token-fills date t, r)
     (by-cases (isFillToken t) (λ l. rw l (omega arith)) (λ l. rw l (omega arith)))))
-    (λ e. rw (e, eqb-true (formOf t) 5 (starts-point (date && b) t ts e)) r)
+    (λ e. rw (e, eqb-true (formOf t) 5 (zeros-point (date && b) t ts e .1)) r)
 
 -- the words that are left behind a run of hours or not
 abbrev pub Words : Bool → Bool → ℕ → Bool → ℕ → List Token → List ℕ
@@ -128,7 +124,7 @@ module _ (f : ℕ) (date b hours : Bool) (q a : ℕ) (us : List ℕ) (ts : List 
   first n e = rw (← (tells f a us .seconds)) (emitted-first date b t ts n e)
 
   part-form : (n : ℕ) → n ≡ partZeros (date && b) t ts → eqb n 0 ≡ false → f ≡ 7
-  part-form n e z = eqb-true f 7 (sym (tells f a us .point) ∙ starts-point (date && b) t ts (ap (λ m. eqb m 0) (sym e) ∙ z))
+  part-form n e z = eqb-true f 7 (sym (tells f a us .point) ∙ zeros-point (date && b) t ts (ap (λ m. eqb m 0) (sym e) ∙ z) .1)
 
   part-kept : (n : ℕ) → n ≡ partZeros (date && b) t ts → eqb n 0 ≡ false → (formHours f hours ≡ hours) × (formDigit f q ≡ q)
   unfolding formHours formDigit

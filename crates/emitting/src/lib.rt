@@ -7,7 +7,7 @@ ghost use mathlib.Core.Bool.{false, cond, _&&_};
 ghost use mathlib.Core.List.{[], _∷_};
 ghost use Prim.Native.Nat.{_+_, _≤_, _<_, _^_, min};
 ghost use lib.ListN.{length, take, drop};
-ghost use lib.Dec.{leb, ltb, eqb};
+ghost use lib.Dec.{ltb, eqb};
 ghost use Rattle.lists.specs.Lists.{count};
 ghost use Rattle.formats.specs.Items.{dateKind, sameKind, integerPlaces};
 ghost use Rattle.formats.specs.Kinds.{isFillToken, bodyKind, bodyItems, leadingZeros};
@@ -69,37 +69,18 @@ fn put_literals(room: &mut [u16], at: usize, code: &[u16], from: usize, count: u
     o
 }
 
-// A point: of a date it is the literal 46.
-fn point_of(date: bool) -> Made
-    ensures { λ r. ⌜ madeWords r ≡ cond date (1 ∷ 46 ∷ []) (7 ∷ 0 ∷ []) ⌝ }
+// One of two items.
+fn made_if(b: bool, first: Made, second: Made) -> Made
+    ensures { λ r. ⌜ madeWords r ≡ cond b (madeWords first) (madeWords second) ⌝ }
 {
-    if date {
-        return Made(tags::LITERAL, 46);
+    if b {
+        return first;
     }
-    Made(tags::POINT, 0)
+    second
 }
 
-// A comma: of a date it is the literal 44, else it makes no item.
-fn comma_of(date: bool) -> Made
-    ensures { λ r. ⌜ madeWords r ≡ cond date (1 ∷ 44 ∷ []) [] ⌝ }
-{
-    if date {
-        return Made(tags::LITERAL, 44);
-    }
-    Made(0, 0)
-}
-
-// A run of m: minutes behind hours, where it is of 1 or 2.
-fn month_of(hours: bool, count: u16) -> Made
-    ensures { λ r. ⌜ madeWords r ≡ cond (hours && leb count 2) (15 ∷ count ∷ []) (12 ∷ count ∷ []) ⌝ }
-{
-    if hours & (count <= 2) {
-        return Made(tags::MINUTE, count);
-    }
-    Made(tags::MONTH, count)
-}
-
-// The item of a token that is no quoted literal and no part of a second.
+// The item of a token that is no quoted literal and no part of a second. Of a date a point and a comma are literals, elsewhere a
+// comma makes no item; a run of m of 1 or 2 is minutes behind hours.
 fn item_of(form: u16, argument: u16, date: bool, hours: bool, digit: u16) -> Made
     requires { ⌜ digit < 2 ^ 15 ⌝ }
     ensures { λ r. ⌜ madeWords r ≡ formWords date hours digit argument form ⌝ }
@@ -111,15 +92,19 @@ fn item_of(form: u16, argument: u16, date: bool, hours: bool, digit: u16) -> Mad
         forms::ZERO_PLACE => Made(tags::ZERO_PLACE, digit + 1),
         forms::HASH_PLACE => Made(tags::HASH_PLACE, digit + 1),
         forms::SPACE_PLACE => Made(tags::SPACE_PLACE, digit + 1),
-        forms::POINT => point_of(date),
-        forms::COMMA => comma_of(date),
+        forms::POINT => made_if(date, Made(tags::LITERAL, 46), Made(tags::POINT, 0)),
+        forms::COMMA => made_if(date, Made(tags::LITERAL, 44), Made(0, 0)),
         forms::PERCENT => Made(tags::PERCENT, 0),
         forms::AT => Made(tags::AT, 0),
         forms::GENERAL => Made(tags::GENERAL, 0),
         forms::SHORT_HALF => Made(tags::HALF_DAY, 1),
         forms::LONG_HALF => Made(tags::HALF_DAY, 2),
         forms::YEARS => Made(tags::YEAR, argument),
-        forms::MONTHS => month_of(hours, argument),
+        forms::MONTHS => made_if(
+            hours & (argument <= 2),
+            Made(tags::MINUTE, argument),
+            Made(tags::MONTH, argument),
+        ),
         forms::DAYS => Made(tags::DAY, argument),
         forms::HOURS => Made(tags::HOUR, argument),
         forms::SECONDS => Made(tags::SECOND, argument),

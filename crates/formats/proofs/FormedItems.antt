@@ -99,6 +99,30 @@ parts-lastFill b (i ∷ is) t =
     (and-left (not (isPart i) || b) (partsFrom (isSeconds i) is) t)
     (parts-lastFill (isSeconds i) is (and-right (not (isPart i) || b) (partsFrom (isSeconds i) is) t))))
 
+-- an item and what it becomes between two runs: the rule for m tells of a month and a minute, and leaves every other item
+pub settled-cases : (P : Item → (Run → Run → Item) → Type 0)
+    → ((n : ℕ) → P (month n) (λ e l. monthOrMinute (meansMinutes e l) n))
+    → ((n : ℕ) → P (minute n) (λ e l. monthOrMinute (meansMinutes e l) n))
+    → ((i : Item) → P i (λ e l. i)) → (i : Item) → P i (λ e l. settledItem e l i)
+unfolding settledItem
+settled-cases P p q r (month n) = p n
+settled-cases P p q r (minute n) = q n
+settled-cases P p q r (literal u) = r (literal u)
+settled-cases P p q r (blank u) = r (blank u)
+settled-cases P p q r (fill u) = r (fill u)
+settled-cases P p q r (place o) = r (place o)
+settled-cases P p q r point = r point
+settled-cases P p q r percent = r percent
+settled-cases P p q r general = r general
+settled-cases P p q r at = r at
+settled-cases P p q r (year n) = r (year n)
+settled-cases P p q r (day n) = r (day n)
+settled-cases P p q r (hour n) = r (hour n)
+settled-cases P p q r (second n) = r (second n)
+settled-cases P p q r (part n) = r (part n)
+settled-cases P p q r (elapsed s n) = r (elapsed s n)
+settled-cases P p q r (half h) = r (half h)
+
 -- settling keeps whatever is the same of months and minutes
 module _ {A : Type 0} (f : Item → A) (same : (n : ℕ) → f (minute n) ≡ f (month n)) where
   month-kept : (b : Bool) (n : ℕ) → f (monthOrMinute b n) ≡ f (month n)
@@ -106,24 +130,12 @@ module _ {A : Type 0} (f : Item → A) (same : (n : ℕ) → f (minute n) ≡ f 
   month-kept b n = cond-both (λ (i : Item). f i ≡ f (month n)) (b && leb n 2) (same n) refl
 
   pub settled-kept : (e l : Run) (i : Item) → f (settledItem e l i) ≡ f i
-  unfolding settledItem
-  settled-kept e l (month n) = month-kept (meansMinutes e l) n
-  settled-kept e l (minute n) = month-kept (meansMinutes e l) n ∙ sym (same n)
-  settled-kept e l (literal u) = refl
-  settled-kept e l (blank u) = refl
-  settled-kept e l (fill u) = refl
-  settled-kept e l (place p) = refl
-  settled-kept e l point = refl
-  settled-kept e l percent = refl
-  settled-kept e l general = refl
-  settled-kept e l at = refl
-  settled-kept e l (year n) = refl
-  settled-kept e l (day n) = refl
-  settled-kept e l (hour n) = refl
-  settled-kept e l (second n) = refl
-  settled-kept e l (part n) = refl
-  settled-kept e l (elapsed s n) = refl
-  settled-kept e l (half h) = refl
+  settled-kept e l = settled-cases (λ (i : Item) (g : Run → Run → Item). f (g e l) ≡ f i)
+      (λ n. month-kept (meansMinutes e l) n) (λ n. month-kept (meansMinutes e l) n ∙ sym (same n)) (λ i. refl)
+
+-- the rule for m looks at the runs only for whether m means minutes
+pub settled-same : (e l f m : Run) → meansMinutes e l ≡ meansMinutes f m → (i : Item) → settledItem e l i ≡ settledItem f m i
+settled-same e l f m h = settled-cases (λ (i : Item) (g : Run → Run → Item). g e l ≡ g f m) (λ n. rw h) (λ n. rw h) (λ i. refl)
 
 pub any-settled : (f : Item → Bool) → ((n : ℕ) → f (minute n) ≡ f (month n)) → (e : Run) (is : List Item) → any f (settledFrom e is) ≡ any f is
 unfolding any settledFrom
@@ -166,30 +178,9 @@ first-settled e [] = refl
 first-settled e (i ∷ is) = rw (run-settled e (firstRun is) i, first-settled (nearer (runOf i) e) is)
 
 -- to settle once more changes nothing
-month-again : (e l : Run) (n : ℕ) → settledItem e l (monthOrMinute (meansMinutes e l) n) ≡ monthOrMinute (meansMinutes e l) n
-unfolding settledItem monthOrMinute
-month-again e l n =
-    cond-both (λ (i : Item). settledItem e l i ≡ monthOrMinute (meansMinutes e l) n) (meansMinutes e l && leb n 2) refl refl
-
 settled-again : (e l : Run) (i : Item) → settledItem e l (settledItem e l i) ≡ settledItem e l i
 unfolding settledItem
-settled-again e l (month n) = month-again e l n
-settled-again e l (minute n) = month-again e l n
-settled-again e l (literal u) = refl
-settled-again e l (blank u) = refl
-settled-again e l (fill u) = refl
-settled-again e l (place p) = refl
-settled-again e l point = refl
-settled-again e l percent = refl
-settled-again e l general = refl
-settled-again e l at = refl
-settled-again e l (year n) = refl
-settled-again e l (day n) = refl
-settled-again e l (hour n) = refl
-settled-again e l (second n) = refl
-settled-again e l (part n) = refl
-settled-again e l (elapsed s n) = refl
-settled-again e l (half h) = refl
+settled-again e l i = settled-kept (settledItem e l) (λ n. refl) e l i
 
 settled-test : (e : Run) (is : List Item) → T (settledTest e (settledFrom e is))
 unfolding settledTest settledFrom

@@ -7,7 +7,7 @@ use mathlib.Core.Bool.{Bool, true, false, cond, true≢false}
 use mathlib.Core.List.{List, [], _∷_, _++_, map}
 use lib.Dec.{eqb}
 use Rattle.lists.specs.Lists.{any}
-use Rattle.lists.proofs.Bools.{by-cases, cond-both, cond-case, and-right, T-true, true-T}
+use Rattle.lists.proofs.Bools.{by-cases, cond-both, cond-case}
 use Rattle.lists.proofs.Counts.{any-append, any-map}
 use Rattle.formats.specs.Tokens as token
 use Rattle.formats.specs.Tokens.{Token, Letter, letterY, letterM, letterD, letterH, letterS}
@@ -104,7 +104,7 @@ module _ (k : Kind) (shown : sameKind k literalKind ≡ false) where
         (token-front true t (dateItems (piecesFrom (isSecondsToken t) (partZeros b t ts) ts))
         ∙ rw (date-makes (isSecondsToken t) (partZeros b t ts) ts (zeros-follow b t ts))))
         (λ e.
-        rw (e, shown, point-quiet t (T-true (isPoint t) (and-right b (isPoint t) (true-T (zeros-point b t ts e)))))
+        rw (e, shown, point-quiet t (zeros-point b t ts e .1))
         (date-makes (isSecondsToken t) (partZeros b t ts) ts (zeros-follow b t ts)))
 
 -- what the body's items make, once the fills are left out and the runs of m settled

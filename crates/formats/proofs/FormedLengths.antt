@@ -21,7 +21,7 @@ use Rattle.formats.specs.Limits.{elapsedShort}
 use Rattle.formats.specs.WellFormed.{isUnit, itemInRange}
 use Rattle.formats.proofs.TokenRanges.{tokenInRange}
 use Rattle.formats.proofs.FormedBools.{implies-in, implies-out}
-use Rattle.formats.proofs.FormedItems.{every-lastFill}
+use Rattle.formats.proofs.FormedItems.{every-lastFill, settled-cases}
 use Rattle.formats.proofs.FormedPieces.{zeros-most}
 
 -- in range where it is within the limit on elapsed runs
@@ -103,24 +103,9 @@ minute-month n t =
     and-in (leb 1 n) (leb n 5) (and-left (leb 1 n) (leb n 2) t) (le→leb n 5 (omega arith))
 
 item-settled : (e l : Run) (i : Item) → T (rangedShort i) → T (rangedShort (settledItem e l i))
-unfolding settledItem rangedShort elapsedShort itemInRange
-item-settled e l (item.month n) t = month-ranged (meansMinutes e l) n t
-item-settled e l (item.minute n) t = month-ranged (meansMinutes e l) n (minute-month n t)
-item-settled e l (item.literal u) t = t
-item-settled e l (item.blank u) t = t
-item-settled e l (item.fill u) t = t
-item-settled e l (item.place p) t = t
-item-settled e l item.point t = t
-item-settled e l item.percent t = t
-item-settled e l item.general t = t
-item-settled e l item.at t = t
-item-settled e l (item.year n) t = t
-item-settled e l (item.day n) t = t
-item-settled e l (item.hour n) t = t
-item-settled e l (item.second n) t = t
-item-settled e l (item.part n) t = t
-item-settled e l (item.elapsed s n) t = t
-item-settled e l (item.half h) t = t
+unfolding rangedShort elapsedShort itemInRange
+item-settled e l = settled-cases (λ (i : Item) (g : Run → Run → Item). T (rangedShort i) → T (rangedShort (g e l)))
+    (λ n t. month-ranged (meansMinutes e l) n t) (λ n t. month-ranged (meansMinutes e l) n (minute-month n t)) (λ i t. t)
 
 items-settled : (e : Run) (is : List Item) → T (every rangedShort is) → T (every rangedShort (settledFrom e is))
 unfolding settledFrom every

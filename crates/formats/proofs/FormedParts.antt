@@ -5,7 +5,7 @@ use mathlib.Core.Path.{_≡_, refl}
 use mathlib.Core.Bool.{Bool, true, false, cond, _&&_}
 use mathlib.Core.List.{List, [], _∷_, _++_, map}
 use lib.Dec.{T, eqb}
-use Rattle.lists.proofs.Bools.{by-cases, cond-both, and-left, and-right, T-true, true-T}
+use Rattle.lists.proofs.Bools.{by-cases, cond-both, T-true, true-T}
 use Rattle.formats.specs.Tokens as token
 use Rattle.formats.specs.Tokens.{Token, Letter, letterY, letterM, letterD, letterH, letterS}
 use Rattle.formats.specs.Items as item
@@ -85,10 +85,9 @@ date-follow b zero (t ∷ ts) c h =
     (token-follows true t (dateItems (piecesFrom (isSecondsToken t) (partZeros b t ts) ts)) c
     (λ d g. date-follow (isSecondsToken t) (partZeros b t ts) ts d g)))
     (λ e.
-    let p : T (b && isPoint t) = true-T (zeros-point b t ts e) in
-    let q : isPoint t ≡ true = T-true (isPoint t) (and-right b (isPoint t) p) in
-    let r : T (implies (isSecondsToken t) false) = rw (point-ends t q) tt in
-    rw (e, T-true c (implies-out b c h (and-left b (isPoint t) p))) (date-follow (isSecondsToken t) (partZeros b t ts) ts false r))
+    let p = zeros-point b t ts e in
+    let r : T (implies (isSecondsToken t) false) = rw (point-ends t (p .1)) tt in
+    rw (e, T-true c (implies-out b c h (true-T (p .0)))) (date-follow (isSecondsToken t) (partZeros b t ts) ts false r))
 
 body-follows : (ts : List Token) → T (partsFrom false (bodyItems ts))
 unfolding bodyItems

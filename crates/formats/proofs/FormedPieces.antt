@@ -2,7 +2,7 @@
 -- Assumes nothing.
 use Prim.Native.Nat.{_≤_}
 use native.Mathlib.Omega.{arith}
-use mathlib.Core.Path.{_≡_, sym}
+use mathlib.Core.Path.{_≡_, refl, sym}
 use mathlib.Core.Bool.{Bool, true, false, _&&_, true≢false}
 use mathlib.Core.List.{List}
 use lib.Dec.{eqb}
@@ -59,6 +59,7 @@ unfolding partZeros
 zeros-follow b t ts = cond-both (λ n. n ≤ leadingZeros ts) (b && isPoint t) (omega arith) (omega arith)
 
 -- and it starts with a point directly behind seconds
-pub zeros-point : (b : Bool) (t : Token) (ts : List Token) → eqb (partZeros b t ts) 0 ≡ false → (b && isPoint t) ≡ true
+pub zeros-point : (b : Bool) (t : Token) (ts : List Token) → eqb (partZeros b t ts) 0 ≡ false → (b ≡ true) × (isPoint t ≡ true)
 unfolding partZeros
-zeros-point b t ts e = by-cases (b && isPoint t) (λ h. h) (λ h. absurd (true≢false (rw h at e)))
+zeros-point true t ts e = (refl, by-cases (isPoint t) (λ h. h) (λ h. absurd (true≢false (rw h at e))))
+zeros-point false t ts e = absurd (true≢false e)

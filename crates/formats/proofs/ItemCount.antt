@@ -3,7 +3,7 @@
 use Prim.Native.Nat.{ℕ, zero, suc, _+_, _-_, _≤_}
 use native.Mathlib.Omega.{arith}
 use mathlib.Core.Path.{_≡_, refl, sym, _∙_, ap}
-use mathlib.Core.Bool.{Bool, true, false, _&&_, _||_, true≢false}
+use mathlib.Core.Bool.{Bool, true, false, _&&_, _||_}
 use mathlib.Core.List.{List, [], _∷_, map}
 use lib.ListN.{length, take, length-append, length-take, length-map}
 use lib.Dec.{T, leb, eqb, leb→le}
@@ -13,9 +13,10 @@ use Rattle.calendar.specs.Names.{units}
 use Rattle.formats.specs.Tokens as token
 use Rattle.formats.specs.Tokens.{Letter, Token, Step, read, broken, before, leading, startsWith, quoted, marked, generalWord, halfDayWord, runAllowed, runStep, insideOf, bracketed, First, quote, backslash, underscore, asterisk, openBracket, capitalG, capitalA, other, letter, single, FirstRow, firstRows, firstIn, bareLiterals, stepBy, stepAt, Placed, Lexed, good, bad, onto, afterStep, lexFrom, lex}
 use Rattle.formats.specs.Items.{Item, Run, noRun, runOf, nearer, settledFrom, settled, isFill, sameKind, dateKind}
-use Rattle.formats.specs.Kinds.{isSemicolon, isColour, isCondition, isPoint, Parts, colourIn, afterColour, partsOf, bodyKind, Piece, isSecondsToken, partZeros, piecesFrom, tokenItems, pieceItems, plainItems, dateItems, bodyItems, lastFill, sectionOf}
+use Rattle.formats.specs.Kinds.{isSemicolon, isColour, isCondition, Parts, colourIn, afterColour, partsOf, bodyKind, Piece, isSecondsToken, partZeros, piecesFrom, tokenItems, pieceItems, plainItems, dateItems, bodyItems, lastFill, sectionOf}
 use Rattle.formats.specs.Accept.{placedOf, tokensOf, semicolons, joined, split, partsIn, sectionsIn}
 use Rattle.formats.specs.WellFormed.{itemsInAll}
+use Rattle.formats.proofs.FormedPieces.{point-case, zeros-point}
 use Rattle.formats.proofs.TokenRanges.{InStep, closed-step, inside-form, first-passes, singlePasses}
 
 -- at least the items that a token makes, at most its units
@@ -163,31 +164,10 @@ plain-items [] = omega arith
 plain-items (t ∷ ts) =
     omega (arith, length-append (tokenItems false t) (plainItems ts), token-items false t, plain-items ts)
 
-point-weight : (t : Token) → isPoint t ≡ true → 1 ≤ weight t
-unfolding weight
-point-weight (token.literal us) e = absurd (true≢false (sym e))
-point-weight (token.bare u) e = omega arith
-point-weight (token.blank u) e = omega arith
-point-weight (token.fill u) e = omega arith
-point-weight (token.place p) e = omega arith
-point-weight token.point e = omega arith
-point-weight token.comma e = omega arith
-point-weight token.percent e = omega arith
-point-weight token.at e = omega arith
-point-weight token.semicolon e = omega arith
-point-weight token.general e = omega arith
-point-weight (token.half h) e = omega arith
-point-weight (token.run l n) e = omega arith
-point-weight (token.elapsed x n) e = omega arith
-point-weight (token.colour n) e = omega arith
-point-weight (token.condition w) e = omega arith
-
 -- a part of a second starts with a point
 part-weight : (behindSeconds : Bool) (t : Token) (ts : List Token) → eqb (partZeros behindSeconds t ts) 0 ≡ false → 1 ≤ weight t
-unfolding partZeros
-part-weight false t ts e = absurd (true≢false e)
-part-weight true t ts e =
-    by-cases (isPoint t) (λ h. point-weight t h) (λ h. absurd (true≢false (rw h at e)))
+unfolding weight
+part-weight b t ts e = point-case (λ (u : Token). 1 ≤ weight u) (omega arith) t (zeros-point b t ts e .1)
 
 pieces-items : (behindSeconds : Bool) (skip : ℕ) (ts : List Token) → length (dateItems (piecesFrom behindSeconds skip ts)) ≤ weights ts
 unfolding piecesFrom dateItems pieceItems weights

@@ -16,14 +16,14 @@ add-t8 c = search needs
 add-t9 : tie.Need-add-t9
 add-t9 c = search needs
 
-point-of-requires : tie.Need-point-of-requires
-point-of-requires c κs = search needs
+made-if-requires : tie.Need-made-if-requires
+made-if-requires c κs = search needs
 
-comma-of-requires : tie.Need-comma-of-requires
-comma-of-requires c κs = search needs
+made-if-requires-2 : tie.Need-made-if-requires-2
+made-if-requires-2 c κs = search needs
 
-month-of-requires : tie.Need-month-of-requires
-month-of-requires c κs = search needs
+made-if-requires-3 : tie.Need-made-if-requires-3
+made-if-requires-3 c κs = search needs
 
 returns : tie.Need-returns
 returns c = rw (c .match .keys1)
@@ -44,10 +44,10 @@ returns-6 : tie.Need-returns-6
 returns-6 c = rw (c .match .keys6) (power-words 6 _ _ (omega arith))
 
 returns-7 : tie.Need-returns-7
-returns-7 c = rw (c .before .match .keys7) (c .point-of .ensures)
+returns-7 c = rw (c .before .match .keys7) (c .made-if .ensures)
 
 returns-8 : tie.Need-returns-8
-returns-8 c = rw (c .before .match .keys8) (c .comma-of .ensures)
+returns-8 c = rw (c .before .match .keys8) (c .made-if2 .ensures)
 
 returns-9 : tie.Need-returns-9
 returns-9 c = rw (c .match .keys9)
@@ -68,7 +68,7 @@ returns-14 : tie.Need-returns-14
 returns-14 c = rw (c .match .keys14)
 
 returns-15 : tie.Need-returns-15
-returns-15 c = rw (c .before .match .keys15) (c .month-of .ensures)
+returns-15 c = rw (c .before .match .keys15) (c .made-if3 .ensures)
 
 returns-16 : tie.Need-returns-16
 returns-16 c = rw (c .match .keys16)
@@ -100,9 +100,9 @@ item-of-spec =
     add-t7
     add-t8
     add-t9
-    point-of-requires
-    comma-of-requires
-    month-of-requires
+    made-if-requires
+    made-if-requires-2
+    made-if-requires-3
     returns
     returns-2
     returns-3
