@@ -9,38 +9,27 @@ use mathlib.Core.Option.{Option}
 use borrow.Author.Tests.{not-true}
 use Rattle.lists.specs.Lists.{every, any, count}
 use Rattle.lists.proofs.Bools.{by-cases}
-use Rattle.formats.specs.Tokens.{Token, literal, blank, fill, place, point, half, run, elapsed, letterY, letterM, letterD, letterH, letterS, Elapsed, hours, minutes, seconds}
+use Rattle.lists.proofs.Counts.{any-map}
+use Rattle.formats.specs.Tokens.{Token, fill, run, elapsed, letterY, letterM, letterD, letterH, letterS, Elapsed, hours, minutes, seconds}
 use Rattle.formats.specs.Items as item
-use Rattle.formats.specs.Items.{Item, textKind, generalKind, dateKind, sameKind, itemAllowed, sortOf, isFill, isElapsed, Run, noRun, runOf, nearer, firstRun, settledItem, settledFrom, settled, isSecondsElapsed}
+use Rattle.formats.specs.Items.{Item, Kind, textKind, generalKind, dateKind, sameKind, itemAllowed, isFill, isElapsed, Run, noRun, runOf, nearer, firstRun, settledItem, settledFrom, settled, isSecondsElapsed}
 use Rattle.formats.specs.Kinds.{isPlace, isPoint, noBracket, tokenMakes, bodyKind, isSolidus, startsWithPlace, solidusFrom, solidusFits, commasFit, isSecondsLetter, isSecondsToken, runItem, tokenItems, piecesFrom, dateItems, bodyItems, lastFill}
-use Rattle.formats.specs.Limits.{elapsedShort}
 use Rattle.formats.proofs.FormedItems.{dropped}
-use Rattle.grammar.specs.Bodies.{free-string, free-repeat, free-space, free-bare, Behind, behindOther, NFAbsTimeToken, NFPartAbsHour, NFPartAbsSecond, NFPartAbsMinute, NFDateTimeToken, NFPartYear, NFPartMonth, NFPartMonth-long, NFPartDay, NFPartHour, NFPartMinute, NFPartSecond, absolute, NFPartSubSecond, tenths, hundredths, thousandths, Between, between-free, between-AMPM, between-comma, between-point, DateTimeRest, rest-end, rest-token, rest-sub-second, rest-between, DateTimeFrom, from-token, from-between, isAbsolute, NFDateTime}
-use Rattle.grammar.proofs.Tests.{no, and-parts, every-parts, every-in}
+use Rattle.grammar.specs.Bodies.{Behind, behindOther, NFAbsTimeToken, NFPartAbsHour, NFPartAbsSecond, NFPartAbsMinute, NFDateTimeToken, NFPartYear, NFPartMonth, NFPartMonth-long, NFPartDay, NFPartHour, NFPartMinute, NFPartSecond, absolute, NFPartSubSecond, tenths, hundredths, thousandths, Between, DateTimeRest, rest-end, rest-token, rest-sub-second, rest-between, DateTimeFrom, from-token, from-between, isAbsolute, NFDateTime}
+use Rattle.grammar.proofs.Tests.{no, and-parts, every-in, every-all, every-none}
+use Rattle.grammar.proofs.Quiet.{passed-over}
 use Rattle.grammar.proofs.Kept.{sorts, count-kept, allowed-kept, foreign, no-integers, no-decimals}
 use Rattle.grammar.proofs.Facts.{kept, Fitting}
 use Rattle.grammar.proofs.Plain.{inBody, has, kind-date, kind-has}
 use Rattle.grammar.proofs.PlainBodies.{body-tokens, body-brackets, NoSemicolon}
-use Rattle.grammar.proofs.DateItems.{dateItem, date-allowed, date-short, date-every, dates-apart, Counting, counting}
-use Rattle.grammar.proofs.Dates.{direct, direct-past, Dated, Dating, dating-run, dating-elapsed, dating, whole-items, between-items, sub-items, rest-start, rest-of, rest-dated}
+use Rattle.grammar.proofs.DateItems.{dateItem, date-allowed, date-short, dates-apart, Counting, counting}
+use Rattle.grammar.proofs.Dates.{direct, direct-past, Dated, dateToken, between-facts, between-kept, dating-facts, dating, whole-items, between-items, sub-items, rest-start, rest-of, rest-dated}
 
 -- ---- the first date token
 
--- a token that is no date token makes no date
 between-has : {t : Token} (ts : List Token) → Between t → has dateKind (t ∷ ts) ≡ has dateKind ts
-unfolding any tokenMakes
-between-has ts (between-free (free-string us)) = refl
-between-has ts (between-free (free-repeat u)) = refl
-between-has ts (between-free (free-space u)) = refl
-between-has ts (between-free (free-bare u)) = refl
-between-has ts (between-AMPM h) = refl
-between-has ts between-comma = refl
-between-has ts between-point = refl
-
-dating-has : {t : Token} (ts : List Token) → Dating t → has dateKind (t ∷ ts) ≡ true
-unfolding any tokenMakes
-dating-has ts (dating-run l n) = refl
-dating-has ts (dating-elapsed x n) = refl
+unfolding any
+between-has ts x = rw ((between-facts x) .1)
 
 from-rest : {abs : Option Elapsed} {ts : List Token} → DateTimeRest abs behindOther ts → has dateKind ts ≡ true → DateTimeFrom abs ts
 unfolding any
@@ -53,29 +42,11 @@ to-rest (from-token x d) = rest-token x d
 to-rest (from-between x d) = rest-between x (to-rest d)
 
 from-has : {abs : Option Elapsed} {ts : List Token} → DateTimeFrom abs ts → has dateKind ts ≡ true
-from-has (from-token {ts = ts} x d) = dating-has ts (dating x)
+unfolding any
+from-has (from-token x d) = rw ((dating-facts (dating x)) .1)
 from-has (from-between {ts = ts} x d) = between-has ts x ∙ from-has d
 
 -- ---- the tokens of a date
-
--- a token of a date's body makes it neither text nor General
-abbrev dateToken : Token → Bool
-dateToken t = inBody t && (not (sameKind textKind (tokenMakes t)) && not (sameKind generalKind (tokenMakes t)))
-
-dating-token : {t : Token} → Dating t → dateToken t ≡ true
-unfolding tokenMakes noBracket
-dating-token (dating-run l n) = refl
-dating-token (dating-elapsed x n) = refl
-
-between-token : {t : Token} → Between t → dateToken t ≡ true
-unfolding tokenMakes noBracket
-between-token (between-free (free-string us)) = refl
-between-token (between-free (free-repeat u)) = refl
-between-token (between-free (free-space u)) = refl
-between-token (between-free (free-bare u)) = refl
-between-token (between-AMPM h) = refl
-between-token between-comma = refl
-between-token between-point = refl
 
 sub-tokens : {ts us : List Token} → NFPartSubSecond ts us → every dateToken us ≡ true → every dateToken ts ≡ true
 unfolding every tokenMakes noBracket
@@ -86,34 +57,21 @@ sub-tokens thousandths e = e
 rest-tokens : {abs : Option Elapsed} {b : Behind} {ts : List Token} → DateTimeRest abs b ts → every dateToken ts ≡ true
 unfolding every
 rest-tokens rest-end = refl
-rest-tokens (rest-token {t = t} {ts = ts} x d) = every-in dateToken t ts (dating-token (dating x)) (rest-tokens d)
+rest-tokens (rest-token {t = t} {ts = ts} x d) = every-in dateToken t ts ((dating-facts (dating x)) .2) (rest-tokens d)
 rest-tokens (rest-sub-second s d) = sub-tokens s (rest-tokens d)
-rest-tokens (rest-between {t = t} {ts = ts} x d) = every-in dateToken t ts (between-token x) (rest-tokens d)
+rest-tokens (rest-between {t = t} {ts = ts} x d) = every-in dateToken t ts ((between-facts x) .2) (rest-tokens d)
 
 tokens-body : (ts : List Token) → every dateToken ts ≡ true → every inBody ts ≡ true
-unfolding every
-tokens-body [] e = refl
-tokens-body (t ∷ ts) e =
-    let (a, b) = every-parts dateToken t ts e in
-    every-in inBody t ts ((and-parts (inBody t) _ a) .0) (tokens-body ts b)
+tokens-body ts e = every-all dateToken inBody (λ t d. (and-parts (inBody t) _ d) .0) ts e
 
-tokens-text : (ts : List Token) → every dateToken ts ≡ true → has textKind ts ≡ false
-unfolding any
-tokens-text [] e = refl
-tokens-text (t ∷ ts) e =
-    let (a, b) = every-parts dateToken t ts e in
-    let (c, d) = and-parts (inBody t) (not (sameKind textKind (tokenMakes t)) && not (sameKind generalKind (tokenMakes t))) a in
-    let (f, g) = and-parts (not (sameKind textKind (tokenMakes t))) (not (sameKind generalKind (tokenMakes t))) d in
-    rw (not-true (sameKind textKind (tokenMakes t)) f) (tokens-text ts b)
+tokens-none : (k : Kind) → ((t : Token) → dateToken t ≡ true → sameKind k (tokenMakes t) ≡ false) → (ts : List Token) → every dateToken ts ≡ true → has k ts ≡ false
+tokens-none k f ts e = any-map (sameKind k) tokenMakes ts ∙ every-none dateToken (λ (t : Token). sameKind k (tokenMakes t)) f ts e
 
-tokens-general : (ts : List Token) → every dateToken ts ≡ true → has generalKind ts ≡ false
-unfolding any
-tokens-general [] e = refl
-tokens-general (t ∷ ts) e =
-    let (a, b) = every-parts dateToken t ts e in
-    let (c, d) = and-parts (inBody t) (not (sameKind textKind (tokenMakes t)) && not (sameKind generalKind (tokenMakes t))) a in
-    let (f, g) = and-parts (not (sameKind textKind (tokenMakes t))) (not (sameKind generalKind (tokenMakes t))) d in
-    rw (not-true (sameKind generalKind (tokenMakes t)) g) (tokens-general ts b)
+token-other : (t : Token) → dateToken t ≡ true → (sameKind textKind (tokenMakes t) ≡ false) × (sameKind generalKind (tokenMakes t) ≡ false)
+token-other t d =
+    let others = (and-parts (inBody t) _ d) .1 in
+    let (a, b) = and-parts (not (sameKind textKind (tokenMakes t))) (not (sameKind generalKind (tokenMakes t))) others in
+    (not-true (sameKind textKind (tokenMakes t)) a, not-true (sameKind generalKind (tokenMakes t)) b)
 
 -- no solidus stands before a place
 rest-solidus : {abs : Option Elapsed} {b : Behind} {ts : List Token} → DateTimeRest abs b ts → (d : Bool) → solidusFrom d ts ≡ true
@@ -127,17 +85,9 @@ rest-solidus (rest-between {t = t} x d) e = rw (rest-start d, and-false (e && is
 
 -- ---- elapsed items and absolute tokens
 
-between-elapsed : {t : Token} (is : List Item) (ts : List Token) → Between t
-    → (count isElapsed (tokenItems true t ++ is) ≡ count isElapsed is) × (count isAbsolute (t ∷ ts) ≡ count isAbsolute ts)
-unfolding count tokenItems
-between-elapsed is ts (between-free (free-string [])) = (refl, refl)
-between-elapsed is ts (between-free (free-string (u ∷ us))) = ((between-elapsed is ts (between-free (free-string us))) .0, refl)
-between-elapsed is ts (between-free (free-repeat u)) = (refl, refl)
-between-elapsed is ts (between-free (free-space u)) = (refl, refl)
-between-elapsed is ts (between-free (free-bare u)) = (refl, refl)
-between-elapsed is ts (between-AMPM h) = (refl, refl)
-between-elapsed is ts between-comma = (refl, refl)
-between-elapsed is ts between-point = (refl, refl)
+between-elapsed : {t : Token} (is : List Item) → Between t → count isElapsed (tokenItems true t ++ is) ≡ count isElapsed is
+unfolding count
+between-elapsed is x = between-kept (count isElapsed) (λ u js. refl) (λ u js. refl) (λ u js. refl) (λ h js. refl) is x
 
 -- the items of the tokens left, and how many of them are elapsed
 abbrev Alike : Behind → List Token → Type 0
@@ -178,9 +128,9 @@ rest-elapsed (rest-token {ts = ts} x d) = token-elapsed ts x (rest-elapsed d)
 rest-elapsed {abs} (rest-sub-second {us = us} s d) =
     let (n, e) = sub-items abs (rest-start d) s in
     rw e (part-elapsed n (dateItems (piecesFrom false 0 us)) ∙ rest-elapsed d ∙ sym (sub-absolute s))
-rest-elapsed {abs} {b} (rest-between {ts = ts} x d) =
-    let (e, f) = between-elapsed (dateItems (piecesFrom false 0 ts)) ts x in
-    rw (between-items abs b ts (rest-start d) x) (e ∙ (rw (direct-past b) at (rest-elapsed d)) ∙ sym f)
+rest-elapsed {abs} {b} (rest-between {t = t} {ts = ts} x d) =
+    rw (between-items abs b ts (rest-start d) x)
+    (between-elapsed (dateItems (piecesFrom false 0 ts)) x ∙ (rw (direct-past b) at (rest-elapsed d)) ∙ sym (passed-over isAbsolute t ts ((between-facts x) .3)))
 
 -- ---- fills left out change no date
 
@@ -250,11 +200,11 @@ unfolding commasFit solidusFits settled sorts
 date-fits ts d =
     let rest = to-rest (d .tokens) in
     let tokens = rest-tokens rest in
-    let h = kind-date ts (tokens-text ts tokens) (tokens-general ts tokens) (from-has (d .tokens)) in
+    let h = kind-date ts (tokens-none textKind (λ t e. (token-other t e) .0) ts tokens) (tokens-none generalKind (λ t e. (token-other t e) .1) ts tokens) (from-has (d .tokens)) in
     let items = date-body ts h in
     let dated : every (dateItem (d .abs)) (kept ts) ≡ true = rw items (dated-fill (d .abs) noRun (dateItems (piecesFrom false 0 ts)) ∙ rest-dated (d .abs) rest noRun refl) in
     let a : every (itemAllowed dateKind) (bodyItems ts) ≡ true
-    = sym (allowed-kept dateKind (bodyItems ts)) ∙ date-every (d .abs) (itemAllowed dateKind) (date-allowed (d .abs)) (kept ts) dated in
+    = sym (allowed-kept dateKind (bodyItems ts)) ∙ date-allowed (d .abs) (kept ts) dated in
     let places : count item.isPlace (bodyItems ts) ≡ 0 = foreign dateKind 3 refl (bodyItems ts) a in
     let points : count item.isPoint (bodyItems ts) ≡ 0 = foreign dateKind 4 refl (bodyItems ts) a in
     let percents : count item.isPercent (bodyItems ts) ≡ 0 = foreign dateKind 5 refl (bodyItems ts) a in
@@ -274,6 +224,6 @@ date-fits ts d =
         decimals = omega (arith, no-decimals (bodyItems ts) places);
         percents = omega arith;
         divisions = rw h (omega arith);
-        short = date-every (d .abs) elapsedShort (date-short (d .abs)) (kept ts) dated;
+        short = date-short (d .abs) (kept ts) dated;
       },
     )

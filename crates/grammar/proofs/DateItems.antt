@@ -3,18 +3,17 @@
 use Prim.Native.Nat.{ℕ, zero, suc, _≤_}
 use native.Mathlib.Omega.{arith}
 use mathlib.Core.Path.{_≡_, refl, sym, ap, _∙_}
-use mathlib.Core.Bool.{Bool, true, false, cond, not, _&&_, _||_, true≢false}
+use mathlib.Core.Bool.{Bool, true, false, not, _&&_, _||_, true≢false}
 use mathlib.Core.List.{List, [], _∷_}
 use mathlib.Core.Option.{Option, none, some}
 use lib.Dec.{leb, eqb}
-use borrow.Author.Tests.{eqb-true, ne-eqb, not-true}
+use borrow.Author.Tests.{eqb-true, not-true}
 use Rattle.lists.specs.Lists.{every, any, count}
-use Rattle.lists.proofs.Bools.{by-cases, cond-both}
+use Rattle.lists.proofs.Bools.{by-cases}
 use Rattle.formats.specs.Tokens.{Elapsed, hours, minutes, seconds}
-use Rattle.formats.specs.Items.{Item, literal, blank, fill, place, point, percent, general, at, year, month, day, hour, minute, second, part, elapsed, half, dateKind, itemBelongs, itemAllowed, sortOf, isElapsed, isPlain, noPlain}
+use Rattle.formats.specs.Items.{Item, literal, blank, fill, place, point, percent, general, at, year, month, day, hour, minute, second, part, elapsed, half, dateKind, itemBelongs, itemAllowed, isElapsed, isPlain, noPlain}
 use Rattle.formats.specs.Limits.{elapsedShort}
-use Rattle.grammar.proofs.Tests.{no, and-parts, both, every-parts, every-in}
-use Rattle.grammar.proofs.Kept.{unless-elapsed, calm}
+use Rattle.grammar.proofs.Tests.{no, and-parts, both, every-parts, every-in, every-with, every-all, every-none, none-every}
 
 abbrev elapsedIndex : Elapsed → ℕ
 elapsedIndex hours = 0
@@ -65,226 +64,151 @@ dateItem abs (part n) = true
 dateItem abs (elapsed x n) = counts abs x && leb n 9
 dateItem abs (half h) = true
 
--- what holds of every elapsed item holds of an item that is one
-elapsed-case : (P : Item → Type 0) → ((x : Elapsed) (n : ℕ) → P (elapsed x n)) → (i : Item) → isElapsed i ≡ true → P i
-elapsed-case P f (elapsed x n) e = f x n
-elapsed-case P f (literal u) e = no e
-elapsed-case P f (blank u) e = no e
-elapsed-case P f (fill u) e = no e
-elapsed-case P f (place p) e = no e
-elapsed-case P f point e = no e
-elapsed-case P f percent e = no e
-elapsed-case P f general e = no e
-elapsed-case P f at e = no e
-elapsed-case P f (year n) e = no e
-elapsed-case P f (month n) e = no e
-elapsed-case P f (day n) e = no e
-elapsed-case P f (hour n) e = no e
-elapsed-case P f (minute n) e = no e
-elapsed-case P f (second n) e = no e
-elapsed-case P f (part n) e = no e
-elapsed-case P f (half h) e = no e
+-- what holds of each unit
+by-three : (P : Elapsed → Type 0) → P hours → P minutes → P seconds → (x : Elapsed) → P x
+by-three P h m s hours = h
+by-three P h m s minutes = m
+by-three P h m s seconds = s
 
--- the plain equivalents by their sorts
-plainSort : Elapsed → ℕ
-plainSort hours = 11
-plainSort minutes = 12
-plainSort seconds = 13
+abbrev Unplain : Item → Elapsed → Type 0
+Unplain i x = dateItem (some x) i ≡ (itemAllowed dateKind i && not (isPlain x i))
 
-plain-sort : (x : Elapsed) (i : Item) → isPlain x i ≡ eqb (sortOf i) (plainSort x)
-unfolding isPlain plainSort
-plain-sort hours i = refl
-plain-sort minutes i = refl
-plain-sort seconds i = refl
+-- an item is elapsed, or it passes the tests for elapsed ones, and is a date's where it is no plain equivalent
+data Sorted : Item → Type 0 where
+  timed : (x : Elapsed) (n : ℕ) → Sorted (elapsed x n)
+  calm : {i : Item} → isElapsed i ≡ false → elapsedShort i ≡ true → ((js : List Item) → noPlain js i ≡ true)
+      → dateItem none i ≡ itemAllowed dateKind i → ((x : Elapsed) → Unplain i x) → Sorted i
 
--- hours, minutes and seconds of a date that does not count them; the rest of its items
-timeOk : Option Elapsed → ℕ → Bool
-timeOk abs n =
-    cond (eqb n 11) (not (counts abs hours)) (cond (eqb n 12) (not (counts abs minutes)) (cond (eqb n 13) (not (counts abs seconds)) true))
+sorted : (i : Item) → Sorted i
+unfolding elapsedShort noPlain dateItem itemAllowed itemBelongs isPlain
+sorted (elapsed x n) = timed x n
+sorted (literal u) = calm refl refl (λ js. refl) refl (by-three (Unplain (literal u)) refl refl refl)
+sorted (blank u) = calm refl refl (λ js. refl) refl (by-three (Unplain (blank u)) refl refl refl)
+sorted (fill u) = calm refl refl (λ js. refl) refl (by-three (Unplain (fill u)) refl refl refl)
+sorted (place p) = calm refl refl (λ js. refl) refl (by-three (Unplain (place p)) refl refl refl)
+sorted point = calm refl refl (λ js. refl) refl (by-three (Unplain point) refl refl refl)
+sorted percent = calm refl refl (λ js. refl) refl (by-three (Unplain percent) refl refl refl)
+sorted general = calm refl refl (λ js. refl) refl (by-three (Unplain general) refl refl refl)
+sorted at = calm refl refl (λ js. refl) refl (by-three (Unplain at) refl refl refl)
+sorted (year n) = calm refl refl (λ js. refl) refl (by-three (Unplain (year n)) refl refl refl)
+sorted (month n) = calm refl refl (λ js. refl) refl (by-three (Unplain (month n)) refl refl refl)
+sorted (day n) = calm refl refl (λ js. refl) refl (by-three (Unplain (day n)) refl refl refl)
+sorted (hour n) = calm refl refl (λ js. refl) refl (by-three (Unplain (hour n)) refl refl refl)
+sorted (minute n) = calm refl refl (λ js. refl) refl (by-three (Unplain (minute n)) refl refl refl)
+sorted (second n) = calm refl refl (λ js. refl) refl (by-three (Unplain (second n)) refl refl refl)
+sorted (part n) = calm refl refl (λ js. refl) refl (by-three (Unplain (part n)) refl refl refl)
+sorted (half h) = calm refl refl (λ js. refl) refl (by-three (Unplain (half h)) refl refl refl)
 
-time-none : (n : ℕ) → timeOk none n ≡ true
-unfolding timeOk
-time-none n =
-    cond-both (λ (b : Bool). b ≡ true) (eqb n 11) refl
-    (cond-both (λ (b : Bool). b ≡ true) (eqb n 12) refl (cond-both (λ (b : Bool). b ≡ true) (eqb n 13) refl refl))
-
-time-plain : (x : Elapsed) → timeOk (some x) (plainSort x) ≡ false
-unfolding timeOk plainSort
-time-plain hours = refl
-time-plain minutes = refl
-time-plain seconds = refl
-
-time-other : (x : Elapsed) (n : ℕ) → eqb n (plainSort x) ≡ false → timeOk (some x) n ≡ true
-unfolding timeOk plainSort
-time-other hours n e = rw e (cond-both (λ (b : Bool). b ≡ true) (eqb n 12) refl (cond-both (λ (b : Bool). b ≡ true) (eqb n 13) refl refl))
-time-other minutes n e = rw e (cond-both (λ (b : Bool). b ≡ true) (eqb n 11) refl (cond-both (λ (b : Bool). b ≡ true) (eqb n 13) refl refl))
-time-other seconds n e = rw e (cond-both (λ (b : Bool). b ≡ true) (eqb n 11) refl (cond-both (λ (b : Bool). b ≡ true) (eqb n 12) refl refl))
-
--- an item that is not elapsed
-date-is : (abs : Option Elapsed) (i : Item) → isElapsed i ≡ false → dateItem abs i ≡ (itemAllowed dateKind i && timeOk abs (sortOf i))
-unfolding dateItem itemAllowed itemBelongs timeOk
-date-is abs (elapsed x n) e = absurd (true≢false e)
-date-is abs (literal u) e = refl
-date-is abs (blank u) e = refl
-date-is abs (fill u) e = refl
-date-is abs (place p) e = refl
-date-is abs point e = refl
-date-is abs percent e = refl
-date-is abs general e = refl
-date-is abs at e = refl
-date-is abs (year n) e = refl
-date-is abs (month n) e = refl
-date-is abs (day n) e = refl
-date-is abs (hour n) e = refl
-date-is abs (minute n) e = refl
-date-is abs (second n) e = refl
-date-is abs (part n) e = refl
-date-is abs (half h) e = refl
-
--- ---- what such items satisfy
-
-pub date-allowed : (abs : Option Elapsed) (i : Item) → dateItem abs i ≡ true → itemAllowed dateKind i ≡ true
-unfolding itemAllowed itemBelongs
-date-allowed abs i e =
+-- a test that only an elapsed item may fail
+unless-elapsed : (f : Item → Bool) → ((i : Item) → isElapsed i ≡ false → f i ≡ true) → (is : List Item) → count isElapsed is ≡ 0 → every f is ≡ true
+unfolding every count
+unless-elapsed f g [] e = refl
+unless-elapsed f g (i ∷ is) e =
     by-cases (isElapsed i)
-    (λ h. elapsed-case (λ (i : Item). itemAllowed dateKind i ≡ true) (λ x n. refl) i h)
-    (λ h. (and-parts (itemAllowed dateKind i) (timeOk abs (sortOf i)) (sym (date-is abs i h) ∙ e)) .0)
+    (λ h. let z : suc (count isElapsed is) ≡ 0 = rw h at e in absurd (omega arith))
+    (λ h. rw (g i h) (unless-elapsed f g is (rw h at e)))
 
--- of an elapsed item: what it counts, and its length
-elapsed-parts : (abs : Option Elapsed) (x : Elapsed) (n : ℕ) → dateItem abs (elapsed x n) ≡ true → (counts abs x ≡ true) × (leb n 9 ≡ true)
-unfolding dateItem
-elapsed-parts abs x n e = and-parts (counts abs x) (leb n 9) e
+calm-short : {i : Item} → Sorted i → isElapsed i ≡ false → elapsedShort i ≡ true
+calm-short (timed x n) h = absurd (true≢false h)
+calm-short (calm o s a f g) h = s
 
-pub date-short : (abs : Option Elapsed) (i : Item) → dateItem abs i ≡ true → elapsedShort i ≡ true
-unfolding elapsedShort
-date-short abs i e =
-    by-cases (isElapsed i)
-    (λ h. elapsed-case (λ (i : Item). dateItem abs i ≡ true → elapsedShort i ≡ true) (λ x n e. (elapsed-parts abs x n e) .1) i h e)
-    (λ h. (calm i h) .short)
+calm-apart : (js : List Item) {i : Item} → Sorted i → isElapsed i ≡ false → noPlain js i ≡ true
+calm-apart js (timed x n) h = absurd (true≢false h)
+calm-apart js (calm o s a f g) h = a js
 
-plain-below : (x : Elapsed) → plainSort x ≤ 13
-unfolding plainSort
-plain-below hours = omega arith
-plain-below minutes = omega arith
-plain-below seconds = omega arith
+pub short-none : (is : List Item) → count isElapsed is ≡ 0 → every elapsedShort is ≡ true
+short-none is e = unless-elapsed elapsedShort (λ i h. calm-short (sorted i) h) is e
 
-date-plain : (x : Elapsed) (i : Item) → dateItem (some x) i ≡ true → isPlain x i ≡ false
-date-plain x i e =
-    by-cases (isPlain x i)
-    (λ h.
-    let s : sortOf i ≡ plainSort x = eqb-true (sortOf i) (plainSort x) (sym (plain-sort x i) ∙ h) in
-    let other : isElapsed i ≡ false = ne-eqb (sortOf i) 15 (λ k. omega (arith, plain-below x)) in
-    let time = (and-parts (itemAllowed dateKind i) (timeOk (some x) (sortOf i)) (sym (date-is (some x) i other) ∙ e)) .1 in
-    no (sym (time-plain x) ∙ ap (timeOk (some x)) (sym s) ∙ time))
-    (λ h. h)
+pub plain-none : (is : List Item) → count isElapsed is ≡ 0 → every (noPlain is) is ≡ true
+plain-none is e = unless-elapsed (noPlain is) (λ i h. calm-apart is (sorted i) h) is e
+
+-- ---- what the items of a date satisfy
+
+date-parts : (abs : Option Elapsed) {i : Item} → Sorted i → dateItem abs i ≡ true → (itemAllowed dateKind i ≡ true) × (elapsedShort i ≡ true)
+unfolding dateItem itemAllowed itemBelongs elapsedShort
+date-parts abs (timed x n) e = (refl, (and-parts (counts abs x) (leb n 9) e) .1)
+date-parts none (calm o s a f g) e = (sym f ∙ e, s)
+date-parts (some x) {i} (calm o s a f g) e = ((and-parts (itemAllowed dateKind i) (not (isPlain x i)) (sym (g x) ∙ e)) .0, s)
+
+pub date-allowed : (abs : Option Elapsed) (is : List Item) → every (dateItem abs) is ≡ true → every (itemAllowed dateKind) is ≡ true
+date-allowed abs is e = every-all (dateItem abs) (itemAllowed dateKind) (λ i d. (date-parts abs (sorted i) d) .0) is e
+
+pub date-short : (abs : Option Elapsed) (is : List Item) → every (dateItem abs) is ≡ true → every elapsedShort is ≡ true
+date-short abs is e = every-all (dateItem abs) elapsedShort (λ i d. (date-parts abs (sorted i) d) .1) is e
+
+date-plain : (x : Elapsed) {i : Item} → Sorted i → dateItem (some x) i ≡ true → isPlain x i ≡ false
+unfolding isPlain
+date-plain x (timed y n) e = by-three (λ (z : Elapsed). isPlain z (elapsed y n) ≡ false) refl refl refl x
+date-plain x {i} (calm o s a f g) e = not-true (isPlain x i) ((and-parts (itemAllowed dateKind i) (not (isPlain x i)) (sym (g x) ∙ e)) .1)
 
 no-plain : (x : Elapsed) (is : List Item) → every (dateItem (some x)) is ≡ true → any (isPlain x) is ≡ false
-unfolding any
-no-plain x [] e = refl
-no-plain x (i ∷ is) e =
-    let (e₁, e₂) = every-parts (dateItem (some x)) i is e in
-    rw (date-plain x i e₁) (no-plain x is e₂)
+no-plain x is e = every-none (dateItem (some x)) (isPlain x) (λ i d. date-plain x (sorted i) d) is e
 
-date-apart : (abs : Option Elapsed) (is : List Item) → every (dateItem abs) is ≡ true → (i : Item) → dateItem abs i ≡ true → noPlain is i ≡ true
-unfolding noPlain
-date-apart abs is a i e =
-    by-cases (isElapsed i)
-    (λ h.
-    elapsed-case (λ (i : Item). dateItem abs i ≡ true → noPlain is i ≡ true)
-    (λ x n e.
-    let s : abs ≡ some x = counts-some abs x ((elapsed-parts abs x n e) .0) in
-    rw (no-plain x is (rw s at a)))
-    i h e)
-    (λ h. (calm i h) .apart is)
-
--- what holds of each such item holds of them all
-pub date-every : (abs : Option Elapsed) (f : Item → Bool) → ((i : Item) → dateItem abs i ≡ true → f i ≡ true) → (is : List Item)
-    → every (dateItem abs) is ≡ true → every f is ≡ true
-unfolding every
-date-every abs f g [] e = refl
-date-every abs f g (i ∷ is) e =
-    let (e₁, e₂) = every-parts (dateItem abs) i is e in
-    every-in f i is (g i e₁) (date-every abs f g is e₂)
+date-apart : (abs : Option Elapsed) (is : List Item) → every (dateItem abs) is ≡ true → {i : Item} → Sorted i → dateItem abs i ≡ true → noPlain is i ≡ true
+unfolding noPlain dateItem
+date-apart abs is a (timed x n) e =
+    let s : abs ≡ some x = counts-some abs x ((and-parts (counts abs x) (leb n 9) e) .0) in
+    rw (no-plain x is (rw s at a))
+date-apart abs is a (calm o s p f g) e = p is
 
 pub dates-apart : (abs : Option Elapsed) (is : List Item) → every (dateItem abs) is ≡ true → every (noPlain is) is ≡ true
-dates-apart abs is e = date-every abs (noPlain is) (date-apart abs is e) is e
+dates-apart abs is e = every-all (dateItem abs) (noPlain is) (λ i d. date-apart abs is e (sorted i) d) is e
 
 -- ---- the other way round: the unit that is counted is found
 
--- an elapsed item counts x, in a run of 9 at most
-abbrev countsIn : Elapsed → Item → Bool
-countsIn x i = not (isElapsed i) || dateItem (some x) i
+-- an elapsed item is one of a date that counts this unit
+abbrev countsIn : Option Elapsed → Item → Bool
+countsIn abs i = not (isElapsed i) || dateItem abs i
 
-counts-unless : (x : Elapsed) (i : Item) → isElapsed i ≡ false → countsIn x i ≡ true
-counts-unless x i e = rw e
+counts-unless : (abs : Option Elapsed) (i : Item) → isElapsed i ≡ false → countsIn abs i ≡ true
+counts-unless abs i e = rw e
 
 -- the items js of is: none is elapsed, or all that are count x, whose plain equivalent is not in is
 data Found (is js : List Item) : Type 0 where
-  found-none : count isElapsed js ≡ 0 → Found is js
-  found-one : (x : Elapsed) → every (countsIn x) js ≡ true → any (isPlain x) is ≡ false → Found is js
+  found-none : every (countsIn none) js ≡ true → Found is js
+  found-one : (x : Elapsed) → every (countsIn (some x)) js ≡ true → any (isPlain x) is ≡ false → Found is js
 
-found-here : (is js : List Item) (i : Item) → isElapsed i ≡ true → count isElapsed js ≡ 0 → elapsedShort i ≡ true → noPlain is i ≡ true → Found is (i ∷ js)
-unfolding noPlain elapsedShort dateItem
-found-here is js i h =
-    elapsed-case (λ (i : Item). count isElapsed js ≡ 0 → elapsedShort i ≡ true → noPlain is i ≡ true → Found is (i ∷ js))
-    (λ x n c s p.
-    found-one x (every-in (countsIn x) (elapsed x n) js (both (counts (some x) x) (leb n 9) (some-counts x) s) (unless-elapsed (countsIn x) (counts-unless x) js c))
-    (not-true (any (isPlain x) is) p))
-    i h
-
-found-past : (is js : List Item) (i : Item) → isElapsed i ≡ false → Found is js → Found is (i ∷ js)
-unfolding count
-found-past is js i h (found-none e) = found-none (rw h e)
-found-past is js i h (found-one x e p) = found-one x (every-in (countsIn x) i js (counts-unless x i h) e) p
+found-here : (is js : List Item) {i : Item} → Sorted i → count isElapsed (i ∷ js) ≤ 1 → elapsedShort i ≡ true → noPlain is i ≡ true
+    → (count isElapsed js ≤ 1 → Found is js) → Found is (i ∷ js)
+unfolding count noPlain elapsedShort dateItem
+found-here is js (timed x n) c s p f =
+    found-one x
+    (every-in (countsIn (some x)) (elapsed x n) js (both (counts (some x) x) (leb n 9) (some-counts x) s)
+    (unless-elapsed (countsIn (some x)) (counts-unless (some x)) js (omega arith)))
+    (not-true (any (isPlain x) is) p)
+found-here is js {i} (calm o s a _ _) c t p f = past (f (rw o at c))
+  where
+    past : Found is js → Found is (i ∷ js)
+    past (found-none e) = found-none (every-in (countsIn none) i js (counts-unless none i o) e)
+    past (found-one x e q) = found-one x (every-in (countsIn (some x)) i js (counts-unless (some x) i o) e) q
 
 find : (is js : List Item) → count isElapsed js ≤ 1 → every elapsedShort js ≡ true → every (noPlain is) js ≡ true → Found is js
-unfolding count
+unfolding every
 find is [] c s e = found-none refl
 find is (i ∷ js) c s e =
     let (s₁, s₂) = every-parts elapsedShort i js s in
     let (e₁, e₂) = every-parts (noPlain is) i js e in
-    by-cases (isElapsed i)
-    (λ h. let d : suc (count isElapsed js) ≤ 1 = rw h at c in found-here is js i h (omega arith) s₁ e₁)
-    (λ h. found-past is js i h (find is js (rw h at c) s₂ e₂))
+    found-here is js (sorted i) c s₁ e₁ (λ d. find is js d s₂ e₂)
 
--- no item counts: none is elapsed
-every-none : (is : List Item) → every (itemAllowed dateKind) is ≡ true → count isElapsed is ≡ 0 → every (dateItem none) is ≡ true
-unfolding every count
-every-none [] a c = refl
-every-none (i ∷ is) a c =
-    let (a₁, a₂) = every-parts (itemAllowed dateKind) i is a in
-    by-cases (isElapsed i)
-    (λ h. let z : suc (count isElapsed is) ≡ 0 = rw h at c in absurd (omega arith))
-    (λ h.
-    every-in (dateItem none) i is (date-is none i h ∙ both (itemAllowed dateKind i) (timeOk none (sortOf i)) a₁ (time-none (sortOf i)))
-    (every-none is a₂ (rw h at c)))
+none-item : {i : Item} → Sorted i → itemAllowed dateKind i ≡ true → countsIn none i ≡ true → dateItem none i ≡ true
+none-item (timed x n) a c = c
+none-item (calm o s p f g) a c = f ∙ a
 
-some-item : (x : Elapsed) (i : Item) → itemAllowed dateKind i ≡ true → isPlain x i ≡ false → countsIn x i ≡ true → dateItem (some x) i ≡ true
-some-item x i a p e =
-    by-cases (isElapsed i)
-    (λ h. rw h at e)
-    (λ h.
-    date-is (some x) i h
-    ∙ both (itemAllowed dateKind i) (timeOk (some x) (sortOf i)) a (time-other x (sortOf i) (sym (plain-sort x i) ∙ p)))
-
-every-some : (x : Elapsed) (is : List Item) → every (itemAllowed dateKind) is ≡ true → any (isPlain x) is ≡ false → every (countsIn x) is ≡ true
-    → every (dateItem (some x)) is ≡ true
-unfolding every any
-every-some x [] a p e = refl
-every-some x (i ∷ is) a p e =
-    let (a₁, a₂) = every-parts (itemAllowed dateKind) i is a in
-    let (e₁, e₂) = every-parts (countsIn x) i is e in
-    by-cases (isPlain x i)
-    (λ h. absurd (true≢false (rw h at p)))
-    (λ h. every-in (dateItem (some x)) i is (some-item x i a₁ h e₁) (every-some x is a₂ (rw h at p) e₂))
+some-item : (x : Elapsed) {i : Item} → Sorted i → (itemAllowed dateKind i && not (isPlain x i)) ≡ true → countsIn (some x) i ≡ true → dateItem (some x) i ≡ true
+some-item x (timed y n) a c = c
+some-item x (calm o s p f g) a c = g x ∙ a
 
 pub record Counting (is : List Item) : Type 0 where
   pub abs : Option Elapsed
   pub each : every (dateItem abs) is ≡ true
 
 counting-of : (is : List Item) → every (itemAllowed dateKind) is ≡ true → Found is is → Counting is
-counting-of is a (found-none c) = record { abs = none; each = every-none is a c }
-counting-of is a (found-one x e p) = record { abs = some x; each = every-some x is a p e }
+counting-of is a (found-none c) = record { abs = none; each = every-with (itemAllowed dateKind) (countsIn none) (dateItem none) (λ i. none-item (sorted i)) is a c }
+counting-of is a (found-one x c p) =
+    let unplain : Item → Bool = λ i. itemAllowed dateKind i && not (isPlain x i) in
+    let both-so : every unplain is ≡ true
+    = every-with (itemAllowed dateKind) (λ (i : Item). not (isPlain x i)) unplain (λ i. both (itemAllowed dateKind i) (not (isPlain x i))) is a (none-every (isPlain x) is p) in
+    record { abs = some x; each = every-with unplain (countsIn (some x)) (dateItem (some x)) (λ i. some-item x (sorted i)) is both-so c }
 
 pub counting : (is : List Item) → every (itemAllowed dateKind) is ≡ true → every elapsedShort is ≡ true → count isElapsed is ≤ 1
     → every (noPlain is) is ≡ true → Counting is

@@ -4,21 +4,23 @@ use Prim.Native.Nat.{ℕ, zero, suc, _≤_, min}
 use native.Mathlib.Omega.{arith}
 use mathlib.Core.Path.{_≡_, refl, sym, ap, subst, _∙_}
 use mathlib.Core.Bool.{Bool, true, false, cond, not, _&&_, true≢false, and-false}
-use mathlib.Core.List.{List, [], _∷_, _++_, map}
+use mathlib.Core.List.{List, [], _∷_, _++_}
 use mathlib.Core.Logic.{_≢_}
-use mathlib.Core.Option.{Option, none, some}
-use lib.ListN.{drop}
+use mathlib.Core.Option.{Option, some}
+use lib.ListN.{drop, replicate}
 use lib.Seq.{drop-nil}
 use lib.Dec.{leb, eqb}
 use borrow.Author.Tests.{eqb-true, eqb-false, leb-true, leb-false, le-leb, lt-leb}
 use Rattle.lists.specs.Lists.{every}
 use Rattle.lists.proofs.Bools.{by-cases}
-use Rattle.formats.specs.Tokens.{Token, literal, bare, blank, fill, place, point, comma, percent, at, semicolon, general, half, run, elapsed, colour, condition, zeroPlace, hashPlace, spacePlace, Letter, letterY, letterM, letterD, letterH, letterS, Elapsed, hours, minutes, seconds}
+use Rattle.formats.specs.Tokens.{Token, literal, bare, blank, fill, place, point, comma, percent, at, semicolon, general, half, run, elapsed, colour, condition, HalfDay, Place, zeroPlace, hashPlace, spacePlace, Letter, letterY, letterM, letterD, letterH, letterS, Elapsed, hours, minutes, seconds}
 use Rattle.formats.specs.Items as item
-use Rattle.formats.specs.Items.{Item, Run, hourRun, secondRun, otherRun, noRun, runOf, runOfElapsed, nearer, firstRun, meansMinutes, monthOrMinute, settledItem, settledFrom, isSecondsElapsed}
-use Rattle.formats.specs.Kinds.{isPoint, isPlace, startsWithPlace, noBracket, whole, isSecondsLetter, isSecondsToken, isZeroIn, isZero, leadingZeros, partZeros, piecesFrom, runItem, tokenItems, pieceItems, dateItems}
-use Rattle.grammar.specs.Bodies.{free-string, free-repeat, free-space, free-bare, Behind, behindSeconds, behindHours, behindOther, past, NFAbsTimeToken, NFPartAbsHour, NFPartAbsSecond, NFPartAbsMinute, NFDateTimeToken, NFPartYear, NFPartMonth, NFPartMonth-long, NFPartDay, NFPartHour, NFPartMinute, NFPartSecond, absolute, NFPartSubSecond, tenths, hundredths, thousandths, Between, between-free, between-AMPM, between-comma, between-point, DateTimeRest, rest-end, rest-token, rest-sub-second, rest-between}
+use Rattle.formats.specs.Items.{Item, textKind, generalKind, dateKind, sameKind, Run, hourRun, secondRun, otherRun, noRun, runOf, runOfElapsed, nearer, firstRun, meansMinutes, monthOrMinute, settledItem, settledFrom, isSecondsElapsed}
+use Rattle.formats.specs.Kinds.{isPoint, isPlace, startsWithPlace, noBracket, tokenMakes, whole, isSecondsLetter, isSecondsToken, isZeroIn, isZero, leadingZeros, partZeros, piecesFrom, runItem, tokenItems, pieceItems, dateItems}
+use Rattle.formats.proofs.FormedPieces.{zero-case}
+use Rattle.grammar.specs.Bodies.{free-string, free-repeat, free-space, free-bare, Behind, behindSeconds, behindHours, behindOther, past, NFAbsTimeToken, NFPartAbsHour, NFPartAbsSecond, NFPartAbsMinute, NFDateTimeToken, NFPartYear, NFPartMonth, NFPartMonth-long, NFPartDay, NFPartHour, NFPartMinute, NFPartSecond, absolute, NFPartSubSecond, tenths, hundredths, thousandths, Between, between-free, between-AMPM, between-comma, between-point, DateTimeRest, rest-end, rest-token, rest-sub-second, rest-between, isAbsolute}
 use Rattle.grammar.proofs.Tests.{no, and-parts, every-parts}
+use Rattle.grammar.proofs.Quiet.{free-kept}
 use Rattle.grammar.proofs.Plain.{inBody}
 use Rattle.grammar.proofs.DateItems.{counts, counts-some, some-counts, dateItem}
 
@@ -69,26 +71,72 @@ unfolding piecesFrom partZeros isSecondsToken dateItems pieceItems
 plain-point true ts z = rw (z refl)
 plain-point false ts z = refl
 
+-- ---- the tokens of a date
+
+-- a token of a date's body makes it neither text nor General
+abbrev pub dateToken : Token → Bool
+dateToken t = inBody t && (not (sameKind textKind (tokenMakes t)) && not (sameKind generalKind (tokenMakes t)))
+
+-- a token beside a date's is no place, makes no date, is of a date's body, and is not absolute
+pub between-facts : {t : Token} → Between t → (isPlace t ≡ false) × (sameKind dateKind (tokenMakes t) ≡ false) × (dateToken t ≡ true) × (isAbsolute t ≡ false)
+unfolding tokenMakes noBracket
+between-facts (between-free (free-string us)) = (refl, refl, refl, refl)
+between-facts (between-free (free-repeat u)) = (refl, refl, refl, refl)
+between-facts (between-free (free-space u)) = (refl, refl, refl, refl)
+between-facts (between-free (free-bare u)) = (refl, refl, refl, refl)
+between-facts (between-AMPM h) = (refl, refl, refl, refl)
+between-facts between-comma = (refl, refl, refl, refl)
+between-facts between-point = (refl, refl, refl, refl)
+
+-- what passes over literals, blanks, fills and half-day marks passes over its items
+module _ {A : Type 0} (m : List Item → A) (literals : (u : ℕ) (is : List Item) → m (item.literal u ∷ is) ≡ m is)
+    (blanks : (u : ℕ) (is : List Item) → m (item.blank u ∷ is) ≡ m is) (fills : (u : ℕ) (is : List Item) → m (item.fill u ∷ is) ≡ m is)
+    (halves : (h : HalfDay) (is : List Item) → m (item.half h ∷ is) ≡ m is) where
+  pub between-kept : {t : Token} (is : List Item) → Between t → m (tokenItems true t ++ is) ≡ m is
+  unfolding tokenItems
+  between-kept is (between-free g) = free-kept m true literals blanks fills is g
+  between-kept is (between-AMPM h) = halves h is
+  between-kept is between-comma = literals 44 is
+  between-kept is between-point = literals 46 is
+
+-- zeros behind the point of a part of a second
+zero-place : (q : Place) → isZero (place q) ≡ true → place q ≡ place zeroPlace
+unfolding isZero isZeroIn
+zero-place zeroPlace e = refl
+zero-place hashPlace e = no e
+zero-place spacePlace e = no e
+
+zero-token : (t : Token) → isZero t ≡ true → t ≡ place zeroPlace
+zero-token t e = zero-case (λ (t : Token). isZero t ≡ true → t ≡ place zeroPlace) zero-place t e e
+
+zeros-front : (n : ℕ) (ts : List Token) → n ≤ leadingZeros ts → ts ≡ replicate n (place zeroPlace) ++ drop n ts
+unfolding leadingZeros
+zeros-front zero ts h = refl
+zeros-front (suc n) [] h = absurd (omega arith)
+zeros-front (suc n) (t ∷ ts) h =
+    by-cases (isZero t)
+    (λ e.
+    let k : suc n ≤ suc (leadingZeros ts) = rw e at h in
+    ap (λ (s : Token). s ∷ ts) (zero-token t e) ∙ ap (_∷_ (place zeroPlace)) (zeros-front n ts (omega arith)))
+    (λ e. let k : suc n ≤ 0 = rw e at h in absurd (omega arith))
+
+sub-second : (n : ℕ) (ts : List Token) → n ≢ 0 → n ≤ 3 → n ≤ leadingZeros ts → NFPartSubSecond (point ∷ ts) (drop n ts)
+sub-second zero ts h k l = absurd (h refl)
+sub-second (suc zero) ts h k l = subst (λ (xs : List Token). NFPartSubSecond (point ∷ xs) (drop 1 ts)) (sym (zeros-front 1 ts l)) tenths
+sub-second (suc (suc zero)) ts h k l = subst (λ (xs : List Token). NFPartSubSecond (point ∷ xs) (drop 2 ts)) (sym (zeros-front 2 ts l)) hundredths
+sub-second (suc (suc (suc zero))) ts h k l = subst (λ (xs : List Token). NFPartSubSecond (point ∷ xs) (drop 3 ts)) (sym (zeros-front 3 ts l)) thousandths
+sub-second (suc (suc (suc (suc n)))) ts h k l = absurd (omega arith)
+
 module _ (abs : Option Elapsed) where
   -- the items that follow, behind a run r, are a date's that counts abs
   abbrev pub Dated : Run → List Item → Type 0
   Dated r is = every (dateItem abs) (settledFrom r is) ≡ true
 
   -- a literal in front, or another item that is no run
-  literals-dated : (r : Run) (us : List ℕ) (is : List Item) → every (dateItem abs) (settledFrom r (map item.literal us ++ is)) ≡ every (dateItem abs) (settledFrom r is)
-  unfolding every settledFrom settledItem dateItem runOf nearer
-  literals-dated r [] is = refl
-  literals-dated r (u ∷ us) is = literals-dated r us is
-
   between-dated : {t : Token} (r : Run) (is : List Item) → Between t → every (dateItem abs) (settledFrom r (tokenItems true t ++ is)) ≡ every (dateItem abs) (settledFrom r is)
-  unfolding every settledFrom settledItem dateItem runOf nearer tokenItems
-  between-dated r is (between-free (free-string us)) = literals-dated r us is
-  between-dated r is (between-free (free-repeat u)) = refl
-  between-dated r is (between-free (free-space u)) = refl
-  between-dated r is (between-free (free-bare u)) = refl
-  between-dated r is (between-AMPM h) = refl
-  between-dated r is between-comma = refl
-  between-dated r is between-point = refl
+  unfolding every settledFrom settledItem dateItem runOf nearer
+  between-dated r is x =
+      between-kept (λ (js : List Item). every (dateItem abs) (settledFrom r js)) (λ u js. refl) (λ u js. refl) (λ u js. refl) (λ h js. refl) is x
 
   -- ---- from the tests to the grammar
 
@@ -108,61 +156,6 @@ module _ (abs : Option Elapsed) where
   pub whole-items : (d : Bool) (t : Token) (ts : List Token) → isPoint t ≡ false → dateItems (piecesFrom d 0 (t ∷ ts)) ≡ tokenItems true t ++ dateItems (piecesFrom (isSecondsToken t) 0 ts)
   unfolding dateItems pieceItems
   whole-items d t ts e = rw (pieces-whole d t ts e)
-
-  -- zeros behind the point of a part of a second
-  zero-token : (t : Token) → isZero t ≡ true → t ≡ place zeroPlace
-  unfolding isZero isZeroIn
-  zero-token (place zeroPlace) e = refl
-  zero-token (place hashPlace) e = no e
-  zero-token (place spacePlace) e = no e
-  zero-token (literal us) e = no e
-  zero-token (bare u) e = no e
-  zero-token (blank u) e = no e
-  zero-token (fill u) e = no e
-  zero-token point e = no e
-  zero-token comma e = no e
-  zero-token percent e = no e
-  zero-token at e = no e
-  zero-token semicolon e = no e
-  zero-token general e = no e
-  zero-token (half h) e = no e
-  zero-token (run l n) e = no e
-  zero-token (elapsed x n) e = no e
-  zero-token (colour n) e = no e
-  zero-token (condition w) e = no e
-
-  zero-first : (t : Token) (ts : List Token) (n : ℕ) → suc n ≤ leadingZeros (t ∷ ts) → (t ≡ place zeroPlace) × (n ≤ leadingZeros ts)
-  unfolding leadingZeros
-  zero-first t ts n h =
-      by-cases (isZero t)
-      (λ e. let k : suc n ≤ suc (leadingZeros ts) = rw e at h in (zero-token t e, omega arith))
-      (λ e. let k : suc n ≤ 0 = rw e at h in absurd (omega arith))
-
-  one-zero : (ts : List Token) → 1 ≤ leadingZeros ts → ts ≡ place zeroPlace ∷ drop 1 ts
-  unfolding leadingZeros
-  one-zero [] h = absurd (omega arith)
-  one-zero (t ∷ ts) h = ap (λ (s : Token). s ∷ ts) ((zero-first t ts 0 h) .0)
-
-  two-zeros : (ts : List Token) → 2 ≤ leadingZeros ts → ts ≡ place zeroPlace ∷ place zeroPlace ∷ drop 2 ts
-  unfolding leadingZeros
-  two-zeros [] h = absurd (omega arith)
-  two-zeros (t ∷ ts) h =
-      let (z, k) = zero-first t ts 1 h in
-      ap (λ (s : Token). s ∷ ts) z ∙ ap (_∷_ (place zeroPlace)) (one-zero ts k)
-
-  three-zeros : (ts : List Token) → 3 ≤ leadingZeros ts → ts ≡ place zeroPlace ∷ place zeroPlace ∷ place zeroPlace ∷ drop 3 ts
-  unfolding leadingZeros
-  three-zeros [] h = absurd (omega arith)
-  three-zeros (t ∷ ts) h =
-      let (z, k) = zero-first t ts 2 h in
-      ap (λ (s : Token). s ∷ ts) z ∙ ap (_∷_ (place zeroPlace)) (two-zeros ts k)
-
-  sub-second : (n : ℕ) (ts : List Token) → n ≢ 0 → n ≤ 3 → n ≤ leadingZeros ts → NFPartSubSecond (point ∷ ts) (drop n ts)
-  sub-second zero ts h k l = absurd (h refl)
-  sub-second (suc zero) ts h k l = subst (λ (xs : List Token). NFPartSubSecond (point ∷ xs) (drop 1 ts)) (sym (one-zero ts l)) tenths
-  sub-second (suc (suc zero)) ts h k l = subst (λ (xs : List Token). NFPartSubSecond (point ∷ xs) (drop 2 ts)) (sym (two-zeros ts l)) hundredths
-  sub-second (suc (suc (suc zero))) ts h k l = subst (λ (xs : List Token). NFPartSubSecond (point ∷ xs) (drop 3 ts)) (sym (three-zeros ts l)) thousandths
-  sub-second (suc (suc (suc (suc n)))) ts h k l = absurd (omega arith)
 
   part-dated : (r : Run) (n : ℕ) (is : List Item) → Dated r (item.part n ∷ is) → Dated r is
   unfolding every settledFrom settledItem dateItem runOf nearer
@@ -191,58 +184,43 @@ module _ (abs : Option Elapsed) where
   unfolding dateItem
   is-minute n k e = rw k at e
 
+  -- a date token, and what follows it
+  step-from : {t : Token} (ts : List Token) {b c : Behind} (r : Run) → NFDateTimeToken abs b t c → isHourRun r ≡ behindHour c
+      → Dated r (dateItems (piecesFrom (direct c) 0 ts)) → From ts → DateTimeRest abs b (t ∷ ts)
+  step-from ts {c = c} r x h e f = rest-token x (f c r 0 (λ n k. absurd (omega arith)) h e)
+
   month-from : (n : ℕ) (ts : List Token) (b : Behind) (r : Run) → isHourRun r ≡ behindHour b → Dated r (item.month n ∷ dateItems (piecesFrom false 0 ts)) → From ts
       → DateTimeRest abs b (run letterM n ∷ ts)
   unfolding settledFrom settledItem runOf nearer monthOrMinute
-  month-from n ts behindSeconds r h e f =
-      rest-token (NFPartMonth (other-than-hours behindSeconds refl)) (f behindOther otherRun 0 (λ n k. refl) refl ((every-parts (dateItem abs) _ _ e) .1))
-  month-from n ts behindOther r h e f =
-      rest-token (NFPartMonth (other-than-hours behindOther refl)) (f behindOther otherRun 0 (λ n k. refl) refl ((every-parts (dateItem abs) _ _ e) .1))
+  month-from n ts behindSeconds r h e f = step-from ts otherRun (NFPartMonth (other-than-hours behindSeconds refl)) refl ((every-parts (dateItem abs) _ _ e) .1) f
+  month-from n ts behindOther r h e f = step-from ts otherRun (NFPartMonth (other-than-hours behindOther refl)) refl ((every-parts (dateItem abs) _ _ e) .1) f
   month-from n ts behindHours r h e f =
       let (e₁, e₂) = every-parts (dateItem abs) _ _ e in
-      let rest : DateTimeRest abs behindOther ts = f behindOther otherRun 0 (λ n k. refl) refl e₂ in
       by-cases (leb n 2)
-      (λ k. rest-token (NFPartMinute (leb-true n 2 k) (not-counted minutes (is-minute n k (rw (means-hour r (firstRun (dateItems (piecesFrom false 0 ts))), h) at e₁)))) rest)
-      (λ k. let l = leb-false n 2 k in rest-token (NFPartMonth-long (omega arith)) rest)
+      (λ k.
+      let minute = is-minute n k (rw (means-hour r (firstRun (dateItems (piecesFrom false 0 ts))), h) at e₁) in
+      step-from ts otherRun (NFPartMinute (leb-true n 2 k) (not-counted minutes minute)) refl e₂ f)
+      (λ k. step-from ts otherRun (NFPartMonth-long (leb-false n 2 k)) refl e₂ f)
 
-  -- a run or an elapsed token
   hour-from : (n : ℕ) (ts : List Token) (b : Behind) (r : Run) → Dated r (item.hour n ∷ dateItems (piecesFrom false 0 ts)) → From ts → DateTimeRest abs b (run letterH n ∷ ts)
   unfolding settledFrom settledItem runOf nearer dateItem
-  hour-from n ts b r e f =
-      let (e₁, e₂) = every-parts (dateItem abs) _ _ e in
-      rest-token (NFPartHour (not-counted hours e₁)) (f behindHours hourRun 0 (λ n k. refl) refl e₂)
+  hour-from n ts b r e f = let (e₁, e₂) = every-parts (dateItem abs) _ _ e in step-from ts hourRun (NFPartHour (not-counted hours e₁)) refl e₂ f
 
   second-from : (n : ℕ) (ts : List Token) (b : Behind) (r : Run) → Dated r (item.second n ∷ dateItems (piecesFrom true 0 ts)) → From ts → DateTimeRest abs b (run letterS n ∷ ts)
   unfolding settledFrom settledItem runOf nearer dateItem
-  second-from n ts b r e f =
-      let (e₁, e₂) = every-parts (dateItem abs) _ _ e in
-      rest-token (NFPartSecond (not-counted seconds e₁)) (f behindSeconds secondRun 0 zero-only refl e₂)
-    where
-      zero-only : (n : ℕ) → 0 ≡ suc n → direct behindSeconds ≡ false
-      zero-only n k = absurd (omega arith)
+  second-from n ts b r e f = let (e₁, e₂) = every-parts (dateItem abs) _ _ e in step-from ts secondRun (NFPartSecond (not-counted seconds e₁)) refl e₂ f
+
+  counted-token : (x : Elapsed) (n : ℕ) {b c : Behind} → (n ≤ 9 → NFAbsTimeToken x (elapsed x n) c) → dateItem abs (item.elapsed x n) ≡ true
+      → NFDateTimeToken abs b (elapsed x n) c
+  unfolding dateItem
+  counted-token x n g e = let (c, l) = and-parts (counts abs x) (leb n 9) e in absolute (counts-some abs x c) (g (leb-true n 9 l))
 
   elapsed-from : (x : Elapsed) (n : ℕ) (ts : List Token) (b : Behind) (r : Run) → Dated r (item.elapsed x n ∷ dateItems (piecesFrom (isSecondsElapsed x) 0 ts)) → From ts
       → DateTimeRest abs b (elapsed x n ∷ ts)
-  unfolding settledFrom settledItem runOf runOfElapsed nearer dateItem isSecondsElapsed
-  elapsed-from hours n ts b r e f =
-      let (e₁, e₂) = every-parts (dateItem abs) _ _ e in
-      let (c, l) = and-parts (counts abs hours) (leb n 9) e₁ in
-      rest-token (absolute (counts-some abs hours c) (NFPartAbsHour (leb-true n 9 l))) (f behindHours hourRun 0 (λ n k. refl) refl e₂)
-  elapsed-from minutes n ts b r e f =
-      let (e₁, e₂) = every-parts (dateItem abs) _ _ e in
-      let (c, l) = and-parts (counts abs minutes) (leb n 9) e₁ in
-      rest-token (absolute (counts-some abs minutes c) (NFPartAbsMinute (leb-true n 9 l))) (f behindOther otherRun 0 (λ n k. refl) refl e₂)
-  elapsed-from seconds n ts b r e f =
-      let (e₁, e₂) = every-parts (dateItem abs) _ _ e in
-      let (c, l) = and-parts (counts abs seconds) (leb n 9) e₁ in
-      rest-token (absolute (counts-some abs seconds c) (NFPartAbsSecond (leb-true n 9 l))) (f behindSeconds secondRun 0 zero-only refl e₂)
-    where
-      zero-only : (n : ℕ) → 0 ≡ suc n → direct behindSeconds ≡ false
-      zero-only n k = absurd (omega arith)
-
-  plain-run-from : (t : Token) (i : Item) (ts : List Token) (b : Behind) (r : Run) → NFDateTimeToken abs b t behindOther
-      → ((is : List Item) → Dated r (i ∷ is) → Dated otherRun is) → Dated r (i ∷ dateItems (piecesFrom false 0 ts)) → From ts → DateTimeRest abs b (t ∷ ts)
-  plain-run-from t i ts b r x g e f = rest-token x (f behindOther otherRun 0 (λ n k. refl) refl (g (dateItems (piecesFrom false 0 ts)) e))
+  unfolding settledFrom settledItem runOf runOfElapsed nearer isSecondsElapsed
+  elapsed-from hours n ts b r e f = let (e₁, e₂) = every-parts (dateItem abs) _ _ e in step-from ts hourRun (counted-token hours n (λ h. NFPartAbsHour h) e₁) refl e₂ f
+  elapsed-from minutes n ts b r e f = let (e₁, e₂) = every-parts (dateItem abs) _ _ e in step-from ts otherRun (counted-token minutes n (λ h. NFPartAbsMinute h) e₁) refl e₂ f
+  elapsed-from seconds n ts b r e f = let (e₁, e₂) = every-parts (dateItem abs) _ _ e in step-from ts secondRun (counted-token seconds n (λ h. NFPartAbsSecond h) e₁) refl e₂ f
 
   token-from : (t : Token) (ts : List Token) (b : Behind) (r : Run) → isHourRun r ≡ behindHour b → inBody t ≡ true
       → Dated r (dateItems (piecesFrom (direct b) 0 (t ∷ ts))) → From ts → DateTimeRest abs b (t ∷ ts)
@@ -261,9 +239,9 @@ module _ (abs : Option Elapsed) where
   token-from semicolon ts b r h i e f = no i
   token-from general ts b r h i e f = no (rw (whole-items (direct b) general ts refl) at e)
   token-from (half x) ts b r h i e f = from-between ts b r h (between-AMPM x) (rw (whole-items (direct b) (half x) ts refl) at e) f
-  token-from (run letterY n) ts b r h i e f = plain-run-from (run letterY n) (item.year n) ts b r NFPartYear (λ is d. d) (rw (whole-items (direct b) (run letterY n) ts refl) at e) f
+  token-from (run letterY n) ts b r h i e f = step-from ts otherRun NFPartYear refl (rw (whole-items (direct b) (run letterY n) ts refl) at e) f
   token-from (run letterM n) ts b r h i e f = month-from n ts b r h (rw (whole-items (direct b) (run letterM n) ts refl) at e) f
-  token-from (run letterD n) ts b r h i e f = plain-run-from (run letterD n) (item.day n) ts b r NFPartDay (λ is d. d) (rw (whole-items (direct b) (run letterD n) ts refl) at e) f
+  token-from (run letterD n) ts b r h i e f = step-from ts otherRun NFPartDay refl (rw (whole-items (direct b) (run letterD n) ts refl) at e) f
   token-from (run letterH n) ts b r h i e f = hour-from n ts b r (rw (whole-items (direct b) (run letterH n) ts refl) at e) f
   token-from (run letterS n) ts b r h i e f = second-from n ts b r (rw (whole-items (direct b) (run letterS n) ts refl) at e) f
   token-from (elapsed x n) ts b r h i e f = elapsed-from x n ts b r (rw (whole-items (direct b) (elapsed x n) ts refl) at e) f
@@ -299,35 +277,27 @@ dating (absolute e (NFPartAbsHour {n = n} h)) = dating-elapsed hours n
 dating (absolute e (NFPartAbsSecond {n = n} h)) = dating-elapsed seconds n
 dating (absolute e (NFPartAbsMinute {n = n} h)) = dating-elapsed minutes n
 
-dating-place : {t : Token} → Dating t → isPlace t ≡ false
-dating-place (dating-run l n) = refl
-dating-place (dating-elapsed x n) = refl
-
-between-place : {t : Token} → Between t → isPlace t ≡ false
-between-place (between-free (free-string us)) = refl
-between-place (between-free (free-repeat u)) = refl
-between-place (between-free (free-space u)) = refl
-between-place (between-free (free-bare u)) = refl
-between-place (between-AMPM h) = refl
-between-place between-comma = refl
-between-place between-point = refl
+pub dating-facts : {t : Token} → Dating t → (isPlace t ≡ false) × (sameKind dateKind (tokenMakes t) ≡ true) × (dateToken t ≡ true)
+unfolding tokenMakes noBracket
+dating-facts (dating-run l n) = (refl, refl, refl)
+dating-facts (dating-elapsed x n) = (refl, refl, refl)
 
 -- what DateTimeRest derives does not start with a place
 pub rest-start : {abs : Option Elapsed} {b : Behind} {ts : List Token} → DateTimeRest abs b ts → startsWithPlace ts ≡ false
 unfolding startsWithPlace
 rest-start rest-end = refl
-rest-start (rest-token x d) = dating-place (dating x)
+rest-start (rest-token x d) = (dating-facts (dating x)) .0
 rest-start (rest-sub-second tenths d) = refl
 rest-start (rest-sub-second hundredths d) = refl
 rest-start (rest-sub-second thousandths d) = refl
-rest-start (rest-between x d) = between-place x
+rest-start (rest-between x d) = (between-facts x) .0
 
 no-zeros : (ts : List Token) → startsWithPlace ts ≡ false → leadingZeros ts ≡ 0
 unfolding startsWithPlace leadingZeros
 no-zeros [] e = refl
 no-zeros (t ∷ ts) e =
     by-cases (isZero t)
-    (λ h. absurd (true≢false (rw (zero-token none t h) at e)))
+    (λ h. absurd (true≢false (rw (zero-token t h) at e)))
     (λ h. rw h)
 
 module _ (abs : Option Elapsed) where

@@ -8,17 +8,15 @@ use mathlib.Core.List.{List, [], _∷_, _++_, map, append-nil}
 use mathlib.Core.Logic.{_↔_}
 use mathlib.Core.Option.{Option, none, some}
 use lib.ListN.{length, length-map}
-use borrow.Author.Tests.{le-ltb, ne-eqb, le-leb}
-use Rattle.answers.specs.declared.Answer.{Answer}
+use borrow.Author.Tests.{le-ltb, ne-eqb}
 use Rattle.answers.specs.declared.Answer.the-variants as answer
 use Rattle.lists.specs.Lists.{every, All, firstFailing}
 use Rattle.lists.proofs.Bools.{by-cases}
-use Rattle.formats.specs.Tokens.{Token, semicolon, colour, Lexed, good, bad, lex}
-use Rattle.formats.specs.Items.{Section}
-use Rattle.formats.specs.Kinds.{colourIn, Parts, partsOf, sectionOf, fits}
+use Rattle.formats.specs.Tokens.{Token, semicolon, Lexed, good, bad, lex}
+use Rattle.formats.specs.Kinds.{Parts, partsOf, sectionOf, fits}
 use Rattle.formats.specs.Where.{standsAt}
 use Rattle.formats.specs.Limits.{withinLimits}
-use Rattle.formats.specs.Accept.{Verdict, refused, placedOf, tokensOf, semicolons, split, partsIn, sectionsIn, fine, lengthVerdict, tokenVerdict, countVerdict, sectionVerdict, kindVerdict, whereVerdict, limitVerdict, verdict, sections, acceptedBy, accept}
+use Rattle.formats.specs.Accept.{placedOf, tokensOf, semicolons, split, partsIn, sectionsIn, fine, lengthVerdict, tokenVerdict, countVerdict, sectionVerdict, kindVerdict, whereVerdict, limitVerdict, verdict, sections}
 use Rattle.formats.proofs.ItemCount.{split-length, semicolons-length}
 use Rattle.formats.proofs.First.{AllFine, verdict-fine, fine-verdict, length-bounds, count-few, fine-none}
 use Rattle.grammar.specs.Units.{Spelled, done, token}
@@ -28,7 +26,7 @@ use Rattle.grammar.proofs.Tests.{every-in}
 use Rattle.grammar.proofs.Fronts.{colourShown, spells-front}
 use Rattle.grammar.proofs.Lexed.{Gives, lex-spelled, spelled-lex}
 use Rattle.grammar.proofs.PlainBodies.{NoSemicolon}
-use Rattle.grammar.proofs.Sections.{Passes, derive-any, derive-no-text, derive-third, derive-neither, derive-fourth, derive-one, any-passes, no-text-passes, single-passes, third-passes, neither-passes, fourth-passes, condition-passes}
+use Rattle.grammar.proofs.Sections.{Passes, passed, any-of, no-text-of, third-of, neither-of, fourth-of, one-of, any-passes, no-text-passes, single-passes, third-passes, neither-passes, fourth-passes, condition-passes}
 use Rattle.grammar.proofs.Split.{behind, join, join-split, split-each, split-plain, split-one, split-before}
 
 -- ---- a colour that units spell is above 0
@@ -150,15 +148,15 @@ AllShown ss = All (λ (s : List Token). every colourShown s ≡ true) ss
 derive-all : (ts : List Token) (ss : List (List Token)) → join ss ≡ ts → AllShown ss → PassAll (length ss) 0 ss → 1 ≤ length ss → length ss ≤ 4 → codes.All ts
 unfolding join behind
 derive-all ts [] j c p h l = absurd (omega arith)
-derive-all ts (s ∷ []) j c p h l = subst codes.All (sym (append-nil s) ∙ j) (derive-one (c .0) (p .0))
+derive-all ts (s ∷ []) j c p h l = subst codes.All (sym (append-nil s) ∙ j) (one-of (passed (c .0) (p .0)))
 derive-all ts (s ∷ t ∷ []) j c p h l =
-    all-two s t (derive-no-text (c .0) 2 0 refl (p .0)) (derive-any (c .1 .0) (p .1 .0)) (sym j ∙ (rw (append-nil t)))
+    all-two s t (no-text-of 2 0 refl (passed (c .0) (p .0))) (any-of (passed (c .1 .0) (p .1 .0))) (sym j ∙ (rw (append-nil t)))
 derive-all ts (s ∷ t ∷ u ∷ []) j c p h l =
-    all-three s t u (derive-no-text (c .0) 3 0 refl (p .0)) (derive-no-text (c .1 .0) 3 1 refl (p .1 .0)) (derive-third (c .1 .1 .0) (p .1 .1 .0))
-    (sym j ∙ (rw (append-nil u)))
+    all-three s t u (no-text-of 3 0 refl (passed (c .0) (p .0))) (no-text-of 3 1 refl (passed (c .1 .0) (p .1 .0)))
+    (third-of (passed (c .1 .1 .0) (p .1 .1 .0))) (sym j ∙ (rw (append-nil u)))
 derive-all ts (s ∷ t ∷ u ∷ v ∷ []) j c p h l =
-    all-four s t u v (derive-no-text (c .0) 4 0 refl (p .0)) (derive-no-text (c .1 .0) 4 1 refl (p .1 .0)) (derive-neither (c .1 .1 .0) (p .1 .1 .0))
-    (derive-fourth (c .1 .1 .1 .0) (p .1 .1 .1 .0)) (sym j ∙ (rw (append-nil v)))
+    all-four s t u v (no-text-of 4 0 refl (passed (c .0) (p .0))) (no-text-of 4 1 refl (passed (c .1 .0) (p .1 .0)))
+    (neither-of (passed (c .1 .1 .0) (p .1 .1 .0))) (fourth-of (passed (c .1 .1 .1 .0) (p .1 .1 .1 .0))) (sym j ∙ (rw (append-nil v)))
 derive-all ts (s ∷ t ∷ u ∷ v ∷ w ∷ ss) j c p h l = absurd (omega arith)
 
 -- ---- whole codes

@@ -2,17 +2,17 @@
 -- Assumes nothing.
 use Prim.Native.Nat.{_≤_}
 use mathlib.Core.Path.{_≡_, refl}
-use mathlib.Core.Bool.{true, cond, _&&_}
+use mathlib.Core.Bool.{true, cond}
 use mathlib.Core.List.{List}
-use lib.Dec.{leb}
-use borrow.Author.Tests.{leb-true, le-leb}
+use lib.Dec.{T, leb→le}
+use borrow.Author.Tests.{le-leb}
 use Rattle.lists.specs.Lists.{every, count}
+use Rattle.lists.proofs.Bools.{and-left, and-right, T-true, true-T}
 use Rattle.formats.specs.Tokens.{Token}
 use Rattle.formats.specs.Items.{Item, numberKind, sameKind, itemAllowed, itemsKind, isGeneral, isPoint, isPercent, isElapsed, noPlain, itemsFit, integerPlaces, decimalPlaces, settled}
 use Rattle.formats.specs.Kinds.{Parts, bodyKind, commaUses, isDividing, commasFit, solidusFits, bodyItems, lastFill, sectionOf, noBracket, fits}
 use Rattle.formats.specs.Limits.{elapsedShort, sectionWithin}
 use Rattle.formats.proofs.FormedKinds.{kind-of-body}
-use Rattle.grammar.proofs.Tests.{and-parts}
 use Rattle.grammar.proofs.Kept.{count-kept, allowed-kept, integers-kept, decimals-kept}
 
 -- the items that a body makes, with its last fill alone and its runs of m settled
@@ -39,39 +39,22 @@ unfolding fits sectionOf itemsFit sectionWithin
 fitting p f w =
     let ts = p .body in
     let is = bodyItems ts in
-    let (f₃, i) = and-parts (every noBracket ts && commasFit ts && solidusFits ts) _ f in
-    let (f₂, s) = and-parts (every noBracket ts && commasFit ts) (solidusFits ts) f₃ in
-    let (b, c) = and-parts (every noBracket ts) (commasFit ts) f₂ in
-    let a₀ = every (itemAllowed (itemsKind (kept ts))) (kept ts) in
-    let g₀ = leb (count isGeneral (kept ts)) 1 in
-    let p₀ = leb (count isPoint (kept ts)) 1 in
-    let e₀ = leb (count isElapsed (kept ts)) 1 in
-    let (i₄, n) = and-parts (a₀ && g₀ && p₀ && e₀) _ i in
-    let (i₃, e) = and-parts (a₀ && g₀ && p₀) e₀ i₄ in
-    let (i₂, q) = and-parts (a₀ && g₀) p₀ i₃ in
-    let (a, g) = and-parts a₀ g₀ i₂ in
-    let w₀ = leb (integerPlaces (kept ts)) 20 in
-    let d₀ = leb (decimalPlaces (kept ts)) 15 in
-    let r₀ = leb (count isPercent (kept ts)) 5 in
-    let t₀ = leb (cond (sameKind (bodyKind ts) numberKind) (count isDividing (commaUses ts)) 0) 5 in
-    let (w₄, h) = and-parts (w₀ && d₀ && r₀ && t₀) _ w in
-    let (w₃, t) = and-parts (w₀ && d₀ && r₀) t₀ w₄ in
-    let (w₂, r) = and-parts (w₀ && d₀) r₀ w₃ in
-    let (v, d) = and-parts w₀ d₀ w₂ in
+    let all : T (fits p) = true-T f in
+    let most : T (sectionWithin (sectionOf p)) = true-T w in
     record {
-      brackets = b;
-      commas = c;
-      solidus = s;
-      allowed = rw (kind-of-body ts, allowed-kept (bodyKind ts) is) at a;
-      generals = leb-true (count isGeneral is) 1 (rw (count-kept 6 refl refl is) at g);
-      points = leb-true (count isPoint is) 1 (rw (count-kept 4 refl refl is) at q);
-      elapseds = leb-true (count isElapsed (kept ts)) 1 e;
-      apart = n;
-      wholes = leb-true (integerPlaces is) 20 (rw (integers-kept is) at v);
-      decimals = leb-true (decimalPlaces is) 15 (rw (decimals-kept is) at d);
-      percents = leb-true (count isPercent is) 5 (rw (count-kept 5 refl refl is) at r);
-      divisions = leb-true (cond (sameKind (bodyKind ts) numberKind) (count isDividing (commaUses ts)) 0) 5 t;
-      short = h;
+      brackets = T-true (every noBracket ts) (search (and-left, and-right) depth 10);
+      commas = T-true (commasFit ts) (search (and-left, and-right) depth 10);
+      solidus = T-true (solidusFits ts) (search (and-left, and-right) depth 10);
+      allowed = rw (kind-of-body ts, allowed-kept (bodyKind ts) is) at (T-true (every (itemAllowed (itemsKind (kept ts))) (kept ts)) (search (and-left, and-right) depth 10));
+      generals = rw (count-kept 6 refl refl is) at (leb→le (count isGeneral (kept ts)) 1 (search (and-left, and-right) depth 10));
+      points = rw (count-kept 4 refl refl is) at (leb→le (count isPoint (kept ts)) 1 (search (and-left, and-right) depth 10));
+      elapseds = leb→le (count isElapsed (kept ts)) 1 (search (and-left, and-right) depth 10);
+      apart = T-true (every (noPlain (kept ts)) (kept ts)) (search (and-left, and-right) depth 10);
+      wholes = rw (integers-kept is) at (leb→le (integerPlaces (kept ts)) 20 (search (and-left, and-right) depth 10));
+      decimals = rw (decimals-kept is) at (leb→le (decimalPlaces (kept ts)) 15 (search (and-left, and-right) depth 10));
+      percents = rw (count-kept 5 refl refl is) at (leb→le (count isPercent (kept ts)) 5 (search (and-left, and-right) depth 10));
+      divisions = leb→le (cond (sameKind (bodyKind ts) numberKind) (count isDividing (commaUses ts)) 0) 5 (search (and-left, and-right) depth 10);
+      short = T-true (every elapsedShort (kept ts)) (search (and-left, and-right) depth 10);
     }
 
 pub fits-fitting : (p : Parts) → Fitting (p .body) → fits p ≡ true

@@ -3,15 +3,14 @@
 use Prim.Native.Nat.{ℕ, suc}
 use native.Mathlib.Omega.{arith}
 use mathlib.Core.Path.{_≡_, refl, sym, ap, _∙_}
-use mathlib.Core.Bool.{Bool, true, false, cond, _&&_, _||_, true≢false}
+use mathlib.Core.Bool.{Bool, true, false, cond, _&&_, _||_}
 use mathlib.Core.List.{List, [], _∷_}
 use lib.Dec.{leb, eqb}
 use borrow.Author.Tests.{eqb-true}
 use Rattle.lists.specs.Lists.{every, any, count}
 use Rattle.lists.proofs.Bools.{by-cases, cond-both, T-true, and-left, true-T}
-use Rattle.formats.specs.Items.{Item, literal, blank, fill, place, point, percent, general, at, year, month, day, hour, minute, second, part, elapsed, half, Kind, textKind, generalKind, dateKind, numberKind, sameKind, itemBelongs, itemAllowed, sortOf, isFill, isPlace, isPoint, isElapsed, noPlain, integerPlaces, decimalPlaces, Run, noRun, runOf, nearer, firstRun, settledFrom, settled}
+use Rattle.formats.specs.Items.{Item, literal, blank, fill, place, point, percent, general, at, year, month, day, hour, minute, second, part, elapsed, half, Kind, textKind, generalKind, dateKind, numberKind, sameKind, itemBelongs, itemAllowed, sortOf, isFill, isPlace, isPoint, integerPlaces, decimalPlaces, Run, noRun, runOf, nearer, firstRun, settledFrom, settled}
 use Rattle.formats.specs.Kinds.{lastFill}
-use Rattle.formats.specs.Limits.{elapsedShort}
 use Rattle.grammar.proofs.Tests.{no}
 use Rattle.formats.proofs.FormedItems.{settled-kept, count-settled, places-lastFill, places-settled}
 
@@ -106,48 +105,6 @@ foreign k n f (i ∷ is) e =
     allowed-rest : (b : Bool) → cond b (every (itemAllowed k) is) false ≡ true → every (itemAllowed k) is ≡ true
     allowed-rest true e = e
     allowed-rest false e = no e
-
--- ---- no elapsed item: nothing to keep apart
-
--- an item that is not elapsed passes both tests for elapsed ones
-pub record Calm (i : Item) : Type 0 where
-  pub short : elapsedShort i ≡ true
-  pub apart : (js : List Item) → noPlain js i ≡ true
-
-pub calm : (i : Item) → isElapsed i ≡ false → Calm i
-unfolding elapsedShort noPlain
-calm (elapsed e n) h = absurd (true≢false h)
-calm (literal u) h = record { short = refl; apart = λ js. refl }
-calm (blank u) h = record { short = refl; apart = λ js. refl }
-calm (fill u) h = record { short = refl; apart = λ js. refl }
-calm (place p) h = record { short = refl; apart = λ js. refl }
-calm point h = record { short = refl; apart = λ js. refl }
-calm percent h = record { short = refl; apart = λ js. refl }
-calm general h = record { short = refl; apart = λ js. refl }
-calm at h = record { short = refl; apart = λ js. refl }
-calm (year n) h = record { short = refl; apart = λ js. refl }
-calm (month n) h = record { short = refl; apart = λ js. refl }
-calm (day n) h = record { short = refl; apart = λ js. refl }
-calm (hour n) h = record { short = refl; apart = λ js. refl }
-calm (minute n) h = record { short = refl; apart = λ js. refl }
-calm (second n) h = record { short = refl; apart = λ js. refl }
-calm (part n) h = record { short = refl; apart = λ js. refl }
-calm (half x) h = record { short = refl; apart = λ js. refl }
-
--- a test that only an elapsed item may fail
-pub unless-elapsed : (f : Item → Bool) → ((i : Item) → isElapsed i ≡ false → f i ≡ true) → (is : List Item) → count isElapsed is ≡ 0 → every f is ≡ true
-unfolding every count
-unless-elapsed f g [] e = refl
-unless-elapsed f g (i ∷ is) e =
-    by-cases (isElapsed i)
-    (λ h. let z : suc (count isElapsed is) ≡ 0 = rw h at e in absurd (omega arith))
-    (λ h. rw (g i h) (unless-elapsed f g is (rw h at e)))
-
-pub short-none : (is : List Item) → count isElapsed is ≡ 0 → every elapsedShort is ≡ true
-short-none is e = unless-elapsed elapsedShort (λ i h. (calm i h) .short) is e
-
-pub plain-none : (is : List Item) → count isElapsed is ≡ 0 → every (noPlain is) is ≡ true
-plain-none is e = unless-elapsed (noPlain is) (λ i h. (calm i h) .apart is) is e
 
 -- ---- no place: no integer and no decimal places
 

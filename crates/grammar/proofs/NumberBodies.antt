@@ -12,14 +12,15 @@ use Rattle.lists.specs.Lists.{every, any, count}
 use Rattle.lists.proofs.Bools.{by-cases}
 use Rattle.formats.specs.Tokens.{Token, bare, place, Place}
 use Rattle.formats.specs.Items as item
-use Rattle.formats.specs.Items.{Item, textKind, generalKind, dateKind, numberKind, integerPlaces, itemAllowed}
+use Rattle.formats.specs.Items.{textKind, generalKind, dateKind, numberKind, integerPlaces, itemAllowed}
 use Rattle.formats.specs.Kinds as kind
 use Rattle.formats.specs.Kinds.{isPlace, isPoint, bodyKind, tokenMakes, isDividing, commasFit, isSolidus, startsWithPlace, solidusFrom, solidusFits, tokenItems, plainItems, bodyItems}
 use Rattle.formats.proofs.CommaUses.{commaUsesFrom, comma-uses}
-use Rattle.grammar.specs.Bodies.{Free, free-string, free-repeat, free-space, free-bare, leading, isPercent, wholePlaces, decimalPlaces, NFNumber}
+use Rattle.grammar.specs.Bodies.{free-string, free-repeat, free-space, free-bare, leading, isPercent, wholePlaces, decimalPlaces, NFNumber}
 use Rattle.grammar.proofs.Tests.{no, and-parts}
-use Rattle.grammar.proofs.Quiet.{free-quiet, free-percent, passed-over, quiet-any, quiet-wholes, quiet-decimals}
-use Rattle.grammar.proofs.Kept.{sorts, count-kept, foreign, short-none, plain-none}
+use Rattle.grammar.proofs.Quiet.{free-quiet, free-percent, free-kept, passed-over, quiet-any, quiet-wholes, quiet-decimals}
+use Rattle.grammar.proofs.Kept.{sorts, count-kept, foreign}
+use Rattle.grammar.proofs.DateItems.{short-none, plain-none}
 use Rattle.grammar.proofs.Facts.{kept, Fitting}
 use Rattle.grammar.proofs.Plain.{v-free, v-comma, v-place, v-point, v-percent, Views, v-end, v-next, views-body, views-allowed, has, free-has, views-has, kind-number, kind-has}
 use Rattle.grammar.proofs.PlainBodies.{free-count, plain-body, plain-facts, body-brackets, NoSemicolon}
@@ -27,77 +28,33 @@ use Rattle.grammar.proofs.Numbers.{num-of, num-views, num-counted}
 
 -- ---- the items of a number's body are counted as its tokens are
 
-points-alike : {ts : List Token} → Views numberKind ts → count item.isPoint (plainItems ts) ≡ count isPoint ts
-unfolding count plainItems tokenItems
-points-alike v-end = refl
-points-alike (v-next {t = t} {ts = ts} (v-free g) vs) = free-count 4 refl refl refl (plainItems ts) g ∙ points-alike vs ∙ sym (passed-over isPoint t ts ((free-quiet g) .no-point))
-points-alike (v-next v-comma vs) = points-alike vs
-points-alike (v-next v-place vs) = points-alike vs
-points-alike (v-next v-point vs) = ap suc (points-alike vs)
-points-alike (v-next v-percent vs) = points-alike vs
+abbrev Alike : List Token → Type 0
+Alike ts =
+    (count item.isPoint (plainItems ts) ≡ count isPoint ts)
+    × (count item.isPercent (plainItems ts) ≡ count isPercent ts)
+    × (count item.isPlace (plainItems ts) ≡ count isPlace ts)
+    × (integerPlaces (plainItems ts) ≡ wholePlaces ts)
+    × (item.decimalPlaces (plainItems ts) ≡ decimalPlaces ts)
+    × (has numberKind ts ≡ any isPlace ts)
 
-percents-alike : {ts : List Token} → Views numberKind ts → count item.isPercent (plainItems ts) ≡ count isPercent ts
-unfolding count plainItems tokenItems
-percents-alike v-end = refl
-percents-alike (v-next {t = t} {ts = ts} (v-free g) vs) = free-count 5 refl refl refl (plainItems ts) g ∙ percents-alike vs ∙ sym (passed-over isPercent t ts (free-percent g))
-percents-alike (v-next v-comma vs) = percents-alike vs
-percents-alike (v-next v-place vs) = percents-alike vs
-percents-alike (v-next v-point vs) = percents-alike vs
-percents-alike (v-next v-percent vs) = ap suc (percents-alike vs)
-
-places-alike : {ts : List Token} → Views numberKind ts → count item.isPlace (plainItems ts) ≡ count isPlace ts
-unfolding count plainItems tokenItems
-places-alike v-end = refl
-places-alike (v-next {t = t} {ts = ts} (v-free g) vs) = free-count 3 refl refl refl (plainItems ts) g ∙ places-alike vs ∙ sym (passed-over isPlace t ts ((free-quiet g) .no-place))
-places-alike (v-next v-comma vs) = places-alike vs
-places-alike (v-next v-place vs) = ap suc (places-alike vs)
-places-alike (v-next v-point vs) = places-alike vs
-places-alike (v-next v-percent vs) = places-alike vs
-
--- literals are passed over by both counts of places
-free-wholes : {t : Token} (is : List Item) → Free t → integerPlaces (tokenItems false t ++ is) ≡ integerPlaces is
-unfolding integerPlaces tokenItems
-free-wholes is (free-string []) = refl
-free-wholes is (free-string (u ∷ us)) = free-wholes is (free-string us)
-free-wholes is (free-repeat u) = refl
-free-wholes is (free-space u) = refl
-free-wholes is (free-bare u) = refl
-
-free-decimals : {t : Token} (is : List Item) → Free t → item.decimalPlaces (tokenItems false t ++ is) ≡ item.decimalPlaces is
-unfolding item.decimalPlaces tokenItems
-free-decimals is (free-string []) = refl
-free-decimals is (free-string (u ∷ us)) = free-decimals is (free-string us)
-free-decimals is (free-repeat u) = refl
-free-decimals is (free-space u) = refl
-free-decimals is (free-bare u) = refl
-
-wholes-alike : {ts : List Token} → Views numberKind ts → integerPlaces (plainItems ts) ≡ wholePlaces ts
-unfolding integerPlaces wholePlaces plainItems tokenItems
-wholes-alike v-end = refl
-wholes-alike (v-next {ts = ts} (v-free g) vs) = free-wholes (plainItems ts) g ∙ wholes-alike vs ∙ sym (quiet-wholes ts (free-quiet g))
-wholes-alike (v-next v-comma vs) = wholes-alike vs
-wholes-alike (v-next v-place vs) = ap suc (wholes-alike vs)
-wholes-alike (v-next v-point vs) = refl
-wholes-alike (v-next v-percent vs) = wholes-alike vs
-
-decimals-alike : {ts : List Token} → Views numberKind ts → item.decimalPlaces (plainItems ts) ≡ decimalPlaces ts
-unfolding item.decimalPlaces decimalPlaces plainItems tokenItems
-decimals-alike v-end = refl
-decimals-alike (v-next {ts = ts} (v-free g) vs) = free-decimals (plainItems ts) g ∙ decimals-alike vs ∙ sym (quiet-decimals ts (free-quiet g))
-decimals-alike (v-next v-comma vs) = decimals-alike vs
-decimals-alike (v-next v-place vs) = decimals-alike vs
-decimals-alike (v-next v-point vs) = places-alike vs
-decimals-alike (v-next v-percent vs) = decimals-alike vs
-
--- a number's body has a place
-has-place : {ts : List Token} → Views numberKind ts → has numberKind ts ≡ any isPlace ts
-unfolding any tokenMakes
-has-place v-end = refl
-has-place (v-next {ts = ts} (v-free g) vs) = free-has numberKind refl ts g ∙ has-place vs ∙ sym (quiet-any ts (free-quiet g))
-has-place (v-next v-comma vs) = has-place vs
-has-place (v-next v-place vs) = refl
-has-place (v-next v-point vs) = has-place vs
-has-place (v-next v-percent vs) = has-place vs
+alike : {ts : List Token} → Views numberKind ts → Alike ts
+unfolding count plainItems tokenItems integerPlaces wholePlaces item.decimalPlaces decimalPlaces any tokenMakes
+alike v-end = (refl, refl, refl, refl, refl, refl)
+alike (v-next {t = t} {ts = ts} (v-free g) vs) =
+    let (p, q, r, w, d, h) = alike vs in
+    let is = plainItems ts in
+    let quiet = free-quiet g in (
+      free-count 4 refl refl refl is g ∙ p ∙ sym (passed-over isPoint t ts (quiet .no-point)),
+      free-count 5 refl refl refl is g ∙ q ∙ sym (passed-over isPercent t ts (free-percent g)),
+      free-count 3 refl refl refl is g ∙ r ∙ sym (passed-over isPlace t ts (quiet .no-place)),
+      free-kept integerPlaces false (λ u js. refl) (λ u js. refl) (λ u js. refl) is g ∙ w ∙ sym (quiet-wholes ts quiet),
+      free-kept item.decimalPlaces false (λ u js. refl) (λ u js. refl) (λ u js. refl) is g ∙ d ∙ sym (quiet-decimals ts quiet),
+      free-has numberKind refl ts g ∙ h ∙ sym (quiet-any ts quiet),
+    )
+alike (v-next v-comma vs) = alike vs
+alike (v-next v-place vs) = let (p, q, r, w, d, h) = alike vs in (p, q, ap suc r, ap suc w, d, refl)
+alike (v-next v-point vs) = let (p, q, r, w, d, h) = alike vs in (ap suc p, q, r, refl, r, h)
+alike (v-next v-percent vs) = let (p, q, r, w, d, h) = alike vs in (p, ap suc q, r, w, d, h)
 
 -- ---- "A `/` directly between two places"
 
@@ -171,28 +128,26 @@ derive-number ts s h f =
     let p = plain-facts ts numberKind h refl refl s f in
     let vs = p .views in
     let items = plain-body ts numberKind h refl in
-    let few : count isPoint ts ≤ 1 = rw (items, points-alike vs) at (f .points) in
-    let has-one : any isPlace ts ≡ true = sym (has-place vs) ∙ kind-has numberKind refl ts h in
+    let (points, percents, places, wholes, decimals, has-place) = alike vs in
+    let few : count isPoint ts ≤ 1 = rw (items, points) at (f .points) in
+    let has-one : any isPlace ts ≡ true = sym has-place ∙ kind-has numberKind refl ts h in
     record {
       divisions = count isDividing (commaUsesFrom false false ts);
       num = num-of vs leading (record { placed = p .placed; points = few; ahead = has-one });
       no-fraction = no-fraction-of ts (f .solidus);
-      wholes-most = rw (items, wholes-alike vs) at (f .wholes);
-      decimals-most = rw (items, decimals-alike vs) at (f .decimals);
-      percents-most = rw (items, percents-alike vs) at (f .percents);
+      wholes-most = rw (items, wholes) at (f .wholes);
+      decimals-most = rw (items, decimals) at (f .decimals);
+      percents-most = rw (items, percents) at (f .percents);
       divisions-most = rw (h, comma-uses ts) at (f .divisions);
     }
-
-number-kind : (ts : List Token) → Views numberKind ts → any isPlace ts ≡ true → bodyKind ts ≡ numberKind
-number-kind ts vs a =
-    kind-number ts (views-has vs textKind refl refl) (views-has vs generalKind refl refl) (views-has vs dateKind refl refl) (has-place vs ∙ a)
 
 pub number-fits : (ts : List Token) → NFNumber ts → (bodyKind ts ≡ numberKind) × Fitting ts
 unfolding solidusFits commasFit sorts
 number-fits ts d =
     let vs = num-views (d .num) in
     let c = num-counted (d .num) in
-    let h = number-kind ts vs (c .holds .ahead) in
+    let (points, percents, places, wholes, decimals, has-place) = alike vs in
+    let h = kind-number ts (views-has vs textKind refl refl) (views-has vs generalKind refl refl) (views-has vs dateKind refl refl) (has-place ∙ c .holds .ahead) in
     let items = plain-body ts numberKind h refl in
     let few = c .holds .points in
     let a : every (itemAllowed numberKind) (bodyItems ts) ≡ true = rw items (views-allowed vs) in
@@ -206,12 +161,12 @@ number-fits ts d =
         solidus = solidus-of vs false never (d .no-fraction);
         allowed = rw h a;
         generals = omega arith;
-        points = rw (items, points-alike vs) few;
+        points = rw (items, points) few;
         elapseds = omega arith;
         apart = plain-none (kept ts) elapseds;
-        wholes = rw (items, wholes-alike vs) (d .wholes-most);
-        decimals = rw (items, decimals-alike vs) (d .decimals-most);
-        percents = rw (items, percents-alike vs) (d .percents-most);
+        wholes = rw (items, wholes) (d .wholes-most);
+        decimals = rw (items, decimals) (d .decimals-most);
+        percents = rw (items, percents) (d .percents-most);
         divisions = rw (h, comma-uses ts, c .counted) divided;
         short = short-none (kept ts) elapseds;
       },

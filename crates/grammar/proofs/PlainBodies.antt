@@ -3,8 +3,8 @@
 use Prim.Native.Nat.{ℕ, suc, _≤_}
 use native.Mathlib.Omega.{arith}
 use mathlib.Core.Path.{_≡_, refl, ap, _∙_}
-use mathlib.Core.Bool.{true, false, not, true≢false}
-use mathlib.Core.List.{List, [], _∷_, _++_}
+use mathlib.Core.Bool.{Bool, true, false, not, true≢false}
+use mathlib.Core.List.{List, [], _++_}
 use borrow.Author.Tests.{not-true}
 use lib.Dec.{eqb}
 use Rattle.lists.specs.Lists.{every, any, count}
@@ -13,10 +13,11 @@ use Rattle.formats.specs.Items as item
 use Rattle.formats.specs.Items.{Item, Kind, textKind, generalKind, dateKind, numberKind, literalKind, sameKind, sortOf, isGeneral, isPlace, isPercent, isPoint, isElapsed}
 use Rattle.formats.specs.Kinds.{isSemicolon, noBracket, bodyKind, tokenMakes, isMisplaced, commasFit, solidusFrom, solidusFits, tokenItems, plainItems, bodyItems}
 use Rattle.formats.proofs.CommaUses.{commaUse, commaUsesFrom, comma-uses}
-use Rattle.grammar.specs.Bodies.{Free, free-string, free-repeat, free-space, free-bare, Literals, literals-end, literals-free, NFGeneral, general-word, general-free, TextRest, text-end, text-more, text-literal, NFText, text-at, text-free}
-use Rattle.grammar.proofs.Tests.{no, and-parts, both, every-parts, every-in}
-use Rattle.grammar.proofs.Quiet.{free-quiet, quiet-commas, quiet-solidus}
-use Rattle.grammar.proofs.Kept.{sorts, count-kept, foreign, short-none, plain-none, no-integers, no-decimals}
+use Rattle.grammar.specs.Bodies.{Free, Literals, literals-end, literals-free, NFGeneral, general-word, general-free, TextRest, text-end, text-more, text-literal, NFText, text-at, text-free}
+use Rattle.grammar.proofs.Tests.{no, and-parts, both, every-with, every-all}
+use Rattle.grammar.proofs.Quiet.{free-quiet, free-kept, quiet-commas, quiet-solidus}
+use Rattle.grammar.proofs.Kept.{sorts, count-kept, foreign, no-integers, no-decimals}
+use Rattle.grammar.proofs.DateItems.{short-none, plain-none}
 use Rattle.grammar.proofs.Facts.{kept, Fitting}
 use Rattle.grammar.proofs.Plain.{inBody, v-free, v-comma, v-place, v-point, v-percent, v-at, v-general, Views, v-end, v-next, all-views, views-body, views-allowed, has, free-has, views-has, kind-text, kind-general, kind-literal, kind-has}
 
@@ -25,36 +26,26 @@ use Rattle.grammar.proofs.Plain.{inBody, v-free, v-comma, v-place, v-po
 -- items of these sorts come of no literal
 pub free-count : (k : ℕ) → eqb 0 k ≡ false → eqb 1 k ≡ false → eqb 2 k ≡ false → {t : Token} (is : List Item) → Free t
     → count (λ (i : Item). eqb (sortOf i) k) (tokenItems false t ++ is) ≡ count (λ (i : Item). eqb (sortOf i) k) is
-unfolding count tokenItems
-free-count k a b c is (free-string []) = refl
-free-count k a b c is (free-string (u ∷ us)) = rw a (free-count k a b c is (free-string us))
-free-count k a b c is (free-repeat u) = rw c
-free-count k a b c is (free-space u) = rw b
-free-count k a b c is (free-bare u) = rw a
+unfolding count
+free-count k a b c is g = free-kept (count (λ (i : Item). eqb (sortOf i) k)) false (λ u js. rw a) (λ u js. rw b) (λ u js. rw c) is g
 
 -- ---- what fitting says of such a body, and what makes it fit
 
-pub body-tokens : (ts : List Token) → every (λ (t : Token). not (isSemicolon t)) ts ≡ true → every noBracket ts ≡ true → every inBody ts ≡ true
-unfolding every
-body-tokens [] s b = refl
-body-tokens (t ∷ ts) s b =
-    let (s₁, s₂) = every-parts (λ (t : Token). not (isSemicolon t)) t ts s in
-    let (b₁, b₂) = every-parts noBracket t ts b in
-    every-in inBody t ts (both (not (isSemicolon t)) (noBracket t) s₁ b₁) (body-tokens ts s₂ b₂)
+-- no semicolon: a section is a code's part between semicolons
+abbrev pub plainToken : Token → Bool
+plainToken t = not (isSemicolon t)
+
+abbrev pub NoSemicolon : List Token → Type 0
+NoSemicolon ts = every plainToken ts ≡ true
+
+pub body-tokens : (ts : List Token) → NoSemicolon ts → every noBracket ts ≡ true → every inBody ts ≡ true
+body-tokens ts s b = every-with plainToken noBracket inBody (λ t. both (plainToken t) (noBracket t)) ts s b
 
 pub body-brackets : (ts : List Token) → every inBody ts ≡ true → every noBracket ts ≡ true
-unfolding every
-body-brackets [] b = refl
-body-brackets (t ∷ ts) b =
-    let (b₁, b₂) = every-parts inBody t ts b in
-    every-in noBracket t ts ((and-parts (not (isSemicolon t)) (noBracket t) b₁) .1) (body-brackets ts b₂)
+body-brackets ts b = every-all inBody noBracket (λ t e. (and-parts (plainToken t) (noBracket t) e) .1) ts b
 
-pub body-plain : (ts : List Token) → every inBody ts ≡ true → every (λ (t : Token). not (isSemicolon t)) ts ≡ true
-unfolding every
-body-plain [] b = refl
-body-plain (t ∷ ts) b =
-    let (b₁, b₂) = every-parts inBody t ts b in
-    every-in (λ (t : Token). not (isSemicolon t)) t ts ((and-parts (not (isSemicolon t)) (noBracket t) b₁) .0) (body-plain ts b₂)
+pub body-plain : (ts : List Token) → every inBody ts ≡ true → NoSemicolon ts
+body-plain ts b = every-all inBody plainToken (λ t e. (and-parts (plainToken t) (noBracket t) e) .0) ts b
 
 pub plain-body : (ts : List Token) (k : Kind) → bodyKind ts ≡ k → sameKind k dateKind ≡ false → bodyItems ts ≡ plainItems ts
 unfolding bodyItems
@@ -65,7 +56,7 @@ pub record PlainFacts (k : Kind) (ts : List Token) : Type 0 where
   pub placed : any isMisplaced (commaUsesFrom false false ts) ≡ false
 
 pub plain-facts : (ts : List Token) (k : Kind) → bodyKind ts ≡ k → sameKind dateKind k ≡ false → sameKind k dateKind ≡ false
-    → every (λ (t : Token). not (isSemicolon t)) ts ≡ true → Fitting ts → PlainFacts k ts
+    → NoSemicolon ts → Fitting ts → PlainFacts k ts
 unfolding commasFit
 plain-facts ts k h d d′ s f =
     record {
@@ -138,10 +129,6 @@ literals-general : {ts : List Token} → Literals ts → count isGeneral (plainI
 unfolding count plainItems
 literals-general literals-end = refl
 literals-general (literals-free {ts = ts} g d) = free-count 6 refl refl refl (plainItems ts) g ∙ literals-general d
-
--- no semicolon: a section is a code's part between semicolons
-abbrev pub NoSemicolon : List Token → Type 0
-NoSemicolon ts = every (λ (t : Token). not (isSemicolon t)) ts ≡ true
 
 pub derive-literals : (ts : List Token) → NoSemicolon ts → bodyKind ts ≡ literalKind → Fitting ts → Literals ts
 derive-literals ts s h f = let p = plain-facts ts literalKind h refl refl s f in literals-of (p .views) (p .placed)

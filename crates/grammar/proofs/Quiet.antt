@@ -1,12 +1,16 @@
--- Tokens that are no place, point, comma or percent: the counts and the rules of a number pass over them.
+-- Tokens that are no place, point, comma or percent: the counts and the rules of a number pass over them. Tokens by their tests.
 -- Assumes nothing.
-use mathlib.Core.Path.{_≡_, refl}
-use mathlib.Core.Bool.{Bool, false, or-false}
-use mathlib.Core.List.{List, _∷_}
+use Prim.Native.Nat.{ℕ}
+use mathlib.Core.Path.{_≡_, refl, _∙_}
+use mathlib.Core.Bool.{Bool, true, false, or-false}
+use mathlib.Core.List.{List, [], _∷_, _++_, map}
 use Rattle.lists.specs.Lists.{any, count}
-use Rattle.formats.specs.Tokens.{Token, percent}
-use Rattle.formats.specs.Kinds.{isPlace, isPoint, isComma, integerPlaceIn, solidusFrom}
+use Rattle.formats.specs.Tokens.{Token, literal, bare, blank, fill, place, point, comma, percent, at, semicolon, general, half, run, elapsed, colour, condition, Written}
+use Rattle.formats.specs.Items as item
+use Rattle.formats.specs.Items.{Item}
+use Rattle.formats.specs.Kinds.{isPlace, isPoint, isComma, isSemicolon, isColour, isCondition, colourIn, integerPlaceIn, solidusFrom, tokenItems}
 use Rattle.formats.proofs.CommaUses.{commaUsesFrom}
+use Rattle.grammar.proofs.Tests.{no}
 use Rattle.grammar.specs.Bodies.{Free, free-string, free-repeat, free-space, free-bare, wholePlaces, decimalPlaces, isPercent}
 
 -- neither a place nor the point nor a comma
@@ -29,6 +33,17 @@ free-percent (free-string us) = refl
 free-percent (free-repeat u) = refl
 free-percent (free-space u) = refl
 free-percent (free-bare u) = refl
+
+-- what passes over literals, blanks and fills passes over the items of a free token
+module _ {A : Type 0} (m : List Item → A) (ofDate : Bool) (literals : (u : ℕ) (is : List Item) → m (item.literal u ∷ is) ≡ m is)
+    (blanks : (u : ℕ) (is : List Item) → m (item.blank u ∷ is) ≡ m is) (fills : (u : ℕ) (is : List Item) → m (item.fill u ∷ is) ≡ m is) where
+  pub free-kept : {t : Token} (is : List Item) → Free t → m (tokenItems ofDate t ++ is) ≡ m is
+  unfolding tokenItems
+  free-kept is (free-string []) = refl
+  free-kept is (free-string (u ∷ us)) = literals u (map item.literal us ++ is) ∙ free-kept is (free-string us)
+  free-kept is (free-repeat u) = fills u is
+  free-kept is (free-space u) = blanks u is
+  free-kept is (free-bare u) = literals u is
 
 -- a token that a test passes over is not counted
 pub passed-over : (f : Token → Bool) (t : Token) (ts : List Token) → f t ≡ false → count f (t ∷ ts) ≡ count f ts
@@ -59,3 +74,23 @@ module _ {t : Token} (ts : List Token) (q : Quiet t) where
   pub quiet-solidus : solidusFrom false (t ∷ ts) ≡ solidusFrom false ts
   unfolding solidusFrom
   quiet-solidus = rw (q .no-place)
+
+-- a semicolon, a colour or a condition by its test
+pub known : (t : Token) → (isSemicolon t ≡ true → t ≡ semicolon) × (isColour t ≡ true → t ≡ colour (colourIn t)) × (isCondition t ≡ true → (w : Written) × (t ≡ condition w))
+unfolding colourIn
+known semicolon = ((λ e. refl), no, no)
+known (colour n) = (no, (λ e. refl), no)
+known (condition w) = (no, no, (λ e. (w, refl)))
+known (literal us) = (no, no, no)
+known (bare u) = (no, no, no)
+known (blank u) = (no, no, no)
+known (fill u) = (no, no, no)
+known (place q) = (no, no, no)
+known point = (no, no, no)
+known comma = (no, no, no)
+known percent = (no, no, no)
+known at = (no, no, no)
+known general = (no, no, no)
+known (half h) = (no, no, no)
+known (run l n) = (no, no, no)
+known (elapsed x n) = (no, no, no)

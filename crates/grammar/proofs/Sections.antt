@@ -2,15 +2,16 @@
 -- Assumes nothing.
 use Prim.Native.Nat.{ℕ, suc, _≤_}
 use native.Mathlib.Omega.{arith}
-use mathlib.Core.Path.{_≡_, refl, sym, _∙_}
+use mathlib.Core.Path.{_≡_, refl, sym, subst, _∙_}
 use mathlib.Core.Bool.{Bool, true, false, cond, not, _&&_, _||_}
 use mathlib.Core.List.{List, [], _∷_}
 use mathlib.Core.Option.{Option, none, some}
 use lib.ListN.{length}
-use lib.Dec.{leb, ltb, eqb}
+use lib.Dec.{T, leb, ltb, eqb}
 use borrow.Author.Tests.{leb-true, le-leb, eqb-true, not-true}
 use Rattle.lists.specs.Lists.{every, isSome}
-use Rattle.formats.specs.Tokens.{Token, literal, bare, blank, fill, place, point, comma, percent, at, semicolon, general, half, run, elapsed, colour, condition, Written}
+use Rattle.lists.proofs.Bools.{by-cases, and-left, and-right, T-true, true-T}
+use Rattle.formats.specs.Tokens.{Token, at, colour, condition, Written}
 use Rattle.formats.specs.Items.{Kind, textKind, generalKind, dateKind, numberKind, literalKind, sameKind}
 use Rattle.formats.specs.Kinds.{isColour, isCondition, noBracket, Parts, colourIn, conditionIn, afterColour, partsOf, bodyKind, conditionOf, sectionOf, fits}
 use Rattle.formats.specs.Where.{implies, standsAt}
@@ -20,6 +21,7 @@ use Rattle.grammar.specs.Bodies.{Literals, NFGeneral, NFNumber, NFDateTi
 use Rattle.grammar.specs.Codes as codes
 use Rattle.grammar.specs.Codes.{OptColor, no-color, color, NFPartCond, OptCond, no-cond, some-cond, NFAny, any-number, any-text, any-date, any-general, any-literal, NFAnyNoText, no-text-number, no-text-date, no-text-general, no-text-literal, NFAnyNoCond, no-cond-number, no-cond-text, no-cond-date, no-cond-general, no-cond-literal, NFAnyNoTextNoCond, neither-number, neither-date, neither-general, neither-literal, Fourth, fourth-text, fourth-general, fourth-literal}
 use Rattle.grammar.proofs.Tests.{no, and-parts, every-parts}
+use Rattle.grammar.proofs.Quiet.{known}
 use Rattle.grammar.proofs.Fronts.{colourShown}
 use Rattle.grammar.proofs.Facts.{Fitting, fitting, fits-fitting, within-fitting}
 use Rattle.grammar.proofs.Plain.{views-body}
@@ -54,66 +56,45 @@ body-fits literalKind = literals-fit
 
 -- ---- heads
 
-data Colored : ℕ → List Token → List Token → Type 0 where
+pub data Colored : ℕ → List Token → List Token → Type 0 where
   uncolored : {ts : List Token} → Colored 0 ts ts
   colored : {n : ℕ} {ts : List Token} → 1 ≤ n → Colored n (colour n ∷ ts) ts
 
-data Conditioned : Option Written → List Token → List Token → Type 0 where
+pub data Conditioned : Option Written → List Token → List Token → Type 0 where
   unconditioned : {ts : List Token} → Conditioned none ts ts
   conditioned : {w : Written} {ts : List Token} → Conditioned (some w) (condition w ∷ ts) ts
 
 -- a section and its parts
-data Headed (s : List Token) : Parts → Type 0 where
-  headed : {c : ℕ} {o : Option Written} {us vs : List Token} → Colored c s us → Conditioned o us vs
-      → Headed s (record { colour = c; condition = o; body = vs })
+data Headed (s : List Token) (p : Parts) : Type 0 where
+  headed : {us : List Token} → Colored (p .colour) s us → Conditioned (p .condition) us (p .body) → Headed s p
 
 after-headed : {s : List Token} (c : ℕ) (ts : List Token) → Colored c s ts → Headed s (afterColour c ts)
 unfolding afterColour conditionIn
 after-headed c [] h = headed h unconditioned
-after-headed c (condition w ∷ ts) h = headed h conditioned
-after-headed c (literal us ∷ ts) h = headed h unconditioned
-after-headed c (bare u ∷ ts) h = headed h unconditioned
-after-headed c (blank u ∷ ts) h = headed h unconditioned
-after-headed c (fill u ∷ ts) h = headed h unconditioned
-after-headed c (place p ∷ ts) h = headed h unconditioned
-after-headed c (point ∷ ts) h = headed h unconditioned
-after-headed c (comma ∷ ts) h = headed h unconditioned
-after-headed c (percent ∷ ts) h = headed h unconditioned
-after-headed c (at ∷ ts) h = headed h unconditioned
-after-headed c (semicolon ∷ ts) h = headed h unconditioned
-after-headed c (general ∷ ts) h = headed h unconditioned
-after-headed c (half x ∷ ts) h = headed h unconditioned
-after-headed c (run l n ∷ ts) h = headed h unconditioned
-after-headed c (elapsed x n ∷ ts) h = headed h unconditioned
-after-headed c (colour n ∷ ts) h = headed h unconditioned
+after-headed {s} c (t ∷ ts) h =
+    by-cases (isCondition t)
+    (λ e.
+    let (w, is) = (known t) .2 e in
+    subst (λ (x : Token). Colored c s (x ∷ ts) → Headed s (afterColour c (x ∷ ts))) (sym is) (λ g. headed g conditioned) h)
+    (λ e. rw e (headed h unconditioned))
 
 parts-headed : (s : List Token) → every colourShown s ≡ true → Headed s (partsOf s)
-unfolding partsOf colourIn
+unfolding partsOf colourIn every
 parts-headed [] e = after-headed 0 [] uncolored
-parts-headed (colour n ∷ ts) e =
-    after-headed n ts (colored (leb-true 1 n ((every-parts colourShown (colour n) ts e) .0)))
-parts-headed (literal us ∷ ts) e = after-headed 0 (literal us ∷ ts) uncolored
-parts-headed (bare u ∷ ts) e = after-headed 0 (bare u ∷ ts) uncolored
-parts-headed (blank u ∷ ts) e = after-headed 0 (blank u ∷ ts) uncolored
-parts-headed (fill u ∷ ts) e = after-headed 0 (fill u ∷ ts) uncolored
-parts-headed (place p ∷ ts) e = after-headed 0 (place p ∷ ts) uncolored
-parts-headed (point ∷ ts) e = after-headed 0 (point ∷ ts) uncolored
-parts-headed (comma ∷ ts) e = after-headed 0 (comma ∷ ts) uncolored
-parts-headed (percent ∷ ts) e = after-headed 0 (percent ∷ ts) uncolored
-parts-headed (at ∷ ts) e = after-headed 0 (at ∷ ts) uncolored
-parts-headed (semicolon ∷ ts) e = after-headed 0 (semicolon ∷ ts) uncolored
-parts-headed (general ∷ ts) e = after-headed 0 (general ∷ ts) uncolored
-parts-headed (half x ∷ ts) e = after-headed 0 (half x ∷ ts) uncolored
-parts-headed (run l n ∷ ts) e = after-headed 0 (run l n ∷ ts) uncolored
-parts-headed (elapsed x n ∷ ts) e = after-headed 0 (elapsed x n ∷ ts) uncolored
-parts-headed (condition w ∷ ts) e = after-headed 0 (condition w ∷ ts) uncolored
+parts-headed (t ∷ ts) e =
+    by-cases (isColour t)
+    (λ h. subst (λ (x : Token). every colourShown (x ∷ ts) ≡ true → Headed (x ∷ ts) (partsOf (x ∷ ts))) (sym ((known t) .1 h)) (from-colour (colourIn t)) e)
+    (λ h. rw h (after-headed 0 (t ∷ ts) uncolored))
+  where
+    from-colour : (n : ℕ) → every colourShown (colour n ∷ ts) ≡ true → Headed (colour n ∷ ts) (partsOf (colour n ∷ ts))
+    from-colour n e = after-headed n ts (colored (leb-true 1 n ((every-parts colourShown (colour n) ts e) .0)))
 
-headed-plain : {s : List Token} {p : Parts} → Headed s p → NoSemicolon s → NoSemicolon (p .body)
+headed-plain : {s : List Token} {c : ℕ} {o : Option Written} {us vs : List Token} → Colored c s us → Conditioned o us vs → NoSemicolon s → NoSemicolon vs
 unfolding every
-headed-plain (headed uncolored unconditioned) n = n
-headed-plain (headed uncolored conditioned) n = n
-headed-plain (headed (colored h) unconditioned) n = n
-headed-plain (headed (colored h) conditioned) n = n
+headed-plain uncolored unconditioned n = n
+headed-plain uncolored conditioned n = n
+headed-plain (colored h) unconditioned n = n
+headed-plain (colored h) conditioned n = n
 
 opt-color : {c : ℕ} {s us : List Token} → Colored c s us → OptColor s us
 opt-color uncolored = no-color
@@ -131,7 +112,7 @@ opt-cond conditioned e = some-cond (part-cond conditioned e)
 
 -- ---- where a section may stand, by its colour, its condition and its kind
 
-unfoldable standsBy : ℕ → ℕ → ℕ → Bool → Kind → Bool
+unfoldable pub standsBy : ℕ → ℕ → ℕ → Bool → Kind → Bool
 standsBy n i c d k =
     implies (sameKind k textKind) (eqb (suc i) n)
     && implies (eqb n 1 && d) (sameKind k generalKind)
@@ -158,56 +139,52 @@ pub record Passes (n i : ℕ) (s : List Token) : Type 0 where
   pub within : withinLimits (partsOf s) ≡ true
 
 -- what a section that passes is, in its parts
-record Derived (n i : ℕ) (s : List Token) (p : Parts) : Type 0 where
-  heads : Headed s p
-  body : Body (bodyKind (p .body)) (p .body)
-  written : writtenWithin (p .condition) ≡ true
-  where-to : standsBy n i (p .colour) (isSome (p .condition)) (bodyKind (p .body)) ≡ true
+pub data Derived (n i : ℕ) (s : List Token) : Type 0 where
+  derived : {c : ℕ} {o : Option Written} {us vs : List Token} (k : Kind) → Colored c s us → Conditioned o us vs → Body k vs → writtenWithin o ≡ true
+      → standsBy n i c (isSome o) k ≡ true → Derived n i s
 
-passes-derived : (n i : ℕ) (s : List Token) → every colourShown s ≡ true → Passes n i s → Derived n i s (partsOf s)
+pub passed : {n i : ℕ} {s : List Token} → every colourShown s ≡ true → Passes n i s → Derived n i s
 unfolding withinLimits
-passes-derived n i s c p =
-    let (w, l) = and-parts (writtenWithin ((partsOf s) .condition)) (sectionWithin (sectionOf (partsOf s))) (p .within) in
-    let h = parts-headed s c in
-    record {
-      heads = h;
-      body = derive-body (bodyKind ((partsOf s) .body)) ((partsOf s) .body) (headed-plain h (p .plain)) refl (fitting (partsOf s) (p .fitted) l);
-      written = w;
-      where-to = sym (stands-by n i (partsOf s)) ∙ p .stands;
-    }
+passed {n} {i} {s} shown p = from (parts-headed s shown)
+  where
+    from : Headed s (partsOf s) → Derived n i s
+    from (headed c d) =
+        let q = partsOf s in
+        let (w, l) = and-parts (writtenWithin (q .condition)) (sectionWithin (sectionOf q)) (p .within) in
+        derived (bodyKind (q .body)) c d (derive-body (bodyKind (q .body)) (q .body) (headed-plain c d (p .plain)) refl (fitting q (p .fitted) l)) w
+        (sym (stands-by n i q) ∙ p .stands)
 
 -- "only the first two" have a condition
 late-condition : {P : Type 0} (n i c : ℕ) (k : Kind) → ltb i 2 ≡ false → standsBy n i c true k ≡ true → P
 unfolding standsBy
 late-condition n i c k l e =
-    let a = implies (sameKind k textKind) (eqb (suc i) n) in
-    let b = implies (eqb n 1 && true) (sameKind k generalKind) in
-    let d = implies (sameKind k textKind) (not true) in
-    let f = implies (eqb i 3) (sameKind k textKind || sameKind k generalKind || sameKind k literalKind) in
-    let g = implies (eqb i 3) (eqb c 0 && not true) in
-    let e₅ = (and-parts (a && b && ltb i 2 && d && f) g e) .0 in
-    let e₄ = (and-parts (a && b && ltb i 2 && d) f e₅) .0 in
-    let e₃ = (and-parts (a && b && ltb i 2) d e₄) .0 in
-    no (sym l ∙ (and-parts (a && b) (ltb i 2) e₃) .1)
+    let all : T (standsBy n i c true k) = true-T e in
+    no (sym l ∙ T-true (ltb i 2) (search (and-left, and-right) depth 8))
 
-any-of : {s : List Token} {p : Parts} (k : Kind) → Headed s p → Body k (p .body) → writtenWithin (p .condition) ≡ true
-    → standsBy 2 1 (p .colour) (isSome (p .condition)) k ≡ true → NFAny s
-unfolding standsBy isSome
-any-of numberKind (headed c d) b w e = any-number (opt-color c) (opt-cond d w) b
-any-of textKind (headed c unconditioned) b w e = any-text (opt-color c) b
-any-of textKind (headed c conditioned) b w e = no e
-any-of dateKind (headed c d) b w e = any-date (opt-color c) (opt-cond d w) b
-any-of generalKind (headed c d) b w e = any-general (opt-color c) (opt-cond d w) b
-any-of literalKind (headed c d) b w e = any-literal (opt-color c) (opt-cond d w) b
-
-no-text-of : {s : List Token} {p : Parts} (n i : ℕ) → eqb (suc i) n ≡ false → (k : Kind) → Headed s p → Body k (p .body) → writtenWithin (p .condition) ≡ true
-    → standsBy n i (p .colour) (isSome (p .condition)) k ≡ true → NFAnyNoText s
+-- the fourth has no colour
+coloured-fourth : {P : Type 0} (c : ℕ) (d : Bool) (k : Kind) → 1 ≤ c → standsBy 4 3 c d k ≡ true → P
 unfolding standsBy
-no-text-of n i l numberKind (headed c d) b w e = no-text-number (opt-color c) (opt-cond d w) b
-no-text-of n i l textKind (headed c d) b w e = no (rw l at e)
-no-text-of n i l dateKind (headed c d) b w e = no-text-date (opt-color c) (opt-cond d w) b
-no-text-of n i l generalKind (headed c d) b w e = no-text-general (opt-color c) (opt-cond d w) b
-no-text-of n i l literalKind (headed c d) b w e = no-text-literal (opt-color c) (opt-cond d w) b
+coloured-fourth c d k h e =
+    let all : T (standsBy 4 3 c d k) = true-T e in
+    let none-there : c ≡ 0 = eqb-true c 0 (T-true (eqb c 0) (search (and-left, and-right) depth 8)) in
+    absurd (omega arith)
+
+pub any-of : {s : List Token} → Derived 2 1 s → NFAny s
+unfolding standsBy isSome
+any-of (derived numberKind c d b w e) = any-number (opt-color c) (opt-cond d w) b
+any-of (derived textKind c unconditioned b w e) = any-text (opt-color c) b
+any-of (derived textKind c conditioned b w e) = no e
+any-of (derived dateKind c d b w e) = any-date (opt-color c) (opt-cond d w) b
+any-of (derived generalKind c d b w e) = any-general (opt-color c) (opt-cond d w) b
+any-of (derived literalKind c d b w e) = any-literal (opt-color c) (opt-cond d w) b
+
+pub no-text-of : (n i : ℕ) → eqb (suc i) n ≡ false → {s : List Token} → Derived n i s → NFAnyNoText s
+unfolding standsBy
+no-text-of n i l (derived numberKind c d b w e) = no-text-number (opt-color c) (opt-cond d w) b
+no-text-of n i l (derived textKind c d b w e) = no (rw l at e)
+no-text-of n i l (derived dateKind c d b w e) = no-text-date (opt-color c) (opt-cond d w) b
+no-text-of n i l (derived generalKind c d b w e) = no-text-general (opt-color c) (opt-cond d w) b
+no-text-of n i l (derived literalKind c d b w e) = no-text-literal (opt-color c) (opt-cond d w) b
 
 -- a body without a condition
 uncond-of : {s us : List Token} (k : Kind) → OptColor s us → Body k us → NFAnyNoCond s
@@ -217,70 +194,38 @@ uncond-of dateKind c b = no-cond-date c b
 uncond-of generalKind c b = no-cond-general c b
 uncond-of literalKind c b = no-cond-literal c b
 
-third-of : {s : List Token} {p : Parts} (k : Kind) → Headed s p → Body k (p .body) → standsBy 3 2 (p .colour) (isSome (p .condition)) k ≡ true → NFAnyNoCond s
+pub third-of : {s : List Token} → Derived 3 2 s → NFAnyNoCond s
 unfolding isSome
-third-of k (headed c unconditioned) b e = uncond-of k (opt-color c) b
-third-of k (headed {c = n} c conditioned) b e = late-condition 3 2 n k refl e
+third-of (derived k c unconditioned b w e) = uncond-of k (opt-color c) b
+third-of (derived {c = n} k c conditioned b w e) = late-condition 3 2 n k refl e
 
-neither-of : {s : List Token} {p : Parts} (k : Kind) → Headed s p → Body k (p .body) → standsBy 4 2 (p .colour) (isSome (p .condition)) k ≡ true → NFAnyNoTextNoCond s
+pub neither-of : {s : List Token} → Derived 4 2 s → NFAnyNoTextNoCond s
 unfolding isSome standsBy
-neither-of k (headed {c = n} c conditioned) b e = late-condition 4 2 n k refl e
-neither-of numberKind (headed c unconditioned) b e = neither-number (opt-color c) b
-neither-of textKind (headed c unconditioned) b e = no e
-neither-of dateKind (headed c unconditioned) b e = neither-date (opt-color c) b
-neither-of generalKind (headed c unconditioned) b e = neither-general (opt-color c) b
-neither-of literalKind (headed c unconditioned) b e = neither-literal (opt-color c) b
+neither-of (derived {c = n} k c conditioned b w e) = late-condition 4 2 n k refl e
+neither-of (derived numberKind c unconditioned b w e) = neither-number (opt-color c) b
+neither-of (derived textKind c unconditioned b w e) = no e
+neither-of (derived dateKind c unconditioned b w e) = neither-date (opt-color c) b
+neither-of (derived generalKind c unconditioned b w e) = neither-general (opt-color c) b
+neither-of (derived literalKind c unconditioned b w e) = neither-literal (opt-color c) b
 
-coloured-fourth : {P : Type 0} (c : ℕ) (d : Bool) (k : Kind) → 1 ≤ c → standsBy 4 3 c d k ≡ true → P
-unfolding standsBy
-coloured-fourth c d k h e =
-    let others =
-    implies (sameKind k textKind) (eqb 4 4) && implies (eqb 4 1 && d) (sameKind k generalKind) && implies d (ltb 3 2)
-    && implies (sameKind k textKind) (not d) && implies (eqb 3 3) (sameKind k textKind || sameKind k generalKind || sameKind k literalKind) in
-    let last : (eqb c 0 && not d) ≡ true = (and-parts others (implies (eqb 3 3) (eqb c 0 && not d)) e) .1 in
-    let none-there : c ≡ 0 = eqb-true c 0 ((and-parts (eqb c 0) (not d) last) .0) in
-    absurd (omega arith)
-
-fourth-of : {s : List Token} {p : Parts} (k : Kind) → Headed s p → Body k (p .body) → standsBy 4 3 (p .colour) (isSome (p .condition)) k ≡ true → Fourth s
+pub fourth-of : {s : List Token} → Derived 4 3 s → Fourth s
 unfolding isSome standsBy
-fourth-of k (headed {c = n} {o = o} (colored h) d) b e = coloured-fourth n (isSome o) k h e
-fourth-of k (headed uncolored conditioned) b e = late-condition 4 3 0 k refl e
-fourth-of numberKind (headed uncolored unconditioned) b e = no e
-fourth-of textKind (headed uncolored unconditioned) b e = fourth-text b
-fourth-of dateKind (headed uncolored unconditioned) b e = no e
-fourth-of generalKind (headed uncolored unconditioned) b e = fourth-general b
-fourth-of literalKind (headed uncolored unconditioned) b e = fourth-literal b
+fourth-of (derived {c = n} {o = o} k (colored h) d b w e) = coloured-fourth n (isSome o) k h e
+fourth-of (derived k uncolored conditioned b w e) = late-condition 4 3 0 k refl e
+fourth-of (derived numberKind uncolored unconditioned b w e) = no e
+fourth-of (derived textKind uncolored unconditioned b w e) = fourth-text b
+fourth-of (derived dateKind uncolored unconditioned b w e) = no e
+fourth-of (derived generalKind uncolored unconditioned b w e) = fourth-general b
+fourth-of (derived literalKind uncolored unconditioned b w e) = fourth-literal b
 
-one-of : {s : List Token} {p : Parts} (k : Kind) → Headed s p → Body k (p .body) → writtenWithin (p .condition) ≡ true
-    → standsBy 1 0 (p .colour) (isSome (p .condition)) k ≡ true → codes.All s
+pub one-of : {s : List Token} → Derived 1 0 s → codes.All s
 unfolding isSome standsBy
-one-of k (headed c unconditioned) b w e = codes.all-one (uncond-of k (opt-color c) b)
-one-of numberKind (headed c conditioned) b w e = no e
-one-of textKind (headed c conditioned) b w e = no e
-one-of dateKind (headed c conditioned) b w e = no e
-one-of generalKind (headed c conditioned) b w e = codes.all-condition (opt-color c) (part-cond conditioned w) b
-one-of literalKind (headed c conditioned) b w e = no e
-
--- the same from the tests
-module _ {s : List Token} (shown : every colourShown s ≡ true) where
-  pub derive-any : Passes 2 1 s → NFAny s
-  derive-any p = let d = passes-derived 2 1 s shown p in any-of (bodyKind ((partsOf s) .body)) (d .heads) (d .body) (d .written) (d .where-to)
-
-  pub derive-no-text : (n i : ℕ) → eqb (suc i) n ≡ false → Passes n i s → NFAnyNoText s
-  derive-no-text n i l p =
-      let d = passes-derived n i s shown p in no-text-of n i l (bodyKind ((partsOf s) .body)) (d .heads) (d .body) (d .written) (d .where-to)
-
-  pub derive-third : Passes 3 2 s → NFAnyNoCond s
-  derive-third p = let d = passes-derived 3 2 s shown p in third-of (bodyKind ((partsOf s) .body)) (d .heads) (d .body) (d .where-to)
-
-  pub derive-neither : Passes 4 2 s → NFAnyNoTextNoCond s
-  derive-neither p = let d = passes-derived 4 2 s shown p in neither-of (bodyKind ((partsOf s) .body)) (d .heads) (d .body) (d .where-to)
-
-  pub derive-fourth : Passes 4 3 s → Fourth s
-  derive-fourth p = let d = passes-derived 4 3 s shown p in fourth-of (bodyKind ((partsOf s) .body)) (d .heads) (d .body) (d .where-to)
-
-  pub derive-one : Passes 1 0 s → codes.All s
-  derive-one p = let d = passes-derived 1 0 s shown p in one-of (bodyKind ((partsOf s) .body)) (d .heads) (d .body) (d .written) (d .where-to)
+one-of (derived k c unconditioned b w e) = codes.all-one (uncond-of k (opt-color c) b)
+one-of (derived numberKind c conditioned b w e) = no e
+one-of (derived textKind c conditioned b w e) = no e
+one-of (derived dateKind c conditioned b w e) = no e
+one-of (derived generalKind c conditioned b w e) = codes.all-condition (opt-color c) (part-cond conditioned w) b
+one-of (derived literalKind c conditioned b w e) = no e
 
 -- ---- from the rules to the tests
 

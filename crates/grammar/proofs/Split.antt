@@ -2,19 +2,20 @@
 -- Assumes nothing.
 use Prim.Native.Nat.{_≤_}
 use native.Mathlib.Omega.{arith}
-use mathlib.Core.Path.{_≡_, refl, ap, _∙_}
-use mathlib.Core.Bool.{Bool, true, not}
+use mathlib.Core.Path.{_≡_, refl, sym, ap, _∙_}
+use mathlib.Core.Bool.{Bool, true}
 use mathlib.Core.List.{List, [], _∷_, _++_}
 use lib.ListN.{length}
 use borrow.Author.Tests.{not-true}
 use Rattle.lists.specs.Lists.{every, All}
 use Rattle.lists.proofs.Bools.{by-cases}
-use Rattle.formats.specs.Tokens.{Token, literal, bare, blank, fill, place, point, comma, percent, at, semicolon, general, half, run, elapsed, colour, condition}
+use Rattle.formats.specs.Tokens.{Token, semicolon}
 use Rattle.formats.specs.Kinds.{isSemicolon}
 use Rattle.formats.specs.Accept.{joined, split}
 use Rattle.formats.proofs.ItemCount.{split-length}
-use Rattle.grammar.proofs.Tests.{no, every-parts}
-use Rattle.grammar.proofs.PlainBodies.{NoSemicolon}
+use Rattle.grammar.proofs.Tests.{every-parts}
+use Rattle.grammar.proofs.Quiet.{known}
+use Rattle.grammar.proofs.PlainBodies.{plainToken, NoSemicolon}
 
 -- a semicolon before each of the sections, and between them
 unfoldable pub behind : List (List Token) → List Token
@@ -24,24 +25,6 @@ behind (s ∷ ss) = semicolon ∷ (s ++ behind ss)
 unfoldable pub join : List (List Token) → List Token
 join [] = []
 join (s ∷ ss) = s ++ behind ss
-
-semicolon-case : (P : Token → Type 0) → P semicolon → (t : Token) → isSemicolon t ≡ true → P t
-semicolon-case P p semicolon e = p
-semicolon-case P p (literal us) e = no e
-semicolon-case P p (bare u) e = no e
-semicolon-case P p (blank u) e = no e
-semicolon-case P p (fill u) e = no e
-semicolon-case P p (place q) e = no e
-semicolon-case P p point e = no e
-semicolon-case P p comma e = no e
-semicolon-case P p percent e = no e
-semicolon-case P p at e = no e
-semicolon-case P p general e = no e
-semicolon-case P p (half h) e = no e
-semicolon-case P p (run l n) e = no e
-semicolon-case P p (elapsed x n) e = no e
-semicolon-case P p (colour n) e = no e
-semicolon-case P p (condition w) e = no e
 
 join-joined : (t : Token) (ss : List (List Token)) → join (joined t ss) ≡ t ∷ join ss
 unfolding join behind joined
@@ -62,7 +45,7 @@ join-split (t ∷ ts) =
     (λ h.
     rw h
     (join-behind (split ts) (omega (arith, split-length ts)) ∙ ap (_∷_ semicolon) e
-    ∙ semicolon-case (λ (x : Token). semicolon ∷ ts ≡ x ∷ ts) refl t h))
+    ∙ ap (λ (x : Token). x ∷ ts) (sym ((known t) .0 h))))
     (λ h. rw h (join-joined t (split ts) ∙ ap (_∷_ t) e))
 
 -- what holds of all tokens holds in each section
@@ -87,19 +70,19 @@ split-plain [] = (refl, tt)
 split-plain (t ∷ ts) =
     by-cases (isSemicolon t)
     (λ h. rw h (refl, split-plain ts))
-    (λ h. rw h (joined-each (λ (t : Token). not (isSemicolon t)) t (split ts) (rw h) (split-plain ts)))
+    (λ h. rw h (joined-each plainToken t (split ts) (rw h) (split-plain ts)))
 
 -- a section without a semicolon, alone and before others
 pub split-one : (s : List Token) → NoSemicolon s → split s ≡ s ∷ []
 unfolding split joined
 split-one [] n = refl
 split-one (t ∷ s) n =
-    let (a, b) = every-parts (λ (t : Token). not (isSemicolon t)) t s n in
+    let (a, b) = every-parts plainToken t s n in
     rw (not-true (isSemicolon t) a, split-one s b)
 
 pub split-before : (s ts : List Token) → NoSemicolon s → split (s ++ semicolon ∷ ts) ≡ s ∷ split ts
 unfolding split joined
 split-before [] ts n = refl
 split-before (t ∷ s) ts n =
-    let (a, b) = every-parts (λ (t : Token). not (isSemicolon t)) t s n in
+    let (a, b) = every-parts plainToken t s n in
     rw (not-true (isSemicolon t) a, split-before s ts b)

@@ -1,9 +1,10 @@
 -- Tests and their facts: a conjunction that holds holds in each part, and the other way round.
 -- Assumes nothing.
 use mathlib.Core.Path.{_≡_, refl, sym}
-use mathlib.Core.Bool.{Bool, true, false, cond, _&&_, true≢false}
-use mathlib.Core.List.{List, _∷_}
-use Rattle.lists.specs.Lists.{every}
+use mathlib.Core.Bool.{Bool, true, false, cond, not, _&&_, true≢false}
+use mathlib.Core.List.{List, [], _∷_}
+use Rattle.lists.specs.Lists.{every, any}
+use Rattle.lists.proofs.Bools.{by-cases}
 
 -- nothing follows from a test that fails and holds
 pub no : {P : Type 0} → false ≡ true → P
@@ -29,3 +30,25 @@ module _ {A : Type 0} (f : A → Bool) where
   pub every-in : (x : A) (xs : List A) → f x ≡ true → every f xs ≡ true → every f (x ∷ xs) ≡ true
   unfolding every
   every-in x xs e h = rw e h
+
+  -- what two tests make sure of, and what one does
+  pub every-with : (g h : A → Bool) → ((x : A) → f x ≡ true → g x ≡ true → h x ≡ true) → (xs : List A) → every f xs ≡ true → every g xs ≡ true → every h xs ≡ true
+  unfolding every
+  every-with g h k [] e d = refl
+  every-with g h k (x ∷ xs) e d = by-cases (f x)
+      (λ a. by-cases (g x) (λ b. rw (k x a b) (every-with g h k xs (rw a at e) (rw b at d))) (λ b. no (rw b at d)))
+      (λ a. no (rw a at e))
+
+  pub every-all : (h : A → Bool) → ((x : A) → f x ≡ true → h x ≡ true) → (xs : List A) → every f xs ≡ true → every h xs ≡ true
+  every-all h k xs e = every-with f h (λ x a b. k x a) xs e e
+
+  -- where a test holds throughout, one that it rules out never does; and where one never does, its contrary holds throughout
+  pub every-none : (g : A → Bool) → ((x : A) → f x ≡ true → g x ≡ false) → (xs : List A) → every f xs ≡ true → any g xs ≡ false
+  unfolding every any
+  every-none g k [] e = refl
+  every-none g k (x ∷ xs) e = by-cases (f x) (λ h. rw (k x h) (every-none g k xs (rw h at e))) (λ h. no (rw h at e))
+
+  pub none-every : (xs : List A) → any f xs ≡ false → every (λ (x : A). not (f x)) xs ≡ true
+  unfolding every any
+  none-every [] e = refl
+  none-every (x ∷ xs) e = by-cases (f x) (λ h. absurd (true≢false (rw h at e))) (λ h. rw h (none-every xs (rw h at e)))
