@@ -31,10 +31,6 @@ use Rattle.preparing.specs.Table.{countedBy, firstBy, headsBy, tableBy}
 use Rattle.drafting.specs.Examine.{Sound}
 use Rattle.preparing.proofs.Tabling.{table-same}
 
--- the words taken from a room
-pub part-few : (n : ℕ) (l : List ℕ) → n ≤ length l → n ≤ 508 → length (take n l) ≤ 508
-part-few n l h k = omega (arith, length-take-le n l h)
-
 -- ---- a refusal
 module _ (code : List ℕ) (a : Answer) (k : ℕ) (v : verdict code ≡ refused a k) where
   pub refused-prepared : (size : ℕ) → prepared code size ≡ refusedPrepared a k
@@ -117,10 +113,11 @@ module _ (code : List ℕ) (v : verdict code ≡ fine) {tokens : List ℕ} (r : 
     unfolding prepared preparedAs
     done-prepared old h = rw (accepted, long, le-leb size old h)
 
-    pub done-table : (old new : List ℕ) (k : ℕ) → size ≤ length old → Put old 0 table k new → new ≡ tableAfter code old
+    pub done-table : (old new words : List ℕ) (k : ℕ) → size ≤ length old → words ≡ take (r .words) out
+        → Put old 0 (tableBy (r .sections) (r .drafts) words) k new → new ≡ tableAfter code old
     unfolding tableAfter tableOf wordsOf written
-    done-table old new k h put =
+    done-table old new words k h e put =
         let fits : length (encode (sectionsIn code)) ≤ length old = omega (arith, long) in
         let after : tableAfter code old ≡ overlay (encode (sectionsIn code)) old = rw (accepted, long, le-leb size (length old) h) in
         let set : sets old 0 table ≡ overlay (encode (sectionsIn code)) old = rw table-is (sets-overlay old (encode (sectionsIn code)) fits) in
-        put .room ∙ set ∙ sym after
+        put .room ∙ rw e set ∙ sym after

@@ -83,18 +83,18 @@ pub table-put : (n many : ℕ) (first : Bool) (ds : List Draft) (words : List �
 unfolding tableBy
 table-put n many first ds words d e f s x y z = rw (← e, ← (first-element ds d s), ← f) (put-put (put-put x y) z)
 
--- ---- a head in two times six words
-pub head-put : (n i : ℕ) (firstHas : Bool) (d : Draft) (has none : Bool) (flags negative low high small large : ℕ) {l m o : List ℕ} {at a r : ℕ}
+-- ---- a head
+pub head-put : (n i : ℕ) (firstHas : Bool) (d : Draft) (has none : Bool) (flags negative low high small large : ℕ) {l o : List ℕ} {at r : ℕ}
     → has ≡ hasConditionBy d → none ≡ exceptionA n i has firstHas → flags ≡ flagsWord (d .body .grouped) none (d .body .twelve)
     → negative ≡ bit (d .condition .negative) → low ≡ lowWord (d .condition .whole) → high ≡ highWord (d .condition .whole)
     → small ≡ lowWord (d .condition .millionths) → large ≡ highWord (d .condition .millionths)
-    → Put l at (d .body .kind ∷ d .colour ∷ d .condition .operator ∷ negative ∷ low ∷ high ∷ []) a m
-    → Put m a (small ∷ large ∷ d .body .shift ∷ flags ∷ d .body .decimals ∷ d .body .items ∷ []) r o
+    → Put l at
+    (d .body .kind ∷ d .colour ∷ d .condition .operator ∷ negative ∷ low ∷ high ∷ small ∷ large ∷ d .body .shift ∷ flags ∷ d .body .decimals ∷ d .body .items ∷ []) r o
     → Put l at (headWords (headBy n i firstHas d) []) r o
 unfolding headWords headBy
-head-put n i firstHas d has none flags negative low high small large eh em ef en el eg es ej x y =
+head-put n i firstHas d has none flags negative low high small large eh em ef en el eg es ej x =
     let f : flags ≡ flagsWord (d .body .grouped) (exceptionA n i (hasConditionBy d) firstHas) (d .body .twelve) = ef ∙ rw (em, eh) in
-    rw (← f, ← en, ← el, ← eg, ← es, ← ej) (put-put x y)
+    rw (← f, ← en, ← el, ← eg, ← es, ← ej) x
 
 -- ---- the rows
 and-both : (a b : Bool) → (a && b) ≡ true → (a ≡ true) × (b ≡ true)

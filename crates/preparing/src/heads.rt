@@ -1,6 +1,8 @@
 // The words of a table: how many sections there are, their heads and their items.
 use drafting::Draft;
 use drafting::has_condition;
+use tables::flags;
+use tables::kinds;
 use writing::put_unit;
 use writing::put_units;
 ghost use mathlib.Core.Path.{_≡_};
@@ -36,112 +38,87 @@ fn high_word(n: u32) -> u16
 }
 
 // A section has no minus by exception (a).
-fn no_minus(n: usize, i: usize, own: bool, first: bool) -> bool
-    ensures { λ r. ⌜ r ≡ exceptionA n i own first ⌝ }
+fn no_minus(counted: usize, i: usize, own: bool, first: bool) -> bool
+    ensures { λ r. ⌜ r ≡ exceptionA counted i own first ⌝ }
 {
-    (i == 1) & !own & ((n == 3) | ((n == 2) & !first))
+    (i == 1) & !own & ((counted == 3) | ((counted == 2) & !first))
 }
 
 fn flags_word(grouped: bool, no_minus: bool, twelve: bool) -> u16
     ensures { λ r. ⌜ r ≡ flagsWord grouped «no_minus» twelve ⌝ }
 {
-    bit_of(grouped) + 2 * bit_of(no_minus) + 4 * bit_of(twelve)
+    flags::GROUPING * bit_of(grouped)
+        + flags::NO_MINUS * bit_of(no_minus)
+        + flags::TWELVE_HOUR * bit_of(twelve)
 }
 
 // One more where section i is neither text nor fourth.
-fn counted_with(d: Draft, i: usize, count: usize) -> usize
-    requires { ⌜ count ≤ 4 ⌝ }
-    ensures { λ r. ⌜ r ≡ cond (countsBy i d) (count + 1) count ⌝ }
+fn counted_with(d: Draft, i: usize, counted: usize) -> usize
+    requires { ⌜ counted ≤ 4 ⌝ }
+    ensures { λ r. ⌜ r ≡ cond (countsBy i d) (counted + 1) counted ⌝ }
 {
     let body = d.body;
-    if !((body.kind == 3) | (i == 3)) {
-        return count + 1;
+    if !((body.kind == kinds::TEXT) | (i == 3)) {
+        return counted + 1;
     }
-    count
+    counted
 }
 
-// How many of n sections are neither text nor fourth.
-pub fn counted(drafts: [Draft; 4], n: usize) -> usize
+// How many of n sections are neither text nor fourth: document 01's N.
+fn counted_of(drafts: [Draft; 4], n: usize) -> usize
     requires { ⌜ n ≤ 4 ⌝ }
     ensures { λ r. ⌜ r ≡ countedBy 0 (take n drafts) ⌝ }
 {
-    let mut count: usize = 0;
+    let mut counted: usize = 0;
     let mut i: usize = 0;
     while i < n {
-        count = counted_with(drafts[i], i, count);
+        counted = counted_with(drafts[i], i, counted);
         i += 1;
     }
-    count
+    counted
 }
 
-// Puts six words.
-fn put_six(room: &mut [u16], at: usize, a: u16, b: u16, c: u16, d: u16, e: u16, f: u16) -> usize
-    requires { ⌜ at < 2 ^ 62 ⌝ }
-    ensures { λ r. ⌜ Put (now (room .entry)) at (a ∷ b ∷ c ∷ d ∷ e ∷ f ∷ []) r (now (room .exit)) ⌝ }
-{
-    let o = put_unit(room, at, a);
-    let p = put_unit(room, o, b);
-    let q = put_unit(room, p, c);
-    let s = put_unit(room, q, d);
-    let t = put_unit(room, s, e);
-    put_unit(room, t, f)
-}
-
-// Puts the head of section i, where n sections are counted, and the first has a condition or none.
-fn put_head(room: &mut [u16], at: usize, d: Draft, n: usize, i: usize, first: bool) -> usize
+// Puts the head of section i, where the first section has a condition or none.
+fn put_head(room: &mut [u16], at: usize, d: Draft, counted: usize, i: usize, first: bool) -> usize
     requires { ⌜ at < 2 ^ 61 ⌝ }
-    ensures { λ r. ⌜ Put (now (room .entry)) at (headWords (headBy n i first d) []) r (now (room .exit)) ⌝ }
+    ensures { λ r. ⌜ Put (now (room .entry)) at (headWords (headBy counted i first d) []) r (now (room .exit)) ⌝ }
 {
     let body = d.body;
     let condition = d.condition;
-    let flags = flags_word(
-        body.grouped,
-        no_minus(n, i, has_condition(d), first),
-        body.twelve,
-    );
-    let negative = bit_of(condition.negative);
-    let low = low_word(condition.whole);
-    let high = high_word(condition.whole);
-    let o = put_six(
-        room,
-        at,
+    let minus = no_minus(counted, i, has_condition(d), first);
+    let words = [
         body.kind,
         d.colour,
         condition.operator,
-        negative,
-        low,
-        high,
-    );
-    let small = low_word(condition.millionths);
-    let large = high_word(condition.millionths);
-    put_six(
-        room,
-        o,
-        small,
-        large,
+        bit_of(condition.negative),
+        low_word(condition.whole),
+        high_word(condition.whole),
+        low_word(condition.millionths),
+        high_word(condition.millionths),
         body.shift,
-        flags,
+        flags_word(body.grouped, minus, body.twelve),
         body.decimals,
         body.items,
-    )
+    ];
+    put_units(room, at, &words)
 }
 
-// Puts the heads of `count` sections, of which n are counted.
-pub fn put_heads(
+// Puts the heads of n sections.
+fn put_heads(
     room: &mut [u16],
     at: usize,
     drafts: [Draft; 4],
-    count: usize,
     n: usize,
+    counted: usize,
     first: bool,
 ) -> usize
-    requires { ⌜ (at < 2 ^ 60) × (count ≤ 4) ⌝ }
-    ensures { λ r. ⌜ Put (now (room .entry)) at (headsBy n first 0 (take count drafts)) r (now (room .exit)) ⌝ }
+    requires { ⌜ (at < 2 ^ 60) × (n ≤ 4) ⌝ }
+    ensures { λ r. ⌜ Put (now (room .entry)) at (headsBy counted first 0 (take n drafts)) r (now (room .exit)) ⌝ }
 {
     let mut o = at;
     let mut i: usize = 0;
-    while i < count {
-        o = put_head(room, o, drafts[i], n, i, first);
+    while i < n {
+        o = put_head(room, o, drafts[i], counted, i, first);
         i += 1;
     }
     o
@@ -153,8 +130,8 @@ pub fn put_table(table: &mut [u16], drafts: [Draft; 4], n: usize, items: &[u16])
     ensures { λ r. ⌜ Put (now (table .entry)) 0 (tableBy n drafts (now (items .entry))) r (now (table .exit)) ⌝ }
 {
     let first = has_condition(drafts[0]);
-    let many = counted(drafts, n);
+    let counted = counted_of(drafts, n);
     let o = put_unit(table, 0, n as u16);
-    let p = put_heads(table, o, drafts, n, many, first);
+    let p = put_heads(table, o, drafts, n, counted, first);
     put_units(table, p, items)
 }

@@ -1,135 +1,91 @@
 -- `preparing::prepare` meets its contract.
 -- Assumes nothing.
+use Prim.Native.Nat.{ℕ}
 use native.Mathlib.Omega.{arith}
-use mathlib.Core.Path.{refl, sym, _∙_}
+use mathlib.Core.Path.{_≡_, refl, sym, _∙_}
+use mathlib.Core.List.{List}
+use denote.Ref.{now}
+use lib.ListN.{length-take}
 use lib.Seq.{length-take-le}
+use Rattle.formats.specs.Accept.{fine, verdict}
+use Rattle.drafting.specs.Examine.{Sound}
 use Rattle.drafting.proofs.Answering.{examined-no, examined-fine}
-use Rattle.preparing.proofs.Finishing.{part-few, refused-prepared, refused-table, room-prepared, room-table, done-prepared, done-table}
+use Rattle.preparing.proofs.Finishing.{refused-prepared, refused-table, room-prepared, room-table, done-prepared, done-table}
 use borrow.Author.Needs.{needs}
 use Rattle.preparing.proofs.prepare.Statement.{statement}
 use Rattle.preparing.proofs.prepare.Tie as tie
 
-slice-aggregate-examine : tie.Need-slice-aggregate-examine
-slice-aggregate-examine c = search needs
+-- what examining told of a code that is not refused
+module _ (k : tie.Else1) where
+  abbrev code : List ℕ
+  code = now (k .before .before .before .before .before .before .before .before .before .args .code)
 
-slice-aggregate-examine-2 : tie.Need-slice-aggregate-examine-2
-slice-aggregate-examine-2 c = search needs
+  accepted : verdict code ≡ fine
+  accepted = examined-fine _ _ _ _ _ (k .before .before .before .before .examine .ensures) (k .before .number .ensures) (k .if1 .left)
 
-examine-requires : tie.Need-examine-requires
-examine-requires c κs = search needs
-
-number-requires : tie.Need-number-requires
-number-requires c κs = search needs
-
-refused-requires : tie.Need-refused-requires
-refused-requires c κs = search needs
+  sound : Sound code (k .before .before .before .before .examine .last .1 .0) (k .before .before .before .before .examine .result) (k .before .before .before .before .examine .last .1 .1 .0)
+  sound = k .before .before .before .before .examine .ensures .sound (sym (k .before .number .ensures) ∙ k .if1 .left)
 
 returns : tie.Need-returns
 returns c =
     let m = c .before .before in
-    let x = m .before .before .before in
-    let v = examined-no _ _ _ _ _ (x .examine .ensures) (m .number .ensures) (c .before .if1 .taken) in
+    let v = examined-no _ _ _ _ _ (m .before .before .before .examine .ensures) (m .number .ensures) (c .before .if1 .taken) in
     (c .refused .ensures ∙ sym (refused-prepared _ _ _ v _), sym (refused-table _ _ _ v _))
 
 mul-size : tie.Need-mul-size
-mul-size c =
-    let i = c .before in
-    let m = i .before in
-    let x = m .before .before .before in
-    let s = x .examine .ensures .sound (sym (m .number .ensures) ∙ i .if1 .left) in
-    omega (arith, s .few)
+mul-size c = omega (arith, sound (c .before) .few)
 
 add-size : tie.Need-add-size
-add-size c =
-    let i = c .before in
-    let m = i .before in
-    let x = m .before .before .before in
-    let s = x .examine .ensures .sound (sym (m .number .ensures) ∙ i .if1 .left) in
-    omega (arith, s .few)
+add-size c = omega (arith, sound (c .before) .few)
 
 add-size-2 : tie.Need-add-size-2
-add-size-2 c =
-    let i = c .before in
-    let m = i .before in
-    let x = m .before .before .before in
-    let s = x .examine .ensures .sound (sym (m .number .ensures) ∙ i .if1 .left) in
-    omega (arith, s .few, s .short)
-
-refused-requires-2 : tie.Need-refused-requires-2
-refused-requires-2 c κs = search needs
+add-size-2 c = omega (arith, sound (c .before) .few, sound (c .before) .short)
 
 returns-2 : tie.Need-returns-2
 returns-2 c =
-    let i = c .before .before .before in
-    let m = i .before in
-    let x = m .before .before .before in
-    let s = x .examine .ensures .sound (sym (m .number .ensures) ∙ i .if1 .left) in
-    let v = examined-fine _ _ _ _ _ (x .examine .ensures) (m .number .ensures) (i .if1 .left) in
-    (c .refused2 .ensures ∙ sym (room-prepared _ v _ _ s _ refl _ (c .before .if2 .taken)), sym (room-table _ v _ _ s _ refl _ (c .before .if2 .taken)))
+    let k = c .before .before .before in
+    let l = c .before .if2 .taken in
+    (c .refused2 .ensures ∙ sym (room-prepared _ (accepted k) _ _ (sound k) _ refl _ l), sym (room-table _ (accepted k) _ _ (sound k) _ refl _ l))
 
 array-share-prefix-items : tie.Need-array-share-prefix-items
-array-share-prefix-items c =
-    let i = c .before .before .before .before in
-    let m = i .before in
-    let x = m .before .before .before in
-    let s = x .examine .ensures .sound (sym (m .number .ensures) ∙ i .if1 .left) in
-    omega (arith, s .short)
+array-share-prefix-items c = omega (arith, sound (c .before .before .before .before) .short)
 
 slice-aggregate-put-table : tie.Need-slice-aggregate-put-table
-slice-aggregate-put-table c =
-    let i = c .before .before .before .before .before in
-    let m = i .before in
-    let x = m .before .before .before in
-    let s = x .examine .ensures .sound (sym (m .number .ensures) ∙ i .if1 .left) in
-    sym (length-take-le _ _ (s .room))
+slice-aggregate-put-table c = sym (length-take-le _ _ (omega (arith, sound (c .before .before .before .before .before) .room)))
 
 put-table-requires : tie.Need-put-table-requires
 put-table-requires c κs =
-    let i = c .before .before .before .before .before in
-    let m = i .before in
-    let x = m .before .before .before in
-    let s = x .examine .ensures .sound (sym (m .number .ensures) ∙ i .if1 .left) in
-    (s .few, part-few _ _ (s .room) (s .short))
+    let s = sound (c .before .before .before .before .before) in
+    (s .few, simp length-take (omega (arith, s .short)))
 
 cast-t24 : tie.Need-cast-t24
-cast-t24 c =
-    let i = c .before .before .before .before .before .before .before .before in
-    let m = i .before in
-    let x = m .before .before .before in
-    let s = x .examine .ensures .sound (sym (m .number .ensures) ∙ i .if1 .left) in
-    omega (arith, s .few, s .short)
-
-same-length : tie.Need-same-length
-same-length c = search needs
+cast-t24 c = let s = sound (c .before .before .before .before .before .before .before .before) in omega (arith, s .few, s .short)
 
 returns-3 : tie.Need-returns-3
 returns-3 c =
-    let i = c .before .before .before .before .before .before .before .before in
-    let m = i .before in
-    let x = m .before .before .before in
-    let s = x .examine .ensures .sound (sym (m .number .ensures) ∙ i .if1 .left) in
-    let v = examined-fine _ _ _ _ _ (x .examine .ensures) (m .number .ensures) (i .if1 .left) in
     let f = c .before .before .before .before .before .before in
-    (sym (done-prepared _ v _ _ s _ refl _ (f .if2 .left)), done-table _ v _ _ s _ refl _ _ _ (f .if2 .left) (c .before .before .put-table .ensures))
+    let k = f .before .before in
+    let l = f .if2 .left in
+    (sym (done-prepared _ (accepted k) _ _ (sound k) _ refl _ l), done-table _ (accepted k) _ _ (sound k) _ refl _ _ _ _ l refl (c .before .before .put-table .ensures))
 
 pub prepare-spec : {M : Type 1} → statement M
 prepare-spec =
     tie.close
     (tie.spec
-    slice-aggregate-examine
-    slice-aggregate-examine-2
-    examine-requires
-    number-requires
-    refused-requires
+    (λ c. search needs)
+    (λ c. search needs)
+    (λ c κs. search needs)
+    (λ c κs. search needs)
+    (λ c κs. search needs)
     returns
     mul-size
     add-size
     add-size-2
-    refused-requires-2
+    (λ c κs. search needs)
     returns-2
     array-share-prefix-items
     slice-aggregate-put-table
     put-table-requires
     cast-t24
-    same-length
+    (λ c. search needs)
     returns-3)

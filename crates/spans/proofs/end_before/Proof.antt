@@ -6,12 +6,6 @@ use borrow.Author.Needs.{needs}
 use Rattle.spans.proofs.end_before.Statement.{statement}
 use Rattle.spans.proofs.end_before.Tie as tie
 
-semicolon-count-requires : tie.Need-semicolon-count-requires
-semicolon-count-requires c κs = search needs
-
-semicolon-place-requires : tie.Need-semicolon-place-requires
-semicolon-place-requires c κs = search needs
-
 returns : tie.Need-returns
 returns c = before-some _ _ _ _ (omega (arith, c .before .if1 .taken, c .before .before .semicolon-count .ensures)) (c .semicolon-place .ensures)
 
@@ -20,4 +14,4 @@ returns-2 c = before-none _ _ _ (omega (arith, c .if1 .left, c .before .semicolo
 
 pub end-before-spec : {M : Type 1} → statement M
 end-before-spec =
-    tie.close (tie.spec semicolon-count-requires semicolon-place-requires returns returns-2)
+    tie.close (tie.spec (λ c κs. search needs) (λ c κs. search needs) returns returns-2)

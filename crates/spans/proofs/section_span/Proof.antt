@@ -28,21 +28,6 @@ module _ (k : tie.Else1) where
   sound : Sound code (k .before .before .before .before .examine .last .1 .0) (k .before .before .before .before .examine .result) (k .before .before .before .before .examine .last .1 .1 .0)
   sound = k .before .before .before .before .examine .ensures .sound (sym (k .before .number .ensures) ∙ k .if1 .left)
 
-slice-aggregate-examine : tie.Need-slice-aggregate-examine
-slice-aggregate-examine c = search needs
-
-slice-aggregate-examine-2 : tie.Need-slice-aggregate-examine-2
-slice-aggregate-examine-2 c = search needs
-
-examine-requires : tie.Need-examine-requires
-examine-requires c κs = search needs
-
-number-requires : tie.Need-number-requires
-number-requires c κs = search needs
-
-empty-start-requires : tie.Need-empty-start-requires
-empty-start-requires c κs = search needs
-
 returns : tie.Need-returns
 returns c =
     let m = c .before .before in
@@ -51,9 +36,6 @@ returns c =
     let v = examined-no _ _ _ _ _ (x .examine .ensures) (m .number .ensures) (c .before .if1 .taken) in
     let r = section-refused (now (a .code)) (a .n) _ _ v in
     rw (c .empty-start .ensures) (r .start, (r .size, r .inside))
-
-empty-start-requires-2 : tie.Need-empty-start-requires-2
-empty-start-requires-2 c κs = search needs
 
 returns-2 : tie.Need-returns-2
 returns-2 c =
@@ -87,13 +69,13 @@ pub section-span-spec : {M : Type 1} → statement M
 section-span-spec =
     tie.close
     (tie.spec
-    slice-aggregate-examine
-    slice-aggregate-examine-2
-    examine-requires
-    number-requires
-    empty-start-requires
+    (λ c. search needs)
+    (λ c. search needs)
+    (λ c κs. search needs)
+    (λ c κs. search needs)
+    (λ c κs. search needs)
     returns
-    empty-start-requires-2
+    (λ c κs. search needs)
     returns-2
     mul-end
     array-share-prefix-tokens

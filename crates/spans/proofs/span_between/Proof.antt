@@ -13,9 +13,6 @@ start-behind-requires c κs =
     let b = s .pre .0 in
     (omega (arith, b .size), b .few, start-small (now (s .args .code)) (now (s .args .tokens)) (s .args .count) (s .args .n) b (s .pre .1))
 
-end-before-requires : tie.Need-end-before-requires
-end-before-requires c κs = search needs
-
 sub-t7 : tie.Need-sub-t7
 sub-t7 c =
     let s = c .before .before .before .before in
@@ -27,4 +24,4 @@ returns c =
     span-is (now (s .args .code)) (now (s .args .tokens)) (s .args .count) (s .args .n) (s .pre .0) (s .pre .1) _ _ (c .before .start-behind .ensures) (c .end-before .ensures)
 
 pub span-between-spec : {M : Type 1} → statement M
-span-between-spec = tie.close (tie.spec start-behind-requires end-before-requires sub-t7 returns)
+span-between-spec = tie.close (tie.spec start-behind-requires (λ c κs. search needs) sub-t7 returns)

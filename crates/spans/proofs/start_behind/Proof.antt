@@ -21,12 +21,6 @@ begins c = behind-some _ _ _ (omega (arith, c .before .if1 .left)) (c .semicolon
 returns : tie.Need-returns
 returns c = behind-none _ _ (omega (arith, c .if1 .taken))
 
-sub-semicolon-place : tie.Need-sub-semicolon-place
-sub-semicolon-place c = search needs
-
-semicolon-place-requires : tie.Need-semicolon-place-requires
-semicolon-place-requires c κs = search needs
-
 add-result : tie.Need-add-result
 add-result c = omega (arith, c .before .before .before .pre .2, begins c)
 
@@ -35,4 +29,4 @@ returns-2 c = omega (arith, begins c)
 
 pub start-behind-spec : {M : Type 1} → statement M
 start-behind-spec =
-    tie.close (tie.spec returns sub-semicolon-place semicolon-place-requires add-result returns-2)
+    tie.close (tie.spec returns (λ c. search needs) (λ c κs. search needs) add-result returns-2)

@@ -6,12 +6,9 @@ use borrow.Author.Needs.{needs}
 use Rattle.preparing.proofs.heads.low_word.Statement.{statement}
 use Rattle.preparing.proofs.heads.low_word.Tie as tie
 
-cast-result : tie.Need-cast-result
-cast-result c = search needs
-
 returns : tie.Need-returns
 unfolding lowWord
 returns c = refl
 
 pub low-word-spec : {M : Type 1} → statement M
-low-word-spec = tie.close (tie.spec cast-result returns)
+low-word-spec = tie.close (tie.spec (λ c. search needs) returns)

@@ -8,19 +8,13 @@ use Rattle.preparing.proofs.heads.put_heads.Statement.{statement}
 use Rattle.preparing.proofs.heads.put_heads.Tie as tie
 
 abbrev Inv-loop : tie.InvT-loop
-Inv-loop room₀ at count n first drafts o₀ i₀ room o i = Heading n first room₀ at drafts count room o i
+Inv-loop room₀ at n counted first drafts o₀ i₀ room o i = Heading counted first room₀ at drafts n room o i
 
 abbrev μ-loop : tie.MeasureT-loop
-μ-loop room₀ at count n first drafts o₀ i₀ room o i = count - i
+μ-loop room₀ at n counted first drafts o₀ i₀ room o i = n - i
 
 loop-holds : tie.Need-loop-holds Inv-loop μ-loop
 loop-holds c = search (needs, heading-start)
-
-mul-put-head : tie.Need-mul-put-head Inv-loop μ-loop
-mul-put-head c = search needs
-
-array-copy-out-put-head : tie.Need-array-copy-out-put-head Inv-loop μ-loop
-array-copy-out-put-head c = search needs
 
 put-head-requires : tie.Need-put-head-requires Inv-loop μ-loop
 put-head-requires c κs =
@@ -28,20 +22,11 @@ put-head-requires c κs =
     let s = l .before .before in
     omega (arith, l .loop .inv .near, l .loop .inv .inside, l .loop .inv .few, s .pre .0)
 
-add-i : tie.Need-add-i Inv-loop μ-loop
-add-i c = search needs
-
-loop-less : tie.Need-loop-less Inv-loop μ-loop
-loop-less c = search needs
-
 loop-again : tie.Need-loop-again Inv-loop μ-loop
 loop-again c =
     let p = c .before .before in
     let t = p .before .before .before in
     heading-step _ _ _ _ _ _ _ _ _ (t .before .loop .inv) (t .loop-test .taken) _ _ _ (p .put-head .ensures)
-
-same-length : tie.Need-same-length Inv-loop μ-loop
-same-length c = search needs
 
 returns : tie.Need-returns Inv-loop μ-loop
 returns c = heading-end _ _ _ _ _ _ _ _ _ (c .before .loop .inv) (c .loop-test .left)
@@ -53,11 +38,11 @@ put-heads-spec =
     Inv-loop
     μ-loop
     loop-holds
-    mul-put-head
-    array-copy-out-put-head
+    (λ c. search needs)
+    (λ c. search needs)
     put-head-requires
-    add-i
-    loop-less
+    (λ c. search needs)
+    (λ c. search needs)
     loop-again
-    same-length
+    (λ c. search needs)
     returns)
