@@ -15,12 +15,12 @@ use Rattle.calendar.specs.Names.{units}
 use Rattle.formats.specs.Tokens.{before, startsWith, same, isDigit, digitOf, numberFrom}
 use Rattle.formats.proofs.Cases.{number, instant}
 use Rattle.requests.specs.Lines.{isAscii, isLine, fieldOf}
-use Rattle.requests.specs.Written.{sortOf, isDigits, numeralOf, signedBy, unsignedOf, numberOf, instantOf, valueOf, textOf}
+use Rattle.requests.specs.Written.{sortOf, isDigits, numeralUpTo, signedBy, unsignedOf, numberOf, instantOf, valueOf, textOf}
 use Rattle.requests.specs.Request.{Request, malformed, request, fromEnd, fromValue, fromThird, fromKind, fromSecond, fromFirst, requestOf}
 
 -- to open `worked` is to open every definition that reading a request goes through
 unfoldable pub worked : List ℕ → Request
-unfolding units every isEmpty before startsWith same isDigit digitOf numberFrom isAscii isLine fieldOf sortOf isDigits numeralOf signedBy unsignedOf numberOf instantOf valueOf textOf fromEnd fromValue fromThird fromKind fromSecond fromFirst requestOf
+unfolding units every isEmpty before startsWith same isDigit digitOf numberFrom isAscii isLine fieldOf sortOf isDigits numeralUpTo signedBy unsignedOf numberOf instantOf valueOf textOf fromEnd fromValue fromThird fromKind fromSecond fromFirst requestOf
 worked input = requestOf input
 
 pub record Case : Type 0 where
@@ -56,8 +56,8 @@ cases =
     ∷ asked "code=#,##0\nkind=number\nvalue=-0.050\n" (number (negsuc 49) 3)
     ∷ asked "code=#,##0\nkind=number\nvalue=00000000000000000000012\n" (number (pos 12) 0)
     ∷ asked "code=#,##0\nkind=instant\nvalue=028086/0053760000\n" (instant 28086 53760000)
-    -- too large, exactly as written
-    ∷ asked "code=#,##0\nkind=number\nvalue=1000000000000000\n" (number (pos 1000000000000000) 0)
+    -- too large
+    ∷ asked "code=#,##0\nkind=number\nvalue=-1000000000000000.1\n" (number (negsuc 999999999999999) 1)
     ∷ asked "code=#,##0\nkind=number\nvalue=-0.0000000000000000\n" (number (pos 0) 16)
     ∷ asked "code=#,##0\nkind=instant\nvalue=2958466/0\n" (instant 2958466 0)
     -- an empty text is well formed, and so is one too long; 2,048 bytes are a line
@@ -97,13 +97,15 @@ pub cases-right : All Right cases
 unfolding cases worked
 cases-right = (refl, (refl, (refl, (refl, (refl, (refl, (refl, (refl, (refl, (refl, (refl, (refl, (refl, (refl, (refl, (refl, (refl, (refl, (refl, (refl, (refl, (refl, (refl, (refl, (refl, (refl, (refl, (refl, (refl, (refl, tt))))))))))))))))))))))))))))))
 
--- "a well-formed value too large is 9"
+-- "a well-formed value too large is 9": the limits that larger numbers are read as are out of range, and so is the first of each
 unfoldable pub large : List Ask
-large = number (pos 1000000000000000) 0 ∷ number (pos 0) 16 ∷ instant 2958466 0 ∷ instant 0 86400000 ∷ []
+large =
+    number (pos 1000000000000000) 0 ∷ number (negsuc 999999999999999) 0 ∷ number (pos 0) 16
+    ∷ instant 2958466 0 ∷ instant 1000000000 0 ∷ instant 0 86400000 ∷ instant 0 1000000000 ∷ []
 
-pub large-out : All (λ (a : Ask). inRange (a .value) [] ≡ false) large
+pub limits-out : All (λ (a : Ask). inRange (a .value) [] ≡ false) large
 unfolding large
-large-out = (refl, (refl, (refl, (refl, tt))))
+limits-out = (refl, (refl, (refl, (refl, (refl, (refl, (refl, tt)))))))
 
 pub text-out : inRange value.Text (replicate 1025 97) ≡ false
 text-out = refl

@@ -1,6 +1,5 @@
 pub mod Lining
 pub mod Numerals
-pub mod Alike
 pub mod Valuing
 pub mod Requesting
 pub mod Cases

@@ -4,7 +4,6 @@ use Prim.Native.Nat.{ℕ, zero, suc, _+_, _-_, _≤_, _<_, min}
 use mathlib.Core.Path.{_≡_, refl, sym, ap, _∙_}
 use mathlib.Core.Bool.{false, _&&_}
 use mathlib.Core.List.{List, [], _∷_}
-use mathlib.Core.Option.{Option, none, some}
 use native.Mathlib.Omega.{arith}
 use native.Mathlib.Nat.{zero-min, min-zero, suc-min-suc, min-eq-right}
 use native.Mathlib.Decide.{decLe}
@@ -12,7 +11,6 @@ use borrow.Author.Tests.{lt-ltb, le-ltb, ltb-true, ltb-false}
 use lib.Dec.{ltb, eqb}
 use lib.ListN.{length, take, drop, length-take}
 use lib.Seq.{take-take, length-take-le}
-use Rattle.values.specs.declared.Value.{Value}
 use Rattle.values.specs.declared.Ask.{Ask}
 use Rattle.lists.specs.Lists.{isEmpty}
 use Rattle.lists.proofs.Bools.{by-cases}
@@ -20,6 +18,8 @@ use Rattle.calendar.specs.Names.{units}
 use Rattle.formats.specs.Tokens.{before}
 use Rattle.requests.specs.declared.written.SortRead.{SortRead}
 use Rattle.requests.specs.declared.written.SortRead.the-variants.{Known, Unknown}
+use Rattle.requests.specs.declared.written.ValueRead.{ValueRead}
+use Rattle.requests.specs.declared.written.ValueRead.the-variants as read
 use Rattle.requests.specs.Lines.{isLine, Field, field, missing, fieldOf}
 use Rattle.requests.specs.Written.{sortOf, valueOf, textOf}
 use Rattle.requests.specs.Request.{Request, fromEnd, fromValue, fromThird, fromKind, fromSecond, fromFirst, requestOf}
@@ -83,10 +83,10 @@ end-prefix code ask text rest zero h = absurd (omega arith)
 end-prefix code ask text [] (suc j) h = refl
 end-prefix code ask text (u ∷ us) (suc j) h = refl
 
-value-prefix : (code : List ℕ) (o : Option Value) (text rest : List ℕ) (j : ℕ) → 1 ≤ j → fromValue code o text (take j rest) ≡ fromValue code o text rest
+value-prefix : (code : List ℕ) (o : ValueRead) (text rest : List ℕ) (j : ℕ) → 1 ≤ j → fromValue code o text (take j rest) ≡ fromValue code o text rest
 unfolding fromValue
-value-prefix code none text rest j h = refl
-value-prefix code (some v) text rest j h = end-prefix code (record { value = v }) text rest j h
+value-prefix code read.Malformed text rest j h = refl
+value-prefix code (read.Known v) text rest j h = end-prefix code (record { value = v }) text rest j h
 
 kind-prefix : (code : List ℕ) (k : SortRead) (rest : List ℕ) (j : ℕ) → 2050 ≤ j → fromKind code k (take j rest) ≡ fromKind code k rest
 unfolding fromKind fromThird

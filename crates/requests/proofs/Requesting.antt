@@ -1,9 +1,8 @@
 -- Laws of requests: what each line's reading makes of what follows it.
 -- Assumes nothing.
 use Prim.Native.Nat.{ℕ, _+_, _<_}
-use mathlib.Core.Path.{_≡_, refl, subst}
+use mathlib.Core.Path.{_≡_, refl, sym, subst}
 use mathlib.Core.List.{List}
-use mathlib.Core.Option.{Option, none}
 use native.Mathlib.Omega.{arith}
 use lib.ListN.{length, drop, drop-of-length-le}
 use lib.Seq.{drop-cons}
@@ -19,10 +18,11 @@ use Rattle.requests.specs.declared.written.Sort.{Sort}
 use Rattle.requests.specs.declared.written.Sort.the-variants as sort
 use Rattle.requests.specs.declared.written.SortRead.the-variants.{Known, Unknown}
 use Rattle.requests.specs.declared.RequestRead.{RequestRead}
+use Rattle.requests.specs.declared.RequestRead.the-variants as told
 use Rattle.requests.specs.Lines.{Field, missing, fieldOf}
 use Rattle.requests.specs.Written.{sortOf, valueOf, textOf}
-use Rattle.requests.specs.Request.{malformed, fromEnd, fromValue, fromThird, fromKind, fromSecond, fromFirst, requestOf}
-use Rattle.requests.specs.Reads.{partOf, Within, Ended, Content, LineAt, Told, ValueIs, textPart, Requests, Reads}
+use Rattle.requests.specs.Request.{Request, malformed, fromEnd, fromValue, fromThird, fromKind, fromSecond, fromFirst, requestOf}
+use Rattle.requests.specs.Reads.{partOf, Within, Ended, Content, LineAt, textPart, Reads}
 
 -- ---- what the answers say
 module _ (input : List ℕ) (at : ℕ) (name : List ℕ) (r : Line) (x : LineAt input at name r) where
@@ -31,13 +31,6 @@ module _ (input : List ℕ) (at : ℕ) (name : List ℕ) (r : Line) (x : LineAt 
 
   pub line-missing : r ≡ line.Malformed → fieldOf name (drop at input) ≡ missing
   line-missing e = subst (λ (l : Line). LineAt input at name l) e x
-
-module _ (o : Option Value) (r : ValueRead) (x : ValueIs o r) where
-  pub value-told : (v : Value) → r ≡ read.Known v → Told o v
-  value-told v e = subst (λ (l : ValueRead). ValueIs o l) e x
-
-  pub value-none : r ≡ read.Malformed → o ≡ none
-  value-none e = subst (λ (l : ValueRead). ValueIs o l) e x
 
 -- ---- the third line's value, and the end
 text-of : (s : Sort) (input : List ℕ) (p : Part) → textOf s (partOf input p) ≡ partOf input (textPart s p)
@@ -51,28 +44,28 @@ text-within sort.Number input p w = record { ordered = omega arith; inside = ome
 text-within sort.Instant input p w = record { ordered = omega arith; inside = omega arith; short = omega arith }
 text-within sort.Text input p w = w
 
-module _ (code text rest : List ℕ) (o : Option Value) where
-  pub value-bad : o ≡ none → fromValue code o text rest ≡ malformed 3
-  unfolding fromValue
-  value-bad e = rw e
+-- a malformed line
+malformed-read : (input : List ℕ) (q : Request) (line : ℕ) → q ≡ malformed line → Reads input q (told.Malformed line)
+malformed-read input q line e = record { same = sym e; parts = tt }
 
-module _ (input : List ℕ) (code p : Part) (s : Sort) (v : Value) (x : Told (valueOf s (partOf input p)) v) where
+pub value-bad : (input code text rest : List ℕ) (o : ValueRead) → o ≡ read.Malformed → Reads input (fromValue code o text rest) (told.Malformed 3)
+unfolding fromValue
+value-bad input code text rest o e = malformed-read input _ 3 (rw e)
+
+module _ (input : List ℕ) (code p : Part) (s : Sort) (v : Value) (x : valueOf s (partOf input p) ≡ read.Known v) where
   pub value-more : p .end + 1 < length input
-      → fromValue (partOf input code) (valueOf s (partOf input p)) (textOf s (partOf input p)) (drop (p .end + 1) input) ≡ malformed 4
+      → Reads input (fromValue (partOf input code) (valueOf s (partOf input p)) (textOf s (partOf input p)) (drop (p .end + 1) input)) (told.Malformed 4)
   unfolding fromValue fromEnd isEmpty
-  value-more h = rw (x .written, drop-cons input (p .end + 1) 0 h)
+  value-more h = malformed-read input _ 4 (rw (x, drop-cons input (p .end + 1) 0 h))
 
   pub value-end : Ended input code → Ended input p → p .end + 1 ≡ length input
-      → Requests input (fromValue (partOf input code) (valueOf s (partOf input p)) (textOf s (partOf input p)) (drop (p .end + 1) input))
-      code (record { value = v }) (textPart s p)
+      → Reads input (fromValue (partOf input code) (valueOf s (partOf input p)) (textOf s (partOf input p)) (drop (p .end + 1) input))
+      (told.Request code (record { value = v }) (textPart s p))
   unfolding fromValue fromEnd isEmpty
   value-end a b h =
       record {
-        exact = record { value = x .exact };
-        same = rw (x .written, drop-of-length-le input {i = p .end + 1} (omega arith), text-of s input p);
-        alike = x .alike (partOf input (textPart s p));
-        code-within = a .within;
-        text-within = text-within s input p (b .within);
+        same = rw (x, drop-of-length-le input {i = p .end + 1} (omega arith), text-of s input p);
+        parts = (a .within, text-within s input p (b .within));
       }
 
 -- ---- lines
@@ -89,22 +82,22 @@ module _ (input code : List ℕ) (r : RequestRead) (at : ℕ) (p : Part) where
   unfolding fromSecond
   second-found c x = rw (c .found) x
 
-pub third-missing : (code : List ℕ) (s : Sort) (f : Field) → f ≡ missing → fromThird code s f ≡ malformed 3
+pub third-missing : (input code : List ℕ) (s : Sort) (f : Field) → f ≡ missing → Reads input (fromThird code s f) (told.Malformed 3)
 unfolding fromThird
-third-missing code s f e = rw e
+third-missing input code s f e = malformed-read input _ 3 (rw e)
 
 pub kind-known : (input code rest us : List ℕ) (r : RequestRead) (s : Sort) → sortOf us ≡ Known s
     → Reads input (fromThird code s (fieldOf (units "value=") rest)) r → Reads input (fromKind code (sortOf us) rest) r
 unfolding fromKind
 kind-known input code rest us r s e x = rw e x
 
-pub kind-unknown : (code rest us : List ℕ) → sortOf us ≡ Unknown → fromKind code (sortOf us) rest ≡ malformed 2
+pub kind-unknown : (input code rest us : List ℕ) → sortOf us ≡ Unknown → Reads input (fromKind code (sortOf us) rest) (told.Malformed 2)
 unfolding fromKind
-kind-unknown code rest us e = rw e
+kind-unknown input code rest us e = malformed-read input _ 2 (rw e)
 
-pub second-missing : (code : List ℕ) (f : Field) → f ≡ missing → fromSecond code f ≡ malformed 2
+pub second-missing : (input code : List ℕ) (f : Field) → f ≡ missing → Reads input (fromSecond code f) (told.Malformed 2)
 unfolding fromSecond
-second-missing code f e = rw e
+second-missing input code f e = malformed-read input _ 2 (rw e)
 
 pub first-found : (input : List ℕ) (r : RequestRead) (p : Part) → Content input 0 (units "code=") p
     → Reads input (fromSecond (partOf input p) (fieldOf (units "kind=") (drop (p .end + 1) input))) r
@@ -112,6 +105,6 @@ pub first-found : (input : List ℕ) (r : RequestRead) (p : Part) → Content in
 unfolding requestOf fromFirst
 first-found input r p c x = rw (c .found) x
 
-pub first-missing : (input : List ℕ) → fieldOf (units "code=") input ≡ missing → requestOf input ≡ malformed 1
+pub first-missing : (input : List ℕ) → fieldOf (units "code=") input ≡ missing → Reads input (requestOf input) (told.Malformed 1)
 unfolding requestOf fromFirst
-first-missing input e = rw e
+first-missing input e = malformed-read input _ 1 (rw e)

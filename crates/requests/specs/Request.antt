@@ -3,29 +3,35 @@
 use Prim.Native.Nat.{ℕ}
 use mathlib.Core.Bool.{cond}
 use mathlib.Core.List.{List}
-use mathlib.Core.Option.{Option, none, some}
-use Rattle.values.specs.declared.Value.{Value}
+use Rattle.answers.specs.declared.Answer.{Answer}
+use Rattle.answers.specs.declared.Answer.the-variants as answer
 use Rattle.values.specs.declared.Ask.{Ask}
 use Rattle.lists.specs.Lists.{isEmpty}
 use Rattle.calendar.specs.Names.{units}
 use Rattle.requests.specs.declared.written.Sort.{Sort}
 use Rattle.requests.specs.declared.written.SortRead.{SortRead}
 use Rattle.requests.specs.declared.written.SortRead.the-variants.{Known, Unknown}
+use Rattle.requests.specs.declared.written.ValueRead.{ValueRead}
+use Rattle.requests.specs.declared.written.ValueRead.the-variants as read
 use Rattle.requests.specs.Lines.{Field, field, missing, fieldOf}
 use Rattle.requests.specs.Written.{sortOf, valueOf, textOf}
 
 pub data Request : Type 0 where
-  malformed : (line : ℕ) → Request
+  refused : Answer → (place : ℕ) → Request
   request : (code : List ℕ) → Ask → (text : List ℕ) → Request
+
+-- 14: "an input line is malformed", with the line
+abbrev pub malformed : ℕ → Request
+malformed line = refused answer.Line line
 
 -- line 4: "nothing after the third (else line 4)"
 unfoldable pub fromEnd : List ℕ → Ask → List ℕ → List ℕ → Request
 fromEnd code ask text rest = cond (isEmpty rest) (request code ask text) (malformed 4)
 
 -- line 3, `value=`
-unfoldable pub fromValue : List ℕ → Option Value → List ℕ → List ℕ → Request
-fromValue code none text rest = malformed 3
-fromValue code (some v) text rest = fromEnd code (record { value = v }) text rest
+unfoldable pub fromValue : List ℕ → ValueRead → List ℕ → List ℕ → Request
+fromValue code read.Malformed text rest = malformed 3
+fromValue code (read.Known v) text rest = fromEnd code (record { value = v }) text rest
 
 unfoldable pub fromThird : List ℕ → Sort → Field → Request
 fromThird code s missing = malformed 3

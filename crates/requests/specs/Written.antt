@@ -1,15 +1,13 @@
 -- "kind is number, instant or text; instant as `day/ms`; a number as an optional minus, digits, and optionally a point and
--- digits, whose count is the scale". A value is exact here, however large: "a well-formed value too large is 9" is the answer of
--- its reading, since it is out of range.
+-- digits, whose count is the scale". "A well-formed value too large is 9": that is the answer of its reading, since it is out of
+-- range. A number that is written larger than any range is read as a limit that is out of range too.
 -- Assumes nothing.
-use Prim.Native.Nat.{ℕ, suc}
+use Prim.Native.Nat.{ℕ, suc, _^_, min}
 use mathlib.Core.Bool.{Bool, true, false, cond, not, _&&_, _||_}
 use mathlib.Core.List.{List, [], _++_, map}
-use mathlib.Core.Option.{Option, none, some}
 use lib.ListN.{length, take, drop}
 use lib.Dec.{eqb}
 use lib.IntN.{ℤ, pos, negℤ}
-use Rattle.values.specs.declared.Value.{Value}
 use Rattle.values.specs.declared.Value.the-variants as value
 use Rattle.lists.specs.Lists.{every, isEmpty}
 use Rattle.calendar.specs.Names.{units}
@@ -18,6 +16,8 @@ use Rattle.requests.specs.declared.written.Sort.{Sort}
 use Rattle.requests.specs.declared.written.Sort.the-variants as sort
 use Rattle.requests.specs.declared.written.SortRead.{SortRead}
 use Rattle.requests.specs.declared.written.SortRead.the-variants.{Known, Unknown}
+use Rattle.requests.specs.declared.written.ValueRead.{ValueRead}
+use Rattle.requests.specs.declared.written.ValueRead.the-variants as read
 
 -- "kind is number, instant or text"
 unfoldable pub sortOf : List ℕ → SortRead
@@ -36,41 +36,53 @@ solidus = 47
 unfoldable pub isDigits : List ℕ → Bool
 isDigits us = not (isEmpty us) && every isDigit us
 
--- the number that digits write; zeros in front do not count
-unfoldable pub numeralOf : List ℕ → ℕ
-numeralOf us = numberFrom 0 (map digitOf us)
+-- the number that digits write, or the limit where it is larger; zeros in front do not count
+unfoldable pub numeralUpTo : ℕ → List ℕ → ℕ
+numeralUpTo limit us = min (numberFrom 0 (map digitOf us)) limit
+
+-- every coefficient from the first limit on is out of range, and every day and millisecond from the second (`limits-out`)
+abbrev pub coefficientLimit : ℕ
+coefficientLimit = 10 ^ 15
+
+abbrev pub countLimit : ℕ
+countLimit = 10 ^ 9
 
 -- `-0` is the number 0
 unfoldable pub signedBy : Bool → ℕ → ℤ
 signedBy negative n = cond negative (negℤ (pos n)) (pos n)
 
 -- "digits, and optionally a point and digits, whose count is the scale", with the sign in front
-unfoldable pub unsignedOf : Bool → List ℕ → Option Value
+unfoldable pub unsignedOf : Bool → List ℕ → ValueRead
 unsignedOf negative us =
     let n = before point us in
     let whole = take n us in
     let decimals = drop (suc n) us in
     cond (isDigits whole && (eqb n (length us) || isDigits decimals))
-    (some (value.Number (record { coefficient = signedBy negative (numeralOf (whole ++ decimals)); scale = length decimals }))) none
+    (read.Known (value.Number (record {
+      coefficient = signedBy negative (numeralUpTo coefficientLimit (whole ++ decimals));
+      scale = length decimals;
+    })))
+    read.Malformed
 
 -- "an optional minus"
-unfoldable pub numberOf : List ℕ → Option Value
+unfoldable pub numberOf : List ℕ → ValueRead
 numberOf us = cond (startsWith (units "-") us) (unsignedOf true (drop 1 us)) (unsignedOf false us)
 
 -- "instant as `day/ms`"
-unfoldable pub instantOf : List ℕ → Option Value
+unfoldable pub instantOf : List ℕ → ValueRead
 instantOf us =
     let n = before solidus us in
     let day = take n us in
     let millisecond = drop (suc n) us in
     cond (isDigits day && isDigits millisecond)
-    (some (value.Instant (record { 0 = numeralOf day }) (record { 0 = numeralOf millisecond }))) none
+    (read.Known (value.Instant (record { 0 = numeralUpTo countLimit day }) (record { 0 = numeralUpTo countLimit millisecond })))
+    read.Malformed
 
 -- the value that a line of this kind writes, where it is well formed; any text is
-unfoldable pub valueOf : Sort → List ℕ → Option Value
+unfoldable pub valueOf : Sort → List ℕ → ValueRead
 valueOf sort.Number us = numberOf us
 valueOf sort.Instant us = instantOf us
-valueOf sort.Text us = some value.Text
+valueOf sort.Text us = read.Known value.Text
 
 -- the text beside the value
 unfoldable pub textOf : Sort → List ℕ → List ℕ

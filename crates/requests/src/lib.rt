@@ -19,8 +19,8 @@ ghost use lib.ListN.{length, drop};
 ghost use Rattle.calendar.specs.Names.{units};
 ghost use Rattle.requests.specs.Lines.{fieldOf};
 ghost use Rattle.requests.specs.Written.{sortOf, valueOf, textOf};
-ghost use Rattle.requests.specs.Request.{fromValue, fromThird, fromKind, fromSecond};
-ghost use Rattle.requests.specs.Reads.{partOf, Ended, textPart, Reads, Requested};
+ghost use Rattle.requests.specs.Request.{fromValue, fromThird, fromKind, fromSecond, requestOf};
+ghost use Rattle.requests.specs.Reads.{partOf, Ended, textPart, Reads};
 
 // A code, what is asked, and the text beside it; or the first malformed line.
 pub enum RequestRead {
@@ -97,7 +97,7 @@ fn from_second(input: &[u16], code: Part) -> RequestRead
 
 // The request that the input makes.
 pub fn read_request(input: &[u16]) -> RequestRead
-    ensures { λ r. ⌜ Requested (now (input .entry)) r ⌝ }
+    ensures { λ r. ⌜ Reads (now (input .entry)) (requestOf (now (input .entry))) r ⌝ }
 {
     match line_at(input, 0, b"code=") {
         Line::Content(code) => from_second(input, code),

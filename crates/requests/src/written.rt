@@ -1,4 +1,4 @@
-// A value as its line writes it. A number too large is told by one that is out of range too.
+// A value as its line writes it. A number too large is read as one that is out of range too.
 use super::digits::is_digits;
 use super::digits::number_behind;
 use lexing::scan::Set;
@@ -10,13 +10,12 @@ use values::Millisecond;
 use values::Number;
 use values::Value;
 ghost use mathlib.Core.Path.{_≡_};
-ghost use Prim.Native.Nat.{_^_, _≤_, min};
+ghost use Prim.Native.Nat.{_^_, _≤_};
 ghost use lib.Dec.{T};
 ghost use lib.ListN.{length};
 ghost use Rattle.lists.specs.Lists.{every};
 ghost use Rattle.formats.specs.Tokens.{isDigit};
-ghost use Rattle.requests.specs.Written.{numeralOf, signedBy, sortOf, unsignedOf, numberOf, instantOf, valueOf};
-ghost use Rattle.requests.specs.Reads.{ValueIs};
+ghost use Rattle.requests.specs.Written.{numeralUpTo, signedBy, sortOf, unsignedOf, numberOf, instantOf, valueOf};
 
 // The kinds of a value that a line may name.
 pub enum Sort {
@@ -37,10 +36,10 @@ pub enum ValueRead {
     Malformed,
 }
 
-// The least coefficient that is too large: any larger one is told by it.
+// The least coefficient that is too large: any larger one is read as it.
 const LARGE: u64 = 1000000000000000;
 
-// Too large for a day number and for a millisecond, and told for any larger one.
+// Too large for a day number and for a millisecond: any larger one is read as it.
 const LATE: u64 = 1000000000;
 
 // The kind that the units name.
@@ -71,7 +70,7 @@ fn signed(negative: bool, n: u64) -> i64
 // A number behind its sign: digits, and perhaps a point and digits.
 fn unsigned(negative: bool, us: &[u16]) -> ValueRead
     requires { ⌜ length (now us) ≤ 2048 ⌝ }
-    ensures { λ r. ⌜ ValueIs (unsignedOf negative (now (us .entry))) r ⌝ }
+    ensures { λ r. ⌜ r ≡ unsignedOf negative (now (us .entry)) ⌝ }
 {
     let n = scan(us, Set::But(46));
     if !is_digits(&us[..n]) {
@@ -99,7 +98,7 @@ fn unsigned(negative: bool, us: &[u16]) -> ValueRead
 // A number: perhaps a minus, and a number without one.
 fn number(us: &[u16]) -> ValueRead
     requires { ⌜ length (now us) ≤ 2048 ⌝ }
-    ensures { λ r. ⌜ ValueIs (numberOf (now (us .entry))) r ⌝ }
+    ensures { λ r. ⌜ r ≡ numberOf (now (us .entry)) ⌝ }
 {
     if starts_with(us, b"-") {
         return unsigned(true, &us[1..]);
@@ -110,14 +109,14 @@ fn number(us: &[u16]) -> ValueRead
 // A day number or a millisecond.
 fn count(us: &[u16]) -> u32
     requires { ⌜ T (every isDigit (now us)) ⌝ }
-    ensures { λ r. ⌜ r ≡ min (numeralOf (now (us .entry))) (10 ^ 9) ⌝ }
+    ensures { λ r. ⌜ r ≡ numeralUpTo (10 ^ 9) (now (us .entry)) ⌝ }
 {
     number_behind(0, us, LATE) as u32
 }
 
 // An instant: a day number, a solidus, a millisecond.
 fn instant(us: &[u16]) -> ValueRead
-    ensures { λ r. ⌜ ValueIs (instantOf (now (us .entry))) r ⌝ }
+    ensures { λ r. ⌜ r ≡ instantOf (now (us .entry)) ⌝ }
 {
     let n = scan(us, Set::But(47));
     if n == us.len() {
@@ -135,7 +134,7 @@ fn instant(us: &[u16]) -> ValueRead
 // The value that a line of this kind writes.
 pub fn value_of(sort: Sort, us: &[u16]) -> ValueRead
     requires { ⌜ length (now us) ≤ 2048 ⌝ }
-    ensures { λ r. ⌜ ValueIs (valueOf sort (now (us .entry))) r ⌝ }
+    ensures { λ r. ⌜ r ≡ valueOf sort (now (us .entry)) ⌝ }
 {
     match sort {
         Sort::Number => number(us),

@@ -43,7 +43,7 @@ returns c =
     (sym (c .before .before .before .before .sort-of .ensures) ∙ c .before .before .sort .given .1) (c .from-third .ensures)
 
 returns-2 : tie.Need-returns-2
-returns-2 c = kind-unknown _ _ _ (sym (c .before .before .sort-of .ensures) ∙ c .enum-told .given .1)
+returns-2 c = kind-unknown _ _ _ _ (sym (c .before .before .sort-of .ensures) ∙ c .enum-told .given .1)
 
 pub from-kind-spec : {M : Type 1} → statement M
 from-kind-spec =

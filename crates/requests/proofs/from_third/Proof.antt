@@ -32,7 +32,7 @@ returns c =
 
 returns-2 : tie.Need-returns-2
 unfolding units
-returns-2 c = third-missing _ _ _ (line-missing _ _ _ _ (c .before .before .line-at .ensures) (c .enum-told .given .1))
+returns-2 c = third-missing _ _ _ _ (line-missing _ _ _ _ (c .before .before .line-at .ensures) (c .enum-told .given .1))
 
 pub from-third-spec : {M : Type 1} → statement M
 from-third-spec =

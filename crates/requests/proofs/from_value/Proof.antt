@@ -1,9 +1,10 @@
 -- `requests::from_value` meets its contract.
 -- Assumes nothing.
+use mathlib.Core.Path.{sym, _∙_}
 use native.Mathlib.Omega.{arith}
 use borrow.Author.Needs.{needs}
 use denote.Ref.{now}
-use Rattle.requests.proofs.Requesting.{value-told, value-none, value-bad, value-more, value-end}
+use Rattle.requests.proofs.Requesting.{value-bad, value-more, value-end}
 use Rattle.requests.proofs.from_value.Statement.{statement}
 use Rattle.requests.proofs.from_value.Tie as tie
 
@@ -36,7 +37,7 @@ returns c =
     let a = c .before .before .before .before .before .before .before .before .args in
     let v = c .before .before .before .v in
     rw (c .text-part .ensures)
-    (value-end (now (a .input)) (a .code) (a .value) (a .sort) _ (value-told _ _ (c .before .before .before .before .before .value-of .ensures) _ (v .given .1)) (c .before .before .before .before .before .before .before .before .pre .0) (c .before .before .before .before .before .before .before .before .pre .1) (omega arith))
+    (value-end (now (a .input)) (a .code) (a .value) (a .sort) _ (sym (c .before .before .before .before .before .value-of .ensures) ∙ v .given .1) (c .before .before .before .before .before .before .before .before .pre .0) (c .before .before .before .before .before .before .before .before .pre .1) (omega arith))
 
 enum-told : tie.Need-enum-told
 enum-told c = search needs
@@ -44,10 +45,10 @@ enum-told c = search needs
 returns-2 : tie.Need-returns-2
 returns-2 c =
     let a = c .before .before .before .before .before .before .before .args in
-    value-more (now (a .input)) (a .code) (a .value) (a .sort) _ (value-told _ _ (c .before .before .before .before .value-of .ensures) _ (c .before .before .v .given .1)) (omega arith)
+    value-more (now (a .input)) (a .code) (a .value) (a .sort) _ (sym (c .before .before .before .before .value-of .ensures) ∙ c .before .before .v .given .1) (omega arith)
 
 returns-3 : tie.Need-returns-3
-returns-3 c = value-bad _ _ _ _ (value-none _ _ (c .before .before .value-of .ensures) (c .enum-told .given .1))
+returns-3 c = value-bad _ _ _ _ _ (sym (c .before .before .value-of .ensures) ∙ c .enum-told .given .1)
 
 pub from-value-spec : {M : Type 1} → statement M
 from-value-spec =

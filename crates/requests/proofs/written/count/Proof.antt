@@ -1,7 +1,7 @@
 -- `requests::written::count` meets its contract.
 -- Assumes nothing.
 use borrow.Author.Needs.{needs}
-use Rattle.requests.specs.Written.{numeralOf}
+use Rattle.requests.specs.Written.{numeralUpTo}
 use Rattle.requests.proofs.written.count.Statement.{statement}
 use Rattle.requests.proofs.written.count.Tie as tie
 
@@ -12,7 +12,7 @@ cast-result : tie.Need-cast-result
 cast-result c = search needs
 
 returns : tie.Need-returns
-unfolding numeralOf
+unfolding numeralUpTo
 returns c = search needs
 
 pub count-spec : {M : Type 1} → statement M

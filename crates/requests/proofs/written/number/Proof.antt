@@ -35,7 +35,7 @@ returns : tie.Need-returns
 unfolding units
 returns c =
     let us = now (c .before .before .before .before .before .before .args .us) in
-    number-minus us (c .unsigned .result) (sym (c .before .before .before .starts-with .ensures) ∙ c .before .before .if1 .taken) (rw (rest-all us 1) at (c .unsigned .ensures))
+    rw (rest-all us 1) at (c .unsigned .ensures) ∙ number-minus us (sym (c .before .before .before .starts-with .ensures) ∙ c .before .before .if1 .taken)
 
 unsigned-requires-2 : tie.Need-unsigned-requires-2
 unsigned-requires-2 c κs = search needs
@@ -44,7 +44,7 @@ returns-2 : tie.Need-returns-2
 unfolding units
 returns-2 c =
     let us = now (c .before .before .before .before .before .args .us) in
-    number-plain us (c .unsigned2 .result) (sym (c .before .before .starts-with .ensures) ∙ c .before .if1 .left) (c .unsigned2 .ensures)
+    c .unsigned2 .ensures ∙ number-plain us (sym (c .before .before .starts-with .ensures) ∙ c .before .if1 .left)
 
 pub number-spec : {M : Type 1} → statement M
 number-spec =

@@ -1,6 +1,5 @@
 -- `requests::written::value_of` meets its contract.
 -- Assumes nothing.
-use mathlib.Core.Path.{refl}
 use borrow.Author.Needs.{needs}
 use Rattle.requests.specs.Written.{valueOf}
 use Rattle.requests.proofs.written.value_of.Statement.{statement}
@@ -31,7 +30,7 @@ returns-2 c = rw (c .before .enum-told2 .given .1) (c .instant .ensures)
 
 returns-3 : tie.Need-returns-3
 unfolding valueOf
-returns-3 c = rw (c .enum-told3 .given .1) (record { exact = _; written = refl; alike = λ text. refl })
+returns-3 c = rw (c .enum-told3 .given .1)
 
 pub value-of-spec : {M : Type 1} → statement M
 value-of-spec =
