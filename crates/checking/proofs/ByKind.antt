@@ -6,48 +6,21 @@ use mathlib.Core.Path.{_≡_, refl, sym, _∙_, ap}
 use mathlib.Core.Bool.{Bool, true, false, true≢false, cond, not, _&&_, _||_}
 use lib.Dec.{T, leb, ltb, eqb, leb→le, le→leb, eqb→eq, not-T}
 use borrow.Author.Tests.{eq-eqb, ne-eqb, lt-ltb, lt-leb, leb-false, ltb-true, ltb-false, not-true}
-use Rattle.lists.proofs.Bools.{and-left, and-right, and-in, by-cases, T-true, true-T}
+use Rattle.lists.proofs.Bools.{and-left, and-right, and-in, not-so, carry, same-test, by-cases, T-true, true-T}
 use Rattle.formats.specs.Where.{implies}
 use Rattle.tables.specs.Words.{Head}
 use Rattle.tables.specs.Decode.{wholeAt, millionthsAt, groupedAt, thousandsAt}
-use Rattle.tables.specs.Rules.{isWord, headInRange, conditionFits, shiftTells}
+use Rattle.tables.specs.Rules.{headInRange, conditionFits, shiftTells}
+use Rattle.tables.proofs.Ranges.{HeadRanges, head-ranges, head-in-ranges}
 use Rattle.tallies.specs.declared.Tally.{Tally}
 use Rattle.tallies.specs.Tally.{hasPlaces, hasNumberItems, kindTold, allowedTold, noPlainTold, itemsFitTold, withinTold, groupingTold, decimalsTold}
 use Rattle.checking.specs.declared.HeadWords.{HeadWords}
 use Rattle.checking.specs.Checking.{headFrom, agree, comparedTold, conditionTold, thousandsTold, shiftTold, rowTold, Undated, numberTold, otherTold}
-use Rattle.checking.proofs.Tests.{same-test, carry}
 use Rattle.checking.proofs.Rows.{Told, told, told-back}
 
 -- ---- the tests that every section must pass
 pub refused : (h : Head) (t : Tally) → (Told h t → ⊥) → false ≡ rowTold h t
 refused h t refuted = by-cases (rowTold h t) (λ e. absurd (refuted (told h t (true-T e)))) (λ e. sym e)
-
-record Ranges (h : Head) : Type 0 where
-  kind : T (leb (h .kind) 4)
-  colour : T (leb (h .colour) 56)
-  operator : T (leb (h .operator) 6)
-  negative : T (leb (h .negative) 1)
-  a : T (isWord (h .wholeLow))
-  b : T (isWord (h .wholeHigh))
-  whole : T (leb (wholeAt h) 999999999)
-  c : T (isWord (h .millionthsLow))
-  d : T (isWord (h .millionthsHigh))
-  millionths : T (leb (millionthsAt h) 999999)
-  shift : T (leb (h .shift) 25)
-  flags : T (leb (h .flags) 7)
-  decimals : T (leb (h .decimals) 15)
-  items : T (leb (h .items) 254)
-
-ranges : (h : Head) → T (headInRange h) → Ranges h
-unfolding headInRange
-ranges h t = search (and-left, and-right) depth 16
-
-ranges-back : (h : Head) → Ranges h → T (headInRange h)
-unfolding headInRange
-ranges-back h r = search and-in depth 16
-
-pub colour-most : (h : Head) → T (headInRange h) → h .colour ≤ 56
-colour-most h t = leb→le _ _ (ranges h t .colour)
 
 abbrev noneTest : Head → Bool
 noneTest h = implies (eqb (h .operator) 0) (eqb (h .negative) 0 && eqb (wholeAt h) 0 && eqb (millionthsAt h) 0)
@@ -81,12 +54,12 @@ compared-fits h c = and-in (noneTest h) (signTest h) (c .none) (c .sign)
 pub condition-out : (h : Head) (t : Tally) → Told h t → T (conditionTold h)
 unfolding conditionFits
 condition-out h t f =
-    let r : Ranges h = ranges h (f .range) in
+    let r : HeadRanges h = head-ranges h (f .range) in
     compared-back h (record {
-      operator = r .operator;
-      negative = r .negative;
-      whole = r .whole;
-      millionths = r .millionths;
+      operator = le→leb _ _ (r .operator);
+      negative = le→leb _ _ (r .negative);
+      whole = le→leb _ _ (r .whole);
+      millionths = le→leb _ _ (r .millionths);
       none = and-left (noneTest h) (signTest h) (f .condition);
       sign = and-right (noneTest h) (signTest h) (f .condition);
     })
@@ -107,28 +80,25 @@ pub record Front (h : Head) (t : Tally) : Type 0 where
 range-in : (h : Head) (t : Tally) → Front h t → h .kind ≤ 4 → h .shift ≤ 25 → h .flags ≤ 7 → h .decimals ≤ 15 → T (headInRange h)
 range-in h t f k s g d =
     let c : Compared h = compared h (true-T (f .condition)) in
-    ranges-back h (record {
-      kind = le→leb _ _ k;
-      colour = le→leb _ _ (f .colour);
-      operator = c .operator;
-      negative = c .negative;
-      a = true-T (lt-ltb _ _ (f .a));
-      b = true-T (lt-ltb _ _ (f .b));
-      whole = c .whole;
-      c = true-T (lt-ltb _ _ (f .c));
-      d = true-T (lt-ltb _ _ (f .d));
-      millionths = c .millionths;
-      shift = le→leb _ _ s;
-      flags = le→leb _ _ g;
-      decimals = le→leb _ _ d;
-      items = le→leb _ _ (f .items);
+    head-in-ranges h (record {
+      kind = k;
+      colour = f .colour;
+      operator = leb→le _ _ (c .operator);
+      negative = leb→le _ _ (c .negative);
+      wholeLow = f .a;
+      wholeHigh = f .b;
+      whole = leb→le _ _ (c .whole);
+      millionthsLow = f .c;
+      millionthsHigh = f .d;
+      millionths = leb→le _ _ (c .millionths);
+      shift = s;
+      flags = g;
+      decimals = d;
+      items = f .items;
     })
 
 same-eqb : (m n : ℕ) → m ≡ n → T (eqb m n)
 same-eqb m n e = true-T (eq-eqb m n e)
-
-pub not-so : (b : Bool) → T (not b) → b ≡ false
-not-so b t = not-true b (T-true (not b) t)
 
 -- ---- a number section
 record Number (t : Tally) : Type 0 where
@@ -391,7 +361,7 @@ module _ (h : Head) (t : Tally) where
         record {
           unshifted = eqb→eq _ _ (carry shift-other (g .shift));
           bare = eqb→eq _ _ (g .decimals) ∙ decimals-other;
-          most = leb→le _ _ (ranges h (g .range) .flags);
+          most = head-ranges h (g .range) .flags;
           grouping = g .grouping;
           half = g .half;
           within = rw thousands-other at (g .within);

@@ -6,12 +6,11 @@ use mathlib.Core.Path.{_≡_, refl, sym, _∙_, ap}
 use mathlib.Core.Bool.{true, _&&_}
 use lib.Dec.{T, leb, eqb, eqb→eq}
 use borrow.Author.Tests.{eq-eqb}
-use Rattle.lists.proofs.Bools.{and-left, and-right, true-T}
+use Rattle.lists.proofs.Bools.{and-left, and-right, same-test, true-T}
 use Rattle.tables.specs.Words.{Head}
 use Rattle.tables.specs.Decode.{twoWords, wholeAt, millionthsAt, thousandsAt}
 use Rattle.tables.specs.Rules.{shiftTells}
 use Rattle.checking.specs.Checking.{comparedTold, conditionTold}
-use Rattle.checking.proofs.Tests.{same-test}
 
 pub two-words : (low high : ℕ) → low + 65536 * high ≡ twoWords low high
 unfolding twoWords

@@ -6,15 +6,18 @@ use native.Mathlib.Nat.{sub-zero}
 use mathlib.Core.Path.{_≡_, refl, sym, _∙_, ap}
 use mathlib.Core.Bool.{Bool, true, false, cond, _||_}
 use mathlib.Core.List.{List, [], _∷_}
-use lib.ListN.{length, getD, drop, take, length-drop}
-use lib.Seq.{drop-drop, getD-drop, length-take-le}
+use lib.ListN.{length, getD, drop, take, length-drop, length-take}
+use lib.Seq.{drop-drop, getD-drop}
 use lib.Dec.{eqb}
 use Rattle.lists.specs.Lists.{every}
+use Rattle.lists.proofs.Bools.{cond-self}
 use Rattle.formats.specs.Minus.{exceptionA}
-use Rattle.tables.specs.Words.{Head, Entry, headAt, headsAt, entriesAt, rowsAt, headsIn, rowsIn, itemsSaid}
-use Rattle.tallies.specs.Tally.{entriesIn, tallyOf}
+use Rattle.tables.specs.Words.{Head, headAt, headsAt, entriesAt, entriesIn, rowsAt, headsIn, rowsIn, itemsSaid}
+use Rattle.tables.specs.Standing.{countedOne, countedKinds}
+use Rattle.tables.proofs.Words.{entries-part, headsAt-length}
+use Rattle.tallies.specs.Tally.{tallyOf}
 use Rattle.checking.specs.declared.HeadWords.{HeadWords}
-use Rattle.checking.specs.Checking.{headFrom, Sized, rowTold, rowGood, hasIn, placeFits, placesFrom, placesFit, countedOne, countedHeads, firstHasIn}
+use Rattle.checking.specs.Checking.{headFrom, Sized, rowTold, rowGood, hasIn, placeFits, placesFrom, placesFit, kindsIn, firstHasIn}
 use Rattle.checking.proofs.Rows.{row-told}
 
 -- the heads from the i-th on
@@ -103,28 +106,8 @@ module _ (ws : List ℕ) (n i sum : ℕ) (inv : Summing ws n i sum) where
       (omega (arith, inv .same, z), omega (arith, inv .small, inv .inside, inv .most))
 
 -- ---- the rows
-entries-taken : (k : ℕ) (ws : List ℕ) → 2 * k ≤ length ws → entriesAt k (take (2 * k) ws) ≡ entriesAt k ws
-unfolding entriesAt
-entries-taken zero ws h = refl
-entries-taken (suc k) [] h = absurd (omega arith)
-entries-taken (suc k) (a ∷ []) h = absurd (omega arith)
-entries-taken (suc k) (a ∷ b ∷ ws) h =
-    let e : 2 * suc k ≡ suc (suc (2 * k)) = omega arith in
-    rw e (ap (λ (es : List Entry). record { tag = a; argument = b } ∷ es) (entries-taken k ws (omega arith)))
-
-entries-part : (k : ℕ) (ws : List ℕ) → 2 * k ≤ length ws → entriesIn (take (2 * k) ws) ≡ entriesAt k ws
-unfolding entriesIn
-entries-part k ws h =
-    let l : length (take (2 * k) ws) / 2 ≡ k = rw (length-take-le (2 * k) ws h) (omega arith) in
-    rw l (entries-taken k ws h)
-
-take-most : (m : ℕ) (l : List ℕ) → length (take m l) ≤ m
-take-most zero l = omega arith
-take-most (suc m) [] = omega arith
-take-most (suc m) (x ∷ l) = omega (arith, take-most m l)
-
 pub part-short : (m : ℕ) (l : List ℕ) (items : ℕ) → items ≤ 254 → m ≡ 2 * items → length (take m l) ≤ 508
-part-short m l items h e = omega (arith, take-most m l)
+part-short m l items h e = rw (length-take m l) (omega arith)
 
 pub record Rowing (ws : List ℕ) (n i at : ℕ) : Type 0 where
   pub sized : Sized ws
@@ -206,12 +189,12 @@ module _ (ws : List ℕ) (n i at : ℕ) (inv : Rowing ws n i at) where
   rowing-end l = sym (inv .same ∙ rw (left-end ws n i l))
 
 -- ---- N
-pub record Counting (ws : List ℕ) (n i most : ℕ) : Type 0 where
+pub record Counting (ws : List ℕ) (n i counted : ℕ) : Type 0 where
   pub sized : Sized ws
   pub sections : n ≡ getD ws 0 0
   pub inside : i ≤ n
-  pub few : most ≤ i
-  pub same : countedHeads 0 (headsIn ws) ≡ most + countedHeads i (left ws n i)
+  pub few : counted ≤ i
+  pub same : countedKinds 0 (kindsIn (headsIn ws)) ≡ counted + countedKinds i (kindsIn (left ws n i))
 
 pub counting-start : (ws : List ℕ) (n : ℕ) → Sized ws → n ≡ getD ws 0 0 → Counting ws n 0 0
 counting-start ws n s e =
@@ -220,7 +203,7 @@ counting-start ws n s e =
       sections = e;
       inside = omega arith;
       few = omega arith;
-      same = ap (countedHeads 0) (left-start ws n e) ∙ omega arith;
+      same = ap (λ (hs : List Head). countedKinds 0 (kindsIn hs)) (left-start ws n e) ∙ omega arith;
     }
 
 pub one-most : (i kind : ℕ) → countedOne i kind ≤ 1
@@ -231,12 +214,12 @@ one-most i kind = go (eqb kind 3 || eqb i 3)
     go true = omega arith
     go false = omega arith
 
-module _ (ws : List ℕ) (n i most : ℕ) (inv : Counting ws n i most) where
-  pub counting-step : (h : HeadWords) (d : ℕ) → i < n → headFrom h ≡ headAt (drop (1 + 12 * i) ws) → d ≡ countedOne i (h .kind) → Counting ws n (i + 1) (most + d)
-  unfolding countedHeads
+module _ (ws : List ℕ) (n i counted : ℕ) (inv : Counting ws n i counted) where
+  pub counting-step : (h : HeadWords) (d : ℕ) → i < n → headFrom h ≡ headAt (drop (1 + 12 * i) ws) → d ≡ countedOne i (h .kind) → Counting ws n (i + 1) (counted + d)
+  unfolding countedKinds
   counting-step h d l e f =
       let p : d ≡ countedOne i (headAt (drop (1 + 12 * i) ws) .kind) = f ∙ ap (λ (x : Head). countedOne i (x .kind)) e in
-      let q : countedHeads i (left ws n i) ≡ countedOne i (headAt (drop (1 + 12 * i) ws) .kind) + countedHeads (i + 1) (left ws n (i + 1)) = ap (countedHeads i) (left-front ws n i l) in
+      let q : countedKinds i (kindsIn (left ws n i)) ≡ countedOne i (headAt (drop (1 + 12 * i) ws) .kind) + countedKinds (i + 1) (kindsIn (left ws n (i + 1))) = ap (λ (hs : List Head). countedKinds i (kindsIn hs)) (left-front ws n i l) in
       record {
         sized = inv .sized;
         sections = inv .sections;
@@ -245,36 +228,27 @@ module _ (ws : List ℕ) (n i most : ℕ) (inv : Counting ws n i most) where
         same = omega (arith, inv .same, p, q);
       }
 
-  pub counting-end : n ≤ i → most ≡ countedHeads 0 (headsIn ws)
-  unfolding countedHeads
+  pub counting-end : n ≤ i → counted ≡ countedKinds 0 (kindsIn (headsIn ws))
+  unfolding countedKinds
   counting-end l =
-      let z : countedHeads i (left ws n i) ≡ 0 = ap (countedHeads i) (left-end ws n i l) in
+      let z : countedKinds i (kindsIn (left ws n i)) ≡ 0 = ap (λ (hs : List Head). countedKinds i (kindsIn hs)) (left-end ws n i l) in
       omega (arith, inv .same, z)
 
 -- ---- where the sections stand
-if-true : (b : Bool) → cond b true false ≡ b
-if-true true = refl
-if-true false = refl
-
-pub record Placing (ws : List ℕ) (n most : ℕ) (firstHas : Bool) (i : ℕ) : Type 0 where
+pub record Placing (ws : List ℕ) (n counted : ℕ) (firstHas : Bool) (i : ℕ) : Type 0 where
   pub sized : Sized ws
   pub sections : n ≡ getD ws 0 0
   pub inside : i ≤ n
-  pub same : placesFit (headsIn ws) ≡ placesFrom n most firstHas i (left ws n i)
-
-heads-length : (n : ℕ) (ws : List ℕ) → length (headsAt n ws) ≡ n
-unfolding headsAt
-heads-length zero ws = refl
-heads-length (suc n) ws = ap suc (heads-length n (drop 12 ws))
+  pub same : placesFit (headsIn ws) ≡ placesFrom n counted firstHas i (left ws n i)
 
 heads-counted : (ws : List ℕ) (n : ℕ) → n ≡ getD ws 0 0 → length (headsIn ws) ≡ n
 unfolding headsIn
-heads-counted ws n e = heads-length (getD ws 0 0) (drop 1 ws) ∙ sym e
+heads-counted ws n e = headsAt-length (getD ws 0 0) (drop 1 ws) ∙ sym e
 
-pub placing-start : (ws : List ℕ) (n most : ℕ) (h : HeadWords) → Sized ws → n ≡ getD ws 0 0 → most ≡ countedHeads 0 (headsIn ws)
-    → headFrom h ≡ headAt (drop 1 ws) → Placing ws n most (hasIn (headFrom h)) 0
+pub placing-start : (ws : List ℕ) (n counted : ℕ) (h : HeadWords) → Sized ws → n ≡ getD ws 0 0 → counted ≡ countedKinds 0 (kindsIn (headsIn ws))
+    → headFrom h ≡ headAt (drop 1 ws) → Placing ws n counted (hasIn (headFrom h)) 0
 unfolding placesFit firstHasIn
-placing-start ws n most h s e m f =
+placing-start ws n counted h s e m f =
     let heads : headsIn ws ≡ left ws n 0 = left-start ws n e in
     let first : firstHasIn (headsIn ws) ≡ hasIn (headFrom h) =
     ap firstHasIn (heads ∙ left-front ws n 0 (omega (arith, s .least, e))) ∙ ap hasIn (sym f) in
@@ -285,12 +259,12 @@ placing-start ws n most h s e m f =
       same = rw (heads-counted ws n e, ← m, first, heads);
     }
 
-module _ (ws : List ℕ) (n most : ℕ) (firstHas : Bool) (i : ℕ) (inv : Placing ws n most firstHas i) (l : i < n) (h : HeadWords) (e : headFrom h ≡ headAt (drop (1 + 12 * i) ws)) where
-  place-front : placesFit (headsIn ws) ≡ cond (placeFits n most firstHas i (headFrom h)) (placesFrom n most firstHas (i + 1) (left ws n (i + 1))) false
+module _ (ws : List ℕ) (n counted : ℕ) (firstHas : Bool) (i : ℕ) (inv : Placing ws n counted firstHas i) (l : i < n) (h : HeadWords) (e : headFrom h ≡ headAt (drop (1 + 12 * i) ws)) where
+  place-front : placesFit (headsIn ws) ≡ cond (placeFits n counted firstHas i (headFrom h)) (placesFrom n counted firstHas (i + 1) (left ws n (i + 1))) false
   unfolding placesFrom
   place-front = inv .same ∙ rw (left-front ws n i l, ← e)
 
-  pub placing-step : placeFits n most firstHas i (headFrom h) ≡ true → Placing ws n most firstHas (i + 1)
+  pub placing-step : placeFits n counted firstHas i (headFrom h) ≡ true → Placing ws n counted firstHas (i + 1)
   placing-step t =
       record {
         sized = inv .sized;
@@ -299,23 +273,23 @@ module _ (ws : List ℕ) (n most : ℕ) (firstHas : Bool) (i : ℕ) (inv : Placi
         same = place-front ∙ rw t;
       }
 
-  pub placing-fails : placeFits n most firstHas i (headFrom h) ≡ false → false ≡ placesFit (headsIn ws)
+  pub placing-fails : placeFits n counted firstHas i (headFrom h) ≡ false → false ≡ placesFit (headsIn ws)
   placing-fails t = sym (place-front ∙ rw t)
 
-pub placing-end : (ws : List ℕ) (n most : ℕ) (firstHas : Bool) (i : ℕ) → Placing ws n most firstHas i → n ≤ i → true ≡ placesFit (headsIn ws)
+pub placing-end : (ws : List ℕ) (n counted : ℕ) (firstHas : Bool) (i : ℕ) → Placing ws n counted firstHas i → n ≤ i → true ≡ placesFit (headsIn ws)
 unfolding placesFrom
-placing-end ws n most firstHas i inv l = sym (inv .same ∙ rw (left-end ws n i l))
+placing-end ws n counted firstHas i inv l = sym (inv .same ∙ rw (left-end ws n i l))
 
 -- one section alone, of which exception (a) does not speak
 pub placing-alone : (ws : List ℕ) (n : ℕ) (h : HeadWords) → Sized ws → n ≡ getD ws 0 0 → n ≡ 1 → headFrom h ≡ headAt (drop 1 ws)
     → placeFits 1 1 false 0 (headFrom h) ≡ placesFit (headsIn ws)
 unfolding placesFrom placeFits exceptionA
 placing-alone ws n h s e one f =
-    let most = countedHeads 0 (headsIn ws) in
+    let counted = countedKinds 0 (kindsIn (headsIn ws)) in
     let has = hasIn (headFrom h) in
-    let inv : Placing ws n most has 0 = placing-start ws n most h s e refl f in
+    let inv : Placing ws n counted has 0 = placing-start ws n counted h s e refl f in
     let test : Bool = placeFits 1 1 false 0 (headFrom h) in
-    let ended : placesFrom n most has 1 (left ws n 1) ≡ true = rw (left-end ws n 1 (omega arith)) in
-    let whole : placesFit (headsIn ws) ≡ cond (placeFits n most has 0 (headFrom h)) (placesFrom n most has 1 (left ws n 1)) false =
-    place-front ws n most has 0 inv (omega arith) h f in
-    sym (whole ∙ rw (ended, one) (if-true test))
+    let ended : placesFrom n counted has 1 (left ws n 1) ≡ true = rw (left-end ws n 1 (omega arith)) in
+    let whole : placesFit (headsIn ws) ≡ cond (placeFits n counted has 0 (headFrom h)) (placesFrom n counted has 1 (left ws n 1)) false =
+    place-front ws n counted has 0 inv (omega arith) h f in
+    sym (whole ∙ rw (ended, one) (cond-self test))

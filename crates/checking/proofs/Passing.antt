@@ -8,17 +8,18 @@ use lib.ListN.{length, getD, drop}
 use lib.Dec.{T, leb, eqb, leb→le}
 use borrow.Author.Tests.{le-leb}
 use Rattle.lists.specs.Lists.{every}
+use Rattle.lists.proofs.Counts.{every-and}
 use Rattle.lists.proofs.Bools.{and-left, and-right, by-cases, true-T}
 use Rattle.formats.specs.WellFormed.{itemsInAll, allStand}
 use Rattle.formats.specs.Choice.{counted}
 use Rattle.formats.specs.Minus.{firstHasCondition}
 use Rattle.tables.specs.Words.{Row, headsIn, rowsIn, itemsSaid, exactWords}
+use Rattle.tables.specs.Standing.{countedKinds}
 use Rattle.tables.specs.Decode.{decode}
 use Rattle.tables.specs.Rules.{rowFits, flagsFrom, passes}
-use Rattle.tables.proofs.Words.{rows-counted, Exactly, exactly, headsOf}
-use Rattle.tallies.proofs.Lists.{every-and}
-use Rattle.checking.specs.Checking.{sized, Sized, halfFits, rowGood, countedHeads, firstHasIn, placesFit}
-use Rattle.checking.proofs.Places.{places-same, counted-told, first-told, items-said, sections-said, heads-said}
+use Rattle.tables.proofs.Words.{rows-counted, rows-heads, Exactly, exactly, headsOf}
+use Rattle.checking.specs.Checking.{sized, Sized, halfFits, rowGood, kindsIn, firstHasIn, placesFit}
+use Rattle.checking.proofs.Places.{places-same, counted-told, first-told, items-said, sections-said}
 
 pub sized-facts : (ws : List ℕ) → T (sized ws) → Sized ws
 unfolding sized
@@ -43,7 +44,7 @@ sized-so ws items least most e = rw (e, le-leb 1 (getD ws 0 0) least, le-leb (ge
 module _ (ws : List ℕ) where
   heads-are : headsOf (rowsIn ws) ≡ headsIn ws
   unfolding rowsIn
-  heads-are = heads-said (headsIn ws) (drop (1 + 12 * getD ws 0 0) ws)
+  heads-are = rows-heads (headsIn ws) (drop (1 + 12 * getD ws 0 0) ws)
 
   items-are : itemsInAll (decode ws) ≡ itemsSaid (headsIn ws)
   unfolding decode
@@ -59,8 +60,8 @@ module _ (ws : List ℕ) where
   unfolding allStand decode counted placesFit
   places-told t =
       let rs : List Row = rowsIn ws in
-      rw (sections-said rs, counted-told 0 rs t, first-told rs, heads-are)
-      (rw heads-are at (places-same (length (headsIn ws)) (countedHeads 0 (headsIn ws)) (firstHasIn (headsIn ws)) 0 rs t))
+      rw (sections-said rs, counted-told rs t, first-told rs, heads-are)
+      (rw heads-are at (places-same (length (headsIn ws)) (countedKinds 0 (kindsIn (headsIn ws))) (firstHasIn (headsIn ws)) 0 rs t))
 
 -- the tests of all rows move in front of the test of each place
 and-moved : (x i r s f h p : Bool) → (T r → (s && f) ≡ (h && p)) → (x && i && r && s && f) ≡ ((x && i) && ((r && h) && p))

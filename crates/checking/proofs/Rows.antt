@@ -6,7 +6,7 @@ use mathlib.Core.Bool.{_&&_}
 use mathlib.Core.List.{List}
 use lib.Dec.{T, leb, eqb}
 use Rattle.lists.specs.Lists.{every}
-use Rattle.lists.proofs.Bools.{and-left, and-right, and-in}
+use Rattle.lists.proofs.Bools.{and-left, and-right, and-in, carry, same-test}
 use Rattle.formats.specs.Items.{kindOf, itemsFit}
 use Rattle.formats.specs.Limits.{sectionWithin}
 use Rattle.formats.specs.WellFormed.{oneFill, partsFollow, isSettled, groupingFits}
@@ -18,7 +18,6 @@ use Rattle.tallies.specs.declared.Tally.{Tally}
 use Rattle.tallies.specs.Tally.{tallyOf, kindTold, itemsFitTold, oneFillTold, withinTold, groupingTold, decimalsTold}
 use Rattle.tallies.proofs.Told.{number-told, half-told, items-fit-told, one-fill-told, within-told, grouping-told, decimals-told, section-kind-told, percents-are, Sound, sound-facts, sound-told}
 use Rattle.checking.specs.Checking.{agree, thousandsTold, shiftTold, derivedTold, itemsTold, headTold, rowTold, halfFits, rowGood}
-use Rattle.checking.proofs.Tests.{same-test, carry}
 
 -- the tests on a head and a tally as facts
 pub record Told (h : Head) (t : Tally) : Type 0 where

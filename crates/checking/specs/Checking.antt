@@ -4,13 +4,14 @@
 use Prim.Native.Nat.{ℕ, _+_, _*_, _/_, _%_, _≤_}
 use mathlib.Core.Path.{_≡_}
 use mathlib.Core.Bool.{Bool, true, false, cond, not, _&&_, _||_}
-use mathlib.Core.List.{List, [], _∷_}
+use mathlib.Core.List.{List, [], _∷_, map}
 use lib.ListN.{length, getD}
 use lib.Dec.{leb, ltb, eqb}
 use Rattle.formats.specs.Where.{implies}
 use Rattle.formats.specs.Minus.{exceptionA}
 use Rattle.tables.specs.Words.{Head, Row, headsIn, itemsSaid, exactWords}
 use Rattle.tables.specs.Encode.{hasHalf}
+use Rattle.tables.specs.Standing.{headStands, countedKinds}
 use Rattle.tables.specs.Decode.{wholeAt, millionthsAt, itemsAt, groupedAt, thousandsAt}
 use Rattle.tables.specs.Rules.{headInRange, conditionFits, shiftTells, rowFits}
 use Rattle.tallies.specs.declared.Tally.{Tally}
@@ -130,47 +131,33 @@ rowGood r = rowFits r && halfFits r
 abbrev pub hasIn : Head → Bool
 hasIn h = not (eqb (h .operator) 0)
 
-abbrev pub standsWith : ℕ → ℕ → ℕ → ℕ → Bool → Bool
-standsWith n i kind colour has =
-    implies (eqb kind 3) (eqb (i + 1) n)
-    && implies (eqb n 1 && has) (eqb kind 1)
-    && implies has (ltb i 2)
-    && implies (eqb kind 3) (not has)
-    && implies (eqb i 3) (eqb kind 3 || eqb kind 1 || eqb kind 0)
-    && implies (eqb i 3) (eqb colour 0 && not has)
-
--- the flag of exception (a), of section i where `most` sections count
+-- the flag of exception (a), of section i, where N sections count
 abbrev pub minusWith : ℕ → ℕ → Bool → Bool → ℕ → Bool
-minusWith most i has firstHas flags = agree (eqb (flags / 2 % 2) 1) (exceptionA most i has firstHas)
+minusWith counted i has firstHas flags = agree (eqb (flags / 2 % 2) 1) (exceptionA counted i has firstHas)
 
 -- the same of a section with a condition that has no such flag, and of one without a condition
 unfoldable pub comparedStands : ℕ → ℕ → ℕ → Bool
 comparedStands n i kind = not (eqb kind 3) && (implies (eqb n 1) (eqb kind 1) && ltb i 2)
 
 unfoldable pub plainFits : ℕ → ℕ → Bool → ℕ → ℕ → ℕ → Bool → Bool
-plainFits n most firstHas i kind colour flag =
-    standsWith n i kind colour false && agree flag (exceptionA most i false firstHas)
+plainFits n counted firstHas i kind colour flag =
+    headStands n i kind colour false && agree flag (exceptionA counted i false firstHas)
 
 unfoldable pub placeFits : ℕ → ℕ → Bool → ℕ → Head → Bool
-placeFits n most firstHas i h =
-    standsWith n i (h .kind) (h .colour) (hasIn h) && minusWith most i (hasIn h) firstHas (h .flags)
+placeFits n counted firstHas i h =
+    headStands n i (h .kind) (h .colour) (hasIn h) && minusWith counted i (hasIn h) firstHas (h .flags)
 
 unfoldable pub placesFrom : ℕ → ℕ → Bool → ℕ → List Head → Bool
-placesFrom n most firstHas i [] = true
-placesFrom n most firstHas i (h ∷ hs) =
-    let r = placesFrom n most firstHas (i + 1) hs in cond (placeFits n most firstHas i h) r false
+placesFrom n counted firstHas i [] = true
+placesFrom n counted firstHas i (h ∷ hs) =
+    let r = placesFrom n counted firstHas (i + 1) hs in cond (placeFits n counted firstHas i h) r false
 
--- one where a section counts, by its place and kind word
-unfoldable pub countedOne : ℕ → ℕ → ℕ
-countedOne i kind = cond (eqb kind 3 || eqb i 3) 0 1
-
-unfoldable pub countedHeads : ℕ → List Head → ℕ
-countedHeads i [] = 0
-countedHeads i (h ∷ hs) = countedOne i (h .kind) + countedHeads (i + 1) hs
+abbrev pub kindsIn : List Head → List ℕ
+kindsIn hs = map (λ (h : Head). h .kind) hs
 
 unfoldable pub firstHasIn : List Head → Bool
 firstHasIn [] = false
 firstHasIn (h ∷ hs) = hasIn h
 
 unfoldable pub placesFit : List Head → Bool
-placesFit hs = placesFrom (length hs) (countedHeads 0 hs) (firstHasIn hs) 0 hs
+placesFit hs = placesFrom (length hs) (countedKinds 0 (kindsIn hs)) (firstHasIn hs) 0 hs

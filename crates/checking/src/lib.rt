@@ -5,11 +5,12 @@ ghost use Prim.Native.Nat.{_+_, _*_, _≤_, _<_};
 ghost use lib.ListN.{length, getD, drop};
 ghost use Rattle.formats.specs.Minus.{exceptionA};
 ghost use Rattle.lists.specs.Lists.{every};
-ghost use Rattle.tables.specs.Words.{headAt, headsIn, rowsIn, itemsSaid};
+ghost use Rattle.tables.specs.Words.{headAt, entriesIn, headsIn, rowsIn, itemsSaid};
+ghost use Rattle.tables.specs.Standing.{countedOne, countedKinds};
 ghost use Rattle.tables.specs.Decode.{twoWords, thousandsAt};
 ghost use Rattle.tables.specs.Rules.{shiftTells, passes};
-ghost use Rattle.tallies.specs.Tally.{entriesIn, tallyOf};
-ghost use Rattle.checking.specs.Checking.{headFrom, agree, sized, Sized, comparedTold, conditionTold, numberTold, otherTold, rowTold, rowGood, comparedStands, plainFits, placeFits, countedOne, countedHeads, placesFit};
+ghost use Rattle.tallies.specs.Tally.{tallyOf};
+ghost use Rattle.checking.specs.Checking.{headFrom, agree, sized, Sized, comparedTold, conditionTold, numberTold, otherTold, rowTold, rowGood, comparedStands, plainFits, placeFits, kindsIn, placesFit};
 use tallies::Tally;
 use tallies::grouping_fits;
 use tallies::items_fit;
@@ -307,16 +308,16 @@ fn counted_one(i: usize, kind: u16) -> u16
 // N, by the kind words.
 fn counted(table: &[u16], n: usize) -> u16
     requires { ⌜ Sized (now table) × (n ≡ getD (now table) 0 0) ⌝ }
-    ensures { λ r. ⌜ r ≡ countedHeads 0 (headsIn (now (table .entry))) ⌝ }
+    ensures { λ r. ⌜ r ≡ countedKinds 0 (kindsIn (headsIn (now (table .entry)))) ⌝ }
 {
-    let mut most: u16 = 0;
+    let mut count: u16 = 0;
     let mut i: usize = 0;
     while i < n {
         let h = head_at(table, i);
-        most += counted_one(i, h.kind);
+        count += counted_one(i, h.kind);
         i += 1;
     }
-    most
+    count
 }
 
 // Where a section with a condition may stand: first or second; not of text; alone only as General.
@@ -327,16 +328,16 @@ fn compared_stands(n: usize, i: usize, kind: u16) -> bool
 }
 
 // Exception (a) of the added minus, of the second section, which has no condition.
-fn excepted(most: u16, first_has: bool) -> bool
-    ensures { λ r. ⌜ r ≡ exceptionA most 1 false «first_has» ⌝ }
+fn excepted(counted: u16, first_has: bool) -> bool
+    ensures { λ r. ⌜ r ≡ exceptionA counted 1 false «first_has» ⌝ }
 {
-    (most == 3) | ((most == 2) & !first_has)
+    (counted == 3) | ((counted == 2) & !first_has)
 }
 
 // Where a section without a condition may stand, with or without the flag of exception (a).
 fn plain_fits(
     n: usize,
-    most: u16,
+    counted: u16,
     first_has: bool,
     i: usize,
     kind: u16,
@@ -344,13 +345,13 @@ fn plain_fits(
     flag: bool,
 ) -> bool
     requires { ⌜ i ≤ 3 ⌝ }
-    ensures { λ r. ⌜ r ≡ plainFits n most «first_has» i kind colour flag ⌝ }
+    ensures { λ r. ⌜ r ≡ plainFits n counted «first_has» i kind colour flag ⌝ }
 {
     if (kind == 3) & !(i + 1 == n) {
         return false;
     }
     if i == 1 {
-        return agree(flag, excepted(most, first_has));
+        return agree(flag, excepted(counted, first_has));
     }
     if i == 3 {
         return !flag & (colour == 0) & ((kind == 3) | (kind == 1) | (kind == 0));
@@ -358,13 +359,13 @@ fn plain_fits(
     !flag
 }
 
-fn place_fits(n: usize, most: u16, first_has: bool, i: usize, h: HeadWords) -> bool
+fn place_fits(n: usize, counted: u16, first_has: bool, i: usize, h: HeadWords) -> bool
     requires { ⌜ i ≤ 3 ⌝ }
-    ensures { λ r. ⌜ r ≡ placeFits n most «first_has» i (headFrom h) ⌝ }
+    ensures { λ r. ⌜ r ≡ placeFits n counted «first_has» i (headFrom h) ⌝ }
 {
     let flag = h.flags / 2 % 2 == 1;
     if h.operator == 0 {
-        return plain_fits(n, most, first_has, i, h.kind, h.colour, flag);
+        return plain_fits(n, counted, first_has, i, h.kind, h.colour, flag);
     }
     if flag {
         return false;
@@ -381,13 +382,13 @@ fn places_fit(table: &[u16]) -> bool
     if n == 1 {
         return place_fits(1, 1, false, 0, head_at(table, 0));
     }
-    let most = counted(table, n);
+    let counted = counted(table, n);
     let first = head_at(table, 0);
     let first_has = !(first.operator == 0);
     let mut i: usize = 0;
     while i < n {
         let h = head_at(table, i);
-        if !place_fits(n, most, first_has, i, h) {
+        if !place_fits(n, counted, first_has, i, h) {
             return false;
         }
         i += 1;

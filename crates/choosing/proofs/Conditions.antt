@@ -4,21 +4,20 @@ use Prim.Native.Nat.{ℕ, _+_, _*_, _^_, _≤_, _<_}
 use mathlib.Core.Path.{_≡_, refl, sym, ap, _∙_}
 use mathlib.Core.Bool.{Bool, true, false, not}
 use mathlib.Core.List.{List}
-use mathlib.Core.Option.{Option, none, some}
+use mathlib.Core.Option.{some}
 use lib.ListN.{getD}
 use lib.Dec.{T, eqb}
 use borrow.Author.Tests.{not-true}
-use Rattle.lists.specs.Lists.{isSome}
-use Rattle.formats.specs.Tokens.{Comparison, equal, less, greater, atMost, atLeast, unequal}
-use Rattle.formats.specs.Items.{Condition, Kind, textKind, generalKind, dateKind, numberKind, literalKind, sameKind, kindOf}
+use Rattle.formats.specs.Items.{Condition, textKind, kindOf}
 use Rattle.formats.specs.Where.{hasCondition, isText}
 use Rattle.formats.specs.Choice.{conditionExact, conditionHolds}
 use Rattle.tables.specs.Words.{Row, rowsIn}
-use Rattle.tables.specs.Encode.{kindWord, comparisonWord, operatorWord, headOf}
+use Rattle.tables.specs.Encode.{kindWord, headOf}
 use Rattle.tables.specs.Decode.{comparisonAt, twoWords, wholeAt, millionthsAt, conditionAt, sectionAt}
 use Rattle.tables.specs.Rules.{passes}
 use Rattle.tables.proofs.Back.{row-facts}
-use Rattle.tables.proofs.BackHead.{head-facts}
+use Rattle.tables.proofs.Ranges.{head-ranges}
+use Rattle.tables.proofs.MadeHeads.{kind-word, operator-some}
 use Rattle.choosing.specs.declared.Order.{Order}
 use Rattle.choosing.specs.declared.Sought.{Sought}
 use Rattle.choosing.specs.Comparing.{orderOf, millionthsSize, signedOrder, holdsFor}
@@ -27,33 +26,11 @@ use Rattle.choosing.proofs.Comparing.{exactOrder, compared-order}
 use Rattle.choosing.proofs.Places.{Placed, row-placed, section-row, row-fits, noRow, words-by-place}
 
 -- the kind word tells a text section
-text-kind : (k : Kind) → eqb (kindWord k) 3 ≡ sameKind k textKind
-unfolding kindWord
-text-kind textKind = refl
-text-kind generalKind = refl
-text-kind dateKind = refl
-text-kind numberKind = refl
-text-kind literalKind = refl
-
 pub text-word : (ws : List ℕ) (i w : ℕ) → T (passes ws) → i < getD ws 0 0 → w ≡ wordIn ws i 0 → eqb w 3 ≡ isText (sectionIn ws i)
-unfolding headOf
-text-word ws i w t h e = rw (e, words-by-place ws i t h .kind) (text-kind (kindOf (sectionIn ws i)))
+unfolding headOf kindWord
+text-word ws i w t h e = rw (e, words-by-place ws i t h .kind) (kind-word (kindOf (sectionIn ws i)) textKind)
 
 -- the operator word tells a condition
-some-operator : (c : Comparison) → eqb (comparisonWord c) 0 ≡ false
-unfolding comparisonWord
-some-operator equal = refl
-some-operator less = refl
-some-operator greater = refl
-some-operator atMost = refl
-some-operator atLeast = refl
-some-operator unequal = refl
-
-operator-some : (c : Option Condition) → not (eqb (operatorWord c) 0) ≡ isSome c
-unfolding operatorWord isSome
-operator-some none = refl
-operator-some (some c) = ap not (some-operator (c .comparison))
-
 pub operator-word : (ws : List ℕ) (i w : ℕ) → T (passes ws) → i < getD ws 0 0 → w ≡ wordIn ws i 2
     → not (eqb w 0) ≡ hasCondition (sectionIn ws i)
 unfolding headOf
@@ -71,7 +48,7 @@ unfolding millionthsAt
 millionths-most ws i t h =
     let r : Row = getD (rowsIn ws) i noRow in
     let p : Placed ws i (r .head) = row-placed ws i noRow h in
-    rw (p .millionthsLow, p .millionthsHigh) (head-facts (r .head) (row-facts r (row-fits ws i noRow t h) .head) .millionthsMost)
+    rw (p .millionthsLow, p .millionthsHigh) (head-ranges (r .head) (row-facts r (row-fits ws i noRow t h) .head) .millionths)
 
 -- a condition, where the operator word is not 0
 abbrev conditionIn : List ℕ → ℕ → Condition

@@ -7,32 +7,19 @@ use mathlib.Core.Bool.{Bool}
 use mathlib.Core.List.{List, [], _∷_, map}
 use lib.ListN.{length, getD, drop, length-map}
 use lib.Seq.{drop-drop, getD-drop}
-use lib.Dec.{T, leb}
-use Rattle.lists.specs.Lists.{every}
-use Rattle.lists.proofs.Bools.{and-left, and-right, every-head, every-tail}
+use lib.Dec.{T}
+use Rattle.lists.proofs.Tables.{getD-every, getD-map}
 use Rattle.formats.specs.Items.{Section}
-use Rattle.formats.specs.WellFormed.{itemsInAll, allStand}
 use Rattle.formats.specs.Choice.{counted}
 use Rattle.formats.specs.Minus.{firstHasCondition}
-use Rattle.tables.specs.Words.{Head, Row, headAt, headsAt, rowsAt, headsIn, rowsIn, exactWords}
+use Rattle.tables.specs.Words.{Head, Row, headAt, headsAt, rowsAt, headsIn, rowsIn}
 use Rattle.tables.specs.Encode.{headOf, rowOf, rowsFrom}
 use Rattle.tables.specs.Decode.{sectionAt, decode}
-use Rattle.tables.specs.Rules.{rowFits, flagsFrom, passes}
+use Rattle.tables.specs.Rules.{rowFits, passes}
 use Rattle.tables.proofs.Words.{rows-counted, rows-length, Exactly, exactly}
 use Rattle.tables.proofs.Back.{rows-back}
+use Rattle.tables.proofs.Promise.{Passing, passing}
 use Rattle.choosing.specs.Seeking.{noSection, sectionIn, wordIn}
-
--- the rules as facts
-pub record Passing (ws : List ℕ) : Type 0 where
-  pub exact : T (exactWords ws)
-  pub items : T (leb (itemsInAll (decode ws)) 254)
-  pub rows : T (every rowFits (rowsIn ws))
-  pub stand : T (allStand (decode ws))
-  pub flags : T (flagsFrom (counted (decode ws)) 0 (firstHasCondition (decode ws)) (rowsIn ws))
-
-pub passing : (ws : List ℕ) → T (passes ws) → Passing ws
-unfolding passes
-passing ws t = search (and-left, and-right)
 
 -- the twelve words of head i are these
 pub record Placed (ws : List ℕ) (i : ℕ) (h : Head) : Type 0 where
@@ -116,19 +103,9 @@ pub word-within : (ws : List ℕ) (i k : ℕ) → T (passes ws) → i < getD ws 
 word-within ws i k t h l = let x : Long ws = long ws t in (omega arith, omega arith)
 
 -- section i, from row i
-getD-map : {A B : Type 0} (f : A → B) (xs : List A) (i : ℕ) (a : A) (b : B) → i < length xs → getD (map f xs) i b ≡ f (getD xs i a)
-getD-map f [] i a b h = absurd (omega arith)
-getD-map f (x ∷ xs) zero a b h = refl
-getD-map f (x ∷ xs) (suc i) a b h = getD-map f xs i a b (omega arith)
-
 pub section-row : (ws : List ℕ) (i : ℕ) (r : Row) → i < getD ws 0 0 → sectionIn ws i ≡ sectionAt (getD (rowsIn ws) i r)
 unfolding sectionIn decode
 section-row ws i r h = getD-map sectionAt (rowsIn ws) i r noSection (rw (rows-length ws) h)
-
-getD-every : {A : Type 0} (f : A → Bool) (xs : List A) (i : ℕ) (a : A) → i < length xs → T (every f xs) → T (f (getD xs i a))
-getD-every f [] i a h t = absurd (omega arith)
-getD-every f (x ∷ xs) zero a h t = every-head f x xs t
-getD-every f (x ∷ xs) (suc i) a h t = getD-every f xs i a (omega arith) (every-tail f x xs t)
 
 pub row-fits : (ws : List ℕ) (i : ℕ) (r : Row) → T (passes ws) → i < getD ws 0 0 → T (rowFits (getD (rowsIn ws) i r))
 row-fits ws i r t h = getD-every rowFits (rowsIn ws) i r (rw (rows-length ws) h) (passing ws t .rows)

@@ -5,10 +5,7 @@ use mathlib.Core.Bool.{Bool, true, false, cond, not, _&&_, _||_}
 use mathlib.Core.List.{List, []}
 use mathlib.Core.Option.{none}
 use lib.Dec.{eqb}
-use lib.IntN.{pos, natAbs}
-use lib.Signed.{ltZ}
 use lib.ListN.{getD}
-use Rattle.values.specs.declared.Number.{Number}
 use Rattle.values.specs.declared.Day.{Day}
 use Rattle.values.specs.declared.Millisecond.{Millisecond}
 use Rattle.calendar.specs.Clock.{sinceDayZero}
@@ -31,11 +28,7 @@ partsOfOne v = cond (v .instant) 86400000 (10 ^ v .scale)
 unfoldable pub exactOf : Sought → Exact
 exactOf v = record { negative = v .negative; size = record { above = v .above; below = partsOfOne v } }
 
--- what is asked for a number and for an instant
-unfoldable pub numberSought : Number → Sought
-numberSought x =
-    record { negative = ltZ (x .coefficient) (pos 0); instant = false; above = natAbs (x .coefficient); scale = x .scale }
-
+-- what is asked for an instant
 unfoldable pub instantSought : Day → Millisecond → Sought
 instantSought d m = record { negative = false; instant = true; above = sinceDayZero (d .0) (m .0); scale = 0 }
 
@@ -65,4 +58,4 @@ isCounted i s = not (isText s || eqb i 3)
 
 -- whether section i takes a value, where N sections count
 unfoldable pub takes : ℕ → ℕ → Section → Exact → Bool
-takes n i s x = isCounted i s && reasonHolds (reasonFor n i s) s x
+takes counted i s x = isCounted i s && reasonHolds (reasonFor counted i s) s x

@@ -12,6 +12,8 @@ ghost use Rattle.formats.specs.Choice.{lessThan, zeroExact, counted, fallback, 
 ghost use Rattle.formats.specs.Minus.{firstHasCondition, exceptionA};
 ghost use Rattle.tables.specs.Decode.{comparisonAt, twoWords, decode};
 ghost use Rattle.tables.specs.Rules.{passes};
+use tables::heads;
+use tables::kinds;
 
 // How one number stands to another.
 pub enum Order {
@@ -221,7 +223,7 @@ pub fn word(table: &[u16], i: usize, k: usize) -> u16
     requires { ⌜ T (passes (now table)) × (i < getD (now table) 0 0) × (k < 12) ⌝ }
     ensures { λ r. ⌜ r ≡ wordIn (now (table .entry)) i k ⌝ }
 {
-    table[1 + 12 * i + k]
+    table[1 + heads::WORDS * i + k]
 }
 
 // The number in words k and k + 1 of the head of section i.
@@ -239,7 +241,7 @@ fn is_text(table: &[u16], i: usize) -> bool
     requires { ⌜ T (passes (now table)) × (i < getD (now table) 0 0) ⌝ }
     ensures { λ r. ⌜ r ≡ isText (sectionIn (now (table .entry)) i) ⌝ }
 {
-    word(table, i, 0) == 3
+    word(table, i, heads::KIND) == kinds::TEXT
 }
 
 // Whether section i has a condition.
@@ -247,7 +249,7 @@ fn has_condition(table: &[u16], i: usize) -> bool
     requires { ⌜ T (passes (now table)) × (i < getD (now table) 0 0) ⌝ }
     ensures { λ r. ⌜ r ≡ hasCondition (sectionIn (now (table .entry)) i) ⌝ }
 {
-    word(table, i, 2) != 0
+    word(table, i, heads::OPERATOR) != 0
 }
 
 // Whether the condition of section i, which has one, holds.
@@ -255,11 +257,14 @@ fn condition_holds(table: &[u16], i: usize, v: Sought) -> bool
     requires { ⌜ T (passes (now table)) × (i < getD (now table) 0 0) × (hasCondition (sectionIn (now table) i) ≡ true) × (v .scale ≤ 15) ⌝ }
     ensures { λ r. ⌜ r ≡ conditionHolds (sectionIn (now (table .entry)) i .condition) (exactOf v) ⌝ }
 {
-    let whole = number_in(table, i, 4);
-    let millionths = number_in(table, i, 6);
+    let whole = number_in(table, i, heads::WHOLE_LOW);
+    let millionths = number_in(table, i, heads::MILLIONTHS_LOW);
     let order = compare(v, whole, millionths);
-    let negative = word(table, i, 3) == 1;
-    holds(word(table, i, 2), signed(v.negative, negative, order))
+    let negative = word(table, i, heads::NEGATIVE) == 1;
+    holds(
+        word(table, i, heads::OPERATOR),
+        signed(v.negative, negative, order),
+    )
 }
 
 // Whether the number is above 0.
@@ -273,13 +278,13 @@ fn is_positive(v: Sought) -> bool
 }
 
 // Whether section i of N, which has no condition, takes the value.
-fn fallback_holds(n: u16, i: usize, v: Sought) -> bool
-    ensures { λ r. ⌜ ((s : Section) → r ≡ reasonHolds (fallback n i) s (exactOf v)) ⌝ }
+fn fallback_holds(counted: u16, i: usize, v: Sought) -> bool
+    ensures { λ r. ⌜ ((s : Section) → r ≡ reasonHolds (fallback counted i) s (exactOf v)) ⌝ }
 {
-    if n == 1 {
+    if counted == 1 {
         return true;
     }
-    if n == 2 {
+    if counted == 2 {
         if i == 0 {
             return !v.negative;
         }
@@ -306,9 +311,9 @@ fn is_counted(table: &[u16], i: usize) -> bool
 }
 
 // Whether section i takes the value, where N sections count.
-fn takes(table: &[u16], n: u16, i: usize, v: Sought) -> bool
+fn takes(table: &[u16], counted: u16, i: usize, v: Sought) -> bool
     requires { ⌜ T (passes (now table)) × (i < getD (now table) 0 0) × (v .scale ≤ 15) ⌝ }
-    ensures { λ r. ⌜ r ≡ takes n i (sectionIn (now (table .entry)) i) (exactOf v) ⌝ }
+    ensures { λ r. ⌜ r ≡ takes counted i (sectionIn (now (table .entry)) i) (exactOf v) ⌝ }
 {
     if !is_counted(table, i) {
         return false;
@@ -316,7 +321,7 @@ fn takes(table: &[u16], n: u16, i: usize, v: Sought) -> bool
     if has_condition(table, i) {
         return condition_holds(table, i, v);
     }
-    fallback_holds(n, i, v)
+    fallback_holds(counted, i, v)
 }
 
 // N: how many sections are neither text nor fourth.
@@ -324,18 +329,18 @@ pub fn counted(table: &[u16]) -> u16
     requires { ⌜ T (passes (now table)) ⌝ }
     ensures { λ r. ⌜ r ≡ counted (decode (now (table .entry))) ⌝ }
 {
-    let sections = section_count(table);
-    let mut n: u16 = 0;
+    let n = section_count(table);
+    let mut count: u16 = 0;
     let mut i: usize = 0;
-    while i < sections {
+    while i < n {
         if is_counted(table, i) {
-            n += 1;
+            count += 1;
             i += 1;
         } else {
             i += 1;
         }
     }
-    n
+    count
 }
 
 // The section of a number or an instant, and whether by its own condition.
@@ -343,14 +348,14 @@ pub fn choose(table: &[u16], v: Sought) -> Found
     requires { ⌜ T (passes (now table)) × (v .scale ≤ 15) ⌝ }
     ensures { λ r. ⌜ r ≡ foundOf (choose (decode (now (table .entry))) (exactOf v)) ⌝ }
 {
-    let n = counted(table);
-    if n == 0 {
+    let counted = counted(table);
+    if counted == 0 {
         return Found::At(0, false);
     }
-    let sections = section_count(table);
+    let n = section_count(table);
     let mut i: usize = 0;
-    while i < sections {
-        if takes(table, n, i, v) {
+    while i < n {
+        if takes(table, counted, i, v) {
             return Found::At(i as u16, has_condition(table, i));
         }
         i += 1;
@@ -363,12 +368,12 @@ pub fn choose_text(table: &[u16]) -> TextFound
     requires { ⌜ T (passes (now table)) ⌝ }
     ensures { λ r. ⌜ r ≡ textFoundOf (chooseText (decode (now (table .entry)))) ⌝ }
 {
-    let sections = section_count(table);
-    if sections == 4 {
+    let n = section_count(table);
+    if n == 4 {
         return TextFound::At(3);
     }
     let mut i: usize = 0;
-    while i < sections {
+    while i < n {
         if is_text(table, i) {
             return TextFound::At(i as u16);
         }
@@ -388,11 +393,11 @@ pub fn no_minus(table: &[u16], i: u16, own: bool) -> bool
     if own {
         return false;
     }
-    let n = counted(table);
-    if n == 3 {
+    let counted = counted(table);
+    if counted == 3 {
         return true;
     }
-    if n == 2 {
+    if counted == 2 {
         let first = has_condition(table, 0);
         return !first;
     }

@@ -1,9 +1,10 @@
 -- Tests and their facts: conjunctions, cases of a test, and tests over a list.
 -- Assumes nothing.
-use mathlib.Core.Path.{_≡_, refl}
+use Prim.Native.Nat.{ℕ}
+use mathlib.Core.Path.{_≡_, refl, sym, subst}
 use mathlib.Core.Bool.{Bool, true, false, cond, not, _&&_, _||_, true≢false}
 use mathlib.Core.List.{List, [], _∷_, _++_}
-use lib.Dec.{T}
+use lib.Dec.{T, eqb}
 use Rattle.lists.specs.Lists.{every, any}
 
 pub and-left : (a b : Bool) → T (a && b) → T a
@@ -40,6 +41,46 @@ true-T {b} e = rw e tt
 pub not-false : (b : Bool) → not b ≡ false → b ≡ true
 not-false true e = refl
 not-false false e = absurd (true≢false e)
+
+pub not-so : (b : Bool) → T (not b) → b ≡ false
+not-so true t = absurd t
+not-so false t = refl
+
+pub and-parts : (a b : Bool) → (a && b) ≡ true → (a ≡ true) × (b ≡ true)
+and-parts true b e = (refl, e)
+and-parts false b e = absurd (true≢false (sym e))
+
+-- out of and into "where the first is so, the second must be"
+pub implied : (a b : Bool) → T (not a || b) → T a → T b
+implied true b t u = t
+implied false b t u = absurd u
+
+pub implies-in : (a b : Bool) → (a ≡ true → T b) → T (not a || b)
+implies-in true b f = f refl
+implies-in false b f = tt
+
+-- a test that is another one, and tests that follow from one another
+pub carry : {a b : Bool} → a ≡ b → T a → T b
+carry e t = subst T e t
+
+pub same-test : (a b : Bool) → (T a → T b) → (T b → T a) → a ≡ b
+same-test true true f g = refl
+same-test true false f g = absurd (f tt)
+same-test false true f g = absurd (g tt)
+same-test false false f g = refl
+
+pub cond-self : (b : Bool) → cond b true false ≡ b
+cond-self true = refl
+cond-self false = refl
+
+pub cond-and : (a b : Bool) → cond a b false ≡ (a && b)
+cond-and true b = refl
+cond-and false b = refl
+
+-- a number that is 0 where a test fails
+pub nought-unless : (b : Bool) (n : ℕ) → T (b || eqb (cond b n 0) 0)
+nought-unless true n = tt
+nought-unless false n = tt
 
 -- a case for each way that a test goes
 pub by-cases {ℓ} : {P : Type ℓ} (b : Bool) → (b ≡ true → P) → (b ≡ false → P) → P

@@ -4,7 +4,7 @@
 use mathlib.Core.Path.{_≡_, _∙_, sym, ap, refl, subst⁻¹}
 use mathlib.Core.Logic.{⊎-elim}
 use mathlib.Core.Bool.{Bool}
-use mathlib.Core.List.{List, [], _∷_}
+use mathlib.Core.List.{List, [], _∷_, map}
 use Prim.Native.Nat.{ℕ, zero, suc, _+_, _<_}
 use native.Mathlib.Nat.{add-zero, zero-add, add-suc, suc-add, le-of-suc-le-suc, not-suc-le-zero, eq-or-lt-of-le}
 use native.Mathlib.Omega.{arith}
@@ -41,3 +41,14 @@ pub each-passes : {A : Type 0} (f : A → Bool) (xs : List A) (i : ℕ) (d : A) 
 each-passes f [] i d t u = u
 each-passes f (x ∷ xs) zero d t u = every-head f x xs t
 each-passes f (x ∷ xs) (suc i) d t u = each-passes f xs i d (every-tail f x xs t) u
+
+-- the element at a place within, and the same of a mapped list
+pub getD-every : {A : Type 0} (f : A → Bool) (xs : List A) (i : ℕ) (a : A) → i < length xs → T (every f xs) → T (f (getD xs i a))
+getD-every f [] i a h t = absurd (omega arith)
+getD-every f (x ∷ xs) zero a h t = every-head f x xs t
+getD-every f (x ∷ xs) (suc i) a h t = getD-every f xs i a (omega arith) (every-tail f x xs t)
+
+pub getD-map : {A B : Type 0} (f : A → B) (xs : List A) (i : ℕ) (a : A) (b : B) → i < length xs → getD (map f xs) i b ≡ f (getD xs i a)
+getD-map f [] i a b h = absurd (omega arith)
+getD-map f (x ∷ xs) zero a b h = refl
+getD-map f (x ∷ xs) (suc i) a b h = getD-map f xs i a b (omega arith)

@@ -5,26 +5,28 @@ use native.Mathlib.Omega.{arith}
 use mathlib.Core.Path.{_≡_, refl, sym, ap, subst, _∙_}
 use mathlib.Core.Bool.{Bool}
 use mathlib.Core.List.{List, [], _∷_, _++_}
-use lib.Dec.{T, leb→le}
+use lib.Dec.{T}
 use lib.ListN.{length, getD, drop, take, length-take, length-drop}
 use lib.Seq.{drop-drop}
 use Rattle.lists.specs.Lists.{every}
-use Rattle.lists.proofs.Bools.{and-left, and-right}
+use Rattle.lists.proofs.Bools.{and-left}
 use Rattle.formats.specs.Items.{Item, Section, Kind, dateKind, itemAllowed, kindOf, itemsFit, integerPlaces}
 use Rattle.answers.specs.declared.Shown.{Shown}
 use Rattle.formats.specs.Text.{Context, itemsUnits, sectionUnits}
 use Rattle.formats.specs.Reading.{Reading, within}
-use Rattle.tables.specs.Words.{Head, Row, Entry, entriesAt, rowsAt, headsIn, rowsIn, itemsSaid}
+use Rattle.tables.specs.Words.{Head, Row, Entry, entriesAt, entriesIn, rowsAt, headsIn, rowsIn, itemsSaid}
 use Rattle.tables.specs.Encode.{headOf}
 use Rattle.tables.specs.Decode.{itemsAt, sectionAt}
-use Rattle.tables.specs.Rules.{headInRange, powersRunDown, passes}
-use Rattle.tables.proofs.Words.{rows-length, Exactly, exactly}
+use Rattle.tables.specs.Rules.{powersRunDown, passes}
+use Rattle.tables.proofs.Words.{rows-length, entries-part, Exactly, exactly}
+use Rattle.tables.proofs.Ranges.{head-ranges}
 use Rattle.tables.proofs.Back.{RowFacts, row-facts}
 use Rattle.choosing.specs.Seeking.{sectionIn, wordIn}
-use Rattle.choosing.proofs.Places.{noRow, passing, row-placed, section-row, row-fits, words-by-place}
+use Rattle.tables.proofs.Promise.{passing}
+use Rattle.choosing.proofs.Places.{noRow, row-placed, section-row, row-fits, words-by-place}
 use Rattle.date_text.specs.declared.Moment.{Moment}
 use Rattle.section_text.specs.declared.Subject.{Subject}
-use Rattle.section_text.specs.Walk.{entriesIn, EntriesFit, Ready, DatedReady}
+use Rattle.section_text.specs.Walk.{EntriesFit, Ready, DatedReady}
 use Rattle.section_text.specs.Place.{bodyStart, Known, DatedKnown}
 use Rattle.section_text.specs.Show.{signText, sectionReading, Shows}
 
@@ -79,10 +81,6 @@ pub record Body (ws : List ℕ) (i : ℕ) : Type 0 where
   pub within : bodyStart ws i + 2 * wordIn ws i 11 ≤ length ws
   pub few : wordIn ws i 11 ≤ 254
 
-head-few : (r : Row) → T (headInRange (r .head)) → r .head .items ≤ 254
-unfolding headInRange
-head-few r t = search (and-right, leb→le)
-
 pub body : (ws : List ℕ) (i : ℕ) → T (passes ws) → i < getD ws 0 0 → Body ws i
 unfolding rowsIn
 body ws i t h =
@@ -93,26 +91,8 @@ body ws i t h =
     let n = before-step i (rowsIn ws) noRow (rw (rows-length ws) h) in
     record {
       within = omega (arith, x .size, p, m, n, start-is ws i (omega arith));
-      few = omega (arith, p, head-few (getD (rowsIn ws) i noRow) (f .head));
+      few = omega (arith, p, head-ranges (getD (rowsIn ws) i noRow .head) (f .head) .items);
     }
-
--- entries read from no more words than they need
-entries-take : (n : ℕ) (ws : List ℕ) → entriesAt n (take (2 * n) ws) ≡ entriesAt n ws
-unfolding entriesAt
-entries-take zero ws = refl
-entries-take (suc n) [] = let e : 2 * suc n ≡ suc (suc (2 * n)) = omega arith in rw e
-entries-take (suc n) (a ∷ []) = let e : 2 * suc n ≡ suc (suc (2 * n)) = omega arith in rw e
-entries-take (suc n) (a ∷ b ∷ ws) =
-    let e : 2 * suc n ≡ suc (suc (2 * n)) = omega arith in
-    rw (e, entries-take n ws)
-
-part-entries : (ws : List ℕ) (s n : ℕ) → s + 2 * n ≤ length ws → entriesIn (take (2 * n) (drop s ws)) ≡ entriesAt n (drop s ws)
-unfolding entriesIn
-part-entries ws s n h =
-    let d : length (drop s ws) ≡ length ws - s = length-drop s ws in
-    let l : length (take (2 * n) (drop s ws)) ≡ 2 * n = length-take (2 * n) (drop s ws) ∙ (omega arith) in
-    let e : length (take (2 * n) (drop s ws)) / 2 ≡ n = omega arith in
-    rw e (entries-take n (drop s ws))
 
 items-allowed : (s : Section) → T (itemsFit (s .items)) → T (every (itemAllowed (kindOf s)) (s .items))
 unfolding itemsFit kindOf
@@ -137,7 +117,7 @@ section-fits ws i t h =
     let b : Body ws i = body ws i t h in
     let s : sectionIn ws i ≡ sectionAt r = section-row ws i noRow h in
     let e : entriesIn (take (2 * wordIn ws i 11) (drop (bodyStart ws i) ws)) ≡ r .entries =
-    part-entries ws (bodyStart ws i) (wordIn ws i 11) (b .within) ∙ sym (row-entries ws i h) in
+    entries-part (wordIn ws i 11) (drop (bodyStart ws i) ws) (omega (arith, b .within, length-drop (bodyStart ws i) ws)) ∙ sym (row-entries ws i h) in
     rw (s, e) (row-fitting r (row-facts r (row-fits ws i noRow t h)))
 
 -- the loop that finds where the words begin, before section k

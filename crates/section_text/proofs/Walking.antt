@@ -7,24 +7,24 @@ use mathlib.Core.Path.{_≡_, refl, subst}
 use mathlib.Core.Bool.{Bool, true, false}
 use mathlib.Core.List.{List, _∷_}
 use lib.Dec.{T, eqb}
-use lib.ListN.{length, drop, getD}
-use lib.Seq.{getD-drop, drop-drop}
+use lib.ListN.{length, getD}
 use Rattle.lists.specs.Lists.{every}
 use Rattle.lists.proofs.Bools.{and-left, and-right, every-head, every-tail}
 use Rattle.formats.specs.Items.{Kind, dateKind, itemAllowed, isPlace}
 use Rattle.formats.specs.Where.{implies}
 use Rattle.formats.specs.Text.{Context, itemUnits, itemsUnits, digitAfter}
-use Rattle.tables.specs.Words.{Entry, entriesAt}
+use Rattle.tables.specs.Words.{Entry, entriesAt, entriesIn}
 use Rattle.tables.specs.Encode.{entry}
 use Rattle.tables.specs.Decode.{itemAt, itemsAt}
 use Rattle.tables.specs.Rules.{entryInRange, powersFrom}
+use Rattle.tables.proofs.Words.{entriesLeft, entries-front}
 use Rattle.writing.specs.Put.{Put, Rest}
 use Rattle.writing.proofs.Laws.{rest-start, rest-put, rest-done}
 use Rattle.date_text.specs.declared.Moment.{Moment}
 use Rattle.date_text.specs.Moment.{MomentIs}
 use Rattle.section_text.specs.declared.Subject.{Subject}
 use Rattle.section_text.specs.Subject.{SubjectIs, EntryFits, ItemPut}
-use Rattle.section_text.specs.Walk.{entriesIn, EntriesFit, Ready, DatedReady}
+use Rattle.section_text.specs.Walk.{EntriesFit, Ready, DatedReady}
 
 -- the first of some entries, and those behind it
 module _ (k : Kind) (q : ℕ) (e : Entry) (es : List Entry) (f : EntriesFit k q (e ∷ es)) where
@@ -76,19 +76,6 @@ left-short {c = c} {k} P lent e es i p l =
     let t = p c k (l .power) i (first-fits k (l .power) e es (l .fit)) in
     (t .short, t .near)
 
--- the entries from the k-th on
-abbrev pub entriesFrom : List ℕ → ℕ → ℕ → List Entry
-entriesFrom words n k = entriesAt (n - k) (drop (2 * k) words)
-
-pub entries-front : (words : List ℕ) (n k : ℕ) → k < n
-    → entriesFrom words n k ≡ entry (getD words (2 * k) 0) (getD words (2 * k + 1) 0) ∷ entriesFrom words n (k + 1)
-unfolding entriesAt
-entries-front words n k h =
-    let one : n - k ≡ suc (n - (k + 1)) = omega arith in
-    let two : 2 * (k + 1) ≡ 2 * k + 2 = omega arith in
-    let nought : 2 * k + 0 ≡ 2 * k = omega arith in
-    rw (one, two, getD-drop (2 * k) words 0 0, getD-drop (2 * k) words 1 0, drop-drop 2 (2 * k) words, nought)
-
 -- there is a context with the property, and the entries fit
 pub record Walkable (P : Kind → Context → Type 0) (words : List ℕ) : Type 0 where
   pub context : Context
@@ -123,13 +110,13 @@ pub record Walking (P : Kind → Context → Type 0) (lent : Bool) (old : List �
   pub short : at ≤ start + 1024 * k
   pub near : lent ≡ false → at ≤ start + 82 * k
   pub ready : Walkable P words
-  pub known : Left old start (itemsUnits (ready .context) (ready .power) (itemsAt (entriesIn words))) (ready .context) (ready .kind) room at (entriesFrom words n k)
+  pub known : Left old start (itemsUnits (ready .context) (ready .power) (itemsAt (entriesIn words))) (ready .context) (ready .kind) room at (entriesLeft words n k)
   pub left : (c : Context) (kind : Kind) (q : ℕ) → P kind c → EntriesFit kind q (entriesIn words)
-      → Left old start (itemsUnits c q (itemsAt (entriesIn words))) c kind room at (entriesFrom words n k)
+      → Left old start (itemsUnits c q (itemsAt (entriesIn words))) c kind room at (entriesLeft words n k)
 
 left-start : (old : List ℕ) (start : ℕ) (words : List ℕ) (n : ℕ) (c : Context) (kind : Kind) (q : ℕ) → n ≡ length words / 2
     → EntriesFit kind q (entriesIn words)
-    → Left old start (itemsUnits c q (itemsAt (entriesIn words))) c kind old start (entriesFrom words n 0)
+    → Left old start (itemsUnits c q (itemsAt (entriesIn words))) c kind old start (entriesLeft words n 0)
 unfolding entriesIn
 left-start old start words n c kind q e f =
     rw (sub-zero n, e) (record { power = q; fit = f; rest = rest-start old start _ })
@@ -162,7 +149,7 @@ module _ {P : Kind → Context → Type 0} {lent : Bool} {old : List ℕ} {start
       let g = entries-front words n k h in
       let d = inv .ready in
       let l = subst (Left old start (itemsUnits (d .context) (d .power) (itemsAt (entriesIn words))) (d .context) (d .kind) room at) g (inv .known) in
-      let b = left-short P lent e (entriesFrom words n (k + 1)) (d .subject) p l in
+      let b = left-short P lent e (entriesLeft words n (k + 1)) (d .subject) p l in
       record {
         small = inv .small;
         items = inv .items;
@@ -170,9 +157,9 @@ module _ {P : Kind → Context → Type 0} {lent : Bool} {old : List ℕ} {start
         short = omega (arith, b .0, inv .short);
         near = λ z. omega (arith, b .1 z, inv .near z);
         ready = d;
-        known = left-step P lent e (entriesFrom words n (k + 1)) (d .subject) p l;
+        known = left-step P lent e (entriesLeft words n (k + 1)) (d .subject) p l;
         left = λ c kind q i f.
-            left-step P lent e (entriesFrom words n (k + 1)) i p
+            left-step P lent e (entriesLeft words n (k + 1)) i p
             (subst (Left old start (itemsUnits c q (itemsAt (entriesIn words))) c kind room at) g (inv .left c kind q i f));
       }
 

@@ -2,23 +2,18 @@
 -- Assumes nothing.
 use mathlib.Core.Bool.{true}
 use mathlib.Core.List.{List}
-use Prim.Native.Nat.{ℕ, _/_}
+use Prim.Native.Nat.{ℕ}
 use lib.Dec.{T}
-use lib.ListN.{length}
 use Rattle.lists.specs.Lists.{every}
 use Rattle.formats.specs.Items.{Kind, dateKind, itemAllowed}
 use Rattle.formats.specs.Text.{Context}
-use Rattle.tables.specs.Words.{Entry, entriesAt}
+use Rattle.tables.specs.Words.{Entry, entriesIn}
 use Rattle.tables.specs.Decode.{itemsAt}
 use Rattle.tables.specs.Rules.{entryInRange, powersFrom}
 use Rattle.date_text.specs.declared.Moment.{Moment}
 use Rattle.date_text.specs.Moment.{MomentIs}
 use Rattle.section_text.specs.declared.Subject.{Subject}
 use Rattle.section_text.specs.Subject.{SubjectIs}
-
--- the entries of a section's item words
-unfoldable pub entriesIn : List ℕ → List Entry
-entriesIn words = entriesAt (length words / 2) words
 
 -- the entries are in range, a section of kind k may hold their items, and the places' powers run down from q
 pub record EntriesFit (k : Kind) (q : ℕ) (es : List Entry) : Type 0 where

@@ -9,6 +9,7 @@ ghost use Rattle.answers.specs.Number.{refusedShown};
 ghost use Rattle.formats.specs.Items.{Kind, dateKind, kindOf, integerPlaces};
 ghost use Rattle.formats.specs.Reading.{within};
 ghost use Rattle.formats.specs.Text.{Context, itemUnits, itemsUnits, placeUnits};
+ghost use Rattle.tables.specs.Words.{entriesIn};
 ghost use Rattle.tables.specs.Encode.{entry};
 ghost use Rattle.tables.specs.Decode.{itemAt, itemsAt};
 ghost use Rattle.tables.specs.Rules.{entryInRange, passes};
@@ -17,13 +18,15 @@ ghost use Rattle.writing.specs.Put.{Put};
 ghost use Rattle.date_text.specs.Moment.{MomentIs};
 ghost use Rattle.figure_text.specs.Shown.{FiguresAre, placeOfTag};
 ghost use Rattle.section_text.specs.Subject.{StandsFor, SubjectIs, EntryFits, ItemPut};
-ghost use Rattle.section_text.specs.Walk.{entriesIn, EntriesFit, Ready, DatedReady};
+ghost use Rattle.section_text.specs.Walk.{EntriesFit, Ready, DatedReady};
 ghost use Rattle.section_text.specs.Show.{signText, sectionReading, Shows};
 ghost use Rattle.section_text.specs.Place.{bodyStart, Known, DatedKnown};
 use answers::Answer;
 use answers::Shown;
 use date_text::Moment;
 use figure_text::Figures;
+use tables::heads;
+use tables::tags;
 
 // What a section's items are shown from, a date-time section's apart: a number's figures, in a number section those that its
 // places show, in others General's; `lent`: General and `@` stand for the text lent beside it.
@@ -79,16 +82,16 @@ fn put_item(
         → ItemPut (s .lent) (now (room .entry)) at (itemUnits c q (itemAt (entry tag argument))) r (now (room .exit))) ⌝ }
 {
     match tag {
-        1 => writing::put_unit(room, at, argument),
-        2 => writing::put_unit(room, at, 32),
-        3 => at,
-        4 => put_digit(room, at, tag, argument, digits, s.figures),
-        5 => put_digit(room, at, tag, argument, digits, s.figures),
-        6 => put_digit(room, at, tag, argument, digits, s.figures),
-        7 => figure_text::put_point(room, at, digits, s.figures),
-        8 => writing::put_unit(room, at, 37),
-        9 => put_standing(room, at, digits, s, text),
-        10 => put_standing(room, at, digits, s, text),
+        tags::LITERAL => writing::put_unit(room, at, argument),
+        tags::BLANK => writing::put_unit(room, at, 32),
+        tags::FILL => at,
+        tags::ZERO_PLACE => put_digit(room, at, tag, argument, digits, s.figures),
+        tags::HASH_PLACE => put_digit(room, at, tag, argument, digits, s.figures),
+        tags::SPACE_PLACE => put_digit(room, at, tag, argument, digits, s.figures),
+        tags::POINT => figure_text::put_point(room, at, digits, s.figures),
+        tags::PERCENT => writing::put_unit(room, at, 37),
+        tags::GENERAL => put_standing(room, at, digits, s, text),
+        tags::AT => put_standing(room, at, digits, s, text),
         _ => at,
     }
 }
@@ -237,10 +240,10 @@ pub fn items_start(table: &[u16], i: usize) -> usize
     requires { ⌜ T (passes (now table)) × (i < getD (now table) 0 0) ⌝ }
     ensures { λ r. ⌜ r ≡ bodyStart (now (table .entry)) i ⌝ }
 {
-    let mut start = 1 + 12 * choosing::section_count(table);
+    let mut start = 1 + heads::WORDS * choosing::section_count(table);
     let mut k: usize = 0;
     while k < i {
-        start += 2 * choosing::word(table, k, 11) as usize;
+        start += 2 * choosing::word(table, k, heads::ITEMS) as usize;
         k += 1;
     }
     start
@@ -252,12 +255,12 @@ fn put_dated_item(room: &mut [u16], at: usize, tag: u16, word: u16, m: Moment) -
     ensures { λ r. ⌜ ((c : Context) (q : ℕ) → MomentIs true m c → EntryFits dateKind q (entry tag word)
         → ItemPut false (now (room .entry)) at (itemUnits c q (itemAt (entry tag word))) r (now (room .exit))) ⌝ }
 {
-    if 10 < tag {
+    if tags::AT < tag {
         return date_text::put_moment_item(room, at, tag, word, m);
     }
     match tag {
-        1 => writing::put_unit(room, at, word),
-        2 => writing::put_unit(room, at, 32),
+        tags::LITERAL => writing::put_unit(room, at, word),
+        tags::BLANK => writing::put_unit(room, at, 32),
         _ => at,
     }
 }
@@ -317,9 +320,9 @@ pub fn show_dated_section(room: &mut [u16], table: &[u16], i: u16, m: Moment) ->
     ensures { λ r. ⌜ ((c : Context) → MomentIs true m c → c .integerPlaces ≡ integerPlaces (sectionIn (now (table .entry)) i .items)
         → Shows (sectionReading (length (now (room .entry))) (sectionIn (now (table .entry)) i) i false c) (now (room .entry)) r (now (room .exit))) ⌝ }
 {
-    let colour = choosing::word(table, i as usize, 1);
+    let colour = choosing::word(table, i as usize, heads::COLOUR);
     let start = items_start(table, i as usize);
-    let end = start + 2 * choosing::word(table, i as usize, 11) as usize;
+    let end = start + 2 * choosing::word(table, i as usize, heads::ITEMS) as usize;
     show_dated_items(room, &table[start..end], m, colour, i)
 }
 
@@ -339,8 +342,8 @@ pub fn show_section(
         → c .integerPlaces ≡ integerPlaces (sectionIn (now (table .entry)) i .items)
         → Shows (sectionReading (length (now (room .entry))) (sectionIn (now (table .entry)) i) i minus c) (now (room .entry)) r (now (room .exit))) ⌝ }
 {
-    let colour = choosing::word(table, i as usize, 1);
+    let colour = choosing::word(table, i as usize, heads::COLOUR);
     let start = items_start(table, i as usize);
-    let end = start + 2 * choosing::word(table, i as usize, 11) as usize;
+    let end = start + 2 * choosing::word(table, i as usize, heads::ITEMS) as usize;
     show_items(room, minus, &table[start..end], digits, s, text, colour, i)
 }

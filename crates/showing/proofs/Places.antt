@@ -14,15 +14,14 @@ use Rattle.lists.proofs.Bools.{and-left, and-right, every-head, every-tail, by-
 use Rattle.formats.specs.Items.{Item, Section, isPlace, isPoint, integerPlaces}
 use Rattle.formats.specs.Where.{implies}
 use Rattle.formats.specs.Text.{digitAfter}
-use Rattle.tables.specs.Words.{Entry, entriesAt}
+use Rattle.tables.specs.Words.{Entry, entriesAt, entriesIn}
 use Rattle.tables.specs.Encode.{entry}
 use Rattle.tables.specs.Decode.{itemAt, itemsAt}
 use Rattle.tables.specs.Rules.{entryInRange, powersFrom, passes}
+use Rattle.tables.proofs.Words.{entriesLeft, entries-front}
 use Rattle.tables.proofs.BackEntries.{span-at, tag-known}
 use Rattle.choosing.specs.Seeking.{sectionIn, wordIn}
-use Rattle.section_text.specs.Walk.{entriesIn}
 use Rattle.section_text.specs.Place.{bodyStart}
-use Rattle.section_text.proofs.Walking.{entriesFrom, entries-front}
 use Rattle.section_text.proofs.Bodies.{Fits, partOf, part-fits}
 use Rattle.showing.specs.Number.{firstArgument}
 
@@ -68,8 +67,8 @@ places-told s es f =
     first-is (integerPlaces (s .items)) es (f .fit .inRange) (f .fit .powers) (λ y. ap integerPlaces (f .items) ∙ y)
 
 -- ---- the loop over the item words, before item k
-front : (words : List ℕ) (n k : ℕ) → k < n → firstArgument (entriesFrom words n k)
-    ≡ cond (between 4 6 (getD words (2 * k) 0)) (getD words (2 * k + 1) 0) (firstArgument (entriesFrom words n (k + 1)))
+front : (words : List ℕ) (n k : ℕ) → k < n → firstArgument (entriesLeft words n k)
+    ≡ cond (between 4 6 (getD words (2 * k) 0)) (getD words (2 * k + 1) 0) (firstArgument (entriesLeft words n (k + 1)))
 unfolding firstArgument
 front words n k h = ap firstArgument (entries-front words n k h)
 
@@ -77,7 +76,7 @@ front words n k h = ap firstArgument (entries-front words n k h)
 pub record Seeking (words : List ℕ) (n k : ℕ) : Type 0 where
   pub items : n ≡ length words / 2
   pub inside : k ≤ n
-  pub same : firstArgument (entriesIn words) ≡ firstArgument (entriesFrom words n k)
+  pub same : firstArgument (entriesIn words) ≡ firstArgument (entriesLeft words n k)
 
 pub seeking-start : (words : List ℕ) (n : ℕ) → n ≡ length words / 2 → Seeking words n 0
 unfolding entriesIn

@@ -5,12 +5,12 @@ use native.Mathlib.Omega.{arith}
 use mathlib.Core.Path.{_≡_, refl, sym, ap, subst, _∙_}
 use mathlib.Core.Bool.{Bool, true, false, cond, _||_, true≢false}
 use mathlib.Core.List.{List}
-use lib.Dec.{T, leb, eqb, leb→le, eqb→eq}
+use lib.Dec.{T, leb, eqb, eqb→eq}
 use lib.ListN.{length, getD}
 use Rattle.answers.specs.declared.Shown.{Shown}
 use Rattle.values.specs.declared.Number.{Number}
 use Rattle.lists.specs.Lists.{count}
-use Rattle.lists.proofs.Bools.{and-left, and-right}
+use Rattle.lists.proofs.Bools.{and-right}
 use Rattle.figures.specs.declared.Signed.{Signed}
 use Rattle.figures.specs.declared.Rounded.{Rounded}
 use Rattle.figures.specs.Digits.{figures}
@@ -23,10 +23,11 @@ use Rattle.formats.specs.Items.{Section, Kind, numberKind, sameKind, kindOf, is
 use Rattle.formats.specs.Choice.{Reason, chosen}
 use Rattle.formats.specs.Text.{Context}
 use Rattle.formats.specs.Reading.{takesNumber, showsGeneral, sectionRounded, numberContext, showsNought, numberUnits, within, readNumber}
-use Rattle.tables.specs.Words.{Head, Row, rowsIn}
+use Rattle.tables.specs.Words.{Row, rowsIn}
 use Rattle.tables.specs.Encode.{decimalsWord}
 use Rattle.tables.specs.Decode.{groupedAt, thousandsAt, sectionAt}
-use Rattle.tables.specs.Rules.{headInRange, shiftTells, shiftFits, decimalsFit, passes}
+use Rattle.tables.specs.Rules.{shiftTells, shiftFits, decimalsFit, passes}
+use Rattle.tables.proofs.Ranges.{head-ranges}
 use Rattle.tables.proofs.Back.{RowFacts, row-facts}
 use Rattle.choosing.specs.Seeking.{sectionIn, wordIn}
 use Rattle.choosing.proofs.Places.{Placed, noRow, row-placed, section-row, row-fits}
@@ -49,14 +50,6 @@ pub record NumberWords (shift flags decimals : ℕ) (s : Section) : Type 0 where
   pub places : decimals ≡ decimalPlaces (s .items)
   pub groups : eqb (flags % 2) 1 ≡ s .grouped
 
-record Most (h : Head) : Type 0 where
-  shift : h .shift ≤ 25
-  decimals : h .decimals ≤ 15
-
-head-most : (h : Head) → T (headInRange h) → Most h
-unfolding headInRange
-head-most h t = search (and-left, and-right, leb→le) depth 16
-
 net-told : (b : Bool) (shift p : ℕ) → b ≡ true → T (cond b (shiftTells shift p) (eqb shift 0)) → shift + 3 * cond b (thousandsAt shift p) 0 ≡ 15 + 2 * p
 unfolding shiftTells
 net-told true shift p e t =
@@ -66,7 +59,7 @@ net-told false shift p e t = absurd (true≢false (sym e))
 row-words : (r : Row) → RowFacts r → kindOf (sectionAt r) ≡ numberKind → NumberWords (r .head .shift) (r .head .flags) (r .head .decimals) (sectionAt r)
 unfolding shiftFits decimalsFit decimalsWord kindOf sectionAt groupedAt
 row-words r f e =
-    let m = head-most (r .head) (f .head) in
+    let m = head-ranges (r .head) (f .head) in
     let k : sameKind (kindOf (sectionAt r)) numberKind ≡ true = rw e in
     record {
       shiftMost = m .shift;

@@ -13,7 +13,7 @@ use Rattle.answers.specs.declared.Answer.the-variants as answer
 use Rattle.answers.specs.declared.Shown.{Shown}
 use Rattle.answers.specs.Number.{refusedShown}
 use Rattle.lists.specs.Lists.{isSome}
-use Rattle.lists.proofs.Bools.{and-left, and-right, true-T, by-cases, cond-case}
+use Rattle.lists.proofs.Bools.{and-left, and-right, implied, true-T, by-cases, cond-case}
 use Rattle.lists.proofs.First.{pass-all}
 use Rattle.formats.specs.Items.{Kind, textKind, generalKind, dateKind, numberKind, literalKind, sameKind, kindOf, Section, integerPlaces}
 use Rattle.formats.specs.Where.{implies, isText, standsAt}
@@ -22,13 +22,13 @@ use Rattle.formats.specs.Choice.{TextChoice, itself, textIn, fourthFrom, textFr
 use Rattle.formats.specs.Reading.{textContext, within, readText}
 use Rattle.tables.specs.Decode.{decode}
 use Rattle.tables.specs.Rules.{passes}
-use Rattle.tables.proofs.BackHead.{implied}
 use Rattle.writing.specs.Put.{Put}
 use Rattle.writing.proofs.Laws.{put-out}
 use Rattle.figure_text.specs.declared.Figures.{Figures}
 use Rattle.choosing.specs.declared.TextFound.the-variants as found
 use Rattle.choosing.specs.Seeking.{noSection, textFoundOf, sectionIn}
-use Rattle.choosing.proofs.Places.{passing, sections-length}
+use Rattle.tables.proofs.Promise.{passing}
+use Rattle.choosing.proofs.Places.{sections-length}
 use Rattle.choosing.proofs.Finding.{text-itself, text-at}
 use Rattle.section_text.specs.declared.Subject.{Subject}
 use Rattle.section_text.specs.Subject.{StandsFor, SubjectIs}

@@ -13,12 +13,12 @@ ghost use Rattle.formats.specs.Minus.{isOwn};
 ghost use Rattle.values.specs.declared.Number.{Number};
 ghost use Rattle.values.specs.Ranges.{numberInRange, instantInRange, textInRange};
 ghost use Rattle.answers.specs.declared.Answer.the-variants as answer;
+ghost use Rattle.tables.specs.Words.{entriesIn};
 ghost use Rattle.tables.specs.Decode.{decode};
 ghost use Rattle.tables.specs.Rules.{passes};
 ghost use Rattle.tables.specs.Calls.{showing, roomAfter};
 ghost use Rattle.choosing.specs.Seeking.{instantSought, sectionIn};
 ghost use Rattle.section_text.specs.Show.{Shows};
-ghost use Rattle.section_text.specs.Walk.{entriesIn};
 ghost use Rattle.showing.specs.Minus.{minusTold, minusIn};
 ghost use Rattle.showing.specs.Number.{sectionNumber, firstArgument};
 ghost use Rattle.showing.specs.Sought.{signedSought};
@@ -35,6 +35,10 @@ use section_text::Subject;
 use section_text::refuse;
 use section_text::show_dated_section;
 use section_text::show_section;
+use tables::flags;
+use tables::heads;
+use tables::kinds;
+use tables::tags;
 use values::Ask;
 use values::Day;
 use values::Millisecond;
@@ -66,13 +70,13 @@ fn show_instant_in(
     ensures { λ r. ⌜ ((why : Reason) → Shows (readInstant d m (length (now (room .entry))) (chosen i (sectionIn (now (table .entry)) i) why))
         (now (room .entry)) r (now (room .exit))) ⌝ }
 {
-    let kind = choosing::word(table, i as usize, 0);
-    if kind == 4 {
-        let flags = choosing::word(table, i as usize, 9);
-        let moment = date_text::moment_of(true, 3 < flags, d, m);
+    let kind = choosing::word(table, i as usize, heads::KIND);
+    if kind == kinds::DATE_TIME {
+        let flags = choosing::word(table, i as usize, heads::FLAGS);
+        let moment = date_text::moment_of(true, flags::TWELVE_HOUR <= flags, d, m);
         return show_dated_section(room, table, i, moment);
     }
-    if kind == 0 {
+    if kind == kinds::LITERAL {
         let digits = [0; 40];
         let s = Subject {
             figures: no_figures(),
@@ -164,7 +168,7 @@ fn added_minus(table: &[u16], i: u16, own: bool, negative: bool, nought: bool) -
     requires { ⌜ T (passes (now table)) × (i < getD (now table) 0 0) ⌝ }
     ensures { λ r. ⌜ r ≡ minusIn (now (table .entry)) i own negative nought ⌝ }
 {
-    let items = choosing::word(table, i as usize, 11);
+    let items = choosing::word(table, i as usize, heads::ITEMS);
     let excepted = choosing::no_minus(table, i, own);
     has_minus(negative, items, excepted, nought)
 }
@@ -229,7 +233,7 @@ fn first_argument(items: &[u16]) -> u16
     while k < n {
         let i = 2 * k;
         let tag = items[i];
-        if (4 <= tag) & (tag <= 6) {
+        if (tags::ZERO_PLACE <= tag) & (tag <= tags::SPACE_PLACE) {
             return items[i + 1];
         }
         k += 1;
@@ -243,7 +247,7 @@ fn integer_places(table: &[u16], i: usize) -> u32
     ensures { λ r. ⌜ r ≡ integerPlaces (sectionIn (now (table .entry)) i .items) ⌝ }
 {
     let start = section_text::items_start(table, i);
-    let end = start + 2 * choosing::word(table, i, 11) as usize;
+    let end = start + 2 * choosing::word(table, i, heads::ITEMS) as usize;
     first_argument(&table[start..end]) as u32 - 15
 }
 
@@ -260,8 +264,8 @@ fn number_digits(table: &[u16], i: usize, v: Signed) -> [u8; 40]
         × (kindOf (sectionIn (now table) i) ≡ numberKind) ⌝ }
     ensures { λ r. ⌜ r ≡ figures (sectionNumber (sectionIn (now (table .entry)) i) (v .magnitude) (v .scale)) ⌝ }
 {
-    let shift = choosing::word(table, i, 8) as u32;
-    let decimals = choosing::word(table, i, 10) as u32;
+    let shift = choosing::word(table, i, heads::SHIFT) as u32;
+    let decimals = choosing::word(table, i, heads::DECIMALS) as u32;
     let up = excess(shift, 15);
     let down = v.scale + excess(15, shift);
     let rounded = figures::round([0; 40], v.magnitude, up, down, decimals);
@@ -285,9 +289,9 @@ fn show_figures(
 {
     let digits = number_digits(table, i as usize, v);
     let integers = integer_places(table, i as usize);
-    let flags = choosing::word(table, i as usize, 9);
+    let flags = choosing::word(table, i as usize, heads::FLAGS);
     let s = Subject {
-        figures: figures_of(digits, integers, flags % 2 == 1),
+        figures: figures_of(digits, integers, flags % 2 == flags::GROUPING),
         lent: false,
     };
     let minus = added_minus(table, i, own, v.negative, s.figures.used == 0);
@@ -308,11 +312,11 @@ fn show_number_in(
         → Shows (readNumber (decode (now (table .entry))) x (length (now (room .entry))) (chosen i (sectionIn (now (table .entry)) i) why))
         (now (room .entry)) r (now (room .exit))) ⌝ }
 {
-    let kind = choosing::word(table, i as usize, 0);
+    let kind = choosing::word(table, i as usize, heads::KIND);
     match kind {
-        0 => show_literal(room, table, i, own, v, text),
-        2 => show_figures(room, table, i, own, v, text),
-        4 => refuse(Answer::Sort),
+        kinds::LITERAL => show_literal(room, table, i, own, v, text),
+        kinds::NUMBER => show_figures(room, table, i, own, v, text),
+        kinds::DATE_TIME => refuse(Answer::Sort),
         _ => show_general(room, table, i, own, v, text),
     }
 }

@@ -5,9 +5,9 @@ use mathlib.Core.Path.{_≡_, refl, sym, _∙_}
 use mathlib.Core.Bool.{Bool, true, false, cond, _||_}
 use mathlib.Core.List.{List, [], _∷_, map}
 use lib.ListN.{length}
-use lib.Dec.{T, eqb, eqb→eq}
+use lib.Dec.{T, eqb, eqb→eq, le→leb}
 use Rattle.lists.specs.Lists.{every, count}
-use Rattle.lists.proofs.Bools.{and-left, and-right, and-in, every-head, every-tail, every-cons}
+use Rattle.lists.proofs.Bools.{and-left, and-right, and-in, nought-unless, every-head, every-tail, every-cons}
 use Rattle.formats.specs.Items.{numberKind, sameKind, kindOf, itemsKind, isPercent, itemsFit, integerPlaces}
 use Rattle.formats.specs.Limits.{sectionWithin}
 use Rattle.formats.specs.WellFormed.{itemInRange, conditionInRange, oneFill, partsFollow, isSettled, groupingFits, dividingFits, sectionFormed}
@@ -16,8 +16,9 @@ use Rattle.tables.specs.Encode.{shiftWord, headOf, entriesOf, rowOf, row
 use Rattle.tables.specs.Decode.{wholeAt, millionthsAt, itemsAt, thousandsAt, sectionAt}
 use Rattle.tables.specs.Rules.{headInRange, entryInRange, rowInRange, conditionFits, powersRunDown, shiftFits, kindFits, decimalsFit, flagsFit, flagsFrom, rowFits}
 use Rattle.tables.proofs.Words.{Counted}
+use Rattle.tables.proofs.Ranges.{HeadRanges, head-ranges}
 use Rattle.tables.proofs.BackEntries.{entries-back, items-ranged, items-length}
-use Rattle.tables.proofs.BackHead.{HeadFacts, head-facts, condition-facts, ConditionBack, condition-back, condition-ranged, low-back, high-back, shift-back}
+use Rattle.tables.proofs.BackHead.{condition-facts, ConditionBack, condition-back, condition-ranged, low-back, high-back, shift-back}
 
 -- the rules for one row as facts
 pub record RowFacts (r : Row) : Type 0 where
@@ -82,8 +83,8 @@ head-back n i firstHas r f g counted =
     (sym (eqb→eq (r .head .decimals) _ (f .decimals)))
     (items-length (r .entries) ∙ sym counted)
   where
-    h : HeadFacts (r .head)
-    h = head-facts (r .head) (f .head)
+    h : HeadRanges (r .head)
+    h = head-ranges (r .head) (f .head)
 
     c : ConditionBack (r .head) (sectionAt r .condition)
     c = condition-back (r .head) h (condition-facts (r .head) (f .condition))
@@ -101,21 +102,19 @@ row-back n i firstHas r t g counted =
 dividing : (r : Row) → T (dividingFits (sectionAt r))
 unfolding dividingFits sectionAt kindOf
 dividing r =
-    only (sameKind (itemsKind (itemsAt (r .entries))) numberKind) (thousandsAt (r .head .shift) (count isPercent (itemsAt (r .entries))))
-  where
-    only : (isNumber : Bool) (thousands : ℕ) → T (isNumber || eqb (cond isNumber thousands 0) 0)
-    only true thousands = tt
-    only false thousands = tt
+    nought-unless (sameKind (itemsKind (itemsAt (r .entries))) numberKind)
+    (thousandsAt (r .head .shift) (count isPercent (itemsAt (r .entries))))
 
 pub section-formed : (r : Row) → T (rowFits r) → T (sectionFormed (sectionAt r))
 unfolding sectionFormed sectionAt
 section-formed r t =
     let f : RowFacts r = row-facts r t in
-    let h : HeadFacts (r .head) = head-facts (r .head) (f .head) in
+    let h : HeadRanges (r .head) = head-ranges (r .head) (f .head) in
     let condition : T (conditionInRange (sectionAt r .condition)) =
     condition-ranged (r .head) h (condition-facts (r .head) (f .condition)) in
     let ranged : T (every itemInRange (sectionAt r .items)) = items-ranged (r .entries) (f .entries) in
     let divides : T (dividingFits (sectionAt r)) = dividing r in
+    let colour = le→leb (r .head .colour) 56 (h .colour) in
     search and-in depth 12
 
 pub rows-back : (n i : ℕ) (firstHas : Bool) (rs : List Row) → Counted rs → T (every rowFits rs) → T (flagsFrom n i firstHas rs)

@@ -5,7 +5,7 @@ use native.Mathlib.Omega.{arith}
 use mathlib.Core.Path.{_≡_, refl, ap}
 use mathlib.Core.Bool.{Bool}
 use mathlib.Core.List.{List, [], _∷_}
-use lib.ListN.{length}
+use lib.ListN.{length, length-map}
 use lib.Dec.{T, eqb, leb→le, eqb→eq}
 use borrow.Author.Tests.{eqb-true, eqb-false}
 use Rattle.values.specs.Ranges.{between}
@@ -24,6 +24,9 @@ use Rattle.tables.specs.Rules.{entryInRange, powersFrom}
 abbrev pub Span : (ℕ → Type 0) → ℕ → ℕ → Type 0
 Span P k zero = Unit {0}
 Span P k (suc n) = P k × Span P (suc k) n
+
+pub also : {A B : Type 0} → A → B → A × B
+also a b = (a, b)
 
 -- a number between two bounds is one of those between them
 pub span-at : (P : ℕ → Type 0) (k n t : ℕ) → Span P k n → k ≤ t → t < k + n → P t
@@ -79,67 +82,13 @@ powerFits q e = implies (isPlace (itemAt e)) (eqb (e .argument) (suc q))
 pub entry-back : (q : ℕ) (e : Entry) → T (entryInRange e) → T (powerFits q e) → entryOf q (itemAt e) ≡ e
 unfolding entryInRange itemAt entryOf placeTag elapsedTag
 entry-back q =
-    by-tag (λ e. T (powerFits q e) → entryOf q (itemAt e) ≡ e) (
-      (λ a r f. refl),
-      (
-        (λ a r f. refl),
-        (
-          (λ a r f. refl),
-          (
-            (λ a r f. rw (eqb→eq a (suc q) f)),
-            (
-              (λ a r f. rw (eqb→eq a (suc q) f)),
-              (
-                (λ a r f. rw (eqb→eq a (suc q) f)),
-                (
-                  (λ a r f. rw (eqb→eq a 0 r)),
-                  (
-                    (λ a r f. rw (eqb→eq a 0 r)),
-                    (
-                      (λ a r f. rw (eqb→eq a 0 r)),
-                      (
-                        (λ a r f. rw (eqb→eq a 0 r)),
-                        (
-                          (λ a r f. refl),
-                          (
-                            (λ a r f. refl),
-                            (
-                              (λ a r f. refl),
-                              (
-                                (λ a r f. refl),
-                                (
-                                  (λ a r f. refl),
-                                  (
-                                    (λ a r f. refl),
-                                    (
-                                      (λ a r f. refl),
-                                      (
-                                        (λ a r f. refl),
-                                        (
-                                          (λ a r f. refl),
-                                          (
-                                            (λ a r f. refl),
-                                            ((λ a r f. rw (half-back a r)), tt),
-                                          ),
-                                        ),
-                                      ),
-                                    ),
-                                  ),
-                                ),
-                              ),
-                            ),
-                          ),
-                        ),
-                      ),
-                    ),
-                  ),
-                ),
-              ),
-            ),
-          ),
-        ),
-      ),
-    )
+    by-tag (λ e. T (powerFits q e) → entryOf q (itemAt e) ≡ e)
+    (also (λ a r f. refl) (also (λ a r f. refl) (also (λ a r f. refl)
+    (also (λ a r f. rw (eqb→eq a (suc q) f)) (also (λ a r f. rw (eqb→eq a (suc q) f)) (also (λ a r f. rw (eqb→eq a (suc q) f))
+    (also (λ a r f. rw (eqb→eq a 0 r)) (also (λ a r f. rw (eqb→eq a 0 r)) (also (λ a r f. rw (eqb→eq a 0 r)) (also (λ a r f. rw (eqb→eq a 0 r))
+    (also (λ a r f. refl) (also (λ a r f. refl) (also (λ a r f. refl) (also (λ a r f. refl) (also (λ a r f. refl)
+    (also (λ a r f. refl) (also (λ a r f. refl) (also (λ a r f. refl) (also (λ a r f. refl) (also (λ a r f. refl)
+    (also (λ a r f. rw (half-back a r)) tt)))))))))))))))))))))
 
 pub entries-back : (q : ℕ) (es : List Entry) → T (every entryInRange es) → T (powersFrom q es) → entriesFrom q (itemsAt es) ≡ es
 unfolding powersFrom entriesFrom itemsAt
@@ -155,67 +104,11 @@ entries-back q (e ∷ es) r f =
 pub item-ranged : (e : Entry) → T (entryInRange e) → T (itemInRange (itemAt e))
 unfolding entryInRange itemAt itemInRange
 item-ranged =
-    by-tag (λ e. T (itemInRange (itemAt e))) (
-      (λ a r. r),
-      (
-        (λ a r. r),
-        (
-          (λ a r. r),
-          (
-            (λ a r. tt),
-            (
-              (λ a r. tt),
-              (
-                (λ a r. tt),
-                (
-                  (λ a r. tt),
-                  (
-                    (λ a r. tt),
-                    (
-                      (λ a r. tt),
-                      (
-                        (λ a r. tt),
-                        (
-                          (λ a r. r),
-                          (
-                            (λ a r. r),
-                            (
-                              (λ a r. r),
-                              (
-                                (λ a r. r),
-                                (
-                                  (λ a r. r),
-                                  (
-                                    (λ a r. r),
-                                    (
-                                      (λ a r. r),
-                                      (
-                                        (λ a r. r),
-                                        (
-                                          (λ a r. r),
-                                          (
-                                            (λ a r. r),
-                                            ((λ a r. tt), tt),
-                                          ),
-                                        ),
-                                      ),
-                                    ),
-                                  ),
-                                ),
-                              ),
-                            ),
-                          ),
-                        ),
-                      ),
-                    ),
-                  ),
-                ),
-              ),
-            ),
-          ),
-        ),
-      ),
-    )
+    by-tag (λ e. T (itemInRange (itemAt e)))
+    (also (λ a r. r) (also (λ a r. r) (also (λ a r. r)
+    (also (λ a r. tt) (also (λ a r. tt) (also (λ a r. tt) (also (λ a r. tt) (also (λ a r. tt) (also (λ a r. tt) (also (λ a r. tt)
+    (also (λ a r. r) (also (λ a r. r) (also (λ a r. r) (also (λ a r. r) (also (λ a r. r) (also (λ a r. r) (also (λ a r. r) (also (λ a r. r) (also (λ a r. r) (also (λ a r. r)
+    (also (λ a r. tt) tt)))))))))))))))))))))
 
 pub items-ranged : (es : List Entry) → T (every entryInRange es) → T (every itemInRange (itemsAt es))
 unfolding itemsAt every
@@ -226,5 +119,4 @@ items-ranged (e ∷ es) r =
 
 pub items-length : (es : List Entry) → length (itemsAt es) ≡ length es
 unfolding itemsAt
-items-length [] = refl
-items-length (e ∷ es) = ap suc (items-length es)
+items-length es = length-map es itemAt

@@ -7,38 +7,16 @@ use mathlib.Core.Bool.{Bool, true, false, cond, _&&_}
 use mathlib.Core.Option.{Option, none, some}
 use lib.Dec.{T, leb, ltb, eqb, leb→le, lt→ltb, eqb→eq}
 use borrow.Author.Tests.{eqb-true, eqb-false}
-use Rattle.lists.proofs.Bools.{and-left, and-right, and-in, by-cases, cond-case}
+use Rattle.lists.proofs.Bools.{and-left, and-right, and-in, implied, implies-in, by-cases, cond-case}
 use Rattle.formats.specs.Items.{Condition}
 use Rattle.formats.specs.Where.{implies}
 use Rattle.formats.specs.WellFormed.{conditionInRange}
 use Rattle.tables.specs.Words.{Head}
 use Rattle.tables.specs.Encode.{comparisonWord, operatorWord, bit, negativeWord, wholePart, millionthsPart, lowWord, highWord}
 use Rattle.tables.specs.Decode.{comparisonAt, twoWords, wholeAt, millionthsAt, conditionAt, thousandsAt}
-use Rattle.tables.specs.Rules.{headInRange, conditionFits, shiftTells}
+use Rattle.tables.specs.Rules.{conditionFits, shiftTells}
+use Rattle.tables.proofs.Ranges.{HeadRanges}
 use Rattle.tables.proofs.BackEntries.{span-at}
-
--- the ranges that the condition's words and the colour are in
-pub record HeadFacts (h : Head) : Type 0 where
-  pub colour : T (leb (h .colour) 56)
-  pub operator : h .operator ≤ 6
-  pub negative : h .negative ≤ 1
-  pub wholeLow : h .wholeLow < 65536
-  pub wholeMost : wholeAt h ≤ 999999999
-  pub millionthsLow : h .millionthsLow < 65536
-  pub millionthsMost : millionthsAt h ≤ 999999
-
-pub head-facts : (h : Head) → T (headInRange h) → HeadFacts h
-unfolding headInRange
-head-facts h t = search (and-left, and-right, leb→le) depth 16
-
--- out of and into "where the first is so, the second must be"
-pub implied : (a b : Bool) → T (implies a b) → T a → T b
-implied true b t u = t
-implied false b t u = absurd u
-
-pub implies-in : (a b : Bool) → (a ≡ true → T b) → T (implies a b)
-implies-in true b f = f refl
-implies-in false b f = tt
 
 -- with no comparison there is no number, and with no number no sign
 pub record ConditionFacts (h : Head) : Type 0 where
@@ -91,7 +69,7 @@ pub record ConditionBack (h : Head) (c : Option Condition) : Type 0 where
   pub whole : wholePart c ≡ wholeAt h
   pub millionths : millionthsPart c ≡ millionthsAt h
 
-pub condition-back : (h : Head) → HeadFacts h → ConditionFacts h → ConditionBack h (conditionAt h)
+pub condition-back : (h : Head) → HeadRanges h → ConditionFacts h → ConditionBack h (conditionAt h)
 unfolding conditionAt operatorWord negativeWord wholePart millionthsPart
 condition-back h f c =
     cond-case (ConditionBack h) (eqb (h .operator) 0)
@@ -105,8 +83,8 @@ condition-back h f c =
     (λ e. record {
       operator = comparison-back (h .operator) (positive (eqb-false (h .operator) 0 e)) (f .operator);
       negative = bit-back (h .negative) (f .negative);
-      whole = whole-back (wholeAt h) (millionthsAt h) (f .millionthsMost);
-      millionths = millionths-back (wholeAt h) (millionthsAt h) (f .millionthsMost);
+      whole = whole-back (wholeAt h) (millionthsAt h) (f .millionths);
+      millionths = millionths-back (wholeAt h) (millionthsAt h) (f .millionths);
     })
   where
     positive : (h .operator ≡ 0 → ⊥) → 1 ≤ h .operator
@@ -118,13 +96,13 @@ condition-back h f c =
     millionths-back : (w m : ℕ) → m ≤ 999999 → (w * 10 ^ 6 + m) % 10 ^ 6 ≡ m
     millionths-back w m most = omega arith
 
-pub condition-ranged : (h : Head) → HeadFacts h → ConditionFacts h → T (conditionInRange (conditionAt h))
+pub condition-ranged : (h : Head) → HeadRanges h → ConditionFacts h → T (conditionInRange (conditionAt h))
 unfolding conditionAt conditionInRange
 condition-ranged h f c =
     cond-case (λ k. T (conditionInRange k)) (eqb (h .operator) 0) (λ _. tt)
     (λ _.
     let bound : T (ltb number (10 ^ 15)) =
-    lt→ltb number (10 ^ 15) (below (wholeAt h) (millionthsAt h) (f .wholeMost) (f .millionthsMost)) in
+    lt→ltb number (10 ^ 15) (below (wholeAt h) (millionthsAt h) (f .whole) (f .millionths)) in
     let sign : T (implies (eqb (h .negative) 1) (ltb 0 number)) =
     implies-in (eqb (h .negative) 1) (ltb 0 number)
     (λ e. lt→ltb 0 number (positive (wholeAt h) (millionthsAt h) (h .negative) (c .unsigned) (eqb-true (h .negative) 1 e))) in

@@ -1,8 +1,11 @@
 pub mod Evaluate
 pub mod Cases
+pub mod Each
 pub mod Words
+pub mod Ranges
 pub mod MadeItems
 pub mod MadeHeads
+pub mod Standing
 pub mod Made
 pub mod BackEntries
 pub mod BackHead

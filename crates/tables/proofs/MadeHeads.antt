@@ -3,13 +3,13 @@
 use Prim.Native.Nat.{ℕ, _+_, _-_, _*_, _/_, _%_, _^_, _≤_, _<_}
 use native.Mathlib.Omega.{arith}
 use mathlib.Core.Path.{_≡_, refl}
-use mathlib.Core.Bool.{Bool, true, false, _&&_}
+use mathlib.Core.Bool.{Bool, true, false, not, _&&_}
 use mathlib.Core.Option.{Option, none, some}
 use lib.ListN.{length}
 use lib.Dec.{T, leb, ltb, eqb, leb→le, le→leb, ltb→lt, eqb→eq, eqb-refl}
-use Rattle.lists.specs.Lists.{every, count}
+use Rattle.lists.specs.Lists.{every, count, isSome}
 use Rattle.lists.proofs.Bools.{and-left, and-right, and-in, true-T, by-cases}
-use Rattle.formats.specs.Tokens.{Comparison, equal, less, greater, atMost, atLeast, unequal}
+use Rattle.formats.specs.Tokens.{Comparison}
 use Rattle.formats.specs.Items.{Condition, Section, Kind, textKind, generalKind, dateKind, numberKind, literalKind, sameKind, kindOf, itemsFit, isPercent, integerPlaces, decimalPlaces}
 use Rattle.formats.specs.Where.{implies}
 use Rattle.formats.specs.Limits.{sectionWithin}
@@ -18,6 +18,8 @@ use Rattle.tables.specs.Words.{Head}
 use Rattle.tables.specs.Encode.{kindWord, comparisonWord, operatorWord, bit, negativeWord, wholePart, millionthsPart, lowWord, highWord, shiftWord, flagsWord, noMinus, hasHalf, decimalsWord, headOf}
 use Rattle.tables.specs.Decode.{comparisonAt, twoWords, wholeAt, millionthsAt, conditionAt, groupedAt, thousandsAt}
 use Rattle.tables.specs.Rules.{headInRange, conditionFits, shiftTells}
+use Rattle.tables.proofs.Each.{by-kind, by-comparison}
+use Rattle.tables.proofs.Ranges.{head-in-ranges}
 
 -- what a section that is formed keeps to
 pub record Formed (s : Section) : Type 0 where
@@ -62,37 +64,29 @@ high-word n h = omega arith
 -- the condition
 comparison-back : (c : Comparison) → comparisonAt (comparisonWord c) ≡ c
 unfolding comparisonAt comparisonWord
-comparison-back equal = refl
-comparison-back less = refl
-comparison-back greater = refl
-comparison-back atMost = refl
-comparison-back atLeast = refl
-comparison-back unequal = refl
+comparison-back = by-comparison (λ c. comparisonAt (comparisonWord c) ≡ c) refl refl refl refl refl refl
 
 comparison-some : (c : Comparison) → eqb (comparisonWord c) 0 ≡ false
 unfolding comparisonWord
-comparison-some equal = refl
-comparison-some less = refl
-comparison-some greater = refl
-comparison-some atMost = refl
-comparison-some atLeast = refl
-comparison-some unequal = refl
+comparison-some = by-comparison (λ c. eqb (comparisonWord c) 0 ≡ false) refl refl refl refl refl refl
+
+-- the operator word tells whether there is a condition
+pub operator-some : (o : Option Condition) → not (eqb (operatorWord o) 0) ≡ isSome o
+unfolding operatorWord isSome
+operator-some none = refl
+operator-some (some c) = rw (comparison-some (c .comparison))
 
 comparison-most : (c : Comparison) → comparisonWord c ≤ 6
 unfolding comparisonWord
-comparison-most equal = omega arith
-comparison-most less = omega arith
-comparison-most greater = omega arith
-comparison-most atMost = omega arith
-comparison-most atLeast = omega arith
-comparison-most unequal = omega arith
+comparison-most =
+    by-comparison (λ c. comparisonWord c ≤ 6) (omega arith) (omega arith) (omega arith) (omega arith) (omega arith) (omega arith)
 
 bit-most : (b : Bool) → bit b ≤ 1
 unfolding bit
 bit-most true = omega arith
 bit-most false = omega arith
 
-bit-back : (b : Bool) → eqb (bit b) 1 ≡ b
+pub bit-back : (b : Bool) → eqb (bit b) 1 ≡ b
 unfolding bit
 bit-back true = refl
 bit-back false = refl
@@ -161,13 +155,20 @@ decimals-most : (s : Section) → Within s → decimalsWord s ≤ 15
 unfolding decimalsWord
 decimals-most s w = by-cases (sameKind (kindOf s) numberKind) (λ e. rw e (omega arith)) (λ e. rw e (omega arith))
 
+-- the kind word tells the kind
+abbrev SameWord : Kind → Kind → Type 0
+SameWord k j = eqb (kindWord k) (kindWord j) ≡ sameKind k j
+
+pub kind-word : (k j : Kind) → eqb (kindWord k) (kindWord j) ≡ sameKind k j
+unfolding kindWord
+kind-word =
+    by-kind (λ k. (j : Kind) → SameWord k j) (by-kind (SameWord textKind) refl refl refl refl refl)
+    (by-kind (SameWord generalKind) refl refl refl refl refl) (by-kind (SameWord dateKind) refl refl refl refl refl)
+    (by-kind (SameWord numberKind) refl refl refl refl refl) (by-kind (SameWord literalKind) refl refl refl refl refl)
+
 kind-most : (k : Kind) → kindWord k ≤ 4
 unfolding kindWord
-kind-most textKind = omega arith
-kind-most generalKind = omega arith
-kind-most dateKind = omega arith
-kind-most numberKind = omega arith
-kind-most literalKind = omega arith
+kind-most = by-kind (λ k. kindWord k ≤ 4) (omega arith) (omega arith) (omega arith) (omega arith) (omega arith)
 
 -- the words of a condition in range
 record Ranges (o : Option Condition) : Type 0 where
@@ -183,27 +184,6 @@ ranges (some c) t =
     let h : c .millionths < 10 ^ 15 = search (and-left, ltb→lt) in
     omega (arith, comparison-most (c .comparison), bit-most (c .negative))
 
--- the facts of a header in range
-record HeadRanges (h : Head) : Type 0 where
-  kind-most : h .kind ≤ 4
-  colour-most : h .colour ≤ 56
-  operator-most : h .operator ≤ 6
-  negative-most : h .negative ≤ 1
-  whole-low : h .wholeLow < 65536
-  whole-high : h .wholeHigh < 65536
-  whole-most : wholeAt h ≤ 999999999
-  millionths-low : h .millionthsLow < 65536
-  millionths-high : h .millionthsHigh < 65536
-  millionths-most : millionthsAt h ≤ 999999
-  shift-most : h .shift ≤ 25
-  flags-most : h .flags ≤ 7
-  decimals-most : h .decimals ≤ 15
-  items-most : h .items ≤ 254
-
-in-range : (h : Head) → HeadRanges h → T (headInRange h)
-unfolding headInRange
-in-range h r = search (and-in, le→leb) depth 20
-
 pub head-in-range : (n i : ℕ) (firstHas : Bool) (s : Section) → T (sectionFormed s) → length (s .items) ≤ 254
     → T (headInRange (headOf n i firstHas s))
 unfolding headOf
@@ -212,21 +192,21 @@ head-in-range n i firstHas s t h =
     let w = within-limits s (f .within) in
     let r = ranges (s .condition) (f .condition) in
     let e = says n i firstHas s in
-    in-range (headOf n i firstHas s) record {
-      kind-most = kind-most (kindOf s);
-      colour-most = f .colour-most;
-      operator-most = r .operator-most;
-      negative-most = r .negative-most;
-      whole-low = low-word (wholePart (s .condition));
-      whole-high = high-word (wholePart (s .condition)) (r .whole-most);
-      whole-most = rw (e .whole) (r .whole-most);
-      millionths-low = low-word (millionthsPart (s .condition));
-      millionths-high = high-word (millionthsPart (s .condition)) (omega arith);
-      millionths-most = rw (e .millionths) (r .millionths-most);
-      shift-most = shift-most s w;
-      flags-most = flags-most (s .grouped) (noMinus n i firstHas s) (hasHalf (s .items));
-      decimals-most = decimals-most s w;
-      items-most = h;
+    head-in-ranges (headOf n i firstHas s) record {
+      kind = kind-most (kindOf s);
+      colour = f .colour-most;
+      operator = r .operator-most;
+      negative = r .negative-most;
+      wholeLow = low-word (wholePart (s .condition));
+      wholeHigh = high-word (wholePart (s .condition)) (r .whole-most);
+      whole = rw (e .whole) (r .whole-most);
+      millionthsLow = low-word (millionthsPart (s .condition));
+      millionthsHigh = high-word (millionthsPart (s .condition)) (omega arith);
+      millionths = rw (e .millionths) (r .millionths-most);
+      shift = shift-most s w;
+      flags = flags-most (s .grouped) (noMinus n i firstHas s) (hasHalf (s .items));
+      decimals = decimals-most s w;
+      items = h;
     }
 
 not-zero : (m : ℕ) → 0 < m → T (eqb (m / 10 ^ 6) 0 && eqb (m % 10 ^ 6) 0) → ⊥

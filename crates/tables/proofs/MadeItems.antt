@@ -9,52 +9,24 @@ use lib.Dec.{T, leb, eqb, le→leb, eqb-refl}
 use Rattle.values.specs.Ranges.{between}
 use Rattle.lists.specs.Lists.{every}
 use Rattle.lists.proofs.Bools.{and-in, by-cases, every-head, every-tail, every-cons}
-use Rattle.formats.specs.Tokens.{Place, zeroPlace, hashPlace, spacePlace, Elapsed, hours, minutes, seconds, HalfDay, short, long}
-use Rattle.formats.specs.Items.{Item, literal, blank, fill, place, point, percent, general, at, year, month, day, hour, minute, second, part, elapsed, half, isPlace, integerPlaces}
+use Rattle.formats.specs.Items.{Item, place, elapsed, half, isPlace, integerPlaces}
 use Rattle.formats.specs.Where.{implies}
 use Rattle.formats.specs.WellFormed.{itemInRange}
 use Rattle.formats.specs.Text.{digitAfter}
 use Rattle.tables.specs.Encode.{placeTag, elapsedTag, halfWord, entryOf, entriesFrom, entriesOf}
 use Rattle.tables.specs.Decode.{halfAt, itemAt, itemsAt}
 use Rattle.tables.specs.Rules.{entryInRange, powersFrom, powersRunDown}
-
-place-back : (q : ℕ) (p : Place) → itemAt (entryOf q (place p)) ≡ place p
-unfolding entryOf itemAt placeTag
-place-back q zeroPlace = refl
-place-back q hashPlace = refl
-place-back q spacePlace = refl
-
-elapsed-back : (q n : ℕ) (e : Elapsed) → itemAt (entryOf q (elapsed e n)) ≡ elapsed e n
-unfolding entryOf itemAt elapsedTag
-elapsed-back q n hours = refl
-elapsed-back q n minutes = refl
-elapsed-back q n seconds = refl
-
-half-back : (q : ℕ) (h : HalfDay) → itemAt (entryOf q (half h)) ≡ half h
-unfolding entryOf itemAt halfWord halfAt
-half-back q short = refl
-half-back q long = refl
+use Rattle.tables.proofs.Each.{by-item, by-place, by-elapsed, by-half}
 
 -- an item's entry reads back as the item, whatever its arguments
 pub item-back : (q : ℕ) (i : Item) → itemAt (entryOf q i) ≡ i
-unfolding entryOf itemAt
-item-back q (literal u) = refl
-item-back q (blank u) = refl
-item-back q (fill u) = refl
-item-back q (place p) = place-back q p
-item-back q point = refl
-item-back q percent = refl
-item-back q general = refl
-item-back q at = refl
-item-back q (year n) = refl
-item-back q (month n) = refl
-item-back q (day n) = refl
-item-back q (hour n) = refl
-item-back q (minute n) = refl
-item-back q (second n) = refl
-item-back q (part n) = refl
-item-back q (elapsed e n) = elapsed-back q n e
-item-back q (half h) = half-back q h
+unfolding entryOf itemAt placeTag elapsedTag halfWord halfAt
+item-back q =
+    by-item (λ i. itemAt (entryOf q i) ≡ i) (λ u. refl) (λ u. refl) (λ u. refl)
+    (by-place (λ p. itemAt (entryOf q (place p)) ≡ place p) refl refl refl)
+    refl refl refl refl (λ n. refl) (λ n. refl) (λ n. refl) (λ n. refl) (λ n. refl) (λ n. refl) (λ n. refl)
+    (λ e n. by-elapsed (λ d. itemAt (entryOf q (elapsed d n)) ≡ elapsed d n) refl refl refl e)
+    (by-half (λ h. itemAt (entryOf q (half h)) ≡ half h) refl refl)
 
 pub items-back : (q : ℕ) (is : List Item) → itemsAt (entriesFrom q is) ≡ is
 unfolding itemsAt entriesFrom
@@ -69,42 +41,15 @@ entries-length q (i ∷ is) = ap suc (entries-length (digitAfter q i) is)
 power-in-range : (q : ℕ) → q ≤ 34 → T (between 1 35 (suc q))
 power-in-range q h = and-in (leb 1 (suc q)) (leb (suc q) 35) (le→leb 1 (suc q) (omega arith)) (le→leb (suc q) 35 (omega arith))
 
-place-in-range : (q : ℕ) (p : Place) → q ≤ 34 → T (entryInRange (entryOf q (place p)))
-unfolding entryOf entryInRange placeTag
-place-in-range q zeroPlace h = power-in-range q h
-place-in-range q hashPlace h = power-in-range q h
-place-in-range q spacePlace h = power-in-range q h
-
-elapsed-in-range : (q n : ℕ) (e : Elapsed) → T (between 1 9 n) → T (entryInRange (entryOf q (elapsed e n)))
-unfolding entryOf entryInRange elapsedTag
-elapsed-in-range q n hours t = t
-elapsed-in-range q n minutes t = t
-elapsed-in-range q n seconds t = t
-
-half-in-range : (q : ℕ) (h : HalfDay) → T (entryInRange (entryOf q (half h)))
-unfolding entryOf entryInRange halfWord
-half-in-range q short = tt
-half-in-range q long = tt
-
 pub entry-in-range : (q : ℕ) (i : Item) → T (itemInRange i) → q ≤ 34 → T (entryInRange (entryOf q i))
-unfolding itemInRange entryOf entryInRange
-entry-in-range q (literal u) t h = t
-entry-in-range q (blank u) t h = t
-entry-in-range q (fill u) t h = t
-entry-in-range q (place p) t h = place-in-range q p h
-entry-in-range q point t h = tt
-entry-in-range q percent t h = tt
-entry-in-range q general t h = tt
-entry-in-range q at t h = tt
-entry-in-range q (year n) t h = t
-entry-in-range q (month n) t h = t
-entry-in-range q (day n) t h = t
-entry-in-range q (hour n) t h = t
-entry-in-range q (minute n) t h = t
-entry-in-range q (second n) t h = t
-entry-in-range q (part n) t h = t
-entry-in-range q (elapsed e n) t h = elapsed-in-range q n e t
-entry-in-range q (half k) t h = half-in-range q k
+unfolding itemInRange entryOf entryInRange placeTag elapsedTag halfWord
+entry-in-range q =
+    by-item (λ i. T (itemInRange i) → q ≤ 34 → T (entryInRange (entryOf q i))) (λ u t h. t) (λ u t h. t) (λ u t h. t)
+    (λ p t h. by-place (λ x. T (entryInRange (entryOf q (place x)))) (power-in-range q h) (power-in-range q h) (power-in-range q h) p)
+    (λ t h. tt) (λ t h. tt) (λ t h. tt) (λ t h. tt)
+    (λ n t h. t) (λ n t h. t) (λ n t h. t) (λ n t h. t) (λ n t h. t) (λ n t h. t) (λ n t h. t)
+    (λ e n t h. by-elapsed (λ d. T (entryInRange (entryOf q (elapsed d n)))) t t t e)
+    (λ k t h. by-half (λ x. T (entryInRange (entryOf q (half x)))) tt tt k)
 
 -- a digit after an item is none above it
 after-most : (q : ℕ) (i : Item) → digitAfter q i ≤ q
@@ -122,23 +67,9 @@ entries-in-range q (i ∷ is) t h =
 -- a place's entry has its power
 power-stands : (q : ℕ) (i : Item) → T (implies (isPlace i) (eqb (entryOf q i .argument) (suc q)))
 unfolding entryOf
-power-stands q (literal u) = tt
-power-stands q (blank u) = tt
-power-stands q (fill u) = tt
-power-stands q (place p) = eqb-refl (suc q)
-power-stands q point = tt
-power-stands q percent = tt
-power-stands q general = tt
-power-stands q at = tt
-power-stands q (year n) = tt
-power-stands q (month n) = tt
-power-stands q (day n) = tt
-power-stands q (hour n) = tt
-power-stands q (minute n) = tt
-power-stands q (second n) = tt
-power-stands q (part n) = tt
-power-stands q (elapsed e n) = tt
-power-stands q (half h) = tt
+power-stands q =
+    by-item (λ i. T (implies (isPlace i) (eqb (entryOf q i .argument) (suc q)))) (λ u. tt) (λ u. tt) (λ u. tt) (λ p. eqb-refl (suc q))
+    tt tt tt tt (λ n. tt) (λ n. tt) (λ n. tt) (λ n. tt) (λ n. tt) (λ n. tt) (λ n. tt) (λ e n. tt) (λ h. tt)
 
 powers-from : (q : ℕ) (is : List Item) → T (powersFrom q (entriesFrom q is))
 unfolding entriesFrom powersFrom

@@ -42,7 +42,7 @@ facts : (ss : List Section) → T (wellFormed ss) → Facts ss
 unfolding wellFormed
 facts ss t = search (and-left, and-right, leb→le)
 
-rows-many : (n i : ℕ) (b : Bool) (ss : List Section) → length (rowsFrom n i b ss) ≡ length ss
+pub rows-many : (n i : ℕ) (b : Bool) (ss : List Section) → length (rowsFrom n i b ss) ≡ length ss
 unfolding rowsFrom
 rows-many n i b [] = refl
 rows-many n i b (s ∷ ss) = ap suc (rows-many n (suc i) b ss)
@@ -72,37 +72,37 @@ encoding-passes ss t =
     rw (rows-made ss, decode-encode ss t) (search (and-in) depth 8)
 
 -- what passing says
-record Passed (ws : List ℕ) : Type 0 where
-  exact : T (exactWords ws)
-  items : itemsInAll (decode ws) ≤ 254
-  fit : T (every rowFits (rowsIn ws))
-  stand : T (allStand (decode ws))
-  flags : T (flagsFrom (counted (decode ws)) 0 (firstHasCondition (decode ws)) (rowsIn ws))
+pub record Passing (ws : List ℕ) : Type 0 where
+  pub exact : T (exactWords ws)
+  pub items : itemsInAll (decode ws) ≤ 254
+  pub rows : T (every rowFits (rowsIn ws))
+  pub stand : T (allStand (decode ws))
+  pub flags : T (flagsFrom (counted (decode ws)) 0 (firstHasCondition (decode ws)) (rowsIn ws))
 
-passed : (ws : List ℕ) → T (passes ws) → Passed ws
+pub passing : (ws : List ℕ) → T (passes ws) → Passing ws
 unfolding passes
-passed ws t = search (and-left, and-right, leb→le) depth 8
+passing ws t = search (and-left, and-right, leb→le) depth 8
 
 -- words that pass are the table of the well-formed sections that they stand for
 pub passing-formed : (ws : List ℕ) → T (passes ws) → T (wellFormed (decode ws))
 unfolding wellFormed decode
 passing-formed ws t =
-    let p = passed ws t in
+    let p = passing ws t in
     let x : Exactly ws = exactly ws (p .exact) in
     let n : length (decode ws) ≡ length (rowsIn ws) = length-map (rowsIn ws) sectionAt in
     let m = rows-length ws in
     let few : T (leb (itemsInAll (decode ws)) 254) = le→leb (itemsInAll (decode ws)) 254 (p .items) in
     let least : 1 ≤ length (decode ws) = omega (arith, x .least) in
     let most : length (decode ws) ≤ 4 = omega (arith, x .most) in
-    let formed : T (every sectionFormed (decode ws)) = sections-formed (rowsIn ws) (p .fit) in
+    let formed : T (every sectionFormed (decode ws)) = sections-formed (rowsIn ws) (p .rows) in
     let stand : T (allStand (decode ws)) = p .stand in
     search (and-in, le→leb) depth 8
 
 pub encode-decode : (ws : List ℕ) → T (passes ws) → encode (decode ws) ≡ ws
 unfolding encode rowsOf decode
 encode-decode ws t =
-    let p = passed ws t in
-    ap tableWords (rows-back (counted (decode ws)) 0 (firstHasCondition (decode ws)) (rowsIn ws) (rows-counted ws) (p .fit) (p .flags))
+    let p = passing ws t in
+    ap tableWords (rows-back (counted (decode ws)) 0 (firstHasCondition (decode ws)) (rowsIn ws) (rows-counted ws) (p .rows) (p .flags))
     ∙ words-in ws (p .exact)
 
 pub table-that-passes : (ws : List ℕ) → T (passes ws) → TableThatPasses ws
@@ -118,10 +118,10 @@ passes-exactly ws = (
 -- every word of a table that passes has 16 bits
 pub words-small : (ws : List ℕ) → T (passes ws) → T (every isUnit ws)
 words-small ws t =
-    let p = passed ws t in
+    let p = passing ws t in
     let x : Exactly ws = exactly ws (p .exact) in
     let m = rows-length ws in
-    rw (words-in ws (p .exact)) at (rows-are-words (rowsIn ws) (omega (arith, x .most)) (p .fit))
+    rw (words-in ws (p .exact)) at (rows-are-words (rowsIn ws) (omega (arith, x .most)) (p .rows))
 
 -- as many items as the heads say
 items-said : (n i : ℕ) (b : Bool) (ss : List Section) → itemsSaid (headsOf (rowsFrom n i b ss)) ≡ itemsInAll ss

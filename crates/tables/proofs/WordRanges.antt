@@ -15,7 +15,8 @@ use Rattle.tables.specs.Words.{Head, Entry, Row, headWords, headsWords, 
 use Rattle.tables.specs.Encode.{entry}
 use Rattle.tables.specs.Decode.{wholeAt, millionthsAt, twoWords}
 use Rattle.tables.specs.Rules.{headInRange, entryInRange, rowFits}
-use Rattle.tables.proofs.BackEntries.{between-facts, tag-known, by-tag}
+use Rattle.tables.proofs.Ranges.{head-ranges}
+use Rattle.tables.proofs.BackEntries.{also, between-facts, tag-known, by-tag}
 use Rattle.tables.proofs.Back.{row-facts}
 
 -- a number with a small bound is a word
@@ -38,67 +39,15 @@ two-or-four a t = either (eqb a 2) (eqb a 4) (λ u. word a (omega (arith, eqb→
 argument-word : (e : Entry) → T (entryInRange e) → T (isUnit (e .argument))
 unfolding entryInRange
 argument-word =
-    by-tag (λ (e : Entry). T (isUnit (e .argument))) (
-      (λ a r. r),
-      (
-        (λ a r. r),
-        (
-          (λ a r. r),
-          (
-            (λ a r. small 1 35 a (omega arith) r),
-            (
-              (λ a r. small 1 35 a (omega arith) r),
-              (
-                (λ a r. small 1 35 a (omega arith) r),
-                (
-                  (λ a r. nought a r),
-                  (
-                    (λ a r. nought a r),
-                    (
-                      (λ a r. nought a r),
-                      (
-                        (λ a r. nought a r),
-                        (
-                          (λ a r. two-or-four a r),
-                          (
-                            (λ a r. small 1 5 a (omega arith) r),
-                            (
-                              (λ a r. small 1 4 a (omega arith) r),
-                              (
-                                (λ a r. small 1 2 a (omega arith) r),
-                                (
-                                  (λ a r. small 1 2 a (omega arith) r),
-                                  (
-                                    (λ a r. small 1 2 a (omega arith) r),
-                                    (
-                                      (λ a r. small 1 3 a (omega arith) r),
-                                      (
-                                        (λ a r. small 1 9 a (omega arith) r),
-                                        (
-                                          (λ a r. small 1 9 a (omega arith) r),
-                                          (
-                                            (λ a r. small 1 9 a (omega arith) r),
-                                            ((λ a r. small 1 2 a (omega arith) r), tt),
-                                          ),
-                                        ),
-                                      ),
-                                    ),
-                                  ),
-                                ),
-                              ),
-                            ),
-                          ),
-                        ),
-                      ),
-                    ),
-                  ),
-                ),
-              ),
-            ),
-          ),
-        ),
-      ),
-    )
+    by-tag (λ (e : Entry). T (isUnit (e .argument)))
+    (also (λ a r. r) (also (λ a r. r) (also (λ a r. r)
+    (also (λ a r. small 1 35 a (omega arith) r) (also (λ a r. small 1 35 a (omega arith) r) (also (λ a r. small 1 35 a (omega arith) r)
+    (also (λ a r. nought a r) (also (λ a r. nought a r) (also (λ a r. nought a r) (also (λ a r. nought a r)
+    (also (λ a r. two-or-four a r) (also (λ a r. small 1 5 a (omega arith) r) (also (λ a r. small 1 4 a (omega arith) r)
+    (also (λ a r. small 1 2 a (omega arith) r) (also (λ a r. small 1 2 a (omega arith) r) (also (λ a r. small 1 2 a (omega arith) r)
+    (also (λ a r. small 1 3 a (omega arith) r)
+    (also (λ a r. small 1 9 a (omega arith) r) (also (λ a r. small 1 9 a (omega arith) r) (also (λ a r. small 1 9 a (omega arith) r)
+    (also (λ a r. small 1 2 a (omega arith) r) tt)))))))))))))))))))))
 
 entries-are-words : (es : List Entry) (ws : List ℕ) → T (every entryInRange es) → T (every isUnit ws) → T (every isUnit (entriesWords es ws))
 unfolding entriesWords
@@ -109,40 +58,21 @@ entries-are-words (e ∷ es) ws t u =
     (every-cons isUnit (e .argument) (entriesWords es ws) (argument-word e r)
     (entries-are-words es ws (every-tail entryInRange e es t) u))
 
--- a head's twelve words
-record HeadWords (h : Head) : Type 0 where
-  kind : h .kind ≤ 4
-  colour : h .colour ≤ 56
-  operator : h .operator ≤ 6
-  negative : h .negative ≤ 1
-  wholeLow : T (isUnit (h .wholeLow))
-  wholeHigh : T (isUnit (h .wholeHigh))
-  millionthsLow : T (isUnit (h .millionthsLow))
-  millionthsHigh : T (isUnit (h .millionthsHigh))
-  shift : h .shift ≤ 25
-  flags : h .flags ≤ 7
-  decimals : h .decimals ≤ 15
-  items : h .items ≤ 254
-
-head-words : (h : Head) → T (headInRange h) → HeadWords h
-unfolding headInRange
-head-words h t = search (and-left, and-right, leb→le) depth 18
-
 pair : (a : ℕ) (ws : List ℕ) → T (isUnit a) → T (every isUnit ws) → T (every isUnit (a ∷ ws))
 pair a ws t u = every-cons isUnit a ws t u
 
 head-are-words : (h : Head) (ws : List ℕ) → T (headInRange h) → T (every isUnit ws) → T (every isUnit (headWords h ws))
 unfolding headWords
 head-are-words h ws t u =
-    let f = head-words h t in
+    let f = head-ranges h t in
     pair _ _ (word (h .kind) (omega (arith, f .kind)))
     (pair _ _ (word (h .colour) (omega (arith, f .colour)))
     (pair _ _ (word (h .operator) (omega (arith, f .operator)))
     (pair _ _ (word (h .negative) (omega (arith, f .negative)))
-    (pair _ _ (f .wholeLow)
-    (pair _ _ (f .wholeHigh)
-    (pair _ _ (f .millionthsLow)
-    (pair _ _ (f .millionthsHigh)
+    (pair _ _ (word (h .wholeLow) (f .wholeLow))
+    (pair _ _ (word (h .wholeHigh) (f .wholeHigh))
+    (pair _ _ (word (h .millionthsLow) (f .millionthsLow))
+    (pair _ _ (word (h .millionthsHigh) (f .millionthsHigh))
     (pair _ _ (word (h .shift) (omega (arith, f .shift)))
     (pair _ _ (word (h .flags) (omega (arith, f .flags)))
     (pair _ _ (word (h .decimals) (omega (arith, f .decimals)))

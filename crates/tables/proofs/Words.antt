@@ -1,17 +1,17 @@
 -- A table's words and its rows: each is read back from the other.
 -- Assumes nothing.
-use Prim.Native.Nat.{ℕ, zero, suc, _+_, _-_, _*_, _≤_, _<_}
+use Prim.Native.Nat.{ℕ, zero, suc, _+_, _-_, _*_, _/_, _≤_, _<_}
 use native.Mathlib.Omega.{arith}
 use native.Mathlib.Nat.{mul-suc}
 use mathlib.Core.Path.{_≡_, refl, sym, _∙_, ap, ap₂}
 use mathlib.Core.Bool.{Bool, true, false, _&&_}
 use mathlib.Core.List.{List, [], _∷_, map}
-use lib.ListN.{length, getD, drop, length-drop, drop-of-length-le}
-use lib.Seq.{drop-cons, drop-drop}
+use lib.ListN.{length, getD, drop, take, length-drop, drop-of-length-le}
+use lib.Seq.{drop-cons, drop-drop, getD-drop, length-take-le}
 use lib.Dec.{T, leb, eqb, leb→le, eqb→eq, le→leb, eqb-refl}
 use Rattle.values.specs.Ranges.{between}
 use Rattle.lists.proofs.Bools.{and-left, and-right, and-in}
-use Rattle.tables.specs.Words.{Head, Entry, Row, headWords, headsWords, entriesWords, bodiesWords, tableWords, headAt, headsAt, entriesAt, rowsAt, headsIn, rowsIn, itemsSaid, exactWords}
+use Rattle.tables.specs.Words.{Head, Entry, Row, headWords, headsWords, entriesWords, bodiesWords, tableWords, headAt, headsAt, entriesAt, entriesIn, rowsAt, headsIn, rowsIn, itemsSaid, exactWords}
 
 -- each row's head says how many entries it has
 abbrev pub Counted : List Row → Type 0
@@ -62,10 +62,43 @@ rows-in rs c =
     rw (heads-at rs (bodiesWords rs []), e, drop-heads rs (bodiesWords rs [])) (rows-at rs [] c)
 
 -- how many words there are
-length-entries : (es : List Entry) (ws : List ℕ) → length (entriesWords es ws) ≡ 2 * length es + length ws
+pub length-entries : (es : List Entry) (ws : List ℕ) → length (entriesWords es ws) ≡ 2 * length es + length ws
 unfolding entriesWords
 length-entries [] ws = omega arith
 length-entries (e ∷ es) ws = omega (arith, length-entries es ws)
+
+-- the entries in words that were written for them, and in a part of a table's words
+pub entries-in-words : (es : List Entry) → entriesIn (entriesWords es []) ≡ es
+unfolding entriesIn
+entries-in-words es =
+    let half : length (entriesWords es []) / 2 ≡ length es = omega (arith, length-entries es []) in
+    rw half (entries-at es [])
+
+entries-take : (n : ℕ) (ws : List ℕ) → entriesAt n (take (2 * n) ws) ≡ entriesAt n ws
+unfolding entriesAt
+entries-take zero ws = refl
+entries-take (suc n) [] = let e : 2 * suc n ≡ suc (suc (2 * n)) = omega arith in rw e
+entries-take (suc n) (a ∷ []) = let e : 2 * suc n ≡ suc (suc (2 * n)) = omega arith in rw e
+entries-take (suc n) (a ∷ b ∷ ws) = let e : 2 * suc n ≡ suc (suc (2 * n)) = omega arith in rw (e, entries-take n ws)
+
+pub entries-part : (n : ℕ) (ws : List ℕ) → 2 * n ≤ length ws → entriesIn (take (2 * n) ws) ≡ entriesAt n ws
+unfolding entriesIn
+entries-part n ws h =
+    let half : 2 * n / 2 ≡ n = omega arith in
+    rw (length-take-le (2 * n) ws h, half) (entries-take n ws)
+
+-- the entries from the k-th on, of n in these words
+abbrev pub entriesLeft : List ℕ → ℕ → ℕ → List Entry
+entriesLeft words n k = entriesAt (n - k) (drop (2 * k) words)
+
+pub entries-front : (words : List ℕ) (n k : ℕ) → k < n
+    → entriesLeft words n k ≡ record { tag = getD words (2 * k) 0; argument = getD words (2 * k + 1) 0 } ∷ entriesLeft words n (k + 1)
+unfolding entriesAt
+entries-front words n k h =
+    let one : n - k ≡ suc (n - (k + 1)) = omega arith in
+    let two : 2 * (k + 1) ≡ 2 * k + 2 = omega arith in
+    let nought : 2 * k + 0 ≡ 2 * k = omega arith in
+    rw (one, two, getD-drop (2 * k) words 0 0, getD-drop (2 * k) words 1 0, drop-drop 2 (2 * k) words, nought)
 
 length-bodies : (rs : List Row) (ws : List ℕ) → Counted rs → length (bodiesWords rs ws) ≡ 2 * itemsSaid (headsOf rs) + length ws
 unfolding bodiesWords itemsSaid headsOf
@@ -120,7 +153,7 @@ unfolding headsWords onlyHeads headsOf
 heads-only [] ws = refl
 heads-only (r ∷ rs) ws = ap (headWords (r .head)) (heads-only rs ws)
 
-rows-heads : (hs : List Head) (ws : List ℕ) → headsOf (rowsAt hs ws) ≡ hs
+pub rows-heads : (hs : List Head) (ws : List ℕ) → headsOf (rowsAt hs ws) ≡ hs
 unfolding headsOf rowsAt
 rows-heads [] ws = refl
 rows-heads (h ∷ hs) ws = ap (λ (l : List Head). h ∷ l) (rows-heads hs (drop (2 * h .items) ws))
@@ -138,7 +171,7 @@ heads-words (suc n) ws h =
     let l : length (drop 12 ws) ≡ length ws - 12 = length-drop 12 ws in
     rw (e, ← (drop-drop (12 * n) 12 ws), heads-words n (drop 12 ws) (omega arith)) (head-words ws (omega arith))
 
-headsAt-length : (n : ℕ) (ws : List ℕ) → length (headsAt n ws) ≡ n
+pub headsAt-length : (n : ℕ) (ws : List ℕ) → length (headsAt n ws) ≡ n
 unfolding headsAt
 headsAt-length zero ws = refl
 headsAt-length (suc n) ws = ap suc (headsAt-length n (drop 12 ws))
@@ -153,7 +186,7 @@ pub rows-length : (ws : List ℕ) → length (rowsIn ws) ≡ getD ws 0 0
 unfolding rowsIn headsIn
 rows-length ws = rowsAt-length (headsAt (getD ws 0 0) (drop 1 ws)) (drop (1 + 12 * getD ws 0 0) ws) ∙ headsAt-length (getD ws 0 0) (drop 1 ws)
 
-entriesAt-length : (n : ℕ) (ws : List ℕ) → length (entriesAt n ws) ≡ n
+pub entriesAt-length : (n : ℕ) (ws : List ℕ) → length (entriesAt n ws) ≡ n
 unfolding entriesAt
 entriesAt-length zero ws = refl
 entriesAt-length (suc n) ws = ap suc (entriesAt-length n (drop 2 ws))

@@ -1,5 +1,6 @@
 pub mod Words
 pub mod Encode
+pub mod Standing
 pub mod Decode
 pub mod Rules
 pub mod Calls

@@ -10,7 +10,7 @@ use Rattle.lists.specs.Lists.{every, any, count}
 use Rattle.formats.specs.Items.{Item, Section, numberKind, sameKind, kindOf, isPercent, isPlace, itemsFit, integerPlaces}
 use Rattle.formats.specs.Where.{implies, hasCondition}
 use Rattle.formats.specs.Limits.{sectionWithin}
-use Rattle.formats.specs.WellFormed.{oneFill, partsFollow, isSettled, groupingFits, itemsInAll, allStand}
+use Rattle.formats.specs.WellFormed.{isUnit, oneFill, partsFollow, isSettled, groupingFits, itemsInAll, allStand}
 use Rattle.formats.specs.Choice.{counted}
 use Rattle.formats.specs.Minus.{firstHasCondition}
 use Rattle.formats.specs.Text.{digitAfter}
@@ -19,17 +19,14 @@ use Rattle.tables.specs.Encode.{kindWord, flagsWord, noMinus, hasHalf, d
 use Rattle.tables.specs.Decode.{wholeAt, millionthsAt, itemAt, itemsAt, groupedAt, thousandsAt, sectionAt, decode}
 
 -- "every word in its range"
-abbrev pub isWord : ℕ → Bool
-isWord w = ltb w 65536
-
 unfoldable pub headInRange : Head → Bool
 headInRange h =
     leb (h .kind) 4
     && leb (h .colour) 56
     && leb (h .operator) 6
     && leb (h .negative) 1
-    && isWord (h .wholeLow) && isWord (h .wholeHigh) && leb (wholeAt h) 999999999
-    && isWord (h .millionthsLow) && isWord (h .millionthsHigh) && leb (millionthsAt h) 999999
+    && isUnit (h .wholeLow) && isUnit (h .wholeHigh) && leb (wholeAt h) 999999999
+    && isUnit (h .millionthsLow) && isUnit (h .millionthsHigh) && leb (millionthsAt h) 999999
     && leb (h .shift) 25
     && leb (h .flags) 7
     && leb (h .decimals) 15
@@ -40,7 +37,7 @@ unfoldable pub entryInRange : Entry → Bool
 entryInRange e =
     let t = e .tag in
     let a = e .argument in
-    cond (between 1 3 t) (isWord a)
+    cond (between 1 3 t) (isUnit a)
     (cond (between 4 6 t) (between 1 35 a)
     (cond (between 7 10 t) (eqb a 0)
     (cond (eqb t 11) (eqb a 2 || eqb a 4)

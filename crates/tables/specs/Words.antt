@@ -1,6 +1,6 @@
 -- "The table": its words, as they stand in it.
 -- Assumes nothing.
-use Prim.Native.Nat.{ℕ, zero, suc, _+_, _*_}
+use Prim.Native.Nat.{ℕ, zero, suc, _+_, _*_, _/_}
 use mathlib.Core.Bool.{Bool, _&&_}
 use mathlib.Core.List.{List, [], _∷_}
 use lib.ListN.{length, getD, drop}
@@ -79,6 +79,10 @@ headsAt (suc n) ws = headAt ws ∷ headsAt n (drop 12 ws)
 unfoldable pub entriesAt : ℕ → List ℕ → List Entry
 entriesAt zero ws = []
 entriesAt (suc n) ws = record { tag = getD ws 0 0; argument = getD ws 1 0 } ∷ entriesAt n (drop 2 ws)
+
+-- those that stand in a section's item words, two words each
+unfoldable pub entriesIn : List ℕ → List Entry
+entriesIn words = entriesAt (length words / 2) words
 
 unfoldable pub rowsAt : List Head → List ℕ → List Row
 rowsAt [] ws = []

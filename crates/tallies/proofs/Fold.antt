@@ -10,20 +10,22 @@ use lib.Dec.{ltb, eqb, eqb·suc-zero}
 use lib.ListN.{length, getD}
 use borrow.Author.Tests.{eqb-true, ne-eqb}
 use Rattle.lists.specs.Lists.{every, any, count, All}
-use Rattle.lists.proofs.Bools.{by-cases}
-use Rattle.lists.proofs.Counts.{count-least}
+use Rattle.lists.proofs.Bools.{by-cases, cond-and}
+use Rattle.lists.proofs.Counts.{count-least, any-same, any-either, positive-count}
 use Rattle.formats.specs.Tokens.{hours, minutes, seconds}
-use Rattle.formats.specs.Items.{Item, literal, blank, fill, place, point, percent, general, at, year, month, day, hour, minute, second, part, elapsed, half, isFill, isPlace, isPoint, isPercent, isGeneral, isHour, isMinute, isSecond, isPart, isElapsed, isHalf, itemMakes, itemBelongs, sortOf, integerPlaces, decimalPlaces, Run, hourRun, secondRun, otherRun, noRun, runOf, nearer, firstRun, meansMinutes, settledItem}
+use Rattle.formats.specs.Items.{Item, elapsed, isFill, isPlace, isPoint, isPercent, isGeneral, isHour, isMinute, isSecond, isPart, isElapsed, isHalf, itemMakes, itemBelongs, sortOf, integerPlaces, decimalPlaces, Run, hourRun, secondRun, otherRun, noRun, runOf, nearer, firstRun, meansMinutes, settledItem}
 use Rattle.formats.specs.Where.{implies}
 use Rattle.formats.specs.Limits.{elapsedShort}
 use Rattle.formats.specs.WellFormed.{isSeconds, partsFrom, partsFollow, settledTest, isSettled}
 use Rattle.tables.specs.Words.{Entry}
 use Rattle.tables.specs.Encode.{bit}
 use Rattle.tables.specs.Decode.{itemAt, itemsAt}
+use Rattle.tables.proofs.Each.{by-item, by-elapsed}
+use Rattle.tables.proofs.MadeHeads.{bit-back}
+use Rattle.tables.proofs.BackEntries.{items-length}
 use Rattle.tallies.specs.declared.Walk.{Walk}
 use Rattle.tallies.specs.Tally.{makesText, makesDate, belongsDate, isElapsedOf, soundEntries, tallyOf}
 use Rattle.tallies.specs.Walk.{packed, tallies, weight, isLong, otherTests, dateTests, markTests, numberWeight, unitAfter, runAt, runAfter, settles, nextAfter, ended, powerTest, entrySound, faultOf, stepOf, walkFrom, startOf, soundTold, finishedOf}
-use Rattle.tallies.proofs.Lists.{any-same, any-either, positive-count}
 use Rattle.tallies.proofs.Packed.{tallies-none, tallies-turn, first-dropped, first-digit, later-digits, digit-at, tallies-small, packed-positive}
 use Rattle.tallies.proofs.Powers.{place-no-point, places-counted, chainFrom, rangeTest, chain-start}
 
@@ -91,23 +93,9 @@ means-later noRun l = refl
 
 settled-later : (r l : Run) (i : Item) → settledItem r l i ≡ settledItem r noRun i
 unfolding settledItem
-settled-later r l (month n) = rw (means-later r l)
-settled-later r l (minute n) = rw (means-later r l)
-settled-later r l (literal u) = refl
-settled-later r l (blank u) = refl
-settled-later r l (fill u) = refl
-settled-later r l (place p) = refl
-settled-later r l point = refl
-settled-later r l percent = refl
-settled-later r l general = refl
-settled-later r l at = refl
-settled-later r l (year n) = refl
-settled-later r l (day n) = refl
-settled-later r l (hour n) = refl
-settled-later r l (second n) = refl
-settled-later r l (part n) = refl
-settled-later r l (elapsed e n) = refl
-settled-later r l (half h) = refl
+settled-later r l =
+    by-item (λ i. settledItem r l i ≡ settledItem r noRun i) (λ u. refl) (λ u. refl) (λ u. refl) (λ p. refl) refl refl refl refl
+    (λ n. refl) (λ n. rw (means-later r l)) (λ n. refl) (λ n. refl) (λ n. rw (means-later r l)) (λ n. refl) (λ n. refl) (λ e n. refl) (λ h. refl)
 
 run-after : (r : Run) (n : ℕ) → runAt (runAfter r n) ≡ nearer r (runAt n)
 unfolding runAt runAfter nearer
@@ -128,15 +116,6 @@ gathered P S C R p s c r =
     and-four p (s && (c && r)) P (S && (C && R))
     ∙ ap (λ (x : Bool). (p && P) && x) (and-four s (c && r) S (C && R) ∙ ap (λ (x : Bool). (s && S) && x) (and-four c r C R))
 
-cond-and : (a b : Bool) → cond a b false ≡ (a && b)
-cond-and true b = refl
-cond-and false b = refl
-
-bit-one : (b : Bool) → eqb (bit b) 1 ≡ b
-unfolding bit
-bit-one true = refl
-bit-one false = refl
-
 -- the tests of all entries, from what the earlier ones left
 testsFrom : Walk → List Entry → Bool
 testsFrom w es =
@@ -152,7 +131,7 @@ tests-front w e es =
     rw (
       settled-later (runAt (w .earlier)) (firstRun is) i,
       run-after (runOf i) (w .earlier),
-      bit-one (isSeconds i),
+      bit-back (isSeconds i),
       cond-and (rangeTest e) (every rangeTest es),
     )
     (sym (gathered (partsFrom (isSeconds i) is) (settledTest (nearer (runOf i) (runAt (w .earlier))) is)
@@ -200,25 +179,10 @@ marks-walked w (e ∷ es) =
 -- ---- what an item's weight says
 date-weight : (i : Item) → ltb 0 (weight 256 dateTests i) ≡ makesDate i
 unfolding weight bit itemMakes isElapsedOf
-date-weight (literal u) = refl
-date-weight (blank u) = refl
-date-weight (fill u) = refl
-date-weight (place p) = refl
-date-weight point = refl
-date-weight percent = refl
-date-weight general = refl
-date-weight at = refl
-date-weight (year n) = refl
-date-weight (month n) = refl
-date-weight (day n) = refl
-date-weight (hour n) = refl
-date-weight (minute n) = refl
-date-weight (second n) = refl
-date-weight (part n) = refl
-date-weight (elapsed hours n) = refl
-date-weight (elapsed minutes n) = refl
-date-weight (elapsed seconds n) = refl
-date-weight (half h) = refl
+date-weight =
+    by-item (λ i. ltb 0 (weight 256 dateTests i) ≡ makesDate i) (λ u. refl) (λ u. refl) (λ u. refl) (λ p. refl) refl refl refl refl
+    (λ n. refl) (λ n. refl) (λ n. refl) (λ n. refl) (λ n. refl) (λ n. refl) (λ n. refl)
+    (λ e n. by-elapsed (λ d. ltb 0 (weight 256 dateTests (elapsed d n)) ≡ makesDate (elapsed d n)) refl refl refl e) (λ h. refl)
 
 -- a half-day mark or a part of a second
 abbrev besideTests : List (Item → Bool)
@@ -226,33 +190,14 @@ besideTests = isHalf ∷ isPart ∷ []
 
 date-belongs : (i : Item) → (makesDate i || ltb 0 (weight 65536 besideTests i)) ≡ belongsDate i
 unfolding weight bit itemMakes itemBelongs
-date-belongs (literal u) = refl
-date-belongs (blank u) = refl
-date-belongs (fill u) = refl
-date-belongs (place p) = refl
-date-belongs point = refl
-date-belongs percent = refl
-date-belongs general = refl
-date-belongs at = refl
-date-belongs (year n) = refl
-date-belongs (month n) = refl
-date-belongs (day n) = refl
-date-belongs (hour n) = refl
-date-belongs (minute n) = refl
-date-belongs (second n) = refl
-date-belongs (part n) = refl
-date-belongs (elapsed e n) = refl
-date-belongs (half h) = refl
+date-belongs =
+    by-item (λ i. (makesDate i || ltb 0 (weight 65536 besideTests i)) ≡ belongsDate i) (λ u. refl) (λ u. refl) (λ u. refl) (λ p. refl) refl refl refl refl
+    (λ n. refl) (λ n. refl) (λ n. refl) (λ n. refl) (λ n. refl) (λ n. refl) (λ n. refl) (λ e n. refl) (λ h. refl)
 
 none-long : (is : List Item) → eqb (count isLong is) 0 ≡ every elapsedShort is
 unfolding count every
 none-long [] = refl
 none-long (i ∷ is) = by-cases (elapsedShort i) (λ h. rw h (none-long is)) (λ h. rw h (eqb·suc-zero (count isLong is)))
-
-items-length : (es : List Entry) → length (itemsAt es) ≡ length es
-unfolding itemsAt
-items-length [] = refl
-items-length (e ∷ es) = ap suc (items-length es)
 
 -- ---- the end
 module _ (es : List Entry) (few : length es ≤ 254) where

@@ -1,8 +1,6 @@
-pub mod Lists
 pub mod Packed
 pub mod Steps
 pub mod Powers
 pub mod Fold
 pub mod Loop
 pub mod Told
-pub mod Parts

@@ -1,20 +1,20 @@
 -- The loop over the words: what was kept, and the entries that are left.
 -- Assumes nothing.
-use Prim.Native.Nat.{ℕ, zero, suc, _+_, _-_, _*_, _/_, _≤_, _<_}
+use Prim.Native.Nat.{ℕ, _+_, _-_, _*_, _/_, _≤_, _<_}
 use native.Mathlib.Omega.{arith}
 use native.Mathlib.Nat.{sub-zero}
 use mathlib.Core.Path.{_≡_, sym, _∙_, ap}
 use mathlib.Core.List.{List, [], _∷_}
-use lib.ListN.{length, drop, getD}
-use lib.Seq.{getD-drop, drop-drop}
+use lib.ListN.{length, getD}
 use Rattle.lists.proofs.Bools.{by-cases}
 use Rattle.formats.specs.Items.{Item, isPlace, isPoint, isPercent}
-use Rattle.tables.specs.Words.{Entry, entriesAt}
+use Rattle.tables.specs.Words.{Entry, entriesAt, entriesIn}
 use Rattle.tables.specs.Encode.{entry}
 use Rattle.tables.specs.Decode.{itemAt}
+use Rattle.tables.proofs.Words.{entriesAt-length, entriesLeft, entries-front}
 use Rattle.tallies.specs.declared.Tally.{Tally}
 use Rattle.tallies.specs.declared.Walk.{Walk}
-use Rattle.tallies.specs.Tally.{entriesIn, tallyOf}
+use Rattle.tallies.specs.Tally.{tallyOf}
 use Rattle.tallies.specs.Walk.{weight, otherTests, dateTests, markTests, numberWeight, isFirstPoint, unitAfter, entrySound, stepOf, walkFrom, startOf, finishedOf, Few}
 use Rattle.tallies.proofs.Packed.{ones, weight-most}
 use Rattle.tallies.proofs.Fold.{fault-most, finished-is}
@@ -54,7 +54,7 @@ pub record Walking (words : List ℕ) (n k : ℕ) (w : Walk) : Type 0 where
   pub items : n ≡ length words / 2
   pub inside : k ≤ n
   pub few : Few k w
-  pub same : walkFrom startOf (entriesIn words) ≡ walkFrom w (entriesAt (n - k) (drop (2 * k) words))
+  pub same : walkFrom startOf (entriesIn words) ≡ walkFrom w (entriesLeft words n k)
 
 pub walking-start : (words : List ℕ) (n : ℕ) (w : Walk) → length words ≤ 508 → n ≡ length words / 2 → w ≡ startOf → Walking words n 0 w
 unfolding entriesIn
@@ -65,21 +65,6 @@ walking-start words n w h e s = rw s (record {
   few = few-start;
   same = rw (sub-zero n, e);
 })
-
-entries-front : (words : List ℕ) (n k : ℕ) → k < n
-    → entriesAt (n - k) (drop (2 * k) words)
-    ≡ entry (getD words (2 * k) 0) (getD words (2 * k + 1) 0) ∷ entriesAt (n - (k + 1)) (drop (2 * (k + 1)) words)
-unfolding entriesAt
-entries-front words n k h =
-    let one : n - k ≡ suc (n - (k + 1)) = omega arith in
-    let two : 2 * (k + 1) ≡ 2 * k + 2 = omega arith in
-    let nought : 2 * k + 0 ≡ 2 * k = omega arith in
-    rw (one, two, getD-drop (2 * k) words 0 0, getD-drop (2 * k) words 1 0, drop-drop 2 (2 * k) words, nought)
-
-entries-length : (n : ℕ) (ws : List ℕ) → length (entriesAt n ws) ≤ n
-unfolding entriesAt
-entries-length zero ws = omega arith
-entries-length (suc n) ws = let h = entries-length n (drop 2 ws) in omega arith
 
 module _ (words : List ℕ) (n k : ℕ) (w : Walk) (inv : Walking words n k w) where
   pub walking-step : (v : Walk) → k < n → v ≡ stepOf w (entry (getD words (2 * k) 0) (getD words (2 * k + 1) 0)) → Walking words n (k + 1) v
@@ -106,5 +91,5 @@ module _ (words : List ℕ) (n k : ℕ) (w : Walk) (inv : Walking words n k w) w
       let none : n - k ≡ 0 = omega arith in
       let whole : walkFrom startOf (entriesIn words) ≡ w = inv .same ∙ rw none in
       let s = inv .small in
-      let few : length (entriesIn words) ≤ 254 = omega (arith, entries-length (length words / 2) words) in
+      let few : length (entriesIn words) ≤ 254 = omega (arith, entriesAt-length (length words / 2) words) in
       e ∙ ap finishedOf (sym whole) ∙ finished-is (entriesIn words) few

@@ -10,11 +10,10 @@ use lib.Dec.{ltb}
 use lib.ListN.{length, getD}
 use Rattle.lists.specs.Lists.{any, count, All}
 use Rattle.lists.proofs.Bools.{by-cases}
-use Rattle.lists.proofs.Counts.{count-least}
+use Rattle.lists.proofs.Counts.{count-least, either-positive}
 use Rattle.formats.specs.Items.{Item}
 use Rattle.tables.specs.Encode.{bit}
 use Rattle.tallies.specs.Walk.{packed, tallies, weight}
-use Rattle.tallies.proofs.Lists.{either-positive}
 
 -- ---- what an item adds
 pub tallies-none : (b : ℕ) (ps : List (Item → Bool)) → packed b (tallies ps []) ≡ 0

@@ -6,119 +6,50 @@ use mathlib.Core.List.{List, [], _∷_}
 use lib.Dec.{T, leb, ltb, eqb}
 use Rattle.lists.specs.Lists.{every, any, count}
 use Rattle.lists.proofs.Bools.{and-left, and-right}
-use Rattle.lists.proofs.Counts.{any-map}
+use Rattle.lists.proofs.Counts.{any-map, either-positive, any-same, every-same, any-either, every-and, every-not-beside, positive-count}
 use Rattle.formats.specs.Tokens.{Elapsed, hours, minutes, seconds}
-use Rattle.formats.specs.Items.{Item, literal, blank, fill, place, point, percent, general, at, year, month, day, hour, minute, second, part, elapsed, half, Section, Kind, textKind, generalKind, dateKind, numberKind, literalKind, sameKind, kindFrom, itemMakes, itemsKind, kindOf, itemBelongs, itemAllowed, isPlace, isPoint, isPercent, isGeneral, isHour, isMinute, isSecond, isElapsed, isPlain, noPlain, itemsFit, integerPlaces, decimalPlaces}
+use Rattle.formats.specs.Items.{Item, elapsed, Section, Kind, textKind, generalKind, dateKind, numberKind, literalKind, sameKind, kindFrom, itemMakes, itemsKind, kindOf, itemBelongs, itemAllowed, isPlace, isPoint, isPercent, isGeneral, isHour, isMinute, isSecond, isElapsed, isPlain, noPlain, itemsFit, integerPlaces, decimalPlaces}
 use Rattle.formats.specs.Limits.{elapsedShort, sectionWithin}
 use Rattle.formats.specs.WellFormed.{oneFill, partsFollow, isSettled, groupingFits}
 use Rattle.tables.specs.Words.{Entry}
 use Rattle.tables.specs.Encode.{kindWord, hasHalf, decimalsWord}
 use Rattle.tables.specs.Decode.{itemsAt}
 use Rattle.tables.specs.Rules.{entryInRange, powersRunDown}
+use Rattle.tables.proofs.Each.{by-item, by-elapsed, by-kind}
+use Rattle.tables.proofs.Standing.{number-word}
 use Rattle.tallies.specs.Tally.{makesText, makesDate, belongsDate, isElapsedOf, soundEntries, tallyOf, hasPlaces, hasNumberItems, kindTold, allowedTold, itemsFitTold, oneFillTold, withinTold, groupingTold, decimalsTold}
 use Rattle.tallies.proofs.Powers.{places-counted}
-use Rattle.tallies.proofs.Lists.{either-positive, any-same, every-same, any-either, every-and, every-not-beside, positive-count}
 
 -- ---- what each item makes of its section, and where it belongs
 makes-general : (i : Item) → sameKind generalKind (itemMakes i) ≡ isGeneral i
 unfolding itemMakes
-makes-general (literal u) = refl
-makes-general (blank u) = refl
-makes-general (fill u) = refl
-makes-general (place p) = refl
-makes-general point = refl
-makes-general percent = refl
-makes-general general = refl
-makes-general at = refl
-makes-general (year n) = refl
-makes-general (month n) = refl
-makes-general (day n) = refl
-makes-general (hour n) = refl
-makes-general (minute n) = refl
-makes-general (second n) = refl
-makes-general (part n) = refl
-makes-general (elapsed e n) = refl
-makes-general (half h) = refl
+makes-general =
+    by-item (λ i. sameKind generalKind (itemMakes i) ≡ isGeneral i) (λ u. refl) (λ u. refl) (λ u. refl) (λ p. refl) refl refl refl refl
+    (λ n. refl) (λ n. refl) (λ n. refl) (λ n. refl) (λ n. refl) (λ n. refl) (λ n. refl) (λ e n. refl) (λ h. refl)
 
 makes-number : (i : Item) → sameKind numberKind (itemMakes i) ≡ isPlace i
 unfolding itemMakes
-makes-number (literal u) = refl
-makes-number (blank u) = refl
-makes-number (fill u) = refl
-makes-number (place p) = refl
-makes-number point = refl
-makes-number percent = refl
-makes-number general = refl
-makes-number at = refl
-makes-number (year n) = refl
-makes-number (month n) = refl
-makes-number (day n) = refl
-makes-number (hour n) = refl
-makes-number (minute n) = refl
-makes-number (second n) = refl
-makes-number (part n) = refl
-makes-number (elapsed e n) = refl
-makes-number (half h) = refl
+makes-number =
+    by-item (λ i. sameKind numberKind (itemMakes i) ≡ isPlace i) (λ u. refl) (λ u. refl) (λ u. refl) (λ p. refl) refl refl refl refl
+    (λ n. refl) (λ n. refl) (λ n. refl) (λ n. refl) (λ n. refl) (λ n. refl) (λ n. refl) (λ e n. refl) (λ h. refl)
 
 belongs-text : (i : Item) → sameKind (itemBelongs i) textKind ≡ makesText i
 unfolding itemMakes itemBelongs
-belongs-text (literal u) = refl
-belongs-text (blank u) = refl
-belongs-text (fill u) = refl
-belongs-text (place p) = refl
-belongs-text point = refl
-belongs-text percent = refl
-belongs-text general = refl
-belongs-text at = refl
-belongs-text (year n) = refl
-belongs-text (month n) = refl
-belongs-text (day n) = refl
-belongs-text (hour n) = refl
-belongs-text (minute n) = refl
-belongs-text (second n) = refl
-belongs-text (part n) = refl
-belongs-text (elapsed e n) = refl
-belongs-text (half h) = refl
+belongs-text =
+    by-item (λ i. sameKind (itemBelongs i) textKind ≡ makesText i) (λ u. refl) (λ u. refl) (λ u. refl) (λ p. refl) refl refl refl refl
+    (λ n. refl) (λ n. refl) (λ n. refl) (λ n. refl) (λ n. refl) (λ n. refl) (λ n. refl) (λ e n. refl) (λ h. refl)
 
 belongs-general : (i : Item) → sameKind (itemBelongs i) generalKind ≡ isGeneral i
 unfolding itemBelongs
-belongs-general (literal u) = refl
-belongs-general (blank u) = refl
-belongs-general (fill u) = refl
-belongs-general (place p) = refl
-belongs-general point = refl
-belongs-general percent = refl
-belongs-general general = refl
-belongs-general at = refl
-belongs-general (year n) = refl
-belongs-general (month n) = refl
-belongs-general (day n) = refl
-belongs-general (hour n) = refl
-belongs-general (minute n) = refl
-belongs-general (second n) = refl
-belongs-general (part n) = refl
-belongs-general (elapsed e n) = refl
-belongs-general (half h) = refl
+belongs-general =
+    by-item (λ i. sameKind (itemBelongs i) generalKind ≡ isGeneral i) (λ u. refl) (λ u. refl) (λ u. refl) (λ p. refl) refl refl refl refl
+    (λ n. refl) (λ n. refl) (λ n. refl) (λ n. refl) (λ n. refl) (λ n. refl) (λ n. refl) (λ e n. refl) (λ h. refl)
 
 belongs-number : (i : Item) → sameKind (itemBelongs i) numberKind ≡ (isPlace i || (isPoint i || isPercent i))
 unfolding itemBelongs
-belongs-number (literal u) = refl
-belongs-number (blank u) = refl
-belongs-number (fill u) = refl
-belongs-number (place p) = refl
-belongs-number point = refl
-belongs-number percent = refl
-belongs-number general = refl
-belongs-number at = refl
-belongs-number (year n) = refl
-belongs-number (month n) = refl
-belongs-number (day n) = refl
-belongs-number (hour n) = refl
-belongs-number (minute n) = refl
-belongs-number (second n) = refl
-belongs-number (part n) = refl
-belongs-number (elapsed e n) = refl
-belongs-number (half h) = refl
+belongs-number =
+    by-item (λ i. sameKind (itemBelongs i) numberKind ≡ (isPlace i || (isPoint i || isPercent i))) (λ u. refl) (λ u. refl) (λ u. refl) (λ p. refl) refl refl refl refl
+    (λ n. refl) (λ n. refl) (λ n. refl) (λ n. refl) (λ n. refl) (λ n. refl) (λ n. refl) (λ e n. refl) (λ h. refl)
 
 -- ---- the places
 module _ (es : List Entry) where
@@ -161,80 +92,60 @@ kind-told es =
     rw (generals-told es, places-told es, kind-is (itemsAt es))
     (unfold tallyOf in (kind-word (any makesText (itemsAt es)) (any isGeneral (itemsAt es)) (any makesDate (itemsAt es)) (any isPlace (itemsAt es))))
 
-number-word : (k : Kind) → eqb (kindWord k) 2 ≡ sameKind k numberKind
-unfolding kindWord
-number-word textKind = refl
-number-word generalKind = refl
-number-word dateKind = refl
-number-word numberKind = refl
-number-word literalKind = refl
-
 pub number-told : (es : List Entry) → eqb (kindTold (tallyOf es)) 2 ≡ sameKind (itemsKind (itemsAt es)) numberKind
 number-told es = rw (kind-told es) (number-word (itemsKind (itemsAt es)))
 
 -- ---- no item belongs to another kind
-abbrev allowedBy : Kind → Bool → Bool → Bool → Bool → Bool
-allowedBy textKind T G D N = not G && (not D && not N)
-allowedBy generalKind T G D N = not T && (not D && not N)
-allowedBy dateKind T G D N = not T && (not G && not N)
-allowedBy numberKind T G D N = not T && (not G && not D)
-allowedBy literalKind T G D N = not T && (not G && (not D && not N))
-
--- one item more, which belongs to the second kind
-allowed-turn : (k b : Kind) (T G D N : Bool)
-    → cond (sameKind b literalKind || sameKind b k) (allowedBy k T G D N) false
-    ≡ allowedBy k (cond (sameKind b textKind) true T) (cond (sameKind b generalKind) true G) (cond (sameKind b dateKind) true D) (cond (sameKind b numberKind) true N)
-allowed-turn textKind textKind T G D N = refl
-allowed-turn textKind generalKind T G D N = refl
-allowed-turn textKind dateKind T G D N = rw (and-false (not G))
-allowed-turn textKind numberKind T G D N = rw (and-false (not D), and-false (not G))
-allowed-turn textKind literalKind T G D N = refl
-allowed-turn generalKind textKind T G D N = refl
-allowed-turn generalKind generalKind T G D N = refl
-allowed-turn generalKind dateKind T G D N = rw (and-false (not T))
-allowed-turn generalKind numberKind T G D N = rw (and-false (not D), and-false (not T))
-allowed-turn generalKind literalKind T G D N = refl
-allowed-turn dateKind textKind T G D N = refl
-allowed-turn dateKind generalKind T G D N = rw (and-false (not T))
-allowed-turn dateKind dateKind T G D N = refl
-allowed-turn dateKind numberKind T G D N = rw (and-false (not G), and-false (not T))
-allowed-turn dateKind literalKind T G D N = refl
-allowed-turn numberKind textKind T G D N = refl
-allowed-turn numberKind generalKind T G D N = rw (and-false (not T))
-allowed-turn numberKind dateKind T G D N = rw (and-false (not G), and-false (not T))
-allowed-turn numberKind numberKind T G D N = refl
-allowed-turn numberKind literalKind T G D N = refl
-allowed-turn literalKind textKind T G D N = refl
-allowed-turn literalKind generalKind T G D N = rw (and-false (not T))
-allowed-turn literalKind dateKind T G D N = rw (and-false (not G), and-false (not T))
-allowed-turn literalKind numberKind T G D N = rw (and-false (not D), and-false (not G), and-false (not T))
-allowed-turn literalKind literalKind T G D N = refl
-
 abbrev belongs : Kind → Item → Bool
-belongs k i = sameKind (itemBelongs i) k
+belongs j i = sameKind (itemBelongs i) j
+
+-- where a section is of kind k, items belong to kind j
+abbrev other : Kind → Kind → Bool → Bool
+other k j some = not (some && not (sameKind j k))
+
+abbrev allowedBy : Kind → Bool → Bool → Bool → Bool → Bool
+allowedBy k T G D N = other k textKind T && (other k generalKind G && (other k dateKind D && other k numberKind N))
+
+-- an item that belongs to kind b
+abbrev AllowedIn : Kind → Kind → Type 0
+AllowedIn k b =
+    (sameKind b literalKind || sameKind b k)
+    ≡ allowedBy k (sameKind b textKind) (sameKind b generalKind) (sameKind b dateKind) (sameKind b numberKind)
+
+allowed-one : (k b : Kind) → AllowedIn k b
+allowed-one =
+    by-kind (λ k. (b : Kind) → AllowedIn k b) (by-kind (AllowedIn textKind) refl refl refl refl refl)
+    (by-kind (AllowedIn generalKind) refl refl refl refl refl) (by-kind (AllowedIn dateKind) refl refl refl refl refl)
+    (by-kind (AllowedIn numberKind) refl refl refl refl refl) (by-kind (AllowedIn literalKind) refl refl refl refl refl)
 
 allowed-every : (k : Kind) (is : List Item)
     → every (itemAllowed k) is
     ≡ allowedBy k (any (belongs textKind) is) (any (belongs generalKind) is) (any (belongs dateKind) is) (any (belongs numberKind) is)
-unfolding every any itemAllowed
-allowed-every textKind [] = refl
-allowed-every generalKind [] = refl
-allowed-every dateKind [] = refl
-allowed-every numberKind [] = refl
-allowed-every literalKind [] = refl
-allowed-every k (i ∷ is) =
-    ap (λ (r : Bool). cond (belongs literalKind i || belongs k i) r false) (allowed-every k is)
-    ∙ allowed-turn k (itemBelongs i) (any (belongs textKind) is) (any (belongs generalKind) is) (any (belongs dateKind) is) (any (belongs numberKind) is)
+unfolding itemAllowed
+allowed-every k is =
+    let one : Kind → Item → Bool = λ (j : Kind) (i : Item). other k j (belongs j i) in
+    let beside : (j : Kind) → every (one j) is ≡ other k j (any (belongs j) is) = λ j. every-not-beside (belongs j) (not (sameKind j k)) is in
+    every-same (itemAllowed k) (λ (i : Item). one textKind i && (one generalKind i && (one dateKind i && one numberKind i)))
+    (λ i. allowed-one k (itemBelongs i)) is
+    ∙ every-and (one textKind) (λ (i : Item). one generalKind i && (one dateKind i && one numberKind i)) is
+    ∙ rw (
+      every-and (one generalKind) (λ (i : Item). one dateKind i && one numberKind i) is,
+      every-and (one dateKind) (one numberKind) is,
+      beside textKind,
+      beside generalKind,
+      beside dateKind,
+      beside numberKind,
+    )
 
 -- the tests of `allowedTold` are those of the kind that the flags make
 allowed-by-kind : (t g d n D N : Bool)
     → cond t (not g && (not D && not N)) (cond g (not D && not N) (cond d (not N) (cond n (not D) (not D && not N))))
     ≡ allowedBy (kindBy t g d n) t g D N
-allowed-by-kind true g d n D N = refl
-allowed-by-kind false true d n D N = refl
-allowed-by-kind false false true n D N = refl
-allowed-by-kind false false false true D N = refl
-allowed-by-kind false false false false D N = refl
+allowed-by-kind true g d n D N = rw (and-true g, and-true D, and-true N)
+allowed-by-kind false true d n D N = rw (and-true D, and-true N)
+allowed-by-kind false false true n D N = rw (and-false D, and-true N)
+allowed-by-kind false false false true D N = rw (and-true D, and-false N, and-true (not D))
+allowed-by-kind false false false false D N = rw (and-true D, and-true N)
 
 module _ (es : List Entry) where
   number-items-told : hasNumberItems (tallyOf es) ≡ any (belongs numberKind) (itemsAt es)
@@ -261,29 +172,16 @@ module _ (is : List Item) where
   abbrev beside : Elapsed → Bool → Item → Bool
   beside e b i = not (isElapsedOf e i && b)
 
-  no-plain-item : (i : Item)
-      → noPlain is i
-      ≡ (beside hours (any isHour is) i && (beside minutes (any isMinute is) i && beside seconds (any isSecond is) i))
+  abbrev Same : Item → Type 0
+  Same i = noPlain is i ≡ (beside hours (any isHour is) i && (beside minutes (any isMinute is) i && beside seconds (any isSecond is) i))
+
+  no-plain-item : (i : Item) → Same i
   unfolding noPlain isElapsedOf isPlain
-  no-plain-item (elapsed hours n) = sym (and-true (not (any isHour is)))
-  no-plain-item (elapsed minutes n) = sym (and-true (not (any isMinute is)))
-  no-plain-item (elapsed seconds n) = refl
-  no-plain-item (literal u) = refl
-  no-plain-item (blank u) = refl
-  no-plain-item (fill u) = refl
-  no-plain-item (place p) = refl
-  no-plain-item point = refl
-  no-plain-item percent = refl
-  no-plain-item general = refl
-  no-plain-item at = refl
-  no-plain-item (year n) = refl
-  no-plain-item (month n) = refl
-  no-plain-item (day n) = refl
-  no-plain-item (hour n) = refl
-  no-plain-item (minute n) = refl
-  no-plain-item (second n) = refl
-  no-plain-item (part n) = refl
-  no-plain-item (half h) = refl
+  no-plain-item =
+      by-item Same (λ u. refl) (λ u. refl) (λ u. refl) (λ p. refl) refl refl refl refl
+      (λ n. refl) (λ n. refl) (λ n. refl) (λ n. refl) (λ n. refl) (λ n. refl) (λ n. refl)
+      (λ e n. by-elapsed (λ d. Same (elapsed d n)) (sym (and-true (not (any isHour is)))) (sym (and-true (not (any isMinute is)))) refl e)
+      (λ h. refl)
 
   no-plain-every : every (noPlain is) is
       ≡ (not (any (isElapsedOf hours) is && any isHour is)
@@ -310,10 +208,6 @@ and-five false b c d e = refl
 
 -- ---- the laws, over the entries of a section's words
 module _ (es : List Entry) where
-  pub integers-are : tallyOf es .integers ≡ integerPlaces (itemsAt es)
-  unfolding tallyOf
-  integers-are = refl
-
   pub percents-are : tallyOf es .percents ≡ count isPercent (itemsAt es)
   unfolding tallyOf
   percents-are = refl

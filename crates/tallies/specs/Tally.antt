@@ -1,23 +1,19 @@
 -- What one pass over the item words of a section tells, and the rules for a section as tests on it.
 -- Assumes nothing.
-use Prim.Native.Nat.{ℕ, _/_}
+use Prim.Native.Nat.{ℕ}
 use mathlib.Core.Bool.{Bool, false, cond, not, _&&_, _||_}
 use mathlib.Core.List.{List}
-use lib.ListN.{length}
 use lib.Dec.{leb, ltb, eqb}
 use Rattle.lists.specs.Lists.{every, any, count}
 use Rattle.formats.specs.Tokens.{Elapsed, hours, minutes, seconds}
 use Rattle.formats.specs.Items.{Item, literal, blank, fill, place, point, percent, general, at, year, month, day, hour, minute, second, part, elapsed, half, dateKind, textKind, sameKind, itemMakes, itemBelongs, isFill, isPoint, isPercent, isGeneral, isHour, isMinute, isSecond, isElapsed, isHalf, integerPlaces, decimalPlaces}
 use Rattle.formats.specs.Limits.{elapsedShort}
 use Rattle.formats.specs.WellFormed.{partsFollow, isSettled}
-use Rattle.tables.specs.Words.{Entry, entriesAt}
+use Rattle.tables.specs.Words.{Entry}
+unfoldable pub use Rattle.tables.specs.Words.{entriesIn}
 use Rattle.tables.specs.Decode.{itemsAt}
 use Rattle.tables.specs.Rules.{entryInRange, powersRunDown}
 use Rattle.tallies.specs.declared.Tally.{Tally}
-
--- the entries that stand in a section's item words, two words each
-unfoldable pub entriesIn : List ℕ → List Entry
-entriesIn words = entriesAt (length words / 2) words
 
 abbrev pub makesText : Item → Bool
 makesText i = sameKind textKind (itemMakes i)

@@ -8,10 +8,10 @@ use Rattle.checking.proofs.counted.Statement.{statement}
 use Rattle.checking.proofs.counted.Tie as tie
 
 abbrev Inv-loop : tie.InvT-loop
-Inv-loop table n most₀ i₀ most i = Counting table n i most
+Inv-loop table n count₀ i₀ count i = Counting table n i count
 
 abbrev μ-loop : tie.MeasureT-loop
-μ-loop table n most₀ i₀ most i = n - i
+μ-loop table n count₀ i₀ count i = n - i
 
 loop-holds : tie.Need-loop-holds Inv-loop μ-loop
 loop-holds c = counting-start _ _ (c .before .pre .0) (c .before .pre .1)
@@ -22,8 +22,8 @@ head-at-requires c κs = search needs
 counted-one-requires : tie.Need-counted-one-requires Inv-loop μ-loop
 counted-one-requires c κs = search needs
 
-add-most : tie.Need-add-most Inv-loop μ-loop
-add-most c = omega (arith, one-most (c .before .before .before .loop .i) (c .before .head-at .result .kind))
+add-count : tie.Need-add-count Inv-loop μ-loop
+add-count c = omega (arith, one-most (c .before .before .before .loop .i) (c .before .head-at .result .kind))
 
 add-i : tie.Need-add-i Inv-loop μ-loop
 add-i c = search needs
@@ -46,7 +46,7 @@ counted-spec =
     loop-holds
     head-at-requires
     counted-one-requires
-    add-most
+    add-count
     add-i
     loop-less
     loop-again

@@ -1,6 +1,6 @@
 -- `checking::counted_one` meets its contract.
 -- Assumes nothing.
-use Rattle.checking.specs.Checking.{countedOne}
+use Rattle.tables.specs.Standing.{countedOne}
 use Rattle.checking.proofs.counted_one.Statement.{statement}
 use Rattle.checking.proofs.counted_one.Tie as tie
 

@@ -4,7 +4,8 @@ use native.Mathlib.Omega.{arith}
 use mathlib.Core.Path.{sym, _∙_}
 use mathlib.Core.Bool.{true≢false}
 use borrow.Author.Tests.{eqb-true, eqb-false, not-true, not-false}
-use Rattle.checking.proofs.ByKind.{not-so, number-refused, number-ungrouped, number-last}
+use Rattle.lists.proofs.Bools.{not-so}
+use Rattle.checking.proofs.ByKind.{number-refused, number-ungrouped, number-last}
 use borrow.Author.Needs.{needs}
 use Rattle.checking.proofs.number_fits.Statement.{statement}
 use Rattle.checking.proofs.number_fits.Tie as tie

@@ -4,7 +4,7 @@ use native.Mathlib.Omega.{arith}
 use mathlib.Core.Path.{sym, _∙_}
 use borrow.Author.Tests.{eqb-true, eqb-false, not-true, not-false}
 use Rattle.tables.specs.Decode.{groupedAt}
-use Rattle.checking.proofs.Tests.{carry}
+use Rattle.lists.proofs.Bools.{carry}
 use Rattle.checking.proofs.ByKind.{other-refused, other-last}
 use borrow.Author.Needs.{needs}
 use Rattle.checking.proofs.other_fits.Statement.{statement}

@@ -10,10 +10,10 @@ use Rattle.checking.proofs.places_fit.Statement.{statement}
 use Rattle.checking.proofs.places_fit.Tie as tie
 
 abbrev Inv-loop : tie.InvT-loop
-Inv-loop table n most first-has i₀ i = Placing table n most first-has i
+Inv-loop table n counted first-has i₀ i = Placing table n counted first-has i
 
 abbrev μ-loop : tie.MeasureT-loop
-μ-loop table n most first-has i₀ i = n - i
+μ-loop table n counted first-has i₀ i = n - i
 
 shared-slice-read-n : tie.Need-shared-slice-read-n Inv-loop μ-loop
 shared-slice-read-n c = search needs

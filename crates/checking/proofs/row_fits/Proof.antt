@@ -5,11 +5,13 @@ use mathlib.Core.Path.{refl, sym, _∙_, subst}
 use lib.Dec.{eqb→eq}
 use denote.Ref.{now}
 use borrow.Author.Tests.{eqb-true, eqb-false, not-true, not-false}
-use Rattle.tallies.specs.Tally.{entriesIn, tallyOf}
+use Rattle.tables.specs.Words.{entriesIn}
+use Rattle.tables.proofs.Ranges.{head-ranges}
+use Rattle.tallies.specs.Tally.{tallyOf}
 use Rattle.checking.specs.Checking.{headFrom, Undated}
-use Rattle.checking.proofs.Tests.{carry}
+use Rattle.lists.proofs.Bools.{carry}
 use Rattle.checking.proofs.Undated.{undated}
-use Rattle.checking.proofs.ByKind.{refused, colour-most, fills-most, condition-out, Front, row-number, row-other, rowed, items-few, colour-again, condition-again}
+use Rattle.checking.proofs.ByKind.{refused, fills-most, condition-out, Front, row-number, row-other, rowed, items-few, colour-again, condition-again}
 use borrow.Author.Needs.{needs}
 use Rattle.checking.proofs.row_fits.Statement.{statement}
 use Rattle.checking.proofs.row_fits.Tie as tie
@@ -26,7 +28,7 @@ head-at-requires c κs = search needs
 returns : tie.Need-returns
 returns c =
     rowed _ _ _ _ _ (c .before .before .head-at .ensures) refl
-    (refused (headFrom (c .before .before .head-at .result)) (tallyOf (entriesIn (now (c .before .before .before .before .before .args .items)))) (λ f. absurd (omega (arith, colour-most (headFrom (c .before .before .head-at .result)) (f .range)))))
+    (refused (headFrom (c .before .before .head-at .result)) (tallyOf (entriesIn (now (c .before .before .before .before .before .args .items)))) (λ f. absurd (omega (arith, head-ranges (headFrom (c .before .before .head-at .result)) (f .range) .colour))))
 
 condition-fits-requires : tie.Need-condition-fits-requires
 condition-fits-requires c κs = search needs

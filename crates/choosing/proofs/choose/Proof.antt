@@ -10,10 +10,10 @@ use Rattle.choosing.proofs.choose.Statement.{statement}
 use Rattle.choosing.proofs.choose.Tie as tie
 
 abbrev Inv-loop : tie.InvT-loop
-Inv-loop table v n sections i₀ i = Walking table n (exactOf v) i
+Inv-loop table v counted n i₀ i = Walking table counted (exactOf v) i
 
 abbrev μ-loop : tie.MeasureT-loop
-μ-loop table v n sections i₀ i = sections - i
+μ-loop table v counted n i₀ i = n - i
 
 counted-requires : tie.Need-counted-requires Inv-loop μ-loop
 counted-requires c κs = search needs

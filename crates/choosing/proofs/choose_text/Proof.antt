@@ -9,10 +9,10 @@ use Rattle.choosing.proofs.choose_text.Statement.{statement}
 use Rattle.choosing.proofs.choose_text.Tie as tie
 
 abbrev Inv-loop : tie.InvT-loop
-Inv-loop table sections i₀ i = TextWalking table i
+Inv-loop table n i₀ i = TextWalking table i
 
 abbrev μ-loop : tie.MeasureT-loop
-μ-loop table sections i₀ i = sections - i
+μ-loop table n i₀ i = n - i
 
 section-count-requires : tie.Need-section-count-requires Inv-loop μ-loop
 section-count-requires c κs = search needs

@@ -9,10 +9,10 @@ use Rattle.choosing.proofs.counted.Statement.{statement}
 use Rattle.choosing.proofs.counted.Tie as tie
 
 abbrev Inv-loop : tie.InvT-loop
-Inv-loop table sections n₀ i₀ n i = Counting table n i
+Inv-loop table n count₀ i₀ count i = Counting table count i
 
 abbrev μ-loop : tie.MeasureT-loop
-μ-loop table sections n₀ i₀ n i = sections - i
+μ-loop table n count₀ i₀ count i = n - i
 
 section-count-requires : tie.Need-section-count-requires Inv-loop μ-loop
 section-count-requires c κs = search needs
@@ -23,8 +23,8 @@ loop-holds c = counting-start _ (c .before .before .pre)
 is-counted-requires : tie.Need-is-counted-requires Inv-loop μ-loop
 is-counted-requires c κs = search needs
 
-add-n : tie.Need-add-n Inv-loop μ-loop
-add-n c = omega arith
+add-count : tie.Need-add-count Inv-loop μ-loop
+add-count c = omega arith
 
 add-i : tie.Need-add-i Inv-loop μ-loop
 add-i c = omega arith
@@ -56,7 +56,7 @@ counted-spec =
     section-count-requires
     loop-holds
     is-counted-requires
-    add-n
+    add-count
     add-i
     loop-less
     loop-again

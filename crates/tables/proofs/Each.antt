@@ -1,0 +1,58 @@
+-- What holds of each form of an item, a place, an elapsed run, a half-day mark, a kind or a comparison holds of all of them: so that a
+-- law that is computed at each form takes a line, not a line for each form.
+-- Assumes nothing.
+use Prim.Native.Nat.{ℕ}
+use Rattle.formats.specs.Tokens.{Place, zeroPlace, hashPlace, spacePlace, Elapsed, hours, minutes, seconds, HalfDay, short, long, Comparison, equal, less, greater, atMost, atLeast, unequal}
+use Rattle.formats.specs.Items.{Item, literal, blank, fill, place, point, percent, general, at, year, month, day, hour, minute, second, part, elapsed, half, Kind, textKind, generalKind, dateKind, numberKind, literalKind}
+
+pub by-item {ℓ} : (P : Item → Type ℓ) → ((u : ℕ) → P (literal u)) → ((u : ℕ) → P (blank u)) → ((u : ℕ) → P (fill u)) → ((p : Place) → P (place p))
+    → P point → P percent → P general → P at
+    → ((n : ℕ) → P (year n)) → ((n : ℕ) → P (month n)) → ((n : ℕ) → P (day n)) → ((n : ℕ) → P (hour n))
+    → ((n : ℕ) → P (minute n)) → ((n : ℕ) → P (second n)) → ((n : ℕ) → P (part n)) → ((e : Elapsed) (n : ℕ) → P (elapsed e n)) → ((h : HalfDay) → P (half h))
+    → (i : Item) → P i
+by-item P l b f pl po pe ge a y mo d ho mi se pa el ha (literal u) = l u
+by-item P l b f pl po pe ge a y mo d ho mi se pa el ha (blank u) = b u
+by-item P l b f pl po pe ge a y mo d ho mi se pa el ha (fill u) = f u
+by-item P l b f pl po pe ge a y mo d ho mi se pa el ha (place p) = pl p
+by-item P l b f pl po pe ge a y mo d ho mi se pa el ha point = po
+by-item P l b f pl po pe ge a y mo d ho mi se pa el ha percent = pe
+by-item P l b f pl po pe ge a y mo d ho mi se pa el ha general = ge
+by-item P l b f pl po pe ge a y mo d ho mi se pa el ha at = a
+by-item P l b f pl po pe ge a y mo d ho mi se pa el ha (year n) = y n
+by-item P l b f pl po pe ge a y mo d ho mi se pa el ha (month n) = mo n
+by-item P l b f pl po pe ge a y mo d ho mi se pa el ha (day n) = d n
+by-item P l b f pl po pe ge a y mo d ho mi se pa el ha (hour n) = ho n
+by-item P l b f pl po pe ge a y mo d ho mi se pa el ha (minute n) = mi n
+by-item P l b f pl po pe ge a y mo d ho mi se pa el ha (second n) = se n
+by-item P l b f pl po pe ge a y mo d ho mi se pa el ha (part n) = pa n
+by-item P l b f pl po pe ge a y mo d ho mi se pa el ha (elapsed e n) = el e n
+by-item P l b f pl po pe ge a y mo d ho mi se pa el ha (half h) = ha h
+
+pub by-place {ℓ} : (P : Place → Type ℓ) → P zeroPlace → P hashPlace → P spacePlace → (x : Place) → P x
+by-place P a b c zeroPlace = a
+by-place P a b c hashPlace = b
+by-place P a b c spacePlace = c
+
+pub by-elapsed {ℓ} : (P : Elapsed → Type ℓ) → P hours → P minutes → P seconds → (x : Elapsed) → P x
+by-elapsed P a b c hours = a
+by-elapsed P a b c minutes = b
+by-elapsed P a b c seconds = c
+
+pub by-half {ℓ} : (P : HalfDay → Type ℓ) → P short → P long → (x : HalfDay) → P x
+by-half P a b short = a
+by-half P a b long = b
+
+pub by-kind {ℓ} : (P : Kind → Type ℓ) → P textKind → P generalKind → P dateKind → P numberKind → P literalKind → (x : Kind) → P x
+by-kind P a b c d e textKind = a
+by-kind P a b c d e generalKind = b
+by-kind P a b c d e dateKind = c
+by-kind P a b c d e numberKind = d
+by-kind P a b c d e literalKind = e
+
+pub by-comparison {ℓ} : (P : Comparison → Type ℓ) → P equal → P less → P greater → P atMost → P atLeast → P unequal → (x : Comparison) → P x
+by-comparison P a b c d e f equal = a
+by-comparison P a b c d e f less = b
+by-comparison P a b c d e f greater = c
+by-comparison P a b c d e f atMost = d
+by-comparison P a b c d e f atLeast = e
+by-comparison P a b c d e f unequal = f
