@@ -177,9 +177,13 @@ judgements =
     -- 4: before 5; the first of two
     ∷ refuses "0;@;." answer.Kind 2
     ∷ refuses "0;.;." answer.Kind 1
-    -- 5: before 6; the first of two
+    -- 5: before 6; the first of two; a condition on a text and on a third section; a fourth number section and a coloured one
     ∷ refuses "[>1234567890]0" answer.Standing 0
     ∷ refuses "0;@;@;0" answer.Standing 1
+    ∷ refuses "0;[>5]@" answer.Standing 1
+    ∷ refuses "0;0;[>5]0" answer.Standing 2
+    ∷ refuses "0;0;0;0" answer.Standing 3
+    ∷ refuses "0;0;0;[Red]" answer.Standing 3
     -- 6: the first of two, in a later section; one more than each limit, and all limits reached
     ∷ refuses "0;[>1234567890]0;000000000000000000000" answer.Limit 1
     ∷ refuses "000000000000000000000" answer.Limit 0

@@ -71,7 +71,7 @@ unfolding copies placesDown
 brokenTables =
     -- no section; five sections; a word behind the end; a word missing; 255 items
     (0 ∷ [])
-    ∷ (5 ∷ plain 0 0 0 0 0 (plain 0 0 2 0 0 (plain 0 0 0 0 0 (plain 0 0 0 0 0 (plain 0 0 0 0 0 [])))))
+    ∷ (5 ∷ plain 0 0 0 0 0 (plain 0 0 0 0 0 (plain 0 0 0 0 0 (plain 0 0 0 0 0 (plain 0 0 0 0 0 [])))))
     ∷ (1 ∷ plain 0 0 0 0 0 (0 ∷ []))
     ∷ (1 ∷ plain 1 0 0 0 1 (9 ∷ []))
     ∷ (2 ∷ plain 0 0 0 0 127 (plain 0 0 2 0 128 (copies 255 1 65 [])))
@@ -91,8 +91,8 @@ brokenTables =
     ∷ (1 ∷ plain 4 0 0 0 2 (16 ∷ 1 ∷ 17 ∷ 4 ∷ []))
     ∷ (1 ∷ plain 2 15 0 0 2 (4 ∷ 16 ∷ 7 ∷ 1 ∷ []))
     -- items and kinds: a kind that its items do not give; a half-day mark without a date; a part of a second behind a fill
-    ∷ (1 ∷ plain 2 15 0 0 0 [])
-    ∷ (1 ∷ plain 4 0 4 0 1 (21 ∷ 1 ∷ []))
+    ∷ (1 ∷ plain 0 15 0 0 1 (4 ∷ 16 ∷ []))
+    ∷ (1 ∷ plain 0 0 4 0 1 (21 ∷ 1 ∷ []))
     ∷ (1 ∷ plain 4 0 0 0 3 (16 ∷ 1 ∷ 3 ∷ 65 ∷ 17 ∷ 1 ∷ []))
     -- where: text that is not last; a single condition beside a place; a condition on a third section; a coloured fourth
     ∷ (2 ∷ plain 3 0 0 0 1 (plain 2 15 0 0 1 (10 ∷ 0 ∷ 4 ∷ 16 ∷ [])))
