@@ -263,11 +263,11 @@ token-refused code k e =
       last = λ j h. (broken-from code j _ k (lexes-at code j) h (at-start code (λ (l : Lexed). l ≡ bad k) (onto-bad k) whole j h)) .later;
     }
 
--- a token's start from which lexing is bad makes the whole so
-bad-behind : (code : List ℕ) (k : ℕ) → StepIs code k broken → (j : ℕ) → TokenStart code j → lexFrom j 0 (drop j code) ≡ bad k → lex code ≡ bad k
+-- where lexing is bad from a token's start on, it is bad as a whole
+bad-whole : (code : List ℕ) (k j : ℕ) → TokenStart code j → lexFrom j 0 (drop j code) ≡ bad k → lex code ≡ bad k
 unfolding lex onto
-bad-behind code k s j begin e = e
-bad-behind code k s j (next i t more h r) e = bad-behind code k s i h (lex-front code i t more r ∙ rw e)
+bad-whole code k j begin e = e
+bad-whole code k j (next i t more h s) e = bad-whole code k i h (lex-front code i t more s ∙ rw e)
 
 pub token-exactly : (code : List ℕ) (k : ℕ) → (verdict code ≡ refused answer.Token k) ↔ FirstBroken code k
 unfolding tokenVerdict
@@ -276,7 +276,7 @@ token-exactly code k = (token-refused code k, λ b. by-refused code answer.Token
     refusing : FirstBroken code k → RefusedBy code answer.Token k
     refusing b =
         record {
-          refuses = rw (bad-behind code k (b .breaks-there) k (b .starts) (lex-front-broken code k (b .breaks-there)));
+          refuses = rw (bad-whole code k k (b .starts) (lex-front-broken code k (b .breaks-there)));
           before = earlier;
         }
       where
