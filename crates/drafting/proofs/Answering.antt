@@ -14,7 +14,8 @@ use Rattle.answers.specs.declared.Answer.the-variants as answer
 use Rattle.answers.specs.Number.{numberOf}
 use Rattle.formats.specs.Tokens.{Lexed, lex}
 use Rattle.formats.specs.Kinds.{sectionOf}
-use Rattle.formats.specs.Accept.{placedOf, tokensOf, semicolons, partsIn, sectionsIn, fine, refused, orElse, lengthVerdict, tokenVerdict, countVerdict, verdict}
+use Rattle.formats.specs.Accept.{placedOf, tokensOf, semicolons, partsIn, sectionsIn, fine, refused, orElse, lengthVerdict, tokenVerdict, countVerdict, verdict, kindVerdict, whereVerdict}
+use Rattle.lists.specs.Lists.{firstFailing}
 use Rattle.formats.proofs.First.{token-refused, count-refused}
 use Rattle.formats.proofs.Lexing.{step-inside}
 use Rattle.formats.proofs.ItemCount.{section-count}
@@ -26,11 +27,11 @@ use Rattle.lexing.proofs.Semicolons.{semicolons-in}
 use Rattle.writing.proofs.Laws.{put-size}
 use Rattle.drafting.specs.declared.sections.Drafts.{Drafts}
 use Rattle.drafting.specs.declared.Examined.{Examined}
-use Rattle.drafting.specs.Draft.{itemWords, AllDrafted, Lexes, passesBy, firstFrom}
+use Rattle.drafting.specs.Draft.{itemWords, AllDrafted, Lexes, passesBy, foundBelow}
 use Rattle.drafting.specs.Examine.{verdictOf, sectionsVerdict, ExaminedAs, Buffered}
 use Rattle.drafting.proofs.Drafting.{put-read}
 use Rattle.drafting.proofs.Sectioning.{items-room}
-use Rattle.drafting.proofs.Refusing.{kind-some, kind-none, where-some, where-none, limit-some, limit-none}
+use Rattle.drafting.proofs.Refusing.{kind-told, where-told, limit-told}
 
 -- ---- a refusal
 pub examined-refused : (code tokens out : List ℕ) (r : Examined) (a : Answer) (k : ℕ) → (r .answer ≡ a) × (r .place ≡ k) → eqb (numberOf a) 0 ≡ false
@@ -45,30 +46,37 @@ examined-refused code tokens out r a k e z v = record {
 module _ (code : List ℕ) (v : verdict code ≡ sectionsVerdict code) {old out : List ℕ} (r : Drafts) (d : AllDrafted (partsIn code) old r out)
     (n : ℕ) (many : n ≡ length (partsIn code)) where
   abbrev found : ℕ → ℕ → Type 0
-  found test k = k ≡ firstFrom (passesBy test n) 0 (take n (r .drafts))
+  found test k = firstFailing (passesBy test n) 0 (take n (r .drafts)) ≡ foundBelow n k
 
   pub verdict-kind : (k : ℕ) → found 4 k → k < n → verdict code ≡ refused answer.Kind k
   unfolding sectionsVerdict orElse
-  verdict-kind k e l = v ∙ rw (kind-some (partsIn code) (r .drafts) (d .each) n k many e l)
+  verdict-kind k e l = v ∙ rw (kind-told (partsIn code) (r .drafts) (d .each) n k many e, lt-ltb k n l)
 
   module _ (j : ℕ) (kinds : found 4 j) (kinds-none : n ≤ j) where
+    kinds-fine : kindVerdict (partsIn code) ≡ fine
+    kinds-fine = kind-told (partsIn code) (r .drafts) (d .each) n j many kinds ∙ rw (le-ltb j n kinds-none)
+
     pub verdict-where : (k : ℕ) → found 5 k → k < n → verdict code ≡ refused answer.Standing k
     unfolding sectionsVerdict orElse sectionsIn
-    verdict-where k e l = v ∙ rw (kind-none (partsIn code) (r .drafts) (d .each) n j many kinds kinds-none, where-some (partsIn code) (r .drafts) (d .each) n k many e l)
+    verdict-where k e l = v ∙ rw (kinds-fine, where-told (partsIn code) (r .drafts) (d .each) n k many e, lt-ltb k n l)
 
     module _ (i : ℕ) (stand : found 5 i) (stand-none : n ≤ i) where
+      stands-fine : whereVerdict (sectionsIn code) ≡ fine
+      unfolding sectionsIn
+      stands-fine = where-told (partsIn code) (r .drafts) (d .each) n i many stand ∙ rw (le-ltb i n stand-none)
+
       pub verdict-limit : (k : ℕ) → found 6 k → k < n → verdict code ≡ refused answer.Limit k
-      unfolding sectionsVerdict orElse sectionsIn
-      verdict-limit k e l = v ∙ rw (kind-none (partsIn code) (r .drafts) (d .each) n j many kinds kinds-none, where-none (partsIn code) (r .drafts) (d .each) n i many stand stand-none, limit-some (partsIn code) (r .drafts) (d .each) n k many e l)
+      unfolding sectionsVerdict orElse
+      verdict-limit k e l = v ∙ rw (kinds-fine, stands-fine, limit-told (partsIn code) (r .drafts) (d .each) n k many e, lt-ltb k n l)
 
       pub examined-done : (k : ℕ) → found 6 k → n ≤ k → n ≤ 4 → length old ≡ 508 → (tokens : List ℕ) (count : ℕ) → Buffered code tokens count
           → ExaminedAs code tokens (record { answer = answer.Done; place = 0; tokens = count; sections = n; words = r .words; drafts = r .drafts }) out
-      unfolding sectionsVerdict orElse sectionsIn verdictOf
+      unfolding sectionsVerdict orElse verdictOf
       examined-done k e l few wide tokens count b =
           let size : r .words ≡ 0 + length (itemWords (partsIn code)) = d .put .next in
           let room = items-room code (b .small) in
           record {
-            told = sym (v ∙ rw (kind-none (partsIn code) (r .drafts) (d .each) n j many kinds kinds-none, where-none (partsIn code) (r .drafts) (d .each) n i many stand stand-none, limit-none (partsIn code) (r .drafts) (d .each) n k many e l));
+            told = sym (v ∙ rw (kinds-fine, stands-fine, limit-told (partsIn code) (r .drafts) (d .each) n k many e, le-ltb k n l));
             sound = λ t.
                 record {
                   buffered = rw (take-all (3 * count) tokens (omega (arith, b .size))) b;

@@ -13,6 +13,7 @@ use Rattle.calendar.specs.Names.{units}
 use Rattle.lists.specs.Lists.{every, any, isEmpty, isSome}
 use Rattle.lists.proofs.Bools.{by-cases, cond-both, cond-case, every-head, every-tail, every-cons}
 use Rattle.formats.specs.Tokens.{Elapsed, hours, minutes, seconds, Comparison, equal, less, greater, atMost, atLeast, unequal, Token, literal, blank, fill, Step, read, broken, before, leading, startsWith, same, quoted, marked, generalWord, halfDayWord, runAllowed, runStep, isDigit, digitOf, numberFrom, colourNames, namedFrom, noLeadingZero, colourDigits, numbered, elapsedInside, decimalsOf, wholeOf, signedOf, conditionInside, firstForm, insideOf, bracketed, First, quote, backslash, underscore, asterisk, openBracket, capitalG, capitalA, other, letter, single, FirstRow, firstRows, firstIn, bareLiterals, stepBy, stepAt, Placed, Lexed, good, bad, onto, afterStep, lexFrom, lex}
+use Rattle.formats.specs.Kinds.{conditionIn}
 use Rattle.formats.specs.Accept.{placedOf, tokensOf}
 use Rattle.formats.proofs.TokenRanges.{InForm, InStep, closed-step, first-passes, singlePasses}
 use Rattle.marks.specs.Marks.{writtenOr, writtenIn, conditionOf, markRows, markToken, tokenAt, tokensIn}
@@ -20,7 +21,7 @@ use Rattle.bodies.specs.declared.sections.Heading.{Heading}
 use Rattle.bodies.specs.Sections.{HeadingOf}
 use Rattle.marks.proofs.ByForm.{condition-24}
 use Rattle.marks.proofs.Words.{tokens-first, tokens-drop, tokens-take}
-use Rattle.drafting.specs.Draft.{hasDigit}
+use Rattle.drafting.specs.Draft.{writesDigit, hasDigit}
 
 -- ---- the units inside a bracket
 abbrev Digit : Token → Type 0
@@ -33,7 +34,7 @@ leading-some [] e = absurd (true≢false e)
 leading-some (u ∷ us) e = by-cases (isDigit u) (λ t. rw t tt) (λ t. absurd (true≢false (rw t at e)))
 
 decimals-digit : (c : Comparison) (negative : Bool) (whole us : List ℕ) → T (not (isEmpty (map digitOf whole))) → InForm Digit (decimalsOf c negative whole us)
-unfolding decimalsOf hasDigit
+unfolding decimalsOf hasDigit writesDigit conditionIn
 decimals-digit c negative whole [] t = t
 decimals-digit c negative whole (u ∷ us) t = cond-both (InForm Digit) (eqb u 46 && not (isEmpty us) && every isDigit us) t tt
 
@@ -58,18 +59,18 @@ condition-digit us =
     (cond-both (InForm Digit) (startsWith (units ">") us) (signed-digit greater (drop 1 us)) tt)))))
 
 named-digit : (n : ℕ) (names : List String) (us : List ℕ) → InForm Digit (namedFrom n names us)
-unfolding namedFrom hasDigit
+unfolding namedFrom hasDigit writesDigit conditionIn
 named-digit n [] us = tt
 named-digit n (name ∷ names) us = cond-both (InForm Digit) (same (units name) us) tt (named-digit (suc n) names us)
 
 numbered-digit : (us : List ℕ) → InForm Digit (numbered us)
-unfolding numbered colourDigits hasDigit
+unfolding numbered colourDigits hasDigit writesDigit conditionIn
 numbered-digit us =
     cond-both (InForm Digit) (startsWith (units "Color") us)
     (cond-both (InForm Digit) (noLeadingZero (drop 5 us) && every isDigit (drop 5 us) && leb (numberFrom 0 (map digitOf (drop 5 us))) 56) tt tt) tt
 
 elapsed-digit : (u : ℕ) (e : Elapsed) (us : List ℕ) → InForm Digit (elapsedInside u e us)
-unfolding elapsedInside hasDigit
+unfolding elapsedInside hasDigit writesDigit conditionIn
 elapsed-digit u e us = cond-both (InForm Digit) (not (isEmpty us) && every (eqb u) us) tt tt
 
 first-digit : (o p : Option Token) → InForm Digit o → InForm Digit p → InForm Digit (firstForm o p)
@@ -96,7 +97,7 @@ marked-digit f [] h = tt
 marked-digit f (u ∷ us) h = h u
 
 by-digit : (f : First) (u : ℕ) (us : List ℕ) → T (singlePasses hasDigit f) → InStep StepDigit (stepBy f u us)
-unfolding stepBy singlePasses hasDigit quoted bracketed generalWord halfDayWord runStep
+unfolding stepBy singlePasses hasDigit writesDigit conditionIn quoted bracketed generalWord halfDayWord runStep
 by-digit quote u us s = cond-both (InStep StepDigit) (eqb (before 34 us) 0 || eqb (before 34 us) (length us)) tt tt
 by-digit backslash u us s = marked-digit (λ (v : ℕ). literal (v ∷ [])) us (λ v. tt)
 by-digit underscore u us s = marked-digit blank us (λ v. tt)
@@ -112,7 +113,7 @@ by-digit (single t) u us s = s
 by-digit other u us s = cond-both (InStep StepDigit) (any (eqb u) bareLiterals) tt tt
 
 rows-digit : T (every (λ (r : FirstRow). singlePasses hasDigit (r .first)) firstRows)
-unfolding every firstRows singlePasses hasDigit
+unfolding every firstRows singlePasses hasDigit writesDigit conditionIn
 rows-digit = tt
 
 step-digit : (u : ℕ) (us : List ℕ) → InStep StepDigit (stepAt u us)
@@ -168,7 +169,7 @@ written-some none t = absurd t
 written-some (some x) t = refl
 
 digit-some : (us : List ℕ) → T (hasDigit (conditionOf us)) → isSome (conditionInside us) ≡ true
-unfolding hasDigit conditionOf
+unfolding hasDigit writesDigit conditionIn conditionOf
 digit-some us t = written-some (conditionInside us) t
 
 pub heading-digit : (code ws : List ℕ) (h : Heading) → HeadingOf ws h → T (every hasDigit (tokensIn code ws)) → h .condition ≡ true

@@ -9,10 +9,10 @@ use mathlib.Core.Option.{some}
 use native.Mathlib.Decide.{decLe}
 use lib.ListN.{length, take, drop, length-take, length-drop, drop-of-length-le}
 use lib.Seq.{take-all, take-append-seam, drop-at, sets-eq, length-take-le}
-use lib.Dec.{leb}
-use borrow.Author.Tests.{leb-true}
+use lib.Dec.{T, leb→le}
 use Rattle.calendar.specs.Names.{units}
 use Rattle.lists.specs.Lists.{count, isSome}
+use Rattle.lists.proofs.Bools.{and-left, and-right, true-T}
 use Rattle.formats.specs.Tokens.{Token, Written, startsWith, conditionInside}
 use Rattle.formats.specs.Items.{Item, kindOf, sameKind, dateKind, settled}
 use Rattle.formats.specs.Kinds.{isFillToken, Parts, partsOf, conditionOf, sectionOf, fits, commasFit, bodyKind, bodyItems, lastFill}
@@ -118,17 +118,9 @@ module _ (ts : List Token) where
 
 -- ---- the body
 pub within-bounds : (t : Tally) (thousands : ℕ) → withinTold t thousands ≡ true → (t .percents ≤ 5) × (thousands ≤ 5)
-within-bounds t thousands e = (leb-true (t .percents) 5 (go .0), leb-true thousands 5 (go .1))
-  where
-    parts : (a b c d f : Bool) → (a && (b && (c && (d && f)))) ≡ true → (c ≡ true) × (d ≡ true)
-    parts true true true true f h = (refl, refl)
-    parts true true true false f h = absurd (true≢false (sym h))
-    parts true true false d f h = absurd (true≢false (sym h))
-    parts true false c d f h = absurd (true≢false (sym h))
-    parts false b c d f h = absurd (true≢false (sym h))
-
-    go : (leb (t .percents) 5 ≡ true) × (leb thousands 5 ≡ true)
-    go = parts (leb (t .integers) 20) (leb (t .decimals) 15) (leb (t .percents) 5) (leb thousands 5) (t .short) e
+within-bounds t thousands e =
+    let w : T (withinTold t thousands) = true-T e in
+    (search (and-left, and-right, leb→le), search (and-left, and-right, leb→le))
 
 pub body-made : (f : Facts) (c : Commas) (t : Tally) (thousands kind shift decimals items : ℕ) (fits within grouped : Bool)
     → thousands ≡ thousandsBy f c → fits ≡ fitsBy f c t → within ≡ withinTold t thousands → kind ≡ kindTold t → shift ≡ shiftTold t thousands

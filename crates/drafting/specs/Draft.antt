@@ -4,11 +4,10 @@ use Prim.Native.Nat.{ℕ, suc, _+_, _-_, _*_}
 use mathlib.Core.Path.{_≡_}
 use mathlib.Core.Bool.{Bool, true, false, cond, not, _&&_, _||_}
 use mathlib.Core.List.{List, [], _∷_, _++_}
-use mathlib.Core.Option.{Option, none}
+use mathlib.Core.Option.{Option, none, some}
 use lib.ListN.{length, take}
 use lib.Dec.{ltb, eqb}
 use Rattle.lists.specs.Lists.{isEmpty}
-use Rattle.formats.specs.Tokens as token
 use Rattle.formats.specs.Tokens.{Token, Written, lex}
 use Rattle.formats.specs.Items.{kindOf}
 use Rattle.formats.specs.Accept.{placedOf, tokensOf, partsIn}
@@ -171,27 +170,15 @@ standsBy n i d =
 unfoldable pub passesBy : ℕ → ℕ → ℕ → Draft → Bool
 passesBy test n i d = cond (eqb test 4) (d .body .fits) (cond (eqb test 5) (standsBy n i d) (d .within))
 
--- the place of the first draft that fails, or of the end
-unfoldable pub firstFrom : (ℕ → Draft → Bool) → ℕ → List Draft → ℕ
-firstFrom f k [] = k
-firstFrom f k (d ∷ ds) = let r = firstFrom f (k + 1) ds in cond (f k d) r k
+-- the place of what fails, where it is below n
+abbrev pub foundBelow : ℕ → ℕ → Option ℕ
+foundBelow n r = cond (ltb r n) (some r) none
 
 -- ---- a condition token's units write a condition
+unfoldable pub writesDigit : Option Written → Bool
+writesDigit none = true
+writesDigit (some w) = not (isEmpty (w .whole))
+
 -- a condition that is read has a digit
 unfoldable pub hasDigit : Token → Bool
-hasDigit (token.condition w) = not (isEmpty (w .whole))
-hasDigit (token.literal us) = true
-hasDigit (token.bare u) = true
-hasDigit (token.blank u) = true
-hasDigit (token.fill u) = true
-hasDigit (token.place p) = true
-hasDigit token.point = true
-hasDigit token.comma = true
-hasDigit token.percent = true
-hasDigit token.at = true
-hasDigit token.semicolon = true
-hasDigit token.general = true
-hasDigit (token.half h) = true
-hasDigit (token.run l n) = true
-hasDigit (token.elapsed e n) = true
-hasDigit (token.colour n) = true
+hasDigit t = writesDigit (conditionIn t)

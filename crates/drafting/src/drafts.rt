@@ -11,6 +11,7 @@ use bodies::facts::facts_of;
 use bodies::sections::Heading;
 use bodies::sections::heading_of;
 use emitting::put_items;
+use tables::kinds;
 use tallies::Tally;
 use tallies::decimals_word;
 use tallies::items_fit;
@@ -71,7 +72,7 @@ fn shift_of(t: Tally, thousands: u16) -> u16
     if !within(t, thousands) {
         return 0;
     }
-    if kind(t) != 2 {
+    if kind(t) != kinds::NUMBER {
         return 0;
     }
     15 + 2 * t.percents - 3 * thousands

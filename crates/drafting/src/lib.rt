@@ -12,6 +12,9 @@ use lexing::buffer::semicolon_count;
 use lexing::buffer::semicolon_place;
 use sections::draft_all;
 use sections::no_draft;
+use verdicts::KIND;
+use verdicts::LIMIT;
+use verdicts::STANDING;
 use verdicts::first_failing;
 ghost use mathlib.Core.Path.{_≡_};
 ghost use Prim.Native.Nat.{_≤_};
@@ -88,15 +91,15 @@ fn examine_sections(
 {
     let d = draft_all(code, tokens, n, items);
     let drafts = d.drafts;
-    let unfit = first_failing(drafts, n, 4);
+    let unfit = first_failing(drafts, n, KIND);
     if unfit < n {
         return refused(Answer::Kind, unfit as u32);
     }
-    let misplaced = first_failing(drafts, n, 5);
+    let misplaced = first_failing(drafts, n, STANDING);
     if misplaced < n {
         return refused(Answer::Standing, misplaced as u32);
     }
-    let beyond = first_failing(drafts, n, 6);
+    let beyond = first_failing(drafts, n, LIMIT);
     if beyond < n {
         return refused(Answer::Limit, beyond as u32);
     }
@@ -110,18 +113,18 @@ fn examine_sections(
     }
 }
 
-// The tests from 3 on of a code whose n tokens these are.
-fn examine_tokens(code: &[u16], tokens: &[u16], n: usize, items: &mut [u16]) -> Examined
+// The tests from 3 on of a code whose `count` tokens these are.
+fn examine_tokens(code: &[u16], tokens: &[u16], count: usize, items: &mut [u16]) -> Examined
     requires { ⌜ length (now items) ≡ 508 ⌝ }
-    requires { ⌜ Buffered (now code) (now tokens) n ⌝ }
+    requires { ⌜ Buffered (now code) (now tokens) count ⌝ }
     ensures { λ r. ⌜ ExaminedAs (now (code .entry)) (now (tokens .entry)) r (now (items .exit)) ⌝ }
 {
-    let semicolons = semicolon_count(tokens, n);
+    let semicolons = semicolon_count(tokens, count);
     if 3 < semicolons {
-        let place = semicolon_place(tokens, n, 3);
+        let place = semicolon_place(tokens, count, 3);
         return refused(Answer::SectionCount, place as u32);
     }
-    examine_sections(code, tokens, n, semicolons + 1, items)
+    examine_sections(code, tokens, count, semicolons + 1, items)
 }
 
 // Examines a code, with 762 words of room for its tokens and 508 for its items.
@@ -136,9 +139,9 @@ pub fn examine(code: &[u16], tokens: &mut [u16], items: &mut [u16]) -> Examined
         return refused(Answer::CodeLength, 0);
     }
     match fill(code, tokens) {
-        Filled::All(n) => {
-            let end = 3 * n;
-            examine_tokens(code, &tokens[..end], n, items)
+        Filled::All(count) => {
+            let end = 3 * count;
+            examine_tokens(code, &tokens[..end], count, items)
         }
         Filled::Bad(k) => refused(Answer::Token, k as u32),
     }

@@ -1,6 +1,6 @@
 // How many integer places the items of a body have.
-use bodies::bools::between;
 use bodies::facts::Facts;
+use marks::forms;
 ghost use mathlib.Core.Path.{_≡_};
 ghost use mathlib.Core.Bool.{false, cond};
 ghost use mathlib.Core.List.{List};
@@ -42,17 +42,18 @@ fn part_token(s: Parting, form: u16) -> Parting
     requires { ⌜ s .places ≤ 762 ⌝ }
     ensures { λ r. ⌜ r ≡ partForm s form ⌝ }
 {
-    if (form == 4) & (0 < s.left) {
+    if (form == forms::ZERO_PLACE) & (0 < s.left) {
         return Parting {
             behind: false,
             left: s.left - 1,
             places: s.places,
         };
     }
+    let place = (forms::ZERO_PLACE <= form) & (form <= forms::SPACE_PLACE);
     Parting {
-        behind: (form == 19) | (form == 22),
-        left: zeros_with(s.behind & (form == 7)),
-        places: places_with(s.places, between(form, 4, 6)),
+        behind: (form == forms::SECONDS) | (form == forms::ELAPSED_SECONDS),
+        left: zeros_with(s.behind & (form == forms::POINT)),
+        places: places_with(s.places, place),
     }
 }
 

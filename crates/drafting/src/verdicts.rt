@@ -1,10 +1,19 @@
 // The tests on the drafts of a code's sections.
 use super::Draft;
 use super::has_condition;
+use tables::kinds;
 ghost use mathlib.Core.Path.{_≡_};
 ghost use Prim.Native.Nat.{_+_, _≤_};
 ghost use lib.ListN.{take};
-ghost use Rattle.drafting.specs.Draft.{standsBy, passesBy, firstFrom};
+ghost use Rattle.lists.specs.Lists.{firstFailing};
+ghost use Rattle.drafting.specs.Draft.{standsBy, passesBy, foundBelow};
+
+// The tests of a section, by the numbers of their answers.
+pub const KIND: u16 = 4;
+
+pub const STANDING: u16 = 5;
+
+pub const LIMIT: u16 = 6;
 
 // Section i of n may stand where it does.
 fn stands(d: Draft, n: usize, i: usize) -> bool
@@ -12,9 +21,9 @@ fn stands(d: Draft, n: usize, i: usize) -> bool
     ensures { λ r. ⌜ r ≡ standsBy n i d ⌝ }
 {
     let body = d.body;
-    let text = body.kind == 3;
-    let general = body.kind == 1;
-    let literal = body.kind == 0;
+    let text = body.kind == kinds::TEXT;
+    let general = body.kind == kinds::GENERAL;
+    let literal = body.kind == kinds::LITERAL;
     let has = has_condition(d);
     let fourth = i == 3;
     (!text | (i + 1 == n))
@@ -30,11 +39,11 @@ fn passes(d: Draft, test: u16, n: usize, i: usize) -> bool
     requires { ⌜ i ≤ 4 ⌝ }
     ensures { λ r. ⌜ r ≡ passesBy test n i d ⌝ }
 {
-    if test == 4 {
+    if test == KIND {
         let body = d.body;
         return body.fits;
     }
-    if test == 5 {
+    if test == STANDING {
         return stands(d, n, i);
     }
     d.within
@@ -43,7 +52,7 @@ fn passes(d: Draft, test: u16, n: usize, i: usize) -> bool
 // The place of the first of n sections that fails a test, or n.
 pub fn first_failing(drafts: [Draft; 4], n: usize, test: u16) -> usize
     requires { ⌜ n ≤ 4 ⌝ }
-    ensures { λ r. ⌜ r ≡ firstFrom (passesBy test n) 0 (take n drafts) ⌝ }
+    ensures { λ r. ⌜ firstFailing (passesBy test n) 0 (take n drafts) ≡ foundBelow n r ⌝ }
 {
     let mut place: usize = 0;
     while place < n {

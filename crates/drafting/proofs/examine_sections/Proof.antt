@@ -14,18 +14,6 @@ draft-all-requires c κs =
     let b = s .pre .1 .0 in
     ((b .small, omega (arith, b .size, b .few), s .pre .0 .0, s .pre .0 .1), s .pre .1 .1 .0)
 
-first-failing-requires : tie.Need-first-failing-requires
-first-failing-requires c κs = search needs
-
-cast-refused : tie.Need-cast-refused
-cast-refused c = search needs
-
-refused-requires : tie.Need-refused-requires
-refused-requires c κs = search needs
-
-same-length : tie.Need-same-length
-same-length c = search needs
-
 returns : tie.Need-returns
 returns c =
     let f = c .before .before in
@@ -33,18 +21,6 @@ returns c =
     let s = a .before .before .before .before .before in
     examined-refused _ _ _ _ _ _ (c .refused .ensures) refl
     (verdict-kind (now (s .args .code)) (s .pre .1 .1 .1) _ (a .draft-all .ensures) _ (s .pre .1 .1 .0 .many) _ (f .first-failing .ensures) (c .before .if1 .taken))
-
-first-failing-requires-2 : tie.Need-first-failing-requires-2
-first-failing-requires-2 c κs = search needs
-
-cast-refused-2 : tie.Need-cast-refused-2
-cast-refused-2 c = search needs
-
-refused-requires-2 : tie.Need-refused-requires-2
-refused-requires-2 c κs = search needs
-
-same-length-2 : tie.Need-same-length-2
-same-length-2 c = search needs
 
 returns-2 : tie.Need-returns-2
 returns-2 c =
@@ -56,18 +32,6 @@ returns-2 c =
     (verdict-where (now (s .args .code)) (s .pre .1 .1 .1) _ (a .draft-all .ensures) _ (s .pre .1 .1 .0 .many) _ (f .first-failing .ensures) (g .before .if1 .left)
     _ (g .first-failing2 .ensures) (c .before .if2 .taken))
 
-first-failing-requires-3 : tie.Need-first-failing-requires-3
-first-failing-requires-3 c κs = search needs
-
-cast-refused-3 : tie.Need-cast-refused-3
-cast-refused-3 c = search needs
-
-refused-requires-3 : tie.Need-refused-requires-3
-refused-requires-3 c κs = search needs
-
-same-length-3 : tie.Need-same-length-3
-same-length-3 c = search needs
-
 returns-3 : tie.Need-returns-3
 returns-3 c =
     let h = c .before .before in
@@ -78,9 +42,6 @@ returns-3 c =
     examined-refused _ _ _ _ _ _ (c .refused3 .ensures) refl
     (verdict-limit (now (s .args .code)) (s .pre .1 .1 .1) _ (a .draft-all .ensures) _ (s .pre .1 .1 .0 .many) _ (f .first-failing .ensures) (g .before .if1 .left)
     _ (g .first-failing2 .ensures) (h .before .if2 .left) _ (h .first-failing3 .ensures) (c .before .if3 .taken))
-
-same-length-4 : tie.Need-same-length-4
-same-length-4 c = search needs
 
 returns-4 : tie.Need-returns-4
 returns-4 c =
@@ -97,20 +58,20 @@ examine-sections-spec =
     tie.close
     (tie.spec
     draft-all-requires
-    first-failing-requires
-    cast-refused
-    refused-requires
-    same-length
+    (λ c κs. search needs)
+    (λ c. search needs)
+    (λ c κs. search needs)
+    (λ c. search needs)
     returns
-    first-failing-requires-2
-    cast-refused-2
-    refused-requires-2
-    same-length-2
+    (λ c κs. search needs)
+    (λ c. search needs)
+    (λ c κs. search needs)
+    (λ c. search needs)
     returns-2
-    first-failing-requires-3
-    cast-refused-3
-    refused-requires-3
-    same-length-3
+    (λ c κs. search needs)
+    (λ c. search needs)
+    (λ c κs. search needs)
+    (λ c. search needs)
     returns-3
-    same-length-4
+    (λ c. search needs)
     returns-4)

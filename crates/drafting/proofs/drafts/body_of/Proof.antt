@@ -6,24 +6,6 @@ use borrow.Author.Needs.{needs}
 use Rattle.drafting.proofs.drafts.body_of.Statement.{statement}
 use Rattle.drafting.proofs.drafts.body_of.Tie as tie
 
-thousands-of-requires : tie.Need-thousands-of-requires
-thousands-of-requires c κs = search needs
-
-fits-requires : tie.Need-fits-requires
-fits-requires c κs = search needs
-
-within-requires : tie.Need-within-requires
-within-requires c κs = search needs
-
-kind-requires : tie.Need-kind-requires
-kind-requires c κs = search needs
-
-shift-of-requires : tie.Need-shift-of-requires
-shift-of-requires c κs = search needs
-
-decimals-word-requires : tie.Need-decimals-word-requires
-decimals-word-requires c κs = search needs
-
 returns : tie.Need-returns
 returns c =
     let d = c .before .before .before in
@@ -37,10 +19,10 @@ pub body-of-spec : {M : Type 1} → statement M
 body-of-spec =
     tie.close
     (tie.spec
-    thousands-of-requires
-    fits-requires
-    within-requires
-    kind-requires
-    shift-of-requires
-    decimals-word-requires
+    (λ c κs. search needs)
+    (λ c κs. search needs)
+    (λ c κs. search needs)
+    (λ c κs. search needs)
+    (λ c κs. search needs)
+    (λ c κs. search needs)
     returns)

@@ -9,15 +9,6 @@ use borrow.Author.Needs.{needs}
 use Rattle.drafting.proofs.drafts.draft_body.Statement.{statement}
 use Rattle.drafting.proofs.drafts.draft_body.Tie as tie
 
-facts-of-requires : tie.Need-facts-of-requires
-facts-of-requires c κs = search needs
-
-commas-of-requires : tie.Need-commas-of-requires
-commas-of-requires c κs = search needs
-
-integer-places-requires : tie.Need-integer-places-requires
-integer-places-requires c κs = search needs
-
 put-items-requires : tie.Need-put-items-requires
 put-items-requires c κs =
     let f = c .before .before .before in
@@ -27,33 +18,6 @@ put-items-requires c κs =
       (omega (arith, s .pre .2, s .pre .3), s .pre .0, s .pre .1, places .1),
       (facts-date _ _ (f .facts-of .ensures code), (facts-fills _ _ (f .facts-of .ensures code), places .0 code)),
     )
-
-mul-tally-words : tie.Need-mul-tally-words
-mul-tally-words c = search needs
-
-sub-tally-words : tie.Need-sub-tally-words
-sub-tally-words c = search needs
-
-part-tally-words-start : tie.Need-part-tally-words-start
-part-tally-words-start c = search needs
-
-part-tally-words-end : tie.Need-part-tally-words-end
-part-tally-words-end c = search needs
-
-tally-words-requires : tie.Need-tally-words-requires
-tally-words-requires c κs = search needs
-
-sub-size : tie.Need-sub-size
-sub-size c = search needs
-
-cast-body-of : tie.Need-cast-body-of
-cast-body-of c = search needs
-
-body-of-requires : tie.Need-body-of-requires
-body-of-requires c κs = search needs
-
-same-length : tie.Need-same-length
-same-length c = search needs
 
 returns : tie.Need-returns
 returns c =
@@ -69,17 +33,17 @@ pub draft-body-spec : {M : Type 1} → statement M
 draft-body-spec =
     tie.close
     (tie.spec
-    facts-of-requires
-    commas-of-requires
-    integer-places-requires
+    (λ c κs. search needs)
+    (λ c κs. search needs)
+    (λ c κs. search needs)
     put-items-requires
-    mul-tally-words
-    sub-tally-words
-    part-tally-words-start
-    part-tally-words-end
-    tally-words-requires
-    sub-size
-    cast-body-of
-    body-of-requires
-    same-length
+    (λ c. search needs)
+    (λ c. search needs)
+    (λ c. search needs)
+    (λ c. search needs)
+    (λ c κs. search needs)
+    (λ c. search needs)
+    (λ c. search needs)
+    (λ c κs. search needs)
+    (λ c. search needs)
     returns)

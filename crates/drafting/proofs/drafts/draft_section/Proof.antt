@@ -10,29 +10,11 @@ use borrow.Author.Needs.{needs}
 use Rattle.drafting.proofs.drafts.draft_section.Statement.{statement}
 use Rattle.drafting.proofs.drafts.draft_section.Tie as tie
 
-heading-of-requires : tie.Need-heading-of-requires
-heading-of-requires c κs = search needs
-
-mul-from : tie.Need-mul-from
-mul-from c = search needs
-
 heading-condition-requires : tie.Need-heading-condition-requires
 heading-condition-requires c κs =
     let h = c .before in
     let s = h .before .before .before .before in
     (s .pre .0 .0, heading-digit (now (s .args .code)) (now (s .args .part)) _ (h .heading-of .ensures) (s .pre .1 .1))
-
-mul-draft-body : tie.Need-mul-draft-body
-mul-draft-body c = search needs
-
-sub-draft-body : tie.Need-sub-draft-body
-sub-draft-body c = search needs
-
-part-draft-body-start : tie.Need-part-draft-body-start
-part-draft-body-start c = search needs
-
-part-draft-body-end : tie.Need-part-draft-body-end
-part-draft-body-end c = search needs
 
 draft-body-requires : tie.Need-draft-body-requires
 draft-body-requires c κs =
@@ -43,9 +25,6 @@ draft-body-requires c κs =
       s .pre .0 .2,
       rw (heading-body (now (s .args .code)) (now (s .args .part)) _ (h .heading-of .ensures)) (s .pre .1 .0),
     )
-
-same-length : tie.Need-same-length
-same-length c = search needs
 
 returns : tie.Need-returns
 returns c =
@@ -62,13 +41,13 @@ pub draft-section-spec : {M : Type 1} → statement M
 draft-section-spec =
     tie.close
     (tie.spec
-    heading-of-requires
-    mul-from
+    (λ c κs. search needs)
+    (λ c. search needs)
     heading-condition-requires
-    mul-draft-body
-    sub-draft-body
-    part-draft-body-start
-    part-draft-body-end
+    (λ c. search needs)
+    (λ c. search needs)
+    (λ c. search needs)
+    (λ c. search needs)
     draft-body-requires
-    same-length
+    (λ c. search needs)
     returns)

@@ -9,25 +9,16 @@ use borrow.Author.Needs.{needs}
 use Rattle.drafting.proofs.drafts.heading_condition.Statement.{statement}
 use Rattle.drafting.proofs.drafts.heading_condition.Tie as tie
 
-no-condition-requires : tie.Need-no-condition-requires
-no-condition-requires c κs = search needs
-
 returns : tie.Need-returns
 returns c =
     let s = c .before .before .before .before in
     rw (c .no-condition .ensures) (condition-none (now (s .args .code)) (s .args .h) (not-true (s .args .h .condition) (c .before .if1 .taken)))
-
-cast-room : tie.Need-cast-room
-cast-room c = search needs
 
 sub-room : tie.Need-sub-room
 sub-room c = let s = c .before .before .before .before in omega (arith, start-inside (now (s .args .code)) (s .args .h) (s .pre .1 (not-false (s .args .h .condition) (c .before .if1 .left))))
 
 sub-room-2 : tie.Need-sub-room-2
 sub-room-2 c = let s = c .before .before .before .before in omega (arith, start-inside (now (s .args .code)) (s .args .h) (s .pre .1 (not-false (s .args .h .condition) (c .before .if1 .left))))
-
-cast-if2 : tie.Need-cast-if2
-cast-if2 c = search needs
 
 condition-of-requires : tie.Need-condition-of-requires
 condition-of-requires c κs =
@@ -40,9 +31,6 @@ returns-2 c =
     let d = c .before .before .before .before in
     let s = d .before .before .before in
     condition-some (now (s .args .code)) (s .args .h) (not-false (s .args .h .condition) (d .if1 .left)) _ (c .condition-of .ensures)
-
-cast-condition-of : tie.Need-cast-condition-of
-cast-condition-of c = search needs
 
 condition-of-requires-2 : tie.Need-condition-of-requires-2
 condition-of-requires-2 c κs =
@@ -64,14 +52,14 @@ pub heading-condition-spec : {M : Type 1} → statement M
 heading-condition-spec =
     tie.close
     (tie.spec
-    no-condition-requires
+    (λ c κs. search needs)
     returns
-    cast-room
+    (λ c. search needs)
     sub-room
     sub-room-2
-    cast-if2
+    (λ c. search needs)
     condition-of-requires
     returns-2
-    cast-condition-of
+    (λ c. search needs)
     condition-of-requires-2
     returns-3)

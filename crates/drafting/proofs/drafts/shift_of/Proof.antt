@@ -12,14 +12,8 @@ use borrow.Author.Needs.{needs}
 use Rattle.drafting.proofs.drafts.shift_of.Statement.{statement}
 use Rattle.drafting.proofs.drafts.shift_of.Tie as tie
 
-within-requires : tie.Need-within-requires
-within-requires c κs = search needs
-
 returns : tie.Need-returns
 returns c = rw (sym (c .before .within .ensures) ∙ not-true _ (c .if1 .taken))
-
-kind-requires : tie.Need-kind-requires
-kind-requires c κs = search needs
 
 returns-2 : tie.Need-returns-2
 returns-2 c =
@@ -56,9 +50,9 @@ pub shift-of-spec : {M : Type 1} → statement M
 shift-of-spec =
     tie.close
     (tie.spec
-    within-requires
+    (λ c κs. search needs)
     returns
-    kind-requires
+    (λ c κs. search needs)
     returns-2
     mul-result
     add-result

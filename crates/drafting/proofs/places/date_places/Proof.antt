@@ -16,24 +16,6 @@ abbrev μ-loop : tie.MeasureT-loop
 loop-holds : tie.Need-loop-holds Inv-loop μ-loop
 loop-holds c = search (needs, passing-start)
 
-add-loop : tie.Need-add-loop Inv-loop μ-loop
-add-loop c = search needs
-
-mul-part-token : tie.Need-mul-part-token Inv-loop μ-loop
-mul-part-token c = search needs
-
-shared-slice-read-part-token : tie.Need-shared-slice-read-part-token Inv-loop μ-loop
-shared-slice-read-part-token c = search needs
-
-part-token-requires : tie.Need-part-token-requires Inv-loop μ-loop
-part-token-requires c κs = search needs
-
-add-i : tie.Need-add-i Inv-loop μ-loop
-add-i c = search needs
-
-loop-less : tie.Need-loop-less Inv-loop μ-loop
-loop-less c = search needs
-
 loop-again : tie.Need-loop-again Inv-loop μ-loop
 loop-again c = search (needs, passing-step)
 
@@ -47,11 +29,11 @@ date-places-spec =
     Inv-loop
     μ-loop
     loop-holds
-    add-loop
-    mul-part-token
-    shared-slice-read-part-token
-    part-token-requires
-    add-i
-    loop-less
+    (λ c. search needs)
+    (λ c. search needs)
+    (λ c. search needs)
+    (λ c κs. search needs)
+    (λ c. search needs)
+    (λ c. search needs)
     loop-again
     returns)

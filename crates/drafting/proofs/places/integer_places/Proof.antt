@@ -6,9 +6,6 @@ use borrow.Author.Needs.{needs}
 use Rattle.drafting.proofs.places.integer_places.Statement.{statement}
 use Rattle.drafting.proofs.places.integer_places.Tie as tie
 
-date-places-requires : tie.Need-date-places-requires
-date-places-requires c κs = search needs
-
 returns : tie.Need-returns
 returns c =
     let s = c .before .before .before in
@@ -20,4 +17,4 @@ returns-2 c =
     (places-other (s .args .f) (now (s .args .body)) (s .pre .1) (c .if1 .left), places-bound (s .args .f) (now (s .args .body)) (s .pre .1) (s .pre .0))
 
 pub integer-places-spec : {M : Type 1} → statement M
-integer-places-spec = tie.close (tie.spec date-places-requires returns returns-2)
+integer-places-spec = tie.close (tie.spec (λ c κs. search needs) returns returns-2)

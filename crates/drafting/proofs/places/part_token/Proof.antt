@@ -8,29 +8,20 @@ use borrow.Author.Needs.{needs}
 use Rattle.drafting.proofs.places.part_token.Statement.{statement}
 use Rattle.drafting.proofs.places.part_token.Tie as tie
 
-sub-t6 : tie.Need-sub-t6
-sub-t6 c =
+sub-t7 : tie.Need-sub-t7
+sub-t7 c =
     let a = c .before .before .before .args in
     omega (arith, ltb-true 0 (a .s .left) (and-second (eqb (a .form) 4) (ltb 0 (a .s .left)) (c .before .if1 .taken)))
 
 returns : tie.Need-returns
 returns c = rw (c .before .if1 .taken)
 
-zeros-with-requires : tie.Need-zeros-with-requires
-zeros-with-requires c κs = search needs
-
-between-requires : tie.Need-between-requires
-between-requires c κs = search needs
-
-places-with-requires : tie.Need-places-with-requires
-places-with-requires c κs = search needs
-
 returns-2 : tie.Need-returns-2
 returns-2 c =
-    let d = c .before .before in
-    rw (d .before .before .if1 .left, d .zeros-with .ensures, c .places-with .ensures, c .before .between .ensures)
+    let d = c .before in
+    rw (d .before .before .if1 .left, d .zeros-with .ensures, c .places-with .ensures)
 
 pub part-token-spec : {M : Type 1} → statement M
 part-token-spec =
     tie.close
-    (tie.spec sub-t6 returns zeros-with-requires between-requires places-with-requires returns-2)
+    (tie.spec sub-t7 returns (λ c κs. search needs) (λ c κs. search needs) returns-2)

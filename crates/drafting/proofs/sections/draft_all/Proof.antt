@@ -26,9 +26,6 @@ next c =
     let d = next-drafted _ _ _ _ _ _ _ _ _ (l .inv) (t .loop-test .taken) _ _ (c .draft-next .ensures) in
     (next-size _ _ _ _ _ _ _ _ _ (l .inv) (t .loop-test .taken) _ _ d, next-items _ _ _ _ _ _ _ _ _ (l .inv) (t .loop-test .taken) _ _ d)
 
-no-draft-requires : tie.Need-no-draft-requires Inv-loop μ-loop
-no-draft-requires c κs = search needs
-
 loop-holds : tie.Need-loop-holds Inv-loop μ-loop
 loop-holds c =
     let s = c .before .before .before .before in
@@ -46,9 +43,6 @@ sub-draft-next c = omega (arith, c .before .loop .inv .place (c .loop-test .take
 part-draft-next-start : tie.Need-part-draft-next-start Inv-loop μ-loop
 part-draft-next-start c = omega (arith, c .before .loop .inv .place (c .loop-test .taken), c .before .loop .inv .words-small)
 
-part-draft-next-end : tie.Need-part-draft-next-end Inv-loop μ-loop
-part-draft-next-end c = search needs
-
 draft-next-requires : tie.Need-draft-next-requires Inv-loop μ-loop
 draft-next-requires c κs =
     let t = c .before .before in
@@ -58,16 +52,10 @@ draft-next-requires c κs =
       (rw (left-part _ _ _ _ _ _ _ _ _ (l .inv) (t .loop-test .taken)) (next-room _ _ _ _ _ _ _ _ _ (l .inv) (t .loop-test .taken)), rw (left-part _ _ _ _ _ _ _ _ _ (l .inv) (t .loop-test .taken)) (next-digits _ _ _ _ _ _ _ _ _ (l .inv) (t .loop-test .taken))),
     )
 
-mul-drafts : tie.Need-mul-drafts Inv-loop μ-loop
-mul-drafts c = search needs
-
 array-set-from-drafts : tie.Need-array-set-from-drafts Inv-loop μ-loop
 array-set-from-drafts c =
     let t = c .before .before .before .before .before .before in
     omega (arith, t .loop-test .taken, t .before .loop .inv .few, t .before .loop .inv .size)
-
-cast-at : tie.Need-cast-at Inv-loop μ-loop
-cast-at c = search needs
 
 mul-at : tie.Need-mul-at Inv-loop μ-loop
 mul-at c = omega (arith, next (c .before .before .before .before) .1)
@@ -101,9 +89,6 @@ loop-again c =
     let l = t .before .loop in
     sectioning-step _ _ _ _ _ _ _ _ _ (l .inv) (t .loop-test .taken) _ _ (next-drafted _ _ _ _ _ _ _ _ _ (l .inv) (t .loop-test .taken) _ _ (n .draft-next .ensures))
 
-same-length : tie.Need-same-length Inv-loop μ-loop
-same-length c = search needs
-
 returns : tie.Need-returns Inv-loop μ-loop
 returns c = sectioning-end _ _ _ _ _ _ _ _ _ (c .before .loop .inv) (c .loop-test .left)
 
@@ -113,17 +98,17 @@ draft-all-spec =
     (tie.spec
     Inv-loop
     μ-loop
-    no-draft-requires
+    (λ c κs. search needs)
     loop-holds
     mul-from
     mul-draft-next
     sub-draft-next
     part-draft-next-start
-    part-draft-next-end
+    (λ c. search needs)
     draft-next-requires
-    mul-drafts
+    (λ c. search needs)
     array-set-from-drafts
-    cast-at
+    (λ c. search needs)
     mul-at
     add-at
     add-first
@@ -131,5 +116,5 @@ draft-all-spec =
     add-k
     loop-less
     loop-again
-    same-length
+    (λ c. search needs)
     returns)

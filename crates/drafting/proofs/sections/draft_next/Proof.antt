@@ -11,12 +11,6 @@ use borrow.Author.Needs.{needs}
 use Rattle.drafting.proofs.sections.draft_next.Statement.{statement}
 use Rattle.drafting.proofs.sections.draft_next.Tie as tie
 
-section-end-requires : tie.Need-section-end-requires
-section-end-requires c κs = search needs
-
-mul-end : tie.Need-mul-end
-mul-end c = search needs
-
 slice-aggregate-draft-section : tie.Need-slice-aggregate-draft-section
 slice-aggregate-draft-section c =
     let e = c .before in
@@ -35,9 +29,6 @@ draft-section-requires c κs =
       ),
     )
 
-same-length : tie.Need-same-length
-same-length c = search needs
-
 returns : tie.Need-returns
 returns c =
     let d = c .before .before in
@@ -53,9 +44,9 @@ pub draft-next-spec : {M : Type 1} → statement M
 draft-next-spec =
     tie.close
     (tie.spec
-    section-end-requires
-    mul-end
+    (λ c κs. search needs)
+    (λ c. search needs)
     slice-aggregate-draft-section
     draft-section-requires
-    same-length
+    (λ c. search needs)
     returns)

@@ -10,9 +10,6 @@ returns : tie.Need-returns
 unfolding passesBy
 returns c = rw (eq-eqb _ 4 (c .before .if1 .taken))
 
-stands-requires : tie.Need-stands-requires
-stands-requires c κs = search needs
-
 returns-2 : tie.Need-returns-2
 unfolding passesBy
 returns-2 c = rw (ne-eqb _ 4 (c .before .before .if1 .left), eq-eqb _ 5 (c .before .if2 .taken)) (c .stands .ensures)
@@ -22,4 +19,4 @@ unfolding passesBy
 returns-3 c = rw (ne-eqb _ 4 (c .before .if1 .left), ne-eqb _ 5 (c .if2 .left))
 
 pub passes-spec : {M : Type 1} → statement M
-passes-spec = tie.close (tie.spec returns stands-requires returns-2 returns-3)
+passes-spec = tie.close (tie.spec returns (λ c κs. search needs) returns-2 returns-3)
