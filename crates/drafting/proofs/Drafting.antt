@@ -189,16 +189,9 @@ module _ (ts : List Token) {old out : List ℕ} {at end : ℕ} (put : Put old at
   pub body-end : (n : ℕ) → n ≡ (end - at) / 2 → at + 2 * n ≡ end
   body-end n e = omega (arith, size, put .next, body-length ts)
 
-  body-read : (f : Facts) (c : Commas) (t : Tally) (b : Body) (p : Parts) → p .body ≡ ts → f ≡ factsOf ts → c ≡ commasOf ts → at + length (bodyWords ts) ≤ length old
-      → t ≡ tallyOf (entriesIn (take (end - at) (drop at out))) → b ≡ bodyBy f c t ((end - at) / 2) → BodyOf p b
-  body-read f c t b p e ef ec h et eb =
-      let words = put-read put h in
-      rw (eb, et, words, body-entries ts, size, ef, ec, ← e) (body-drafted p)
-
-pub body-put : (p : Parts) (f : Facts) (c : Commas) (t : Tally) (b : Body) (ts : List Token) {old out : List ℕ} {at end : ℕ}
-    → p .body ≡ ts → f ≡ factsOf ts → c ≡ commasOf ts → Put old at (bodyWords ts) end out → at + length (bodyWords ts) ≤ length old
-    → t ≡ tallyOf (entriesIn (take (end - at) (drop at out))) → b ≡ bodyBy f c t ((end - at) / 2) → BodyOf p b
-body-put p f c t b ts e ef ec put h et eb = body-read ts put f c t b p e ef ec h et eb
+  pub body-put : (p : Parts) (f : Facts) (c : Commas) (t : Tally) (b : Body) → p .body ≡ ts → f ≡ factsOf ts → c ≡ commasOf ts
+      → at + length (bodyWords ts) ≤ length old → t ≡ tallyOf (entriesIn (take (end - at) (drop at out))) → b ≡ bodyBy f c t ((end - at) / 2) → BodyOf p b
+  body-put p f c t b e ef ec h et eb = rw (eb, et, put-read put h, body-entries ts, size, ef, ec, ← e) (body-drafted p)
 
 -- a part of a list is no longer
 pub part-short : (ws : List ℕ) (n m : ℕ) → length ws ≤ 762 → length (take n (drop m ws)) ≤ 762

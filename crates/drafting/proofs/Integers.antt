@@ -203,7 +203,7 @@ pub record Passing (ws : List ℕ) (i : ℕ) (s : Parting) : Type 0 where
 pub passing-start : (ws : List ℕ) → length ws ≤ 762 → Passing ws 0 (record { behind = false; left = 0; places = 0 })
 passing-start ws h = record { small = h; inside = omega arith; few = omega arith; same = λ code. omega arith }
 
-module _ (ws : List ℕ) (i : ℕ) (s : Parting) (inv : Passing ws i s) where
+module _ {ws : List ℕ} {i : ℕ} {s : Parting} (inv : Passing ws i s) where
   pub passing-end : length ws ≤ i + 2 → ((code : List ℕ) → s .places ≡ datePlaces false 0 (tokensIn code ws)) × (s .places ≤ 254)
   unfolding datePlaces
   passing-end h = ((λ code. let e = rw (tokens-end code ws i h) at (inv .same code) in omega arith), omega (arith, inv .few, inv .inside, inv .small))

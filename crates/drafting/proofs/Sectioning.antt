@@ -104,7 +104,7 @@ sectioning-start code words old ds n h l e = record {
   rest = rest-start old 0 _;
 }
 
-module _ (code words old room : List ℕ) (ds : List Draft) (n first at k : ℕ) (inv : Sectioning code words old room ds n first at k) (less : k < n) where
+module _ {code words old room : List ℕ} {ds : List Draft} {n first at k : ℕ} (inv : Sectioning code words old room ds n first at k) (less : k < n) where
   abbrev ps : List Parts
   ps = partsIn code
 
@@ -186,10 +186,10 @@ module _ (code words old room : List ℕ) (ds : List Draft) (n first at k : ℕ)
       rest = rest-put (rw words-here at (inv .rest)) (d .put);
     })
 
-pub sectioning-end : (code words old room : List ℕ) (ds : List Draft) (n first at k : ℕ) → Sectioning code words old room ds n first at k → n ≤ k
+pub sectioning-end : {code words old room : List ℕ} {ds : List Draft} {n first at k : ℕ} → Sectioning code words old room ds n first at k → n ≤ k
     → AllDrafted (partsIn code) old (record { drafts = ds; words = at }) room
 unfolding itemWords
-sectioning-end code words old room ds n first at k inv h =
+sectioning-end {code} {ds = ds} {k = k} inv h =
     let ps : List Parts = partsIn code in
     let all : k ≡ length ps = omega (arith, inv .inside, inv .lexes .many) in
     record {

@@ -30,7 +30,7 @@ pub record Seeking (f : ℕ → Draft → Bool) (ds : List Draft) (n i : ℕ) : 
 pub seeking-start : (f : ℕ → Draft → Bool) (ds : List Draft) (n i : ℕ) → i ≡ 0 → n ≤ 4 → length ds ≡ 4 → Seeking f ds n i
 seeking-start f ds n i z h e = record { few = h; size = e; inside = omega arith; same = rw z }
 
-module _ (f : ℕ → Draft → Bool) (ds : List Draft) (n i : ℕ) (inv : Seeking f ds n i) where
+module _ {f : ℕ → Draft → Bool} {ds : List Draft} {n i : ℕ} (inv : Seeking f ds n i) where
   pub seeking-end : n ≤ i → firstFailing f 0 (take n ds) ≡ foundBelow n n
   unfolding firstFailing
   seeking-end h = inv .same ∙ rw (none-left ds n i (inv .few) (inv .size) h, le-ltb n n (omega arith))

@@ -21,7 +21,7 @@ pub record Counting (ds : List Draft) (n i count : ℕ) : Type 0 where
 pub counting-start : (ds : List Draft) (n : ℕ) → n ≤ 4 → length ds ≡ 4 → Counting ds n 0 0
 counting-start ds n h e = record { few = h; size = e; inside = omega arith; less = omega arith; same = omega arith }
 
-module _ (ds : List Draft) (n i count : ℕ) (inv : Counting ds n i count) where
+module _ {ds : List Draft} {n i count : ℕ} (inv : Counting ds n i count) where
   pub counting-end : n ≤ i → count ≡ countedBy 0 (take n ds)
   unfolding countedBy
   counting-end h = let e = rw (none-left ds n i (inv .few) (inv .size) h) at (inv .same) in omega arith

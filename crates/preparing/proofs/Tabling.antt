@@ -3,13 +3,13 @@
 use Prim.Native.Nat.{ℕ, zero, suc, _+_, _*_, _≤_, _<_}
 use native.Mathlib.Omega.{arith}
 use native.Mathlib.Numerals.{add-one}
-use mathlib.Core.Path.{_≡_, refl, sym, _∙_, ap}
-use mathlib.Core.Bool.{Bool, true, false, _&&_, _||_, true≢false}
+use mathlib.Core.Path.{_≡_, refl, _∙_, ap}
+use mathlib.Core.Bool.{Bool, true, _||_}
 use mathlib.Core.List.{List, [], _∷_, _++_, map}
 use lib.ListN.{length, take, drop, getD, length-map}
 use lib.Dec.{eqb}
 use Rattle.lists.specs.Lists.{All}
-use Rattle.lists.proofs.Bools.{by-cases}
+use Rattle.lists.proofs.Bools.{by-cases, and-left, and-right, T-true, true-T}
 use Rattle.formats.specs.Items.{Section}
 use Rattle.formats.specs.Kinds.{Parts, sectionOf}
 use Rattle.formats.specs.Limits.{writtenWithin, sectionWithin, withinLimits}
@@ -45,7 +45,7 @@ heading-start n firstHas old start ds count h e = record {
   rest = rest-start old start _;
 }
 
-module _ (n : ℕ) (firstHas : Bool) (old : List ℕ) (start : ℕ) (ds : List Draft) (count : ℕ) (room : List ℕ) (at i : ℕ)
+module _ {n : ℕ} {firstHas : Bool} {old : List ℕ} {start : ℕ} {ds : List Draft} {count : ℕ} {room : List ℕ} {at i : ℕ}
     (inv : Heading n firstHas old start ds count room at i) where
   pub heading-step : i < count → (d : Draft) (out : List ℕ) (r : ℕ) → Put room at (headWords (headBy n i firstHas (getD ds i d)) []) r out
       → Heading n firstHas old start ds count out r (i + 1)
@@ -97,14 +97,12 @@ head-put n i firstHas d has none flags negative low high small large eh em ef en
     rw (← f, ← en, ← el, ← eg, ← es, ← ej) x
 
 -- ---- the rows
-and-both : (a b : Bool) → (a && b) ≡ true → (a ≡ true) × (b ≡ true)
-and-both true b e = (refl, e)
-and-both false b e = absurd (true≢false (sym e))
-
 module _ (p : Parts) (d : Draft) (x : DraftOf p d) (within : withinLimits p ≡ true) where
   parts : (writtenWithin (p .condition) ≡ true) × (sectionWithin (sectionOf p) ≡ true)
   unfolding withinLimits
-  parts = and-both (writtenWithin (p .condition)) (sectionWithin (sectionOf p)) within
+  parts =
+      let w = true-T within in
+      (T-true _ (and-left (writtenWithin (p .condition)) (sectionWithin (sectionOf p)) w), T-true _ (and-right (writtenWithin (p .condition)) (sectionWithin (sectionOf p)) w))
 
   condition-within : d .condition .within ≡ true
   condition-within = x .condition .within ∙ parts .0

@@ -44,8 +44,7 @@ add-size-2 c = omega (arith, sound (c .before) .few, sound (c .before) .short)
 returns-2 : tie.Need-returns-2
 returns-2 c =
     let k = c .before .before .before in
-    let l = c .before .if2 .taken in
-    (c .refused2 .ensures ∙ sym (room-prepared _ (accepted k) _ _ (sound k) _ refl _ l), sym (room-table _ (accepted k) _ _ (sound k) _ refl _ l))
+    (c .refused2 .ensures ∙ sym (room-prepared _ (accepted k) _ _ (sound k) _ refl _ (omega (arith, c .before .if2 .taken))), sym (room-table _ (accepted k) _ _ (sound k) _ refl _ (omega (arith, c .before .if2 .taken))))
 
 array-share-prefix-items : tie.Need-array-share-prefix-items
 array-share-prefix-items c = omega (arith, sound (c .before .before .before .before) .short)
@@ -65,8 +64,7 @@ returns-3 : tie.Need-returns-3
 returns-3 c =
     let f = c .before .before .before .before .before .before in
     let k = f .before .before in
-    let l = f .if2 .left in
-    (sym (done-prepared _ (accepted k) _ _ (sound k) _ refl _ l), done-table _ (accepted k) _ _ (sound k) _ refl _ _ _ _ l refl (c .before .before .put-table .ensures))
+    (sym (done-prepared _ (accepted k) _ _ (sound k) _ refl _ (omega (arith, f .if2 .left))), done-table _ (accepted k) _ _ (sound k) _ refl _ _ _ _ (omega (arith, f .if2 .left)) refl (c .before .before .put-table .ensures))
 
 pub prepare-spec : {M : Type 1} → statement M
 prepare-spec =

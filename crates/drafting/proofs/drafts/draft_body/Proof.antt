@@ -25,7 +25,7 @@ returns c =
     let g = p .before .before .before in
     let s = g .before .before .before .before .before in
     let code = now (s .args .code) in (
-      (λ q e. body-put q _ _ _ _ _ e (g .before .facts-of .ensures code) (g .commas-of .ensures code) (p .put-items .ensures) (s .pre .3) (c .before .tally-words .ensures) (c .body-of .ensures)),
+      (λ q e. body-put _ (p .put-items .ensures) q _ _ _ _ e (g .before .facts-of .ensures code) (g .commas-of .ensures code) (s .pre .3) (c .before .tally-words .ensures) (c .body-of .ensures)),
       put-place _ (p .put-items .ensures) (body-end _ (p .put-items .ensures) _ (ap (λ (b : Body). b .items) (c .body-of .ensures))),
     )
 

@@ -20,7 +20,7 @@ loop-again : tie.Need-loop-again Inv-loop μ-loop
 loop-again c = search (needs, passing-step)
 
 returns : tie.Need-returns Inv-loop μ-loop
-returns c = passing-end _ _ _ (c .before .loop .inv) (c .loop-test .left)
+returns c = passing-end (c .before .loop .inv) (c .loop-test .left)
 
 pub date-places-spec : {M : Type 1} → statement M
 date-places-spec =

@@ -23,8 +23,8 @@ next : (c : tie.After-draft-next Inv-loop μ-loop)
 next c =
     let t = c .before .before .before in
     let l = t .before .loop in
-    let d = next-drafted _ _ _ _ _ _ _ _ _ (l .inv) (t .loop-test .taken) _ _ (c .draft-next .ensures) in
-    (next-size _ _ _ _ _ _ _ _ _ (l .inv) (t .loop-test .taken) _ _ d, next-items _ _ _ _ _ _ _ _ _ (l .inv) (t .loop-test .taken) _ _ d)
+    let d = next-drafted (l .inv) (t .loop-test .taken) _ _ (c .draft-next .ensures) in
+    (next-size (l .inv) (t .loop-test .taken) _ _ d, next-items (l .inv) (t .loop-test .taken) _ _ d)
 
 loop-holds : tie.Need-loop-holds Inv-loop μ-loop
 loop-holds c =
@@ -49,7 +49,7 @@ draft-next-requires c κs =
     let l = t .before .loop in
     let words = now (t .before .before .before .before .before .before .args .tokens) in (
       (l .inv .small, part-short words (length words - 3 * l .first) (3 * l .first) (l .inv .words-small), omega (arith, l .inv .rest .size, l .inv .wide)),
-      (rw (left-part _ _ _ _ _ _ _ _ _ (l .inv) (t .loop-test .taken)) (next-room _ _ _ _ _ _ _ _ _ (l .inv) (t .loop-test .taken)), rw (left-part _ _ _ _ _ _ _ _ _ (l .inv) (t .loop-test .taken)) (next-digits _ _ _ _ _ _ _ _ _ (l .inv) (t .loop-test .taken))),
+      (rw (left-part (l .inv) (t .loop-test .taken)) (next-room (l .inv) (t .loop-test .taken)), rw (left-part (l .inv) (t .loop-test .taken)) (next-digits (l .inv) (t .loop-test .taken))),
     )
 
 array-set-from-drafts : tie.Need-array-set-from-drafts Inv-loop μ-loop
@@ -87,10 +87,10 @@ loop-again c =
     let n = c .before .before .before .before .before in
     let t = n .before .before .before in
     let l = t .before .loop in
-    sectioning-step _ _ _ _ _ _ _ _ _ (l .inv) (t .loop-test .taken) _ _ (next-drafted _ _ _ _ _ _ _ _ _ (l .inv) (t .loop-test .taken) _ _ (n .draft-next .ensures))
+    sectioning-step (l .inv) (t .loop-test .taken) _ _ (next-drafted (l .inv) (t .loop-test .taken) _ _ (n .draft-next .ensures))
 
 returns : tie.Need-returns Inv-loop μ-loop
-returns c = sectioning-end _ _ _ _ _ _ _ _ _ (c .before .loop .inv) (c .loop-test .left)
+returns c = sectioning-end (c .before .loop .inv) (c .loop-test .left)
 
 pub draft-all-spec : {M : Type 1} → statement M
 draft-all-spec =

@@ -20,13 +20,13 @@ loop-holds : tie.Need-loop-holds Inv-loop μ-loop
 loop-holds c = seeking-start _ _ _ _ (omega arith) (search needs) (search needs)
 
 returns : tie.Need-returns Inv-loop μ-loop
-returns c = seeking-fail _ _ _ _ (c .before .before .before .before .loop .inv) (c .before .before .before .loop-test .taken) _ (sym (c .before .passes .ensures) ∙ not-true _ (c .if1 .taken))
+returns c = seeking-fail (c .before .before .before .before .loop .inv) (c .before .before .before .loop-test .taken) _ (sym (c .before .passes .ensures) ∙ not-true _ (c .if1 .taken))
 
 loop-again : tie.Need-loop-again Inv-loop μ-loop
-loop-again c = seeking-step _ _ _ _ (c .before .before .before .before .loop .inv) (c .before .before .before .loop-test .taken) _ (sym (c .before .passes .ensures) ∙ not-false _ (c .if1 .left))
+loop-again c = seeking-step (c .before .before .before .before .loop .inv) (c .before .before .before .loop-test .taken) _ (sym (c .before .passes .ensures) ∙ not-false _ (c .if1 .left))
 
 returns-2 : tie.Need-returns-2 Inv-loop μ-loop
-returns-2 c = seeking-end _ _ _ _ (c .before .loop .inv) (c .loop-test .left)
+returns-2 c = seeking-end (c .before .loop .inv) (c .loop-test .left)
 
 pub first-failing-spec : {M : Type 1} → statement M
 first-failing-spec =

@@ -16,10 +16,10 @@ loop-holds : tie.Need-loop-holds Inv-loop μ-loop
 loop-holds c = search (needs, counting-start)
 
 loop-again : tie.Need-loop-again Inv-loop μ-loop
-loop-again c = counting-step _ _ _ _ (c .before .before .before .loop .inv) (c .before .before .loop-test .taken) _ _ (c .counted-with .ensures)
+loop-again c = counting-step (c .before .before .before .loop .inv) (c .before .before .loop-test .taken) _ _ (c .counted-with .ensures)
 
 returns : tie.Need-returns Inv-loop μ-loop
-returns c = counting-end _ _ _ _ (c .before .loop .inv) (c .loop-test .left)
+returns c = counting-end (c .before .loop .inv) (c .loop-test .left)
 
 pub counted-of-spec : {M : Type 1} → statement M
 counted-of-spec =

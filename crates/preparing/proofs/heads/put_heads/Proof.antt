@@ -26,10 +26,10 @@ loop-again : tie.Need-loop-again Inv-loop μ-loop
 loop-again c =
     let p = c .before .before in
     let t = p .before .before .before in
-    heading-step _ _ _ _ _ _ _ _ _ (t .before .loop .inv) (t .loop-test .taken) _ _ _ (p .put-head .ensures)
+    heading-step (t .before .loop .inv) (t .loop-test .taken) _ _ _ (p .put-head .ensures)
 
 returns : tie.Need-returns Inv-loop μ-loop
-returns c = heading-end _ _ _ _ _ _ _ _ _ (c .before .loop .inv) (c .loop-test .left)
+returns c = heading-end (c .before .loop .inv) (c .loop-test .left)
 
 pub put-heads-spec : {M : Type 1} → statement M
 put-heads-spec =
