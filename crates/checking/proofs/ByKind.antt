@@ -40,11 +40,11 @@ record Compared (h : Head) : Type 0 where
   sign : T (signTest h)
 
 compared : (h : Head) → T (conditionTold h) → Compared h
-unfolding conditionTold comparedTold
+unfolding conditionTold
 compared h t = search (and-left, and-right) depth 8
 
 compared-back : (h : Head) → Compared h → T (conditionTold h)
-unfolding conditionTold comparedTold
+unfolding conditionTold
 compared-back h c = search and-in depth 8
 
 compared-fits : (h : Head) → Compared h → T (conditionFits h)

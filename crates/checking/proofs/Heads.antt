@@ -19,7 +19,6 @@ two-words low high = refl
 -- no condition, and its words: their sum is 0 where each is
 none-compared : (negative a b c d : ℕ)
     → eqb (negative + a + b + c + d) 0 ≡ comparedTold 0 negative (a + 65536 * b) (c + 65536 * d)
-unfolding comparedTold
 none-compared negative a b c d = same-test _ _ into out
   where
     into : T (eqb (negative + a + b + c + d) 0) → T (comparedTold 0 negative (a + 65536 * b) (c + 65536 * d))

@@ -24,7 +24,7 @@ use Rattle.tables.proofs.Words.{Counted, headsOf}
 use Rattle.tables.proofs.Ranges.{head-ranges}
 use Rattle.tables.proofs.Standing.{sectionKind, head-stands, counted-kinds}
 use Rattle.tables.proofs.Back.{row-facts}
-use Rattle.tables.proofs.BackEntries.{span-at, items-length}
+use Rattle.tables.proofs.BackEntries.{also, span-at, items-length}
 use Rattle.checking.specs.Checking.{agree, halfFits, hasIn, minusWith, placeFits, placesFrom, kindsIn, firstHasIn}
 
 -- ---- the words of a row that fits
@@ -55,28 +55,11 @@ BitsAt flags m h = eqb flags (flagsWord (groupedAt flags) m h) ≡ (agree (leb 4
 flags-bits : (flags : ℕ) (m h : Bool) → flags ≤ 7 → BitsAt flags m h
 unfolding flagsWord groupedAt bit
 flags-bits flags m h most =
-    span-at (λ (v : ℕ). (m h : Bool) → BitsAt v m h) 0 8 flags (
-      all-bits (BitsAt 0) refl refl refl refl,
-      (
-        all-bits (BitsAt 1) refl refl refl refl,
-        (
-          all-bits (BitsAt 2) refl refl refl refl,
-          (
-            all-bits (BitsAt 3) refl refl refl refl,
-            (
-              all-bits (BitsAt 4) refl refl refl refl,
-              (
-                all-bits (BitsAt 5) refl refl refl refl,
-                (
-                  all-bits (BitsAt 6) refl refl refl refl,
-                  (all-bits (BitsAt 7) refl refl refl refl, tt),
-                ),
-              ),
-            ),
-          ),
-        ),
-      ),
-    )
+    span-at (λ (v : ℕ). (m h : Bool) → BitsAt v m h) 0 8 flags
+    (also (all-bits (BitsAt 0) refl refl refl refl) (also (all-bits (BitsAt 1) refl refl refl refl)
+    (also (all-bits (BitsAt 2) refl refl refl refl) (also (all-bits (BitsAt 3) refl refl refl refl)
+    (also (all-bits (BitsAt 4) refl refl refl refl) (also (all-bits (BitsAt 5) refl refl refl refl)
+    (also (all-bits (BitsAt 6) refl refl refl refl) (also (all-bits (BitsAt 7) refl refl refl refl) tt))))))))
     (omega arith) (omega arith) m h
 
 flags-told : (counted i : ℕ) (firstHas : Bool) (r : Row) → T (rowFits r)

@@ -96,7 +96,7 @@ module _ (n counted : ℕ) (firstHas : Bool) (i : ℕ) (h : Head) where
     place-flagged f = sym (rw (not-excepted, f) (and-false (headStands n i (h .kind) (h .colour) (hasIn h))))
 
     compared-told : headStands n i (h .kind) (h .colour) (hasIn h) ≡ comparedStands n i (h .kind)
-    unfolding comparedStands headStands
+    unfolding headStands
     compared-told =
         rw (ne-eqb (h .operator) 0 c, and-true (eqb n 1))
         (stands-true (eqb (h .kind) 3) (eqb (i + 1) n) (implies (eqb n 1) (eqb (h .kind) 1)) (ltb i 2) (implies (eqb i 3) (eqb (h .kind) 3 || eqb (h .kind) 1 || eqb (h .kind) 0))

@@ -5,10 +5,11 @@ use mathlib.Core.Bool.{Bool, true, false, true≢false, cond}
 use mathlib.Core.List.{List, [], _∷_}
 use Rattle.lists.specs.Lists.{every, any, count}
 use Rattle.formats.specs.Tokens.{hours, minutes, seconds}
-use Rattle.formats.specs.Items.{Item, literal, blank, fill, place, point, percent, general, at, year, month, day, hour, minute, second, part, elapsed, half, itemBelongs, isElapsed, isHalf}
+use Rattle.formats.specs.Items.{Item, itemBelongs, isElapsed, isHalf}
 use Rattle.formats.specs.Limits.{elapsedShort}
 use Rattle.tables.specs.Words.{Entry}
 use Rattle.tables.specs.Decode.{itemsAt}
+use Rattle.tables.proofs.Each.{by-item}
 use Rattle.tallies.specs.Tally.{belongsDate, isElapsedOf, tallyOf}
 use Rattle.checking.specs.Checking.{Undated}
 
@@ -22,23 +23,14 @@ record Plain (i : Item) : Type 0 where
 
 plain : (i : Item) → belongsDate i ≡ false → Plain i
 unfolding itemBelongs isElapsedOf elapsedShort
-plain (literal u) e = record { runs = refl; h = refl; m = refl; s = refl; short = refl; mark = refl }
-plain (blank u) e = record { runs = refl; h = refl; m = refl; s = refl; short = refl; mark = refl }
-plain (fill u) e = record { runs = refl; h = refl; m = refl; s = refl; short = refl; mark = refl }
-plain (place p) e = record { runs = refl; h = refl; m = refl; s = refl; short = refl; mark = refl }
-plain point e = record { runs = refl; h = refl; m = refl; s = refl; short = refl; mark = refl }
-plain percent e = record { runs = refl; h = refl; m = refl; s = refl; short = refl; mark = refl }
-plain general e = record { runs = refl; h = refl; m = refl; s = refl; short = refl; mark = refl }
-plain at e = record { runs = refl; h = refl; m = refl; s = refl; short = refl; mark = refl }
-plain (year n) e = absurd (true≢false e)
-plain (month n) e = absurd (true≢false e)
-plain (day n) e = absurd (true≢false e)
-plain (hour n) e = absurd (true≢false e)
-plain (minute n) e = absurd (true≢false e)
-plain (second n) e = absurd (true≢false e)
-plain (part n) e = absurd (true≢false e)
-plain (elapsed d n) e = absurd (true≢false e)
-plain (half h) e = absurd (true≢false e)
+plain =
+    by-item (λ i. belongsDate i ≡ false → Plain i) (λ u e. search) (λ u e. search) (λ u e. search) (λ p e. search)
+    (λ e. search) (λ e. search) (λ e. search) (λ e. search)
+    (λ n e. dated e) (λ n e. dated e) (λ n e. dated e) (λ n e. dated e) (λ n e. dated e) (λ n e. dated e) (λ n e. dated e)
+    (λ d n e. dated e) (λ h e. dated e)
+  where
+    dated : {P : Type 0} → true ≡ false → P
+    dated e = absurd (true≢false e)
 
 record AllPlain (is : List Item) : Type 0 where
   runs : count isElapsed is ≡ 0

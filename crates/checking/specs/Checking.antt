@@ -52,7 +52,7 @@ pub record Sized (ws : List ℕ) : Type 0 where
 
 -- ---- one section, by its head and the tally of its items
 -- a condition's words, whose numbers are read
-unfoldable pub comparedTold : ℕ → ℕ → ℕ → ℕ → Bool
+abbrev pub comparedTold : ℕ → ℕ → ℕ → ℕ → Bool
 comparedTold operator negative whole millionths =
     leb operator 6
     && leb negative 1
@@ -136,7 +136,7 @@ abbrev pub minusWith : ℕ → ℕ → Bool → Bool → ℕ → Bool
 minusWith counted i has firstHas flags = agree (eqb (flags / 2 % 2) 1) (exceptionA counted i has firstHas)
 
 -- the same of a section with a condition that has no such flag, and of one without a condition
-unfoldable pub comparedStands : ℕ → ℕ → ℕ → Bool
+abbrev pub comparedStands : ℕ → ℕ → ℕ → Bool
 comparedStands n i kind = not (eqb kind 3) && (implies (eqb n 1) (eqb kind 1) && ltb i 2)
 
 unfoldable pub plainFits : ℕ → ℕ → Bool → ℕ → ℕ → ℕ → Bool → Bool

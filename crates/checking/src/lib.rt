@@ -11,6 +11,9 @@ ghost use Rattle.tables.specs.Decode.{twoWords, thousandsAt};
 ghost use Rattle.tables.specs.Rules.{shiftTells, passes};
 ghost use Rattle.tallies.specs.Tally.{tallyOf};
 ghost use Rattle.checking.specs.Checking.{headFrom, agree, sized, Sized, comparedTold, conditionTold, numberTold, otherTold, rowTold, rowGood, comparedStands, plainFits, placeFits, kindsIn, placesFit};
+use tables::flags;
+use tables::heads;
+use tables::kinds;
 use tallies::Tally;
 use tallies::grouping_fits;
 use tallies::items_fit;
@@ -39,20 +42,20 @@ fn head_at(table: &[u16], i: usize) -> HeadWords
     requires { ⌜ (i ≤ 3) × (13 + 12 * i ≤ length (now table)) ⌝ }
     ensures { λ r. ⌜ headFrom r ≡ headAt (drop (1 + 12 * i) (now (table .entry))) ⌝ }
 {
-    let a = 1 + 12 * i;
+    let a = 1 + heads::WORDS * i;
     HeadWords {
         kind: table[a],
-        colour: table[a + 1],
-        operator: table[a + 2],
-        negative: table[a + 3],
-        whole_low: table[a + 4],
-        whole_high: table[a + 5],
-        millionths_low: table[a + 6],
-        millionths_high: table[a + 7],
-        shift: table[a + 8],
-        flags: table[a + 9],
-        decimals: table[a + 10],
-        items: table[a + 11],
+        colour: table[a + heads::COLOUR],
+        operator: table[a + heads::OPERATOR],
+        negative: table[a + heads::NEGATIVE],
+        whole_low: table[a + heads::WHOLE_LOW],
+        whole_high: table[a + heads::WHOLE_HIGH],
+        millionths_low: table[a + heads::MILLIONTHS_LOW],
+        millionths_high: table[a + heads::MILLIONTHS_HIGH],
+        shift: table[a + heads::SHIFT],
+        flags: table[a + heads::FLAGS],
+        decimals: table[a + heads::DECIMALS],
+        items: table[a + heads::ITEMS],
     }
 }
 
@@ -61,7 +64,7 @@ fn items_at(table: &[u16], i: usize) -> u16
     requires { ⌜ (i ≤ 3) × (13 + 12 * i ≤ length (now table)) ⌝ }
     ensures { λ r. ⌜ r ≡ headAt (drop (1 + 12 * i) (now (table .entry))) .items ⌝ }
 {
-    table[12 + 12 * i]
+    table[heads::WORDS + heads::WORDS * i]
 }
 
 fn agree(a: bool, b: bool) -> bool
@@ -165,10 +168,10 @@ fn number_fits(
     if !(decimals == places) {
         return false;
     }
-    if 3 < flags {
+    if flags::TWELVE_HOUR <= flags {
         return false;
     }
-    if (flags % 2 == 1) & (integers < 2) {
+    if (flags % 2 == flags::GROUPING) & (integers < 2) {
         return false;
     }
     shift_tells(shift, percents)
@@ -184,13 +187,13 @@ fn other_fits(shift: u16, flags: u16, decimals: u16, t: Tally) -> bool
     if !(decimals == 0) {
         return false;
     }
-    if 7 < flags {
+    if flags::ALL < flags {
         return false;
     }
-    if !grouping_fits(t, flags % 2 == 1) {
+    if !grouping_fits(t, flags % 2 == flags::GROUPING) {
         return false;
     }
-    if !agree(4 <= flags, t.halves) {
+    if !agree(flags::TWELVE_HOUR <= flags, t.halves) {
         return false;
     }
     if !within(t, 0) {
@@ -220,8 +223,8 @@ fn row_fits(table: &[u16], i: usize, items: &[u16]) -> bool
         return false;
     }
     let h = head_at(table, i);
-    if h.kind == 2 {
-        if !(kind(t) == 2) {
+    if h.kind == kinds::NUMBER {
+        if !(kind(t) == kinds::NUMBER) {
             return false;
         }
         return number_fits(
@@ -270,11 +273,11 @@ fn is_sized(table: &[u16]) -> bool
     if 4 < n {
         return false;
     }
-    if length < 1 + 12 * n {
+    if length < 1 + heads::WORDS * n {
         return false;
     }
     let items = items_said(table, n);
-    (length == 1 + 12 * n + 2 * items) & (items <= 254)
+    (length == 1 + heads::WORDS * n + 2 * items) & (items <= 254)
 }
 
 // The rules for each section that do not speak of where it stands.
@@ -283,7 +286,7 @@ fn rows_fit(table: &[u16]) -> bool
     ensures { λ r. ⌜ r ≡ every rowGood (rowsIn (now (table .entry))) ⌝ }
 {
     let n = table[0] as usize;
-    let mut at = 1 + 12 * n;
+    let mut at = 1 + heads::WORDS * n;
     let mut i: usize = 0;
     while i < n {
         let end = at + 2 * items_at(table, i) as usize;
@@ -299,7 +302,7 @@ fn rows_fit(table: &[u16]) -> bool
 fn counted_one(i: usize, kind: u16) -> u16
     ensures { λ r. ⌜ r ≡ countedOne i kind ⌝ }
 {
-    if (kind == 3) | (i == 3) {
+    if (kind == kinds::TEXT) | (i == 3) {
         return 0;
     }
     1
@@ -324,7 +327,7 @@ fn counted(table: &[u16], n: usize) -> u16
 fn compared_stands(n: usize, i: usize, kind: u16) -> bool
     ensures { λ r. ⌜ r ≡ comparedStands n i kind ⌝ }
 {
-    !(kind == 3) & ((!(n == 1) | (kind == 1)) & (i < 2))
+    !(kind == kinds::TEXT) & ((!(n == 1) | (kind == kinds::GENERAL)) & (i < 2))
 }
 
 // Exception (a) of the added minus, of the second section, which has no condition.
@@ -347,14 +350,16 @@ fn plain_fits(
     requires { ⌜ i ≤ 3 ⌝ }
     ensures { λ r. ⌜ r ≡ plainFits n counted «first_has» i kind colour flag ⌝ }
 {
-    if (kind == 3) & !(i + 1 == n) {
+    if (kind == kinds::TEXT) & !(i + 1 == n) {
         return false;
     }
     if i == 1 {
         return agree(flag, excepted(counted, first_has));
     }
     if i == 3 {
-        return !flag & (colour == 0) & ((kind == 3) | (kind == 1) | (kind == 0));
+        return !flag
+            & (colour == 0)
+            & ((kind == kinds::TEXT) | (kind == kinds::GENERAL) | (kind == kinds::LITERAL));
     }
     !flag
 }
@@ -363,7 +368,7 @@ fn place_fits(n: usize, counted: u16, first_has: bool, i: usize, h: HeadWords) -
     requires { ⌜ i ≤ 3 ⌝ }
     ensures { λ r. ⌜ r ≡ placeFits n counted «first_has» i (headFrom h) ⌝ }
 {
-    let flag = h.flags / 2 % 2 == 1;
+    let flag = h.flags / flags::NO_MINUS % 2 == 1;
     if h.operator == 0 {
         return plain_fits(n, counted, first_has, i, h.kind, h.colour, flag);
     }

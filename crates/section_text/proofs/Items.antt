@@ -29,12 +29,12 @@ use Rattle.section_text.specs.declared.Subject.{Subject}
 use Rattle.section_text.specs.Subject.{GeneralOf, StandsFor, SubjectIs, EntryFits, ItemPut}
 
 -- a place's argument, and a date item's
-pub place-argument : (tag a : ℕ) → 4 ≤ tag → tag ≤ 6 → T (entryInRange (entry tag a)) → (1 ≤ a) × (a ≤ 40)
+pub place-argument : (tag a : ℕ) → (4 ≤ tag) × (tag ≤ 6) → T (entryInRange (entry tag a)) → (1 ≤ a) × (a ≤ 40)
 unfolding entryInRange
-place-argument tag a least most t =
+place-argument tag a b t =
     let f : (1 ≤ a) × (a ≤ 35) =
     span-at (λ (t : ℕ). T (entryInRange (entry t a)) → (1 ≤ a) × (a ≤ 35)) 4 3 tag
-    (between-facts 1 35 a, (between-facts 1 35 a, (between-facts 1 35 a, tt))) least (omega arith) t in
+    (between-facts 1 35 a, (between-facts 1 35 a, (between-facts 1 35 a, tt))) (b .0) (omega arith) t in
     (f .0, omega arith)
 
 module _ (c : Context) (q tag a : ℕ) where
@@ -125,6 +125,23 @@ module _ (lent : Bool) {old out us : List ℕ} {at r : ℕ} where
 
   pub unit-put : {u : ℕ} → us ≡ u ∷ [] → Put old at (u ∷ []) r out → ItemPut lent old at us r out
   unit-put e p = piece-put e (omega (arith, p .next)) p
+
+-- a place, and General or `@`, in a section that holds it
+module _ {old out digits text : List ℕ} {at r : ℕ} {s : Subject} {c : Context} (k : Kind) (q tag a : ℕ)
+    (i : SubjectIs k digits s text c) (f : EntryFits k q (entry tag a)) where
+  pub digit-put : (4 ≤ tag) × (tag ≤ 6) → (r ≤ at + 82)
+      × ((x : Context) (p : ℕ) → FiguresAre digits (s .figures) x → a ≡ p + 1 → Put old at (placeUnits x (placeOfTag tag) p) r out)
+      → ItemPut (s .lent) old at (itemUnits c q (itemAt (entry tag a))) r out
+  digit-put b e =
+      piece-put (s .lent) (place-item c q tag a (b .0) (b .1)) (e .0)
+      (e .1 c q (i .numeric (number-held k q tag a f (b .0) (omega arith))) (place-power k q tag a f (b .0) (b .1)))
+
+  pub lent-put : (9 ≤ tag) × (tag ≤ 10) → (r ≤ at + 1024) × ((s .lent ≡ false → r ≤ at + 82)
+      × ((us : List ℕ) → StandsFor (s .lent) digits (s .figures) text us → Put old at us r out))
+      → ItemPut (s .lent) old at (itemUnits c q (itemAt (entry tag a))) r out
+  lent-put b e =
+      standing-put (s .lent) (standing-item c q tag a (b .0) (b .1)) (e .0, e .1 .0)
+      (e .1 .1 (c .standing) (standing-held k q tag a f i (b .0) (b .1)))
 
 year-argument : (a : ℕ) → T (eqb a 2 || eqb a 4) → a ≤ 9
 year-argument a t =

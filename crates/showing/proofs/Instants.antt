@@ -6,13 +6,15 @@ use mathlib.Core.Bool.{Bool, true, false, true≢false}
 use mathlib.Core.List.{List, [], _∷_}
 use lib.Dec.{T, ltb}
 use lib.ListN.{length, getD}
+use native.Mathlib.Omega.{arith}
+use borrow.Author.Tests.{lt-ltb, le-ltb}
 use Rattle.answers.specs.declared.Answer.the-variants as answer
 use Rattle.answers.specs.declared.Shown.{Shown}
 use Rattle.values.specs.declared.Day.{Day}
 use Rattle.values.specs.declared.Millisecond.{Millisecond}
 use Rattle.lists.specs.Lists.{every}
 use Rattle.lists.proofs.Bools.{every-head, every-tail}
-use Rattle.formats.specs.Items.{Item, literal, blank, fill, place, point, percent, general, at, year, month, day, hour, minute, second, part, elapsed, half, Section, Kind, textKind, generalKind, dateKind, numberKind, literalKind, sameKind, itemAllowed, itemBelongs, kindOf, integerPlaces}
+use Rattle.formats.specs.Items.{Item, Section, Kind, dateKind, numberKind, literalKind, sameKind, itemAllowed, itemBelongs, kindOf, integerPlaces}
 use Rattle.answers.specs.Number.{refusedShown}
 use Rattle.calendar.specs.Clock.{sinceDayZero}
 use Rattle.formats.specs.Choice.{Exact, instantExact, Reason, Choice, chosen, choose}
@@ -20,6 +22,8 @@ use Rattle.formats.specs.Reading.{takesInstant, instantContext, readInstant}
 use Rattle.tables.specs.Encode.{bit, flagsWord, hasHalf, headOf}
 use Rattle.tables.specs.Decode.{itemsAt, decode}
 use Rattle.tables.specs.Rules.{passes}
+use Rattle.tables.proofs.Each.{by-item, by-kind}
+use Rattle.tables.proofs.MadeHeads.{bit-most}
 use Rattle.date_text.specs.declared.Moment.{Moment}
 use Rattle.date_text.specs.Moment.{momentOf, MomentIs}
 use Rattle.date_text.proofs.Moments.{moment-instant}
@@ -38,23 +42,11 @@ use Rattle.section_text.proofs.Bodies.{section-fits}
 no-places : (k : Kind) (is : List Item) → T (every (itemAllowed k) is) → sameKind numberKind k ≡ false → 0 ≡ integerPlaces is
 unfolding integerPlaces itemAllowed itemBelongs
 no-places k [] t e = refl
-no-places k ((literal u) ∷ is) t e = no-places k is (every-tail (itemAllowed k) (literal u) is t) e
-no-places k ((blank u) ∷ is) t e = no-places k is (every-tail (itemAllowed k) (blank u) is t) e
-no-places k ((fill u) ∷ is) t e = no-places k is (every-tail (itemAllowed k) (fill u) is t) e
-no-places k ((place p) ∷ is) t e = let b : T (sameKind numberKind k) = every-head (itemAllowed k) (place p) is t in absurd (rw e at b)
-no-places k (point ∷ is) t e = refl
-no-places k (percent ∷ is) t e = no-places k is (every-tail (itemAllowed k) percent is t) e
-no-places k (general ∷ is) t e = no-places k is (every-tail (itemAllowed k) general is t) e
-no-places k (at ∷ is) t e = no-places k is (every-tail (itemAllowed k) at is t) e
-no-places k ((year n) ∷ is) t e = no-places k is (every-tail (itemAllowed k) (year n) is t) e
-no-places k ((month n) ∷ is) t e = no-places k is (every-tail (itemAllowed k) (month n) is t) e
-no-places k ((day n) ∷ is) t e = no-places k is (every-tail (itemAllowed k) (day n) is t) e
-no-places k ((hour n) ∷ is) t e = no-places k is (every-tail (itemAllowed k) (hour n) is t) e
-no-places k ((minute n) ∷ is) t e = no-places k is (every-tail (itemAllowed k) (minute n) is t) e
-no-places k ((second n) ∷ is) t e = no-places k is (every-tail (itemAllowed k) (second n) is t) e
-no-places k ((part n) ∷ is) t e = no-places k is (every-tail (itemAllowed k) (part n) is t) e
-no-places k ((elapsed o n) ∷ is) t e = no-places k is (every-tail (itemAllowed k) (elapsed o n) is t) e
-no-places k ((half h) ∷ is) t e = no-places k is (every-tail (itemAllowed k) (half h) is t) e
+no-places k (i ∷ is) t e =
+    by-item (λ j. T (itemAllowed k j) → 0 ≡ integerPlaces is → 0 ≡ integerPlaces (j ∷ is)) (λ u t r. r) (λ u t r. r) (λ u t r. r)
+    (λ p t r. absurd (rw e at t)) (λ t r. refl) (λ t r. r) (λ t r. r) (λ t r. r)
+    (λ n t r. r) (λ n t r. r) (λ n t r. r) (λ n t r. r) (λ n t r. r) (λ n t r. r) (λ n t r. r) (λ o n t r. r) (λ h t r. r)
+    i (every-head (itemAllowed k) i is t) (no-places k is (every-tail (itemAllowed k) i is t) e)
 
 pub section-places : (ws : List ℕ) (i : ℕ) → T (passes ws) → i < getD ws 0 0 → sameKind numberKind (kindOf (sectionIn ws i)) ≡ false
     → 0 ≡ integerPlaces (sectionIn ws i .items)
@@ -64,23 +56,15 @@ section-places ws i t h e =
 
 instant-other : (k : Kind) → takesInstant k ≡ true → sameKind numberKind k ≡ false
 unfolding takesInstant
-instant-other textKind e = refl
-instant-other generalKind e = refl
-instant-other dateKind e = refl
-instant-other numberKind e = absurd (true≢false (sym e))
-instant-other literalKind e = refl
+instant-other =
+    by-kind (λ k. takesInstant k ≡ true → sameKind numberKind k ≡ false) (λ e. refl) (λ e. refl) (λ e. refl)
+    (λ e. absurd (true≢false (sym e))) (λ e. refl)
 
 -- the twelve-hour flag
 flag-told : (g n h : Bool) → ltb 3 (flagsWord g n h) ≡ h
 unfolding flagsWord bit
-flag-told true true true = refl
-flag-told true true false = refl
-flag-told true false true = refl
-flag-told true false false = refl
-flag-told false true true = refl
-flag-told false true false = refl
-flag-told false false true = refl
-flag-told false false false = refl
+flag-told g n true = lt-ltb 3 (bit g + 2 * bit n + 4 * 1) (omega arith)
+flag-told g n false = le-ltb 3 (bit g + 2 * bit n + 4 * 0) (omega (arith, bit-most g, bit-most n))
 
 pub twelve-told : (ws : List ℕ) (i w : ℕ) → T (passes ws) → i < getD ws 0 0 → w ≡ wordIn ws i 9 → ltb 3 w ≡ hasHalf (sectionIn ws i .items)
 unfolding headOf

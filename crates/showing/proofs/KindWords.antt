@@ -14,6 +14,7 @@ use Rattle.formats.specs.Choice.{Reason, chosen}
 use Rattle.formats.specs.Reading.{takesNumber, takesInstant, showsGeneral, readNumber}
 use Rattle.tables.specs.Encode.{kindWord, headOf}
 use Rattle.tables.specs.Rules.{passes}
+use Rattle.tables.proofs.Each.{by-kind}
 use Rattle.choosing.specs.Seeking.{sectionIn, wordIn}
 use Rattle.choosing.proofs.Places.{words-by-place}
 use Rattle.section_text.specs.Show.{Shows}
@@ -29,27 +30,19 @@ kindWith (suc (suc (suc (suc n)))) = dateKind
 
 kind-back : (k : Kind) → kindWith (kindWord k) ≡ k
 unfolding kindWord
-kind-back textKind = refl
-kind-back generalKind = refl
-kind-back dateKind = refl
-kind-back numberKind = refl
-kind-back literalKind = refl
+kind-back = by-kind (λ k. kindWith (kindWord k) ≡ k) refl refl refl refl refl
 
 general-word : (k : Kind) → (kindWord k ≡ 0 → ⊥) → (kindWord k ≡ 2 → ⊥) → (kindWord k ≡ 4 → ⊥) → T (showsGeneral k)
 unfolding kindWord showsGeneral
-general-word textKind l n d = tt
-general-word generalKind l n d = tt
-general-word dateKind l n d = absurd (d refl)
-general-word numberKind l n d = absurd (n refl)
-general-word literalKind l n d = absurd (l refl)
+general-word =
+    by-kind (λ k. (kindWord k ≡ 0 → ⊥) → (kindWord k ≡ 2 → ⊥) → (kindWord k ≡ 4 → ⊥) → T (showsGeneral k))
+    (λ l n d. tt) (λ l n d. tt) (λ l n d. d refl) (λ l n d. n refl) (λ l n d. l refl)
 
 sort-word : (k : Kind) → (kindWord k ≡ 4 → ⊥) → (kindWord k ≡ 0 → ⊥) → takesInstant k ≡ false
 unfolding kindWord takesInstant
-sort-word textKind d l = refl
-sort-word generalKind d l = refl
-sort-word dateKind d l = absurd (d refl)
-sort-word numberKind d l = refl
-sort-word literalKind d l = absurd (l refl)
+sort-word =
+    by-kind (λ k. (kindWord k ≡ 4 → ⊥) → (kindWord k ≡ 0 → ⊥) → takesInstant k ≡ false)
+    (λ d l. refl) (λ d l. refl) (λ d l. absurd (d refl)) (λ d l. refl) (λ d l. absurd (l refl))
 
 module _ (ws : List ℕ) (i w : ℕ) (t : T (passes ws)) (h : i < getD ws 0 0) (e : w ≡ wordIn ws i 0) where
   kind-word : w ≡ kindWord (kindOf (sectionIn ws i))

@@ -38,15 +38,10 @@ use Rattle.section_text.proofs.Fitting.{shows-refused}
 use Rattle.showing.specs.Sought.{signedSought}
 
 pub sought-scale : {s : Sought} (v : Signed) → s ≡ signedSought v → v .scale ≤ 15 → s .scale ≤ 15
-unfolding signedSought
 sought-scale v e h = rw e h
 
-pub sought-number : (v : Signed) → record { negative = v .negative; instant = false; above = v .magnitude; scale = v .scale } ≡ signedSought v
-unfolding signedSought
-sought-number v = refl
-
 signed-exact : (x : Number) → numberExact x ≡ exactOf (signedSought (signedOf x))
-unfolding numberExact exactOf partsOfOne signedSought signedOf
+unfolding numberExact exactOf partsOfOne signedOf
 signed-exact x = refl
 
 -- the section that was found for a number

@@ -4,5 +4,5 @@ use mathlib.Core.Bool.{false}
 use Rattle.figures.specs.declared.Signed.{Signed}
 use Rattle.choosing.specs.declared.Sought.{Sought}
 
-unfoldable pub signedSought : Signed → Sought
+abbrev pub signedSought : Signed → Sought
 signedSought v = record { negative = v .negative; instant = false; above = v .magnitude; scale = v .scale }

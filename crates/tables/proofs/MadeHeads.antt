@@ -81,7 +81,7 @@ unfolding comparisonWord
 comparison-most =
     by-comparison (λ c. comparisonWord c ≤ 6) (omega arith) (omega arith) (omega arith) (omega arith) (omega arith) (omega arith)
 
-bit-most : (b : Bool) → bit b ≤ 1
+pub bit-most : (b : Bool) → bit b ≤ 1
 unfolding bit
 bit-most true = omega arith
 bit-most false = omega arith

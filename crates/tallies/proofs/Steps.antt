@@ -3,7 +3,7 @@
 use Prim.Native.Nat.{ℕ, zero, suc, _+_, _<_}
 use mathlib.Core.Path.{_≡_, refl, sym, _∙_}
 use mathlib.Core.Bool.{Bool, true, false, true≢false, not, _&&_, _||_, and-true}
-use lib.Dec.{leb, eqb}
+use lib.Dec.{T, leb, ltb, eqb, ltb→lt}
 use native.Mathlib.Omega.{arith}
 use borrow.Author.Tests.{eqb-true, eq-eqb, ne-eqb, le-leb, lt-leb, leb-false, lt-ltb}
 use Rattle.values.specs.Ranges.{between}
@@ -39,6 +39,17 @@ unfolding runAt meansMinutes
 means-by-number n =
     by-cases (eqb n 1) (λ e. rw (eqb-true n 1 e))
     (λ e. rw e (by-cases (eqb n 0) (λ f. rw f) (λ f. rw f (by-cases (eqb n 2) (λ g. rw g) (λ g. rw g)))))
+
+-- ---- a tag behind the last
+module _ (t : ℕ) (h : 21 < t) where
+  other : (k : ℕ) → T (ltb k 22) → eqb t k ≡ false
+  other k small = ne-eqb t k (λ e. absurd (omega (arith, ltb→lt k 22 small)))
+
+  above : (k : ℕ) → T (ltb k 22) → leb t k ≡ false
+  above k small = lt-leb t k (omega (arith, ltb→lt k 22 small))
+
+  from : (k : ℕ) → T (ltb k 22) → leb k t ≡ true
+  from k small = le-leb k t (omega (arith, ltb→lt k 22 small))
 
 -- ---- each tag by its weights
 module _ (w : Walk) (a : ℕ) where
@@ -134,42 +145,9 @@ module _ (w : Walk) (a : ℕ) where
   pub unknown-step : (t : ℕ) → 21 < t → countedOf w 0 0 0 false 4294967296 ≡ stepOf w (entry t a)
   unfolding computed
   unknown-step t h =
-      let other : (k : ℕ) → k < 22 → eqb t k ≡ false = λ k g. ne-eqb t k (λ e. absurd (omega arith)) in
-      let above : (k : ℕ) → k < 22 → leb t k ≡ false = λ k g. lt-leb t k (omega arith) in
-      let from : (k : ℕ) → k < 22 → leb k t ≡ true = λ k g. le-leb k t (omega arith) in
-      simp (
-        other 1 (omega arith),
-        other 2 (omega arith),
-        other 3 (omega arith),
-        other 4 (omega arith),
-        other 5 (omega arith),
-        other 6 (omega arith),
-        other 7 (omega arith),
-        other 8 (omega arith),
-        other 9 (omega arith),
-        other 10 (omega arith),
-        other 11 (omega arith),
-        other 12 (omega arith),
-        other 13 (omega arith),
-        other 14 (omega arith),
-        other 15 (omega arith),
-        other 16 (omega arith),
-        other 17 (omega arith),
-        other 18 (omega arith),
-        other 19 (omega arith),
-        other 20 (omega arith),
-        other 21 (omega arith),
-        above 3 (omega arith),
-        above 6 (omega arith),
-        above 10 (omega arith),
-        above 16 (omega arith),
-        above 20 (omega arith),
-        from 1 (omega arith),
-        from 4 (omega arith),
-        from 7 (omega arith),
-        from 14 (omega arith),
-        from 18 (omega arith),
-      )
+      simp (other t h 1 tt, other t h 2 tt, other t h 3 tt, other t h 4 tt, other t h 5 tt, other t h 6 tt, other t h 7 tt, other t h 8 tt, other t h 9 tt, other t h 10 tt, other t h 11 tt)
+      (simp (other t h 12 tt, other t h 13 tt, other t h 14 tt, other t h 15 tt, other t h 16 tt, other t h 17 tt, other t h 18 tt, other t h 19 tt, other t h 20 tt, other t h 21 tt)
+      (simp (above t h 3 tt, above t h 6 tt, above t h 10 tt, above t h 16 tt, above t h 20 tt, from t h 1 tt, from t h 4 tt, from t h 7 tt, from t h 14 tt, from t h 18 tt)))
 
 -- a number is none of m + 1 to m + j, behind what else is known of it, as the last arm of a `match` tells it
 abbrev pub Others : Type 0 → ℕ → ℕ → ℕ → Type 0

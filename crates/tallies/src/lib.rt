@@ -8,6 +8,8 @@ ghost use Rattle.tables.specs.Words.{entriesIn};
 ghost use Rattle.tables.specs.Encode.{entry};
 ghost use Rattle.tallies.specs.Tally.{tallyOf, hasPlaces, hasNumberItems, kindTold, allowedTold, noPlainTold, itemsFitTold, withinTold, groupingTold, decimalsTold};
 ghost use Rattle.tallies.specs.Walk.{runAt, lower, faultOf, tooLong, countedOf, datedOf, stepOf, startOf, finishedOf, withoutDates, Few, Weights};
+use tables::kinds;
+use tables::tags;
 
 // What the items of a section tell together.
 pub struct Tally {
@@ -76,8 +78,25 @@ const HALVES: u64 = 4294967296;
 
 const PARTS: u64 = 281474976710656;
 
-// What the next place must have before the first place: no argument is as large.
+// What the next place must have before the first place, and behind the first point: no argument is as large as the one, the
+// other is that of -1.
 const ANY_POWER: u64 = 65536;
+
+const DECIMAL_POWER: u64 = 15;
+
+// The nearest earlier run: none, hours, seconds or another.
+const NO_RUN: u64 = 0;
+
+const HOUR_RUN: u64 = 1;
+
+const SECOND_RUN: u64 = 2;
+
+const OTHER_RUN: u64 = 3;
+
+// Whether the item just before is seconds.
+const OTHER_BEFORE: u64 = 0;
+
+const SECONDS_BEFORE: u64 = 1;
 
 // What is kept from one item to the next. Counts stand in numbers, a digit each: no section has more than 254 items. All
 // fields are of one width, and few, so that the compiler keeps them in registers.
@@ -94,9 +113,9 @@ struct Walk {
     unit: u64,
     // the argument that the next place must have
     next: u64,
-    // the nearest earlier run: 0 none, 1 hours, 2 seconds, 3 another
+    // the nearest earlier run
     earlier: u64,
-    // 1: the item just before is seconds
+    // whether the item just before is seconds
     behind: u64,
 }
 
@@ -110,8 +129,8 @@ fn start() -> Walk
         marks: 0,
         unit: INTEGERS,
         next: ANY_POWER,
-        earlier: 0,
-        behind: 0,
+        earlier: NO_RUN,
+        behind: OTHER_BEFORE,
     }
 }
 
@@ -141,7 +160,7 @@ fn counted(w: Walk, number: u64, other: u64, date: u64, fits: bool, mark: u64) -
         unit: w.unit,
         next: w.next,
         earlier: w.earlier,
-        behind: 0,
+        behind: OTHER_BEFORE,
     }
 }
 
@@ -187,11 +206,11 @@ fn point(w: Walk, a: u16) -> Walk
             POINTS,
             0,
             0,
-            ((w.next == ANY_POWER) | (w.next == 15)) & (a == 0),
+            ((w.next == ANY_POWER) | (w.next == DECIMAL_POWER)) & (a == 0),
             0,
         );
         p.unit = DECIMALS;
-        p.next = 15;
+        p.next = DECIMAL_POWER;
         return p;
     }
     counted(w, POINTS, 0, 0, a == 0, 0)
@@ -212,7 +231,7 @@ fn dated(w: Walk, date: u64, fits: bool, run: u64, behind: u64) -> Walk
 fn means_minutes(earlier: u64) -> bool
     ensures { λ r. ⌜ r ≡ meansMinutes (runAt earlier) noRun ⌝ }
 {
-    earlier == 1
+    earlier == HOUR_RUN
 }
 
 fn month(w: Walk, a: u16) -> Walk
@@ -220,7 +239,13 @@ fn month(w: Walk, a: u16) -> Walk
     ensures { λ r. ⌜ r ≡ stepOf w (entry 12 a) ⌝ }
 {
     let minutes = means_minutes(w.earlier) & (a <= 2);
-    dated(w, DAYS, !minutes & is_between(1, 5, a), 3, 0)
+    dated(
+        w,
+        DAYS,
+        !minutes & is_between(1, 5, a),
+        OTHER_RUN,
+        OTHER_BEFORE,
+    )
 }
 
 fn minute(w: Walk, a: u16) -> Walk
@@ -228,7 +253,13 @@ fn minute(w: Walk, a: u16) -> Walk
     ensures { λ r. ⌜ r ≡ stepOf w (entry 15 a) ⌝ }
 {
     let minutes = means_minutes(w.earlier) & (a <= 2);
-    dated(w, MINUTES, minutes & is_between(1, 2, a), 3, 0)
+    dated(
+        w,
+        MINUTES,
+        minutes & is_between(1, 2, a),
+        OTHER_RUN,
+        OTHER_BEFORE,
+    )
 }
 
 // A part of a second stands directly behind seconds.
@@ -236,7 +267,14 @@ fn part(w: Walk, a: u16) -> Walk
     requires { ⌜ Few 253 w ⌝ }
     ensures { λ r. ⌜ r ≡ stepOf w (entry 17 a) ⌝ }
 {
-    counted(w, 0, 0, 0, (w.behind == 1) & is_between(1, 3, a), PARTS)
+    counted(
+        w,
+        0,
+        0,
+        0,
+        (w.behind == SECONDS_BEFORE) & is_between(1, 3, a),
+        PARTS,
+    )
 }
 
 fn too_long(a: u16) -> u64
@@ -262,28 +300,28 @@ fn step(w: Walk, tag: u16, a: u16) -> Walk
     requires { ⌜ Few 253 w ⌝ }
     ensures { λ r. ⌜ r ≡ stepOf w (entry tag a) ⌝ }
 {
-    if is_between(4, 6, tag) {
+    if is_between(tags::ZERO_PLACE, tags::SPACE_PLACE, tag) {
         return place(w, a);
     }
     match tag {
-        1 => counted(w, 0, 0, 0, true, 0),
-        2 => counted(w, 0, 0, 0, true, 0),
-        3 => counted(w, 0, FILLS, 0, true, 0),
-        7 => point(w, a),
-        8 => counted(w, PERCENTS, 0, 0, a == 0, 0),
-        9 => counted(w, 0, GENERALS, 0, a == 0, 0),
-        10 => counted(w, 0, TEXTS, 0, a == 0, 0),
-        11 => dated(w, DAYS, (a == 2) | (a == 4), 3, 0),
-        12 => month(w, a),
-        13 => dated(w, DAYS, is_between(1, 4, a), 3, 0),
-        14 => dated(w, HOURS, is_between(1, 2, a), 1, 0),
-        15 => minute(w, a),
-        16 => dated(w, SECONDS, is_between(1, 2, a), 2, 1),
-        17 => part(w, a),
-        18 => elapsed(w, ELAPSED_HOURS, a, 1, 0),
-        19 => elapsed(w, ELAPSED_MINUTES, a, 3, 0),
-        20 => elapsed(w, ELAPSED_SECONDS, a, 2, 1),
-        21 => counted(w, 0, 0, 0, is_between(1, 2, a), HALVES),
+        tags::LITERAL => counted(w, 0, 0, 0, true, 0),
+        tags::BLANK => counted(w, 0, 0, 0, true, 0),
+        tags::FILL => counted(w, 0, FILLS, 0, true, 0),
+        tags::POINT => point(w, a),
+        tags::PERCENT => counted(w, PERCENTS, 0, 0, a == 0, 0),
+        tags::GENERAL => counted(w, 0, GENERALS, 0, a == 0, 0),
+        tags::AT => counted(w, 0, TEXTS, 0, a == 0, 0),
+        tags::YEAR => dated(w, DAYS, (a == 2) | (a == 4), OTHER_RUN, OTHER_BEFORE),
+        tags::MONTH => month(w, a),
+        tags::DAY => dated(w, DAYS, is_between(1, 4, a), OTHER_RUN, OTHER_BEFORE),
+        tags::HOUR => dated(w, HOURS, is_between(1, 2, a), HOUR_RUN, OTHER_BEFORE),
+        tags::MINUTE => minute(w, a),
+        tags::SECOND => dated(w, SECONDS, is_between(1, 2, a), SECOND_RUN, SECONDS_BEFORE),
+        tags::PART => part(w, a),
+        tags::ELAPSED_HOURS => elapsed(w, ELAPSED_HOURS, a, HOUR_RUN, OTHER_BEFORE),
+        tags::ELAPSED_MINUTES => elapsed(w, ELAPSED_MINUTES, a, OTHER_RUN, OTHER_BEFORE),
+        tags::ELAPSED_SECONDS => elapsed(w, ELAPSED_SECONDS, a, SECOND_RUN, SECONDS_BEFORE),
+        tags::HALF_DAY => counted(w, 0, 0, 0, is_between(1, 2, a), HALVES),
         _ => counted(w, 0, 0, 0, false, HALVES),
     }
 }
@@ -294,7 +332,7 @@ fn without_dates(w: Walk) -> Tally
 {
     Tally {
         sound: (w.marks % 65536 == 0)
-            & ((w.unit == DECIMALS) | ((w.next == ANY_POWER) | (w.next == 15))),
+            & ((w.unit == DECIMALS) | ((w.next == ANY_POWER) | (w.next == DECIMAL_POWER))),
         short: w.marks / LONG_RUNS % 65536 == 0,
         integers: (w.numbers % 65536) as u16,
         decimals: (w.numbers / DECIMALS % 65536) as u16,
@@ -368,23 +406,23 @@ fn has_number_items(t: Tally) -> bool
     has_places(t) | ((0 < t.points) | (0 < t.percents))
 }
 
-// The kind of the section: 0 literal, 1 General, 2 number, 3 text, 4 date-time.
+// The kind word of the section.
 pub fn kind(t: Tally) -> u16
     ensures { λ r. ⌜ r ≡ kindTold t ⌝ }
 {
     if t.texts {
-        return 3;
+        return kinds::TEXT;
     }
     if 0 < t.generals {
-        return 1;
+        return kinds::GENERAL;
     }
     if t.dating {
-        return 4;
+        return kinds::DATE_TIME;
     }
     if has_places(t) {
-        return 2;
+        return kinds::NUMBER;
     }
-    0
+    kinds::LITERAL
 }
 
 // No item belongs to another kind than the section's.
@@ -439,5 +477,9 @@ pub fn grouping_fits(t: Tally, grouped: bool) -> bool
 pub fn decimals_word(t: Tally) -> u16
     ensures { λ r. ⌜ r ≡ decimalsTold t ⌝ }
 {
-    if kind(t) == 2 { t.decimals } else { 0 }
+    if kind(t) == kinds::NUMBER {
+        t.decimals
+    } else {
+        0
+    }
 }

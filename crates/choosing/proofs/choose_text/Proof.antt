@@ -18,7 +18,7 @@ section-count-requires : tie.Need-section-count-requires Inv-loop μ-loop
 section-count-requires c κs = search needs
 
 returns : tie.Need-returns Inv-loop μ-loop
-returns c = text-fourth _ (sym (c .before .section-count .ensures) ∙ c .if1 .taken)
+returns c = text-fourth _ (omega (arith, c .before .section-count .ensures))
 
 loop-holds : tie.Need-loop-holds Inv-loop μ-loop
 loop-holds c = text-walking-start _ (c .before .before .before .pre)

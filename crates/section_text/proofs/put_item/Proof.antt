@@ -1,7 +1,7 @@
 -- `section_text::put_item` meets its contract.
 -- Assumes nothing.
 use native.Mathlib.Omega.{arith}
-use Rattle.section_text.proofs.Items.{place-argument, literal-item, blank-item, fill-item, percent-item, point-item, place-item, standing-item, place-power, number-held, date-held, standing-held, piece-put, standing-put, unit-put, late}
+use Rattle.section_text.proofs.Items.{place-argument, literal-item, blank-item, fill-item, percent-item, point-item, number-held, date-held, piece-put, unit-put, digit-put, lent-put, late}
 use Rattle.writing.proofs.Laws.{put-none}
 use Rattle.tables.proofs.BackEntries.{tag-known}
 use borrow.Author.Needs.{needs}
@@ -16,23 +16,20 @@ put-unit-requires-2 c κs = search needs
 
 put-digit-requires : tie.Need-put-digit-requires
 put-digit-requires c κs =
-    let k = c .before in
-    let b = k .before .before .before in
-    let f = place-argument _ _ (omega (arith, k .match .keys4)) (omega (arith, k .match .keys4)) (b .pre .3) in
+    let b = c .before .before .before .before in
+    let f = place-argument _ _ (omega (arith, c .before .match .keys4)) (b .pre .3) in
     (b .pre .0, b .pre .1, f .0, f .1)
 
 put-digit-requires-2 : tie.Need-put-digit-requires-2
 put-digit-requires-2 c κs =
-    let k = c .before in
-    let b = k .before .before .before in
-    let f = place-argument _ _ (omega (arith, k .match .keys5)) (omega (arith, k .match .keys5)) (b .pre .3) in
+    let b = c .before .before .before .before in
+    let f = place-argument _ _ (omega (arith, c .before .match .keys5)) (b .pre .3) in
     (b .pre .0, b .pre .1, f .0, f .1)
 
 put-digit-requires-3 : tie.Need-put-digit-requires-3
 put-digit-requires-3 c κs =
-    let k = c .before in
-    let b = k .before .before .before in
-    let f = place-argument _ _ (omega (arith, k .match .keys6)) (omega (arith, k .match .keys6)) (b .pre .3) in
+    let b = c .before .before .before .before in
+    let f = place-argument _ _ (omega (arith, c .before .match .keys6)) (b .pre .3) in
     (b .pre .0, b .pre .1, f .0, f .1)
 
 put-point-requires : tie.Need-put-point-requires
@@ -77,12 +74,8 @@ same-length-3 c = search needs
 returns-4 : tie.Need-returns-4
 returns-4 c =
     let p = c .before .before in
-    let k = p .before .before in
-    let e = k .match .keys4 in
-    λ x kind q i f.
-    piece-put _ (place-item x q _ _ (omega (arith, e)) (omega (arith, e))) (omega (arith, p .put-digit .ensures .0))
-    (p .put-digit .ensures .1 x q (i .numeric (number-held kind q _ _ f (omega (arith, e)) (omega (arith, e))))
-    (place-power kind q _ _ f (omega (arith, e)) (omega (arith, e))))
+    let e = p .before .before .match .keys4 in
+    λ x kind q i f. digit-put kind q _ _ i f (omega (arith, e)) (p .put-digit .ensures)
 
 same-length-4 : tie.Need-same-length-4
 same-length-4 c = search needs
@@ -90,12 +83,8 @@ same-length-4 c = search needs
 returns-5 : tie.Need-returns-5
 returns-5 c =
     let p = c .before .before in
-    let k = p .before .before in
-    let e = k .match .keys5 in
-    λ x kind q i f.
-    piece-put _ (place-item x q _ _ (omega (arith, e)) (omega (arith, e))) (omega (arith, p .put-digit2 .ensures .0))
-    (p .put-digit2 .ensures .1 x q (i .numeric (number-held kind q _ _ f (omega (arith, e)) (omega (arith, e))))
-    (place-power kind q _ _ f (omega (arith, e)) (omega (arith, e))))
+    let e = p .before .before .match .keys5 in
+    λ x kind q i f. digit-put kind q _ _ i f (omega (arith, e)) (p .put-digit2 .ensures)
 
 same-length-5 : tie.Need-same-length-5
 same-length-5 c = search needs
@@ -103,12 +92,8 @@ same-length-5 c = search needs
 returns-6 : tie.Need-returns-6
 returns-6 c =
     let p = c .before .before in
-    let k = p .before .before in
-    let e = k .match .keys6 in
-    λ x kind q i f.
-    piece-put _ (place-item x q _ _ (omega (arith, e)) (omega (arith, e))) (omega (arith, p .put-digit3 .ensures .0))
-    (p .put-digit3 .ensures .1 x q (i .numeric (number-held kind q _ _ f (omega (arith, e)) (omega (arith, e))))
-    (place-power kind q _ _ f (omega (arith, e)) (omega (arith, e))))
+    let e = p .before .before .match .keys6 in
+    λ x kind q i f. digit-put kind q _ _ i f (omega (arith, e)) (p .put-digit3 .ensures)
 
 same-length-6 : tie.Need-same-length-6
 same-length-6 c = search needs
@@ -138,11 +123,8 @@ same-length-8 c = search needs
 returns-9 : tie.Need-returns-9
 returns-9 c =
     let p = c .before .before in
-    let k = p .before .before in
-    let e = k .match .keys9 in
-    λ x kind q i f.
-    standing-put _ (standing-item x q _ _ (omega (arith, e)) (omega (arith, e))) (p .put-standing .ensures .0, p .put-standing .ensures .1 .0)
-    (p .put-standing .ensures .1 .1 _ (standing-held kind q _ _ f i (omega (arith, e)) (omega (arith, e))))
+    let e = p .before .before .match .keys9 in
+    λ x kind q i f. lent-put kind q _ _ i f (omega (arith, e)) (p .put-standing .ensures)
 
 same-length-9 : tie.Need-same-length-9
 same-length-9 c = search needs
@@ -150,11 +132,8 @@ same-length-9 c = search needs
 returns-10 : tie.Need-returns-10
 returns-10 c =
     let p = c .before .before in
-    let k = p .before .before in
-    let e = k .match .keys10 in
-    λ x kind q i f.
-    standing-put _ (standing-item x q _ _ (omega (arith, e)) (omega (arith, e))) (p .put-standing2 .ensures .0, p .put-standing2 .ensures .1 .0)
-    (p .put-standing2 .ensures .1 .1 _ (standing-held kind q _ _ f i (omega (arith, e)) (omega (arith, e))))
+    let e = p .before .before .match .keys10 in
+    λ x kind q i f. lent-put kind q _ _ i f (omega (arith, e)) (p .put-standing2 .ensures)
 
 returns-11 : tie.Need-returns-11
 returns-11 c =
