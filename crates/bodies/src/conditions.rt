@@ -9,6 +9,18 @@ ghost use Rattle.lists.specs.Lists.{every, isSome};
 ghost use Rattle.formats.specs.Tokens.{leading, isDigit, conditionInside};
 ghost use Rattle.bodies.specs.Conditions.{operatorBy, operatorWidth, digitAt, paddedNumber, decimalUnits, writtenInside, writtenOf, beyondLimits, ComparedBy};
 
+const MINUS: u16 = 45;
+
+const ZERO: u16 = 48;
+
+const NINE: u16 = 57;
+
+const LESS: u16 = 60;
+
+const EQUAL: u16 = 61;
+
+const GREATER: u16 = 62;
+
 // A condition as a table has it: its comparison by number and its number in whole units and millionths, with its sign, which is
 // false at zero; all 0 where the digits pass the limits.
 pub struct Compared {
@@ -29,19 +41,19 @@ fn unit_at(us: &[u16], i: usize) -> u16
     0
 }
 
-// The number of the comparison that the units u and v start.
+// The number of the comparison that the units u and v start, in the order `= < > <= >= <>`.
 fn operator_by(u: u16, v: u16) -> u16
     ensures { λ r. ⌜ r ≡ operatorBy u v ⌝ }
 {
     match u {
-        61 => 1,
-        60 => match v {
-            61 => 4,
-            62 => 6,
+        EQUAL => 1,
+        LESS => match v {
+            EQUAL => 4,
+            GREATER => 6,
             _ => 2,
         },
-        62 => match v {
-            61 => 5,
+        GREATER => match v {
+            EQUAL => 5,
             _ => 3,
         },
         _ => 0,
@@ -54,7 +66,7 @@ fn digits(us: &[u16]) -> usize
 {
     let mut i: usize = 0;
     while i < us.len() {
-        if between(us[i], 48, 57) {
+        if between(us[i], ZERO, NINE) {
             i += 1;
         } else {
             return i;
@@ -69,7 +81,7 @@ fn digit_at(us: &[u16], i: usize) -> u32
     ensures { λ r. ⌜ (r ≡ digitAt (now (us .entry)) i) × (r ≤ 9) ⌝ }
 {
     if i < us.len() {
-        return (us[i] - 48) as u32;
+        return (us[i] - ZERO) as u32;
     }
     0
 }
@@ -146,7 +158,7 @@ fn written(us: &[u16]) -> Compared
 {
     let operator = operator_by(unit_at(us, 0), unit_at(us, 1));
     let at = operator_width(operator);
-    if unit_at(us, at) == 45 {
+    if unit_at(us, at) == MINUS {
         let from = at + 1;
         return compared_number(operator, true, &us[from..]);
     }

@@ -19,6 +19,17 @@ ghost use Rattle.marks.specs.Marks.{tokensIn};
 ghost use Rattle.bodies.specs.Forms.{one, rankForm};
 ghost use Rattle.bodies.specs.Bodies.{seeForm, factsOf};
 
+// The ranks of the kinds, the kind that comes before the others highest; a body of literals has rank 0.
+const NUMBER_RANK: u16 = 1;
+
+const DATE_RANK: u16 = 2;
+
+const GENERAL_RANK: u16 = 3;
+
+const TEXT_RANK: u16 = 4;
+
+const SOLIDUS: u16 = 47;
+
 // What a body's tokens say of it: whether it is a date or a number, whether it holds no colour and no condition, whether no solidus
 // stands between two places, how many fills it holds, and how many places before its first point.
 pub struct Facts {
@@ -48,16 +59,16 @@ fn rank_of(form: u16) -> u16
     ensures { λ r. ⌜ r ≡ rankForm form ⌝ }
 {
     if form == AT {
-        return 4;
+        return TEXT_RANK;
     }
     if form == GENERAL {
-        return 3;
+        return GENERAL_RANK;
     }
     if between(form, YEARS, ELAPSED_SECONDS) {
-        return 2;
+        return DATE_RANK;
     }
     if between(form, ZERO_PLACE, SPACE_PLACE) {
-        return 1;
+        return NUMBER_RANK;
     }
     0
 }
@@ -91,7 +102,7 @@ fn see(s: Seen, form: u16, argument: u16) -> Seen
         places: counted(s.places, place & !point),
         point,
         behind: place,
-        divided: s.behind & ((form == BARE) & (argument == 47)),
+        divided: s.behind & ((form == BARE) & (argument == SOLIDUS)),
     }
 }
 
@@ -116,8 +127,8 @@ pub fn facts_of(body: &[u16]) -> Facts
         i += 3;
     }
     Facts {
-        date: s.rank == 2,
-        number: s.rank == 1,
+        date: s.rank == DATE_RANK,
+        number: s.rank == NUMBER_RANK,
         plain: s.plain,
         solidus: s.solidus,
         fills: s.fills,
