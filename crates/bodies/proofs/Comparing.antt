@@ -1,6 +1,6 @@
 -- A condition as a table has it, from its comparison, its sign and its digits.
 -- Assumes nothing.
-use Prim.Native.Nat.{ℕ, zero, suc, _+_, _-_, _*_, _^_, _≤_, _<_}
+use Prim.Native.Nat.{ℕ, _+_, _-_, _*_, _^_, _≤_, _<_}
 use mathlib.Core.Path.{_≡_, refl, sym, ap, _∙_}
 use mathlib.Core.Bool.{Bool, true, false, not, _&&_, true≢false}
 use mathlib.Core.List.{List, map}
@@ -8,7 +8,7 @@ use mathlib.Core.Option.{some}
 use native.Mathlib.Omega.{arith}
 use native.Mathlib.Nat.{pow-le-pow-right}
 use lib.Dec.{leb, ltb, eqb}
-use borrow.Author.Tests.{ltb-true, ltb-false, le-leb, lt-leb, ne-eqb, eq-eqb}
+use borrow.Author.Tests.{ltb-true, ltb-false, le-leb, lt-leb, ne-eqb, eq-eqb, eqb-false}
 use lib.ListN.{length, take, drop, length-drop, length-map, drop-of-length-le}
 use lib.Seq.{length-take-le, take-all}
 use Rattle.lists.specs.Lists.{every}
@@ -17,21 +17,18 @@ use Rattle.formats.specs.Tokens.{leading, isDigit, digitOf, numberFrom}
 use Rattle.formats.specs.Kinds.{millionthsOf}
 use Rattle.formats.specs.Limits.{writtenWithin}
 use Rattle.tables.specs.Encode.{comparisonWord}
+use Rattle.tables.specs.Decode.{comparisonAt}
+use Rattle.tables.proofs.BackEntries.{span-at}
 use Rattle.bodies.specs.declared.conditions.Compared.{Compared}
-use Rattle.bodies.specs.Conditions.{wholeUnits, decimalUnits, comparisonAt, writtenOf, paddedNumber, beyondLimits, ComparedBy}
+use Rattle.bodies.specs.Conditions.{wholeUnits, decimalUnits, writtenOf, paddedNumber, beyondLimits, ComparedBy}
 use Rattle.formats.proofs.Lexing.{leading-most}
 use Rattle.bodies.proofs.Numbers.{leading-digits, padded-number}
 
 word-back : (n : ℕ) → n ≤ 6 → eqb n 0 ≡ false → n ≡ comparisonWord (comparisonAt n)
 unfolding comparisonWord comparisonAt
-word-back zero h e = absurd (true≢false e)
-word-back (suc zero) h e = refl
-word-back (suc (suc zero)) h e = refl
-word-back (suc (suc (suc zero))) h e = refl
-word-back (suc (suc (suc (suc zero)))) h e = refl
-word-back (suc (suc (suc (suc (suc zero))))) h e = refl
-word-back (suc (suc (suc (suc (suc (suc zero)))))) h e = refl
-word-back (suc (suc (suc (suc (suc (suc (suc n))))))) h e = absurd (omega arith)
+word-back n h e =
+    let some = eqb-false n 0 e in
+    span-at (λ (m : ℕ). m ≡ comparisonWord (comparisonAt m)) 1 6 n (refl, (refl, (refl, (refl, (refl, (refl, tt)))))) (omega arith) (omega arith)
 
 -- the sign of a number that is not zero
 sign-of : (n w m : ℕ) → n ≡ w * 10 ^ 6 + m → ltb 0 (w + m) ≡ not (eqb n 0)

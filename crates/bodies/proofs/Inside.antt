@@ -14,12 +14,13 @@ use lib.ListN.{length, take, drop, getD, length-take, length-drop, List·getD-eq
 use lib.Seq.{drop-drop, getD-drop, take-all}
 use Rattle.calendar.specs.Names.{units}
 use Rattle.lists.specs.Lists.{every, isEmpty, isSome}
-use Rattle.lists.proofs.Bools.{by-cases}
+use Rattle.lists.proofs.Bools.{by-cases, cond-both}
 use Rattle.formats.specs.Tokens.{Token, condition, Comparison, equal, less, greater, atMost, atLeast, unequal, startsWith, leading, isDigit, digitOf, decimalsOf, wholeOf, signedOf, conditionInside}
 use Rattle.formats.specs.Kinds.{conditionIn}
+use Rattle.tables.specs.Decode.{comparisonAt}
 use Rattle.marks.specs.Marks.{markRows, writtenOr, writtenIn, conditionOf, markToken, tokenAt}
 use Rattle.bodies.specs.Forms.{one}
-use Rattle.bodies.specs.Conditions.{writtenInside, operatorBy, operatorWidth, operatorIn, signedIn, negativeIn, numberIn, wholeUnits, decimalUnits, comparisonAt, writtenOf}
+use Rattle.bodies.specs.Conditions.{writtenInside, operatorBy, operatorWidth, operatorIn, signedIn, negativeIn, numberIn, wholeUnits, decimalUnits, writtenOf}
 
 -- a word of one or two units, none of which is 0
 starts-one : (a : ℕ) (us : List ℕ) → eqb a 0 ≡ false → startsWith (a ∷ []) us ≡ eqb a (getD us 0 0)
@@ -126,16 +127,12 @@ module _ (u v : ℕ) where
 
 -- ---- the parts
 operator-most : (u v : ℕ) → operatorBy u v ≤ 6
-operator-most u v = go (eqb 60 u && eqb 61 v) (eqb 62 u && eqb 61 v) (eqb 60 u && eqb 62 v) (eqb 61 u) (eqb 60 u) (eqb 62 u)
-  where
-    go : (a b c d e f : Bool) → cond a 4 (cond b 5 (cond c 6 (cond d 1 (cond e 2 (cond f 3 0))))) ≤ 6
-    go true b c d e f = omega arith
-    go false true c d e f = omega arith
-    go false false true d e f = omega arith
-    go false false false true e f = omega arith
-    go false false false false true f = omega arith
-    go false false false false false true = omega arith
-    go false false false false false false = omega arith
+operator-most u v =
+    cond-both (λ n. n ≤ 6) (eqb 60 u && eqb 61 v) (omega arith)
+    (cond-both (λ n. n ≤ 6) (eqb 62 u && eqb 61 v) (omega arith)
+    (cond-both (λ n. n ≤ 6) (eqb 60 u && eqb 62 v) (omega arith)
+    (cond-both (λ n. n ≤ 6) (eqb 61 u) (omega arith)
+    (cond-both (λ n. n ≤ 6) (eqb 60 u) (omega arith) (cond-both (λ n. n ≤ 6) (eqb 62 u) (omega arith) (omega arith))))))
 
 width-most : (n : ℕ) → operatorWidth n ≤ 2
 width-most n = by-cases (leb n 3) (λ e. rw e (omega arith)) (λ e. rw e (omega arith))

@@ -7,10 +7,11 @@ use mathlib.Core.List.{List, [], _∷_, map}
 use mathlib.Core.Option.{some}
 use lib.Dec.{leb, ltb, eqb}
 use lib.ListN.{length, take, drop, getD}
-use Rattle.formats.specs.Tokens.{Written, Comparison, equal, less, greater, atMost, atLeast, unequal, leading, isDigit, digitOf, numberFrom, conditionInside}
+use Rattle.formats.specs.Tokens.{Written, leading, isDigit, digitOf, numberFrom, conditionInside}
 use Rattle.formats.specs.Kinds.{millionthsOf}
 use Rattle.formats.specs.Limits.{writtenWithin}
 use Rattle.tables.specs.Encode.{comparisonWord}
+use Rattle.tables.specs.Decode.{comparisonAt}
 use Rattle.marks.specs.Marks.{writtenOr, writtenIn}
 use Rattle.bodies.specs.declared.conditions.Compared.{Compared}
 use Rattle.bodies.specs.Forms.{one}
@@ -51,9 +52,6 @@ wholeUnits us = take (leading isDigit us) us
 
 unfoldable pub decimalUnits : List ℕ → List ℕ
 decimalUnits us = drop (leading isDigit us + 1) us
-
-unfoldable pub comparisonAt : ℕ → Comparison
-comparisonAt n = getD (equal ∷ equal ∷ less ∷ greater ∷ atMost ∷ atLeast ∷ unequal ∷ []) n equal
 
 -- the condition that its parts write
 unfoldable pub writtenOf : ℕ → Bool → List ℕ → Written
