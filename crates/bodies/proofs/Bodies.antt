@@ -7,17 +7,37 @@ use mathlib.Core.List.{List, [], _∷_, map}
 use native.Mathlib.Omega.{arith}
 use lib.Dec.{eqb}
 use borrow.Author.Tests.{le-leb, lt-leb, le-ltb, ne-eqb}
-use lib.ListN.{length, drop, getD}
+use lib.ListN.{length, getD}
 use Rattle.lists.specs.Lists.{every, any, count}
 use Rattle.formats.specs.Tokens.{Token}
 use Rattle.formats.specs.Items.{Kind, textKind, generalKind, dateKind, numberKind, literalKind, sameKind, kindFrom}
 use Rattle.formats.specs.Kinds.{isPlace, isPoint, isFillToken, integerPlaceTokens, isSolidus, startsWithPlace, solidusFrom, solidusFits, noBracket, tokenMakes, bodyKind}
-use Rattle.marks.specs.Marks.{markRows, markToken, conditionOf, tokenAt, tokensIn}
+use Rattle.marks.specs.Marks.{markRows, markToken, conditionOf, tokensIn}
+use Rattle.bodies.specs.declared.facts.Facts.{Facts}
 use Rattle.bodies.specs.declared.facts.Seen.{Seen}
-use Rattle.bodies.specs.Forms.{one, placeForm, rankOf}
-use Rattle.bodies.specs.Bodies.{factsOf, seeForm, see, seeAll, nothingSeen, seenFacts}
+use Rattle.bodies.specs.Forms.{one, placeForm}
+use Rattle.bodies.specs.Bodies.{factsOf, seen, seeForm}
 use Rattle.marks.proofs.ByForm.{upFrom, by-form}
-use Rattle.marks.proofs.Words.{tokens-first, tokens-end}
+use Rattle.marks.proofs.Words.{passed, Passed, passed-start, passed-end, passed-step}
+
+-- the rank of a kind, by which it comes before others
+abbrev rankOf : Kind → ℕ
+rankOf literalKind = 0
+rankOf numberKind = 1
+rankOf dateKind = 2
+rankOf generalKind = 3
+rankOf textKind = 4
+
+-- one token more
+abbrev see : Seen → Token → Seen
+see s t = seen s (rankOf (tokenMakes t)) (isPlace t) (isPoint t) (isFillToken t) (isSolidus t) (noBracket t)
+
+abbrev pub nothingSeen : Seen
+nothingSeen = record { rank = 0; plain = true; solidus = true; fills = 0; places = 0; point = false; behind = false; divided = false }
+
+abbrev seenFacts : Seen → Facts
+seenFacts s =
+    record { date = eqb (s .rank) 2; number = eqb (s .rank) 1; plain = s .plain; solidus = s .solidus; fills = s .fills; places = s .places }
 
 -- what a token says, by its form and argument
 see-form : (s : Seen) (f a : ℕ) (us : List ℕ) → see s (markToken f a us) ≡ seeForm s f a
@@ -59,8 +79,8 @@ rank-cons k ks = higher k (any (sameKind textKind) ks) (any (sameKind generalKin
 higher-higher : (a b c : ℕ) → a + (b - a) + (c - (a + (b - a))) ≡ a + (b + (c - b) - a)
 higher-higher a b c = omega arith
 
-rank-seen : (s : Seen) (ts : List Token) → (seeAll s ts) .rank ≡ s .rank + (rankOf (bodyKind ts) - s .rank)
-unfolding seeAll bodyKind kindFrom any
+rank-seen : (s : Seen) (ts : List Token) → (passed see s ts) .rank ≡ s .rank + (rankOf (bodyKind ts) - s .rank)
+unfolding passed bodyKind kindFrom any
 rank-seen s [] = omega arith
 rank-seen s (t ∷ ts) =
     rank-seen (see s t) ts
@@ -87,8 +107,8 @@ and-cond true true c = refl
 and-cond true false c = refl
 and-cond false b c = refl
 
-plain-seen : (s : Seen) (ts : List Token) → (seeAll s ts) .plain ≡ (s .plain && every noBracket ts)
-unfolding seeAll every
+plain-seen : (s : Seen) (ts : List Token) → (passed see s ts) .plain ≡ (s .plain && every noBracket ts)
+unfolding passed every
 plain-seen s [] = go (s .plain)
   where
     go : (b : Bool) → b ≡ (b && true)
@@ -100,8 +120,8 @@ one-more : (b : Bool) (n m k : ℕ) → m ≡ one b + n + k → m ≡ n + cond b
 one-more true n m k e = omega arith
 one-more false n m k e = omega arith
 
-fills-seen : (s : Seen) (ts : List Token) → (seeAll s ts) .fills ≡ s .fills + count isFillToken ts
-unfolding seeAll count
+fills-seen : (s : Seen) (ts : List Token) → (passed see s ts) .fills ≡ s .fills + count isFillToken ts
+unfolding passed count
 fills-seen s [] = omega arith
 fills-seen s (t ∷ ts) = one-more (isFillToken t) (s .fills) _ (count isFillToken ts) (fills-seen (see s t) ts)
 
@@ -113,8 +133,8 @@ places-more false true false n m k e = omega arith
 places-more false false true n m k e = omega arith
 places-more false false false n m k e = omega arith
 
-places-seen : (s : Seen) (ts : List Token) → (seeAll s ts) .places ≡ s .places + cond (s .point) 0 (integerPlaceTokens ts)
-unfolding seeAll integerPlaceTokens
+places-seen : (s : Seen) (ts : List Token) → (passed see s ts) .places ≡ s .places + cond (s .point) 0 (integerPlaceTokens ts)
+unfolding passed integerPlaceTokens
 places-seen s [] = go (s .point) (s .places)
   where
     go : (b : Bool) (n : ℕ) → n ≡ n + cond b 0 0
@@ -124,8 +144,8 @@ places-seen s (t ∷ ts) = places-more (s .point) (isPoint t) (isPlace t) (s .pl
 
 -- a solidus behind a place is told by the token behind it
 solidus-seen : (s : Seen) (ts : List Token)
-    → (seeAll s ts) .solidus ≡ ((s .solidus && not (s .divided && startsWithPlace ts)) && solidusFrom (s .behind) ts)
-unfolding seeAll startsWithPlace solidusFrom
+    → (passed see s ts) .solidus ≡ ((s .solidus && not (s .divided && startsWithPlace ts)) && solidusFrom (s .behind) ts)
+unfolding passed startsWithPlace solidusFrom
 solidus-seen s [] = go (s .solidus) (s .divided)
   where
     go : (a b : Bool) → a ≡ ((a && not (b && false)) && true)
@@ -143,30 +163,24 @@ solidus-seen s (t ∷ ts) =
     go false x y z w = refl
 
 -- one pass gives the facts
-pub facts-seen : (ts : List Token) → seenFacts (seeAll nothingSeen ts) ≡ factsOf ts
-unfolding factsOf nothingSeen solidusFits
+pub facts-seen : (ts : List Token) → seenFacts (passed see nothingSeen ts) ≡ factsOf ts
+unfolding factsOf solidusFits
 facts-seen ts =
     let s = nothingSeen in
-    let rank : (seeAll s ts) .rank ≡ rankOf (bodyKind ts) = rank-seen s ts ∙ omega arith in
-    let places : (seeAll s ts) .places ≡ integerPlaceTokens ts = places-seen s ts ∙ omega arith in
-    let fills : (seeAll s ts) .fills ≡ count isFillToken ts = fills-seen s ts ∙ omega arith in
+    let rank : (passed see s ts) .rank ≡ rankOf (bodyKind ts) = rank-seen s ts ∙ omega arith in
+    let places : (passed see s ts) .places ≡ integerPlaceTokens ts = places-seen s ts ∙ omega arith in
+    let fills : (passed see s ts) .fills ≡ count isFillToken ts = fills-seen s ts ∙ omega arith in
     rw (rank, places, fills, plain-seen s ts, solidus-seen s ts, ← (rank-date (bodyKind ts)), ← (rank-number (bodyKind ts)))
 
 -- ---- the pass
 -- what the loop of `facts_of` keeps
 pub record Seeing (ws : List ℕ) (i : ℕ) (s : Seen) : Type 0 where
-  pub small : length ws ≤ 762
-  pub inside : i ≤ length ws
+  pub all : Passed see nothingSeen ws i s
   pub fills : s .fills ≤ i
   pub places : s .places ≤ i
-  pub same : (code : List ℕ) → seeAll nothingSeen (tokensIn code ws) ≡ seeAll s (tokensIn code (drop i ws))
 
-abbrev start : Seen
-start = record { rank = 0; plain = true; solidus = true; fills = 0; places = 0; point = false; behind = false; divided = false }
-
-pub seeing-start : (ws : List ℕ) → length ws ≤ 762 → Seeing ws 0 start
-unfolding nothingSeen
-seeing-start ws h = record { small = h; inside = omega arith; fills = omega arith; places = omega arith; same = λ code. refl }
+pub seeing-start : (ws : List ℕ) → length ws ≤ 762 → Seeing ws 0 nothingSeen
+seeing-start ws h = record { all = passed-start see nothingSeen ws h; fills = omega arith; places = omega arith }
 
 one-most : (b : Bool) → one b ≤ 1
 one-most true = omega arith
@@ -174,11 +188,9 @@ one-most false = omega arith
 
 module _ (ws : List ℕ) (i : ℕ) (s : Seen) (inv : Seeing ws i s) where
   pub seeing-end : length ws ≤ i + 2 → (code : List ℕ) → seenFacts s ≡ factsOf (tokensIn code ws)
-  unfolding seeAll
-  seeing-end h code = ap seenFacts (sym (rw (tokens-end code ws i h) at (inv .same code))) ∙ facts-seen (tokensIn code ws)
+  seeing-end h code = ap seenFacts (sym (passed-end see nothingSeen ws i s (inv .all) h code)) ∙ facts-seen (tokensIn code ws)
 
   pub seeing-step : i + 2 < length ws → (s′ : Seen) → s′ ≡ seeForm s (getD ws i 0) (getD ws (i + 1) 0) → Seeing ws (i + 3) s′
-  unfolding seeAll tokenAt
   seeing-step h s′ e =
       let f = getD ws i 0 in
       let a = getD ws (i + 1) 0 in
@@ -189,11 +201,7 @@ module _ (ws : List ℕ) (i : ℕ) (s : Seen) (inv : Seeing ws i s) where
       let k = inv .fills in
       let l = inv .places in
       record {
-        small = inv .small;
-        inside = omega arith;
+        all = passed-step see nothingSeen ws i s (inv .all) h s′ (λ us. see-form s f a us ∙ sym e);
         fills = omega arith;
         places = omega arith;
-        same = λ code.
-            inv .same code ∙ ap (seeAll s) (tokens-first code ws i h)
-            ∙ ap (λ (x : Seen). seeAll x (tokensIn code (drop (i + 3) ws))) (see-form s f a (drop (suc (getD ws (i + 2) 0)) code) ∙ sym e);
       }

@@ -1,24 +1,36 @@
 -- The uses of a body's commas: one pass counts them.
 -- Assumes nothing.
-use Prim.Native.Nat.{ℕ, suc, _+_, _≤_, _<_}
+use Prim.Native.Nat.{ℕ, _+_, _≤_, _<_}
 use mathlib.Core.Path.{_≡_, refl, sym, ap, _∙_}
 use mathlib.Core.Bool.{Bool, true, false, cond, _&&_, _||_}
 use mathlib.Core.List.{List, [], _∷_}
 use native.Mathlib.Omega.{arith}
 use lib.Dec.{leb, ltb, eqb}
 use borrow.Author.Tests.{eqb-true, le-leb, lt-leb, lt-ltb, le-ltb, ne-eqb}
-use lib.ListN.{length, drop, getD}
+use lib.ListN.{length, getD}
 use Rattle.lists.specs.Lists.{any, count}
 use Rattle.lists.proofs.Bools.{by-cases}
 use Rattle.lists.proofs.Counts.{any-count, none-count}
 use Rattle.formats.specs.Tokens.{Token}
 use Rattle.formats.specs.Kinds.{formOf, isPlace, isPoint, isComma, CommaUse, groups, divides, misplaced, isGrouping, isDividing, isMisplaced, integerPlaceIn, commaUses}
 use Rattle.formats.proofs.CommaUses.{commaUse, commaUsesFrom, comma-uses}
-use Rattle.marks.specs.Marks.{markRows, markToken, conditionOf, tokenAt, tokensIn}
+use Rattle.marks.specs.Marks.{markRows, markToken, conditionOf, tokensIn}
+use Rattle.bodies.specs.declared.commas.Commas.{Commas}
 use Rattle.bodies.specs.declared.commas.Scan.{Scan}
-use Rattle.bodies.specs.Uses.{commasOf, met, atComma, atPoint, atPlace, scanForm, scanToken, scanAll, nothingScanned, scanCommas}
+use Rattle.bodies.specs.Uses.{commasOf, met, atComma, atPoint, atPlace, scanned, scanForm}
 use Rattle.marks.proofs.ByForm.{upFrom, by-form}
-use Rattle.marks.proofs.Words.{tokens-first, tokens-end}
+use Rattle.marks.proofs.Words.{passed, Passed, passed-start, passed-end, passed-step}
+
+-- one token more
+abbrev scanToken : Scan → Token → Scan
+scanToken s t = scanned s (isComma t) (isPoint t) (isPlace t)
+
+abbrev pub nothingScanned : Scan
+nothingScanned = record { point = false; place = false; held = 0; misplaced = 0; grouping = 0; dividing = 0 }
+
+-- at the end the commas held divide
+abbrev scanCommas : Scan → Commas
+scanCommas s = record { misplaced = ltb 0 (s .misplaced); grouped = ltb 0 (s .grouping); thousands = s .dividing + s .held }
 
 scan-form : (s : Scan) (f a : ℕ) (us : List ℕ) → scanToken s (markToken f a us) ≡ scanForm s f
 unfolding markRows upFrom conditionOf
@@ -89,8 +101,8 @@ module _ (f : CommaUse → Bool) where
         (λ a. by-cases (isPoint t) (λ b. total-point (eqb-true (formOf t) 5 b))
         (λ b. by-cases (isPlace t) (λ c. total-place (eqb-true (formOf t) 4 c)) (λ c. total-other a b c)))
 
-  total-all : (s : Scan) (ts : List Token) → total s ts ≡ total (scanAll s ts) []
-  unfolding scanAll
+  total-all : (s : Scan) (ts : List Token) → total s ts ≡ total (passed scanToken s ts) []
+  unfolding passed
   total-all s [] = refl
   total-all s (t ∷ ts) = total-step s t ts ∙ total-all (scanToken s t) ts
 
@@ -104,9 +116,9 @@ module _ (f : CommaUse → Bool) where
   -- the commas of one use are those that the pass counted
   pub uses-counted : (ts : List Token)
       → count f (commaUses ts)
-      ≡ cond (f misplaced) ((scanAll nothingScanned ts) .misplaced) 0 + cond (f groups) ((scanAll nothingScanned ts) .grouping) 0
-      + cond (f divides) ((scanAll nothingScanned ts) .dividing + (scanAll nothingScanned ts) .held) 0
-  unfolding total nothingScanned weigh
+      ≡ cond (f misplaced) ((passed scanToken nothingScanned ts) .misplaced) 0 + cond (f groups) ((passed scanToken nothingScanned ts) .grouping) 0
+      + cond (f divides) ((passed scanToken nothingScanned ts) .dividing + (passed scanToken nothingScanned ts) .held) 0
+  unfolding total weigh
   uses-counted ts =
       let s = nothingScanned in
       let a = weigh-none misplaced in
@@ -114,7 +126,7 @@ module _ (f : CommaUse → Bool) where
       let d = weigh-none divides in
       let e = weigh-none (commaUse false true ts) in
       let start : total s ts ≡ count f (commaUsesFrom false false ts) = omega arith in
-      ap (count f) (comma-uses ts) ∙ sym start ∙ total-all s ts ∙ total-end (scanAll s ts)
+      ap (count f) (comma-uses ts) ∙ sym start ∙ total-all s ts ∙ total-end (passed scanToken s ts)
 
 any-some : {A : Type 0} (f : A → Bool) (xs : List A) → any f xs ≡ ltb 0 (count f xs)
 any-some f xs = by-cases (any f xs)
@@ -122,10 +134,10 @@ any-some f xs = by-cases (any f xs)
     (λ e. e ∙ sym (le-ltb 0 (count f xs) (omega (arith, none-count f xs e))))
 
 -- one pass gives the commas
-pub commas-scanned : (ts : List Token) → scanCommas (scanAll nothingScanned ts) ≡ commasOf ts
+pub commas-scanned : (ts : List Token) → scanCommas (passed scanToken nothingScanned ts) ≡ commasOf ts
 unfolding commasOf
 commas-scanned ts =
-    let s = scanAll nothingScanned ts in
+    let s = passed scanToken nothingScanned ts in
     let a : count isMisplaced (commaUses ts) ≡ s .misplaced = uses-counted isMisplaced ts ∙ omega arith in
     let b : count isGrouping (commaUses ts) ≡ s .grouping = uses-counted isGrouping ts ∙ omega arith in
     let d : count isDividing (commaUses ts) ≡ s .dividing + s .held = uses-counted isDividing ts ∙ omega arith in
@@ -158,31 +170,20 @@ met-most s f = by-cases (eqb f 8)
 
 -- what the loop of `commas_of` keeps
 pub record Scanning (ws : List ℕ) (i : ℕ) (s : Scan) : Type 0 where
-  pub small : length ws ≤ 762
-  pub inside : i ≤ length ws
+  pub all : Passed scanToken nothingScanned ws i s
   pub few : met s ≤ i
-  pub same : (code : List ℕ) → scanAll nothingScanned (tokensIn code ws) ≡ scanAll s (tokensIn code (drop i ws))
 
-pub scanning-start : (ws : List ℕ) → length ws ≤ 762
-    → Scanning ws 0 (record { point = false; place = false; held = 0; misplaced = 0; grouping = 0; dividing = 0 })
-unfolding nothingScanned
-scanning-start ws h = record { small = h; inside = omega arith; few = omega arith; same = λ code. refl }
+pub scanning-start : (ws : List ℕ) → length ws ≤ 762 → Scanning ws 0 nothingScanned
+scanning-start ws h = record { all = passed-start scanToken nothingScanned ws h; few = omega arith }
 
 module _ (ws : List ℕ) (i : ℕ) (s : Scan) (inv : Scanning ws i s) where
   pub scanning-end : length ws ≤ i + 2 → (code : List ℕ) → scanCommas s ≡ commasOf (tokensIn code ws)
-  unfolding scanAll
-  scanning-end h code = ap scanCommas (sym (rw (tokens-end code ws i h) at (inv .same code))) ∙ commas-scanned (tokensIn code ws)
+  scanning-end h code = ap scanCommas (sym (passed-end scanToken nothingScanned ws i s (inv .all) h code)) ∙ commas-scanned (tokensIn code ws)
 
   pub scanning-step : i + 2 < length ws → (s′ : Scan) → s′ ≡ scanForm s (getD ws i 0) → Scanning ws (i + 3) s′
-  unfolding scanAll tokenAt
   scanning-step h s′ e =
       let f = getD ws i 0 in
-      let a = getD ws (i + 1) 0 in
       record {
-        small = inv .small;
-        inside = omega arith;
+        all = passed-step scanToken nothingScanned ws i s (inv .all) h s′ (λ us. scan-form s f (getD ws (i + 1) 0) us ∙ sym e);
         few = rw e (let k = met-most s f in let l = inv .few in omega arith);
-        same = λ code.
-            inv .same code ∙ ap (scanAll s) (tokens-first code ws i h)
-            ∙ ap (λ (x : Scan). scanAll x (tokensIn code (drop (i + 3) ws))) (scan-form s f a (drop (suc (getD ws (i + 2) 0)) code) ∙ sym e);
       }

@@ -1,12 +1,12 @@
 -- The uses of a body's commas, token by token: those whose use is known are counted, the others are held.
 -- Assumes nothing.
 use Prim.Native.Nat.{ℕ, _+_}
-use mathlib.Core.Bool.{Bool, true, false, cond, _||_}
-use mathlib.Core.List.{List, [], _∷_}
-use lib.Dec.{ltb, eqb}
+use mathlib.Core.Bool.{Bool, true, cond}
+use mathlib.Core.List.{List}
+use lib.Dec.{eqb}
 use Rattle.lists.specs.Lists.{any, count}
 use Rattle.formats.specs.Tokens.{Token}
-use Rattle.formats.specs.Kinds.{isPlace, isPoint, isComma, isGrouping, isDividing, isMisplaced, commaUses}
+use Rattle.formats.specs.Kinds.{isGrouping, isDividing, isMisplaced, commaUses}
 use Rattle.bodies.specs.declared.commas.Commas.{Commas}
 use Rattle.bodies.specs.declared.commas.Scan.{Scan}
 use Rattle.bodies.specs.Forms.{placeForm}
@@ -49,17 +49,3 @@ scanned s comma point place = cond comma (atComma s) (cond point (atPoint s) (co
 -- one token more, by its form
 abbrev pub scanForm : Scan → ℕ → Scan
 scanForm s f = scanned s (eqb f 8) (eqb f 7) (placeForm f)
-
-abbrev pub scanToken : Scan → Token → Scan
-scanToken s t = scanned s (isComma t) (isPoint t) (isPlace t)
-
-unfoldable pub scanAll : Scan → List Token → Scan
-scanAll s [] = s
-scanAll s (t ∷ ts) = scanAll (scanToken s t) ts
-
-unfoldable pub nothingScanned : Scan
-nothingScanned = record { point = false; place = false; held = 0; misplaced = 0; grouping = 0; dividing = 0 }
-
--- at the end the commas held divide
-abbrev pub scanCommas : Scan → Commas
-scanCommas s = record { misplaced = ltb 0 (s .misplaced); grouped = ltb 0 (s .grouping); thousands = s .dividing + s .held }

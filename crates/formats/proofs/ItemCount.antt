@@ -19,24 +19,9 @@ use Rattle.formats.specs.WellFormed.{itemsInAll}
 use Rattle.formats.proofs.FormedPieces.{point-case, zeros-point}
 use Rattle.formats.proofs.TokenRanges.{InStep, closed-step, inside-form, first-passes, singlePasses}
 
--- at least the items that a token makes, at most its units
+-- how many items a token makes of a date: elsewhere it makes no more, and it has at least as many units
 unfoldable pub weight : Token → ℕ
-weight (token.literal us) = length us
-weight (token.bare u) = 1
-weight (token.blank u) = 1
-weight (token.fill u) = 1
-weight (token.place p) = 1
-weight token.point = 1
-weight token.comma = 1
-weight token.percent = 1
-weight token.at = 1
-weight token.semicolon = 1
-weight token.general = 1
-weight (token.half h) = 1
-weight (token.run l n) = 1
-weight (token.elapsed e n) = 1
-weight (token.colour n) = 1
-weight (token.condition w) = 1
+weight t = length (tokenItems true t)
 
 unfoldable pub weights : List Token → ℕ
 weights [] = 0
@@ -54,10 +39,10 @@ light-one : (us : List ℕ) (t : Token) (more : ℕ) → weight t ≤ 1 → Ligh
 light-one us t more h = omega arith
 
 quoted-light : (us : List ℕ) → InStep (Light us) (quoted us)
-unfolding quoted weight
+unfolding quoted weight tokenItems
 quoted-light us =
     cond-both (InStep (Light us)) (eqb (before 34 us) 0 || eqb (before 34 us) (length us)) tt
-    (omega (arith, length-take (before 34 us) us))
+    (omega (arith, length-map (take (before 34 us) us) Item.literal, length-take (before 34 us) us))
 
 marked-light : (f : ℕ → Token) (us : List ℕ) → ((u : ℕ) → weight (f u) ≤ 1) → InStep (Light us) (marked f us)
 unfolding marked
@@ -65,21 +50,21 @@ marked-light f [] h = tt
 marked-light f (u ∷ us) h = light-one (u ∷ us) (f u) 1 (h u)
 
 general-light : (us vs : List ℕ) → InStep (Light us) (generalWord vs)
-unfolding generalWord weight
+unfolding generalWord weight tokenItems
 general-light us vs = cond-both (InStep (Light us)) (startsWith (units "General") vs) (omega arith) tt
 
 half-light : (us vs : List ℕ) → InStep (Light us) (halfDayWord vs)
-unfolding halfDayWord weight
+unfolding halfDayWord weight tokenItems
 half-light us vs =
     cond-both (InStep (Light us)) (startsWith (units "AM/PM") vs) (omega arith)
     (cond-both (InStep (Light us)) (startsWith (units "A/P") vs) (omega arith) tt)
 
 run-light : (l : Letter) (u : ℕ) (us : List ℕ) → InStep (Light us) (runStep l u us)
-unfolding runStep weight
+unfolding runStep weight tokenItems
 run-light l u us = cond-both (InStep (Light us)) (runAllowed l (suc (leading (eqb u) us))) (omega arith) tt
 
 bracketed-light : (us : List ℕ) → InStep (Light us) (bracketed us)
-unfolding bracketed weight
+unfolding bracketed weight tokenItems
 bracketed-light us =
     cond-both (InStep (Light us)) (eqb (before 93 us) (length us)) tt
     (closed-step (Light us) (before 93 us) (insideOf (take (before 93 us) us))
@@ -90,7 +75,7 @@ abbrev isLight : Token → Bool
 isLight t = leb (weight t) 1
 
 by-light : (f : First) (u : ℕ) (us : List ℕ) → T (singlePasses isLight f) → InStep (Light us) (stepBy f u us)
-unfolding stepBy singlePasses weight
+unfolding stepBy singlePasses weight tokenItems
 by-light quote u us s = quoted-light us
 by-light backslash u us s = marked-light (λ (v : ℕ). token.literal (v ∷ [])) us (λ v. omega arith)
 by-light underscore u us s = marked-light token.blank us (λ v. omega arith)
@@ -103,7 +88,7 @@ by-light (single t) u us s = light-one us t 0 (leb→le (weight t) 1 s)
 by-light other u us s = cond-both (InStep (Light us)) (any (eqb u) bareLiterals) (omega arith) tt
 
 rows-light : T (every (λ (r : FirstRow). singlePasses isLight (r .first)) firstRows)
-unfolding every firstRows singlePasses weight
+unfolding every firstRows singlePasses weight tokenItems
 rows-light = tt
 
 step-light : (u : ℕ) (us : List ℕ) → InStep (Light us) (stepAt u us)
@@ -139,45 +124,45 @@ unfolding lex
 tokens-weight code = omega (arith, lex-weight 0 0 code)
 
 -- a section's items are no more than its tokens weigh
-token-items : (ofDate : Bool) (t : Token) → length (tokenItems ofDate t) ≤ weight t
+token-items : (t : Token) → length (tokenItems false t) ≤ weight t
 unfolding tokenItems weight
-token-items ofDate (token.literal us) = omega (arith, length-map us Item.literal)
-token-items ofDate (token.bare u) = omega arith
-token-items ofDate (token.blank u) = omega arith
-token-items ofDate (token.fill u) = omega arith
-token-items ofDate (token.place p) = omega arith
-token-items ofDate token.point = omega arith
-token-items ofDate token.comma = cond-both (λ (is : List Item). length is ≤ 1) ofDate (omega arith) (omega arith)
-token-items ofDate token.percent = omega arith
-token-items ofDate token.at = omega arith
-token-items ofDate token.semicolon = omega arith
-token-items ofDate token.general = omega arith
-token-items ofDate (token.half h) = omega arith
-token-items ofDate (token.run l n) = omega arith
-token-items ofDate (token.elapsed e n) = omega arith
-token-items ofDate (token.colour n) = omega arith
-token-items ofDate (token.condition w) = omega arith
+token-items (token.literal us) = omega arith
+token-items (token.bare u) = omega arith
+token-items (token.blank u) = omega arith
+token-items (token.fill u) = omega arith
+token-items (token.place p) = omega arith
+token-items token.point = omega arith
+token-items token.comma = omega arith
+token-items token.percent = omega arith
+token-items token.at = omega arith
+token-items token.semicolon = omega arith
+token-items token.general = omega arith
+token-items (token.half h) = omega arith
+token-items (token.run l n) = omega arith
+token-items (token.elapsed e n) = omega arith
+token-items (token.colour n) = omega arith
+token-items (token.condition w) = omega arith
 
 plain-items : (ts : List Token) → length (plainItems ts) ≤ weights ts
 unfolding plainItems weights
 plain-items [] = omega arith
 plain-items (t ∷ ts) =
-    omega (arith, length-append (tokenItems false t) (plainItems ts), token-items false t, plain-items ts)
+    omega (arith, length-append (tokenItems false t) (plainItems ts), token-items t, plain-items ts)
 
 -- a part of a second starts with a point
 part-weight : (behindSeconds : Bool) (t : Token) (ts : List Token) → eqb (partZeros behindSeconds t ts) 0 ≡ false → 1 ≤ weight t
-unfolding weight
+unfolding weight tokenItems
 part-weight b t ts e = point-case (λ (u : Token). 1 ≤ weight u) (omega arith) t (zeros-point b t ts e .1)
 
 pieces-items : (behindSeconds : Bool) (skip : ℕ) (ts : List Token) → length (dateItems (piecesFrom behindSeconds skip ts)) ≤ weights ts
-unfolding piecesFrom dateItems pieceItems weights
+unfolding piecesFrom dateItems pieceItems weights weight
 pieces-items b skip [] = omega arith
 pieces-items b (suc skip) (t ∷ ts) = omega (arith, pieces-items false skip ts)
 pieces-items b zero (t ∷ ts) =
     let n = partZeros b t ts in
     let ps = piecesFrom (isSecondsToken t) n ts in
     cond-case (λ (qs : List Piece). length (dateItems qs) ≤ weight t + weights ts) (eqb n 0)
-    (λ e. omega (arith, length-append (tokenItems true t) (dateItems ps), token-items true t, pieces-items (isSecondsToken t) n ts))
+    (λ e. omega (arith, length-append (tokenItems true t) (dateItems ps), pieces-items (isSecondsToken t) n ts))
     (λ e. omega (arith, part-weight b t ts e, pieces-items (isSecondsToken t) n ts))
 
 body-items : (ts : List Token) → length (bodyItems ts) ≤ weights ts

@@ -1,7 +1,7 @@
 -- Tokens in a buffer of words, three a token.
 -- Assumes nothing.
 use Prim.Native.Nat.{ℕ, zero, suc, _+_, _*_, _/_, _≤_, _<_}
-use mathlib.Core.Path.{_≡_, refl, ap}
+use mathlib.Core.Path.{_≡_, refl, ap, _∙_}
 use mathlib.Core.List.{List, [], _∷_}
 use native.Mathlib.Omega.{arith}
 use native.Mathlib.Numerals.{add-one, add-two, add-three}
@@ -9,7 +9,7 @@ use lib.ListN.{length, take, drop, getD, length-drop}
 use lib.Seq.{drop-cons}
 use Rattle.formats.specs.Tokens.{Token}
 use Rattle.formats.specs.Accept.{tokensOf}
-use Rattle.marks.specs.Marks.{tokenAt, placedIn, tokensIn}
+use Rattle.marks.specs.Marks.{markToken, tokenAt, placedIn, tokensIn}
 
 -- the first token of the words from i on, and the others
 pub tokens-first : (code ws : List ℕ) (i : ℕ) → i + 2 < length ws
@@ -56,3 +56,34 @@ tokens-length code [] = refl
 tokens-length code (f ∷ []) = refl
 tokens-length code (f ∷ a ∷ []) = refl
 tokens-length code (f ∷ a ∷ s ∷ ws) = let e = tokens-length code ws in omega arith
+
+-- what a pass over tokens makes of a state, one token at a time
+unfoldable pub passed : {S : Type 0} → (S → Token → S) → S → List Token → S
+passed step s [] = s
+passed step s (t ∷ ts) = passed step (step s t) ts
+
+-- what a loop over the words of tokens keeps, i of them behind it
+pub record Passed {S : Type 0} (step : S → Token → S) (start : S) (ws : List ℕ) (i : ℕ) (s : S) : Type 0 where
+  pub small : length ws ≤ 762
+  pub inside : i ≤ length ws
+  pub same : (code : List ℕ) → passed step start (tokensIn code ws) ≡ passed step s (tokensIn code (drop i ws))
+
+module _ {S : Type 0} (step : S → Token → S) (start : S) (ws : List ℕ) where
+  pub passed-start : length ws ≤ 762 → Passed step start ws 0 start
+  passed-start h = record { small = h; inside = omega arith; same = λ code. refl }
+
+  module _ (i : ℕ) (s : S) (inv : Passed step start ws i s) where
+    pub passed-end : length ws ≤ i + 2 → (code : List ℕ) → passed step start (tokensIn code ws) ≡ s
+    unfolding passed
+    passed-end h code = rw (tokens-end code ws i h) at (inv .same code)
+
+    pub passed-step : i + 2 < length ws → (s′ : S) → ((us : List ℕ) → step s (markToken (getD ws i 0) (getD ws (i + 1) 0) us) ≡ s′) → Passed step start ws (i + 3) s′
+    unfolding passed tokenAt
+    passed-step h s′ e =
+        record {
+          small = inv .small;
+          inside = omega arith;
+          same = λ code.
+              inv .same code ∙ ap (passed step s) (tokens-first code ws i h)
+              ∙ ap (λ (x : S). passed step x (tokensIn code (drop (i + 3) ws))) (e (drop (suc (getD ws (i + 2) 0)) code));
+        }
