@@ -228,17 +228,19 @@ module _ (us : List ℕ) where
   signed-plain e = rw e
 
   -- a condition is a comparison and a number
-  pub condition-wide : isWide us ≡ true → isSome (signedOf equal (drop 2 us)) ≡ isSome (conditionInside us)
+  pub condition-wide : (r : Bool) → r ≡ isWide us → r ≡ true → isSome (signedOf equal (drop 2 us)) ≡ isSome (conditionInside us)
   unfolding isWide conditionInside
-  condition-wide e =
+  condition-wide r f t =
+      let e : isWide us ≡ true = sym f ∙ t in
       by-cases (startsWith (units "<=") us) (λ a. rw a (signed-some equal atMost (drop 2 us)))
       (λ a. by-cases (startsWith (units ">=") us) (λ b. rw (a, b) (signed-some equal atLeast (drop 2 us)))
       (λ b. rw (a, b, rw (a, b) at e) (signed-some equal unequal (drop 2 us))))
 
-  pub condition-narrow : isWide us ≡ false → isNarrow us ≡ true → isSome (signedOf equal (drop 1 us)) ≡ isSome (conditionInside us)
+  pub condition-narrow : (r s : Bool) → r ≡ isWide us → r ≡ false → s ≡ isNarrow us → s ≡ true → isSome (signedOf equal (drop 1 us)) ≡ isSome (conditionInside us)
   unfolding isWide isNarrow conditionInside
-  condition-narrow w e =
-      let ab = or-false (startsWith (units "<=") us || startsWith (units ">=") us) _ w in
+  condition-narrow r s f t g u =
+      let e : isNarrow us ≡ true = sym g ∙ u in
+      let ab = or-false (startsWith (units "<=") us || startsWith (units ">=") us) _ (sym f ∙ t) in
       let a = or-false (startsWith (units "<=") us) _ (ab .0) in
       rw (a .0, a .1, ab .1)
       (by-cases (startsWith (units "=") us) (λ x. rw x)

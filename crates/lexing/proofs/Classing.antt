@@ -1,6 +1,6 @@
 -- Laws of the classes: the step of a unit's class is the unit's step, and units from 128 on start nothing.
 -- Assumes nothing.
-use Prim.Native.Nat.{ℕ, suc, _+_, _≤_, _<_}
+use Prim.Native.Nat.{ℕ, suc, _+_, _-_, _≤_, _<_}
 use mathlib.Core.Path.{_≡_, refl, sym, subst, _∙_}
 use mathlib.Core.Bool.{false, cond}
 use mathlib.Core.List.{List, [], _∷_}
@@ -92,6 +92,16 @@ rows-high (r ∷ rs) (k ∷ ks) u t e h =
 pub class-high : (u : ℕ) → 128 ≤ u → 21 ≡ classOf u
 unfolding classOf firstRows bareLiterals units every
 class-high u h = rows-high firstRows classNumbers u tt (none-high bareLiterals u tt h) h
+
+-- ---- the letter of a class
+abbrev pub letterOf : ℕ → ℕ
+letterOf u = classOf u + 97
+
+pub letter-least : {x : ℕ} (u : ℕ) → x ≡ letterOf u → 97 ≤ x
+letter-least u e = omega arith
+
+pub letter-class : {x : ℕ} (u : ℕ) → x ≡ letterOf u → x - 97 ≡ classOf u
+letter-class u e = omega arith
 
 -- ---- the step at a place
 pub next-step : (code : List ℕ) (at u : ℕ) (s : FoundStep) → stepBehind (drop (at + 1) code) s ≡ stepAt u (drop (at + 1) code) → stepMeant code at s ≡ stepAt u (drop (suc at) code)

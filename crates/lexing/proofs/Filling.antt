@@ -81,11 +81,11 @@ module _ (code words : List ℕ) (room at n : ℕ) (inv : Filling code words roo
   filling-end h = sym (inv .same ∙ rw (drop-of-length-le code h) (ap good (append-nil _)))
 
   module _ (less : at < length code) where
-    pub filling-broken : stepMeant code at Broken ≡ stepAt (getD code at 0) (drop (suc at) code) → lexMeant code words (Bad at) ≡ lex code
+    pub filling-broken : (place : ℕ) → place ≡ at → stepMeant code at Broken ≡ stepAt (getD code at 0) (drop (suc at) code) → lexMeant code words (Bad place) ≡ lex code
     unfolding lexMeant ontoAll stepMeant stepBehind
-    filling-broken e =
+    filling-broken place p e =
         let here : StepIs code at broken = record { unit = getD code at 0; behind = drop (suc at) code; stands = drop-cons code at 0 less; step = sym e } in
-        sym (inv .same ∙ rw (lex-front-broken code at here))
+        rw p (sym (inv .same ∙ rw (lex-front-broken code at here)))
 
     module _ (m : Mark) (more : ℕ) (e : stepMeant code at (Read m more) ≡ stepAt (getD code at 0) (drop (suc at) code)) where
       abbrev token : Token

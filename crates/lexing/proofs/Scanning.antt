@@ -2,7 +2,7 @@
 -- Assumes nothing.
 use Prim.Native.Nat.{ℕ, suc, _+_, _-_, _≤_, _<_}
 use mathlib.Core.Path.{_≡_, refl, sym, ap, _∙_}
-use mathlib.Core.Bool.{Bool, true, false, true≢false}
+use mathlib.Core.Bool.{Bool, true, false}
 use mathlib.Core.List.{List, [], _∷_}
 use native.Mathlib.Omega.{arith}
 use native.Mathlib.Numerals.{add-one}
@@ -11,7 +11,7 @@ use lib.Dec.{eqb, eqb·suc-suc}
 use lib.ListN.{length, take, drop, getD, drop-of-length-le, length-drop}
 use lib.Seq.{drop-cons, take-all}
 use Rattle.lists.specs.Lists.{every}
-use Rattle.lists.proofs.Bools.{by-cases, cond-both}
+use Rattle.lists.proofs.Bools.{by-cases}
 use Rattle.formats.specs.Tokens.{before, leading, startsWith}
 use Rattle.lexing.specs.declared.scan.Set.the-variants.{But}
 use Rattle.lexing.specs.Scan.{member}

@@ -1,6 +1,7 @@
 -- What the parts of a bracket's inside answer.
 -- Assumes nothing.
 use Prim.Native.Nat.{ℕ}
+use Prim.Native.Char.{code}
 use mathlib.Core.Bool.{Bool, cond, not, _&&_, _||_}
 use mathlib.Core.List.{List}
 use mathlib.Core.Option.{Option, none, some}
@@ -27,4 +28,4 @@ isNarrow us = startsWith (units "=") us || startsWith (units "<") us || startsWi
 
 -- a point, and digits behind it
 unfoldable pub isPointed : List ℕ → Bool
-isPointed us = eqb (getD us 0 0) 46 && not (isEmpty (drop 1 us)) && every isDigit (drop 1 us)
+isPointed us = eqb (getD us 0 0) (code ".") && not (isEmpty (drop 1 us)) && every isDigit (drop 1 us)

@@ -1,6 +1,7 @@
 -- What a unit starts, as a number, and the step that it stands for.
 -- Assumes nothing.
 use Prim.Native.Nat.{ℕ, _-_}
+use Prim.Native.Char.{code}
 use mathlib.Core.Bool.{cond}
 use mathlib.Core.List.{List, [], _∷_}
 use lib.ListN.{getD}
@@ -33,8 +34,8 @@ classStep k u us =
     (cond (eqb k 1) (read (bare u) 0)
     (cond (leb k 3) (marked (λ (v : ℕ). markToken k v us) us)
     (cond (leb k 11) (read (markToken k 0 us) 0)
-    (cond (eqb k 12) (generalWord (71 ∷ us))
-    (cond (eqb k 13) (halfDayWord (65 ∷ us))
+    (cond (eqb k 12) (generalWord (code "G" ∷ us))
+    (cond (eqb k 13) (halfDayWord (code "A" ∷ us))
     (cond (eqb k 14) (marked (λ (v : ℕ). literal (v ∷ [])) us)
     (cond (leb k 19) (runStep (letterAt k) u us)
     (cond (eqb k 20) (bracketed us) broken))))))))

@@ -1,6 +1,7 @@
 -- What a step and a bracket's inside stand for, by the marks of the token buffer.
 -- Assumes nothing.
 use Prim.Native.Nat.{ℕ, suc}
+use Prim.Native.Char.{code}
 use mathlib.Core.List.{List}
 use mathlib.Core.Option.{Option, none, some}
 use lib.ListN.{drop}
@@ -17,7 +18,7 @@ stepBehind us (Read m more) = read (markToken (m .form) (m .argument) us) more
 stepBehind us Broken = broken
 
 unfoldable pub stepMeant : List ℕ → ℕ → Step → SpecStep
-stepMeant code start s = stepBehind (drop (suc start) code) s
+stepMeant units start s = stepBehind (drop (suc start) units) s
 
 -- what stands in a bracket whose opening unit is before us
 unfoldable pub insideMeant : List ℕ → Inside → Option Token
@@ -27,6 +28,6 @@ insideMeant us Nothing = none
 -- the forms inside a bracket that are no colours
 unfoldable pub plainInside : List ℕ → Option Token
 plainInside us =
-    firstForm (elapsedInside 104 hours us)
-    (firstForm (elapsedInside 109 minutes us)
-    (firstForm (elapsedInside 115 seconds us) (conditionInside us)))
+    firstForm (elapsedInside (code "h") hours us)
+    (firstForm (elapsedInside (code "m") minutes us)
+    (firstForm (elapsedInside (code "s") seconds us) (conditionInside us)))

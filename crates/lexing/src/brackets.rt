@@ -5,17 +5,38 @@ use super::scan::Set;
 use super::scan::is_word;
 use super::scan::scan;
 use super::scan::starts_with;
+use marks::forms::COLOUR;
+use marks::forms::CONDITION;
+use marks::forms::ELAPSED_HOURS;
+use marks::forms::ELAPSED_MINUTES;
+use marks::forms::ELAPSED_SECONDS;
 ghost use mathlib.Core.Path.{_≡_};
-ghost use mathlib.Core.Bool.{false};
+ghost use mathlib.Core.Bool.{false, _||_};
 ghost use mathlib.Core.List.{map};
 ghost use Prim.Native.Nat.{_-_, _≤_, _<_};
 ghost use lib.Dec.{T};
 ghost use lib.ListN.{length, take, getD};
 ghost use Rattle.calendar.specs.Names.{units};
 ghost use Rattle.lists.specs.Lists.{every, isSome};
-ghost use Rattle.formats.specs.Tokens.{equal, same, isDigit, digitOf, numberFrom, colourNames, namedFrom, colourDigits, numbered, wholeOf, signedOf, conditionInside, insideOf, bracketed};
+ghost use Rattle.formats.specs.Tokens.{equal, startsWith, same, isDigit, digitOf, numberFrom, colourNames, namedFrom, colourDigits, numbered, wholeOf, signedOf, conditionInside, insideOf, bracketed};
 ghost use Rattle.lexing.specs.Marks.{stepBehind, insideMeant, plainInside};
-ghost use Rattle.lexing.specs.Brackets.{colourMeant, isRunOf, isWide, isNarrow, isPointed};
+ghost use Rattle.lexing.specs.Brackets.{colourMeant, isRunOf, isPointed};
+
+const ZERO: u16 = b'0' as u16;
+
+const POINT: u16 = b'.' as u16;
+
+const CLOSING: u16 = b']' as u16;
+
+const HOUR: u16 = b'h' as u16;
+
+const MINUTE: u16 = b'm' as u16;
+
+const SECOND: u16 = b's' as u16;
+
+const LAST_COLOUR: u16 = 56;
+
+const NO_COLOUR: u16 = 57;
 
 // What a bracket's inside stands for.
 pub enum Inside {
@@ -40,7 +61,7 @@ fn is_colour_name(inside: &[u16], k: u16) -> bool
     }
 }
 
-// The number of the named colour, or 57.
+// The number of the named colour, or `NO_COLOUR`.
 fn named_colour(inside: &[u16]) -> u16
     ensures { λ r. ⌜ colourMeant r ≡ namedFrom 1 colourNames (now (inside .entry)) ⌝ }
 {
@@ -51,7 +72,7 @@ fn named_colour(inside: &[u16]) -> u16
         }
         k += 1;
     }
-    57
+    NO_COLOUR
 }
 
 // The digit that a unit writes.
@@ -59,7 +80,7 @@ fn digit_of(u: u16) -> u16
     requires { ⌜ 48 ≤ u ⌝ }
     ensures { λ r. ⌜ r ≡ u - 48 ⌝ }
 {
-    u - 48
+    u - ZERO
 }
 
 // The number of one or two digits, the first no zero.
@@ -74,34 +95,34 @@ fn colour_number(us: &[u16]) -> u16
     10 * first + digit_of(us[1])
 }
 
-// The number of a colour behind `Color`, or 57.
+// The number of a colour behind `Color`, or `NO_COLOUR`.
 fn colour_digits(us: &[u16]) -> u16
     ensures { λ r. ⌜ colourMeant r ≡ colourDigits (now (us .entry)) ⌝ }
 {
     let n = us.len();
     if n == 0 {
-        return 57;
+        return NO_COLOUR;
     }
-    if us[0] == 48 {
-        return 57;
+    if us[0] == ZERO {
+        return NO_COLOUR;
     }
     if 2 < n {
-        return 57;
+        return NO_COLOUR;
     }
     if scan(us, Set::Digits) == n {
         return colour_number(us);
     }
-    57
+    NO_COLOUR
 }
 
-// The number of a colour by number, or 57.
+// The number of a colour by number, or `NO_COLOUR`.
 fn numbered_colour(inside: &[u16]) -> u16
     ensures { λ r. ⌜ colourMeant r ≡ numbered (now (inside .entry)) ⌝ }
 {
     if starts_with(inside, b"Color") {
         return colour_digits(&inside[5..]);
     }
-    57
+    NO_COLOUR
 }
 
 // The inside is u, once or more.
@@ -114,30 +135,11 @@ fn is_run(inside: &[u16], u: u16) -> bool
     scan(inside, Set::Only(u)) == inside.len()
 }
 
-// A comparison of two units stands at the start.
-fn is_wide_comparison(inside: &[u16]) -> bool
-    ensures { λ r. ⌜ r ≡ isWide (now (inside .entry)) ⌝ }
+// One of the words stands at the start.
+fn starts_with_any(us: &[u16], a: &[u8], b: &[u8], c: &[u8]) -> bool
+    ensures { λ r. ⌜ r ≡ (startsWith (now (a .entry)) (now (us .entry)) || startsWith (now (b .entry)) (now (us .entry)) || startsWith (now (c .entry)) (now (us .entry))) ⌝ }
 {
-    if starts_with(inside, b"<=") {
-        return true;
-    }
-    if starts_with(inside, b">=") {
-        return true;
-    }
-    starts_with(inside, b"<>")
-}
-
-// A comparison of one unit stands at the start.
-fn is_narrow_comparison(inside: &[u16]) -> bool
-    ensures { λ r. ⌜ r ≡ isNarrow (now (inside .entry)) ⌝ }
-{
-    if starts_with(inside, b"=") {
-        return true;
-    }
-    if starts_with(inside, b"<") {
-        return true;
-    }
-    starts_with(inside, b">")
+    starts_with(us, a) | starts_with(us, b) | starts_with(us, c)
 }
 
 // A point and digits.
@@ -145,7 +147,7 @@ fn is_decimals(us: &[u16]) -> bool
     requires { ⌜ 1 ≤ length (now us) ⌝ }
     ensures { λ r. ⌜ r ≡ isPointed (now (us .entry)) ⌝ }
 {
-    if us[0] != 46 {
+    if us[0] != POINT {
         return false;
     }
     if us.len() == 1 {
@@ -183,10 +185,10 @@ fn is_signed(us: &[u16]) -> bool
 fn is_condition(inside: &[u16]) -> bool
     ensures { λ r. ⌜ r ≡ isSome (conditionInside (now (inside .entry))) ⌝ }
 {
-    if is_wide_comparison(inside) {
+    if starts_with_any(inside, b"<=", b">=", b"<>") {
         return is_signed(&inside[2..]);
     }
-    if is_narrow_comparison(inside) {
+    if starts_with_any(inside, b"=", b"<", b">") {
         return is_signed(&inside[1..]);
     }
     false
@@ -199,17 +201,29 @@ fn plain_inside(us: &[u16], n: usize) -> Inside
 {
     let inside = &us[..n];
     let argument = n as u16;
-    if is_run(inside, 104) {
-        return Inside::Found(Mark { form: 20, argument });
+    if is_run(inside, HOUR) {
+        return Inside::Found(Mark {
+            form: ELAPSED_HOURS,
+            argument,
+        });
     }
-    if is_run(inside, 109) {
-        return Inside::Found(Mark { form: 21, argument });
+    if is_run(inside, MINUTE) {
+        return Inside::Found(Mark {
+            form: ELAPSED_MINUTES,
+            argument,
+        });
     }
-    if is_run(inside, 115) {
-        return Inside::Found(Mark { form: 22, argument });
+    if is_run(inside, SECOND) {
+        return Inside::Found(Mark {
+            form: ELAPSED_SECONDS,
+            argument,
+        });
     }
     if is_condition(inside) {
-        return Inside::Found(Mark { form: 24, argument });
+        return Inside::Found(Mark {
+            form: CONDITION,
+            argument,
+        });
     }
     Inside::Nothing
 }
@@ -220,16 +234,16 @@ fn inside_of(us: &[u16], n: usize) -> Inside
     ensures { λ r. ⌜ insideMeant (now (us .entry)) r ≡ insideOf (take n (now (us .entry))) ⌝ }
 {
     let named = named_colour(&us[..n]);
-    if named <= 56 {
+    if named <= LAST_COLOUR {
         return Inside::Found(Mark {
-            form: 23,
+            form: COLOUR,
             argument: named,
         });
     }
     let number = numbered_colour(&us[..n]);
-    if number <= 56 {
+    if number <= LAST_COLOUR {
         return Inside::Found(Mark {
-            form: 23,
+            form: COLOUR,
             argument: number,
         });
     }
@@ -241,7 +255,7 @@ pub fn bracketed_token(us: &[u16]) -> Step
     requires { ⌜ length (now us) ≤ 254 ⌝ }
     ensures { λ r. ⌜ stepBehind (now (us .entry)) r ≡ bracketed (now (us .entry)) ⌝ }
 {
-    let n = scan(us, Set::But(93));
+    let n = scan(us, Set::But(CLOSING));
     if n == us.len() {
         return Step::Broken;
     }

@@ -2,6 +2,7 @@
 use super::Mark;
 use super::Step;
 use super::next;
+use marks::forms::SEMICOLON;
 ghost use mathlib.Core.Path.{_≡_};
 ghost use mathlib.Core.List.{[], _∷_};
 ghost use Prim.Native.Nat.{_+_, _*_, _≤_};
@@ -60,7 +61,7 @@ pub fn semicolon_count(tokens: &[u16], n: usize) -> usize
     while i < n {
         let word = 3 * i;
         i += 1;
-        if tokens[word] == 11 {
+        if tokens[word] == SEMICOLON {
             count += 1;
         }
     }
@@ -78,7 +79,7 @@ pub fn semicolon_place(tokens: &[u16], n: usize, k: usize) -> usize
         let word = 3 * i;
         let place = word + 2;
         i += 1;
-        if tokens[word] == 11 {
+        if tokens[word] == SEMICOLON {
             if left == 0 {
                 return tokens[place] as usize;
             }

@@ -2,138 +2,22 @@
 ghost use mathlib.Core.Path.{_≡_};
 ghost use Rattle.lexing.specs.Classes.{classOf};
 
-// What each unit below 128 starts: 0 a quoted literal, 1 a literal without quotes, 2 and 3 a mark and a unit, 4 to 11 a token of
-// one unit, 12 and 13 a word, 14 an escaped literal, 15 to 19 a run, 20 a bracket, 21 nothing.
-const CLASSES: [u16; 128] = [
-    21,
-    21,
-    21,
-    21,
-    21,
-    21,
-    21,
-    21,
-    21,
-    21,
-    21,
-    21,
-    21,
-    21,
-    21,
-    21,
-    21,
-    21,
-    21,
-    21,
-    21,
-    21,
-    21,
-    21,
-    21,
-    21,
-    21,
-    21,
-    21,
-    21,
-    21,
-    21,
-    1,
-    1,
-    0,
-    5,
-    1,
-    9,
-    1,
-    1,
-    1,
-    1,
-    3,
-    1,
-    8,
-    1,
-    7,
-    1,
-    4,
-    21,
-    21,
-    21,
-    21,
-    21,
-    21,
-    21,
-    21,
-    21,
-    1,
-    11,
-    1,
-    1,
-    1,
-    6,
-    10,
-    13,
-    21,
-    21,
-    21,
-    21,
-    21,
-    12,
-    21,
-    21,
-    21,
-    21,
-    21,
-    21,
-    21,
-    21,
-    21,
-    21,
-    21,
-    21,
-    21,
-    21,
-    21,
-    21,
-    21,
-    21,
-    21,
-    20,
-    14,
-    21,
-    1,
-    2,
-    21,
-    21,
-    21,
-    21,
-    17,
-    21,
-    21,
-    21,
-    18,
-    21,
-    21,
-    21,
-    21,
-    16,
-    21,
-    21,
-    21,
-    21,
-    21,
-    19,
-    21,
-    21,
-    21,
-    21,
-    21,
-    15,
-    21,
-    1,
-    21,
-    1,
-    1,
-    21,
-];
+// The classes that are no forms of a token: 1 to 11 and 15 to 19 are the forms of the tokens that the units start.
+pub const QUOTED: u16 = 0;
+
+pub const GENERAL_WORD: u16 = 12;
+
+pub const HALF_DAY_WORD: u16 = 13;
+
+pub const ESCAPED: u16 = 14;
+
+pub const BRACKET: u16 = 20;
+
+pub const NOTHING: u16 = 21;
+
+// The class of each unit below 128, as a letter: `a` for 0, `b` for 1, `v` for 21.
+const CLASSES: [u8; 128] =
+    *b"vvvvvvvvvvvvvvvvvvvvvvvvvvvvvvvvbbafbjbbbbdbibhbevvvvvvvvvblbbbgknvvvvvmvvvvvvvvvvvvvvvvvvvuovbcvvvvrvvvsvvvvqvvvvvtvvvvvpvbvbbv";
 
 // What the unit starts.
 pub fn class_of(u: u16) -> u16
@@ -141,7 +25,7 @@ pub fn class_of(u: u16) -> u16
 {
     if u < 128 {
         let i = u as usize;
-        return CLASSES[i];
+        return CLASSES[i] as u16 - b'a' as u16;
     }
-    21
+    NOTHING
 }

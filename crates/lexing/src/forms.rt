@@ -4,6 +4,14 @@ use super::Step;
 use super::scan::Set;
 use super::scan::scan;
 use super::scan::starts_with;
+use marks::forms::DAYS;
+use marks::forms::GENERAL;
+use marks::forms::HOURS;
+use marks::forms::LITERAL;
+use marks::forms::LONG_HALF;
+use marks::forms::MONTHS;
+use marks::forms::SHORT_HALF;
+use marks::forms::YEARS;
 ghost use mathlib.Core.Path.{_≡_};
 ghost use mathlib.Core.List.{[], _∷_};
 ghost use Prim.Native.Nat.{ℕ, _+_, _≤_};
@@ -13,12 +21,14 @@ ghost use Rattle.marks.specs.Marks.{markToken};
 ghost use Rattle.lexing.specs.Marks.{stepBehind};
 ghost use Rattle.lexing.specs.Classes.{letterAt};
 
+const QUOTE: u16 = b'"' as u16;
+
 // Behind a quote: units up to the next one, and one at least.
 pub fn quoted_literal(us: &[u16]) -> Step
     requires { ⌜ length (now us) ≤ 254 ⌝ }
     ensures { λ r. ⌜ stepBehind (now (us .entry)) r ≡ quoted (now (us .entry)) ⌝ }
 {
-    let n = scan(us, Set::But(34));
+    let n = scan(us, Set::But(QUOTE));
     if n == 0 {
         return Step::Broken;
     }
@@ -27,7 +37,7 @@ pub fn quoted_literal(us: &[u16]) -> Step
     }
     Step::Read(
         Mark {
-            form: 0,
+            form: LITERAL,
             argument: n as u16,
         },
         n + 1,
@@ -43,7 +53,7 @@ pub fn escaped_literal(us: &[u16]) -> Step
     }
     Step::Read(
         Mark {
-            form: 0,
+            form: LITERAL,
             argument: 1,
         },
         1,
@@ -68,7 +78,7 @@ pub fn general_word(us: &[u16]) -> Step
     if starts_with(us, b"eneral") {
         return Step::Read(
             Mark {
-                form: 12,
+                form: GENERAL,
                 argument: 0,
             },
             6,
@@ -84,7 +94,7 @@ pub fn half_day_word(us: &[u16]) -> Step
     if starts_with(us, b"M/PM") {
         return Step::Read(
             Mark {
-                form: 14,
+                form: LONG_HALF,
                 argument: 0,
             },
             4,
@@ -93,7 +103,7 @@ pub fn half_day_word(us: &[u16]) -> Step
     if starts_with(us, b"/P") {
         return Step::Read(
             Mark {
-                form: 13,
+                form: SHORT_HALF,
                 argument: 0,
             },
             2,
@@ -108,10 +118,10 @@ fn run_allowed(form: u16, n: usize) -> bool
     ensures { λ r. ⌜ r ≡ runAllowed (letterAt form) n ⌝ }
 {
     match form {
-        15 => { if n == 2 { true } else { n == 4 } }
-        16 => n <= 5,
-        17 => n <= 4,
-        18 => n <= 2,
+        YEARS => { if n == 2 { true } else { n == 4 } }
+        MONTHS => n <= 5,
+        DAYS => n <= 4,
+        HOURS => n <= 2,
         _ => n <= 2,
     }
 }

@@ -1,11 +1,16 @@
 // Reads a code into tokens: a mark for each, with the place of its first unit.
-pub mod brackets;
+mod brackets;
 pub mod buffer;
-pub mod classes;
-pub mod forms;
+mod classes;
+mod forms;
 pub mod scan;
 
 use brackets::bracketed_token;
+use classes::BRACKET;
+use classes::ESCAPED;
+use classes::GENERAL_WORD;
+use classes::HALF_DAY_WORD;
+use classes::QUOTED;
 use classes::class_of;
 use forms::escaped_literal;
 use forms::general_word;
@@ -13,6 +18,13 @@ use forms::half_day_word;
 use forms::letter_run;
 use forms::marked_unit;
 use forms::quoted_literal;
+use marks::forms::BARE;
+use marks::forms::BLANK;
+use marks::forms::FILL;
+use marks::forms::SECONDS;
+use marks::forms::SEMICOLON;
+use marks::forms::YEARS;
+use marks::forms::ZERO_PLACE;
 ghost use mathlib.Core.Path.{_≡_};
 ghost use Prim.Native.Nat.{suc, _≤_, _<_};
 ghost use lib.ListN.{length, drop, getD};
@@ -20,13 +32,13 @@ ghost use Rattle.formats.specs.Tokens.{stepAt};
 ghost use Rattle.lexing.specs.Marks.{stepBehind, stepMeant};
 
 // A token as numbers: its form, a row of `markRows` in specs/, and the form's argument.
-pub struct Mark {
+struct Mark {
     pub form: u16,
     pub argument: u16,
 }
 
 // A token and how many units follow its first one, or a broken one.
-pub enum Step {
+enum Step {
     Read(Mark, usize),
     Broken,
 }
@@ -38,33 +50,33 @@ fn step_of(u: u16, us: &[u16]) -> Step
 {
     let class = class_of(u);
     match class {
-        0 => quoted_literal(us),
-        1 => Step::Read(
+        QUOTED => quoted_literal(us),
+        BARE => Step::Read(
             Mark {
-                form: 1,
+                form: BARE,
                 argument: u,
             },
             0,
         ),
-        2..=3 => marked_unit(us, class),
-        4..=11 => Step::Read(
+        BLANK..=FILL => marked_unit(us, class),
+        ZERO_PLACE..=SEMICOLON => Step::Read(
             Mark {
                 form: class,
                 argument: 0,
             },
             0,
         ),
-        12 => general_word(us),
-        13 => half_day_word(us),
-        14 => escaped_literal(us),
-        15..=19 => letter_run(us, class, u),
-        20 => bracketed_token(us),
+        GENERAL_WORD => general_word(us),
+        HALF_DAY_WORD => half_day_word(us),
+        ESCAPED => escaped_literal(us),
+        YEARS..=SECONDS => letter_run(us, class, u),
+        BRACKET => bracketed_token(us),
         _ => Step::Broken,
     }
 }
 
 // The token at a place of a code.
-pub fn next(code: &[u16], at: usize) -> Step
+fn next(code: &[u16], at: usize) -> Step
     requires { ⌜ (at < length (now code)) × (length (now code) ≤ 254) ⌝ }
     ensures { λ r. ⌜ stepMeant (now (code .entry)) at r ≡ stepAt (getD (now (code .entry)) at 0) (drop (suc at) (now (code .entry))) ⌝ }
 {

@@ -5,6 +5,10 @@ ghost use lib.ListN.{length};
 ghost use Rattle.formats.specs.Tokens.{leading, startsWith, same};
 ghost use Rattle.lexing.specs.Scan.{member};
 
+const ZERO: u16 = b'0' as u16;
+
+const NINE: u16 = b'9' as u16;
+
 // The sets that scans go over: a unit alone, every unit but one, the decimal digits.
 pub enum Set {
     Only(u16),
@@ -19,7 +23,7 @@ fn is_member(s: Set, u: u16) -> bool
     match s {
         Set::Only(v) => v == u,
         Set::But(v) => u != v,
-        Set::Digits => { if 48 <= u { u <= 57 } else { false } }
+        Set::Digits => { if ZERO <= u { u <= NINE } else { false } }
     }
 }
 

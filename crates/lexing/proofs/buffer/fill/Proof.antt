@@ -82,7 +82,7 @@ returns : tie.Need-returns Inv-loop μ-loop
 unfolding countOf
 returns c =
     let inv = c .before .before .before .before .loop .inv in
-    record { same = filling-broken _ _ _ _ _ inv (c .before .before .before .loop-test .taken) (rw (c .enum-told .given .1) at (c .before .before .next .ensures)); few = search needs; size = inv .size }
+    record { same = filling-broken _ _ _ _ _ inv (c .before .before .before .loop-test .taken) _ (omega arith) (rw (c .enum-told .given .1) at (c .before .before .next .ensures)); few = search needs; size = inv .size }
 
 same-length-2 : tie.Need-same-length-2 Inv-loop μ-loop
 same-length-2 c = search needs

@@ -1,5 +1,6 @@
 -- `lexing::forms::quoted_literal` meets its contract.
 -- Assumes nothing.
+use native.Mathlib.Omega.{arith}
 use borrow.Author.Needs.{needs}
 use denote.Ref.{now}
 use Rattle.lexing.proofs.Reading.{quoted-empty, quoted-open, quoted-read}
@@ -10,7 +11,7 @@ scan-requires : tie.Need-scan-requires
 scan-requires c κs = search needs
 
 returns : tie.Need-returns
-returns c = quoted-empty (now (c .before .before .before .args .us)) _ (c .before .scan .ensures .0) (c .if1 .taken)
+returns c = quoted-empty (now (c .before .before .before .args .us)) _ (c .before .scan .ensures .0) (omega arith)
 
 returns-2 : tie.Need-returns-2
 returns-2 c = quoted-open (now (c .before .before .before .before .args .us)) _ (c .before .before .scan .ensures .0) (c .before .if1 .left) (c .if2 .taken)
