@@ -200,7 +200,7 @@ module _ (abs : Option Elapsed) where
       (λ k.
       let minute = is-minute n k (rw (means-hour r (firstRun (dateItems (piecesFrom false 0 ts))), h) at e₁) in
       step-from ts otherRun (NFPartMinute (leb-true n 2 k) (not-counted minutes minute)) refl e₂ f)
-      (λ k. step-from ts otherRun (NFPartMonth-long (leb-false n 2 k)) refl e₂ f)
+      (λ k. let l = leb-false n 2 k in step-from ts otherRun (NFPartMonth-long (omega arith)) refl e₂ f)
 
   hour-from : (n : ℕ) (ts : List Token) (b : Behind) (r : Run) → Dated r (item.hour n ∷ dateItems (piecesFrom false 0 ts)) → From ts → DateTimeRest abs b (run letterH n ∷ ts)
   unfolding settledFrom settledItem runOf nearer dateItem
@@ -337,7 +337,7 @@ module _ (abs : Option Elapsed) where
       (month-dated r n (dateItems (piecesFrom false 0 ts)) (rw (h, not-hours b k)) (f otherRun refl))
   token-dated {b} r ts h (NFPartMonth-long {n = n} k) f =
       rw (whole-items abs (direct b) (run letterM n) ts refl)
-      (month-dated r n (dateItems (piecesFrom false 0 ts)) (rw (lt-leb n 2 k, and-false (isHourRun r))) (f otherRun refl))
+      (month-dated r n (dateItems (piecesFrom false 0 ts)) (rw (lt-leb n 2 (omega arith), and-false (isHourRun r))) (f otherRun refl))
   token-dated {b} r ts h (NFPartDay {n = n}) f = rw (whole-items abs (direct b) (run letterD n) ts refl) (f otherRun refl)
   token-dated {b} r ts h (NFPartHour {n = n} k) f =
       rw (whole-items abs (direct b) (run letterH n) ts refl, counted-not hours k) (f hourRun refl)

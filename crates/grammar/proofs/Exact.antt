@@ -26,7 +26,7 @@ use Rattle.grammar.proofs.Tests.{every-in}
 use Rattle.grammar.proofs.Fronts.{colourShown, spells-front}
 use Rattle.grammar.proofs.Lexed.{Gives, lex-spelled, spelled-lex}
 use Rattle.grammar.proofs.PlainBodies.{NoSemicolon}
-use Rattle.grammar.proofs.Sections.{Passes, passed, any-of, no-text-of, third-of, neither-of, fourth-of, one-of, any-passes, no-text-passes, single-passes, third-passes, neither-passes, fourth-passes, condition-passes}
+use Rattle.grammar.proofs.Sections.{Passes, passed, any-of, fourth-of, one-of, any-passes, fourth-passes, condition-passes}
 use Rattle.grammar.proofs.Split.{behind, join, join-split, split-each, split-plain, split-one, split-before}
 
 -- ---- a colour that units spell is above 0
@@ -102,10 +102,10 @@ parted-one ts p = record { sections = ts ∷ []; are = split-one ts (p .plain); 
 
 all-parted : {ts : List Token} → codes.All ts → Parted ts
 all-parted {ts} (all-condition c d b) = parted-one ts (condition-passes c d b)
-all-parted {ts} (all-one d) = parted-one ts (single-passes d)
+all-parted {ts} (all-one d) = parted-one ts (any-passes 1 0 _ _ refl d)
 all-parted (all-two s t a b e) =
-    let p = no-text-passes 2 0 refl refl refl a in
-    let q = any-passes b in
+    let p = any-passes 2 0 _ _ refl a in
+    let q = any-passes 2 1 _ _ refl b in
     record {
       sections = s ∷ t ∷ [];
       are = rw (e, split-before s t (p .plain), split-one t (q .plain));
@@ -113,9 +113,9 @@ all-parted (all-two s t a b e) =
       pass = (p, (q, tt));
     }
 all-parted (all-three s t u a b c e) =
-    let p = no-text-passes 3 0 refl refl refl a in
-    let q = no-text-passes 3 1 refl refl refl b in
-    let r = third-passes c in
+    let p = any-passes 3 0 _ _ refl a in
+    let q = any-passes 3 1 _ _ refl b in
+    let r = any-passes 3 2 _ _ refl c in
     record {
       sections = s ∷ t ∷ u ∷ [];
       are = rw (e, split-before s (t ++ semicolon ∷ u) (p .plain), split-before t u (q .plain), split-one u (r .plain));
@@ -123,9 +123,9 @@ all-parted (all-three s t u a b c e) =
       pass = (p, (q, (r, tt)));
     }
 all-parted (all-four s t u v a b c d e) =
-    let p = no-text-passes 4 0 refl refl refl a in
-    let q = no-text-passes 4 1 refl refl refl b in
-    let r = neither-passes c in
+    let p = any-passes 4 0 _ _ refl a in
+    let q = any-passes 4 1 _ _ refl b in
+    let r = any-passes 4 2 _ _ refl c in
     let x = fourth-passes d in
     record {
       sections = s ∷ t ∷ u ∷ v ∷ [];
@@ -150,13 +150,13 @@ unfolding join behind
 derive-all ts [] j c p h l = absurd (omega arith)
 derive-all ts (s ∷ []) j c p h l = subst codes.All (sym (append-nil s) ∙ j) (one-of (passed (c .0) (p .0)))
 derive-all ts (s ∷ t ∷ []) j c p h l =
-    all-two s t (no-text-of 2 0 refl (passed (c .0) (p .0))) (any-of (passed (c .1 .0) (p .1 .0))) (sym j ∙ (rw (append-nil t)))
+    all-two s t (any-of 2 0 (passed (c .0) (p .0))) (any-of 2 1 (passed (c .1 .0) (p .1 .0))) (sym j ∙ (rw (append-nil t)))
 derive-all ts (s ∷ t ∷ u ∷ []) j c p h l =
-    all-three s t u (no-text-of 3 0 refl (passed (c .0) (p .0))) (no-text-of 3 1 refl (passed (c .1 .0) (p .1 .0)))
-    (third-of (passed (c .1 .1 .0) (p .1 .1 .0))) (sym j ∙ (rw (append-nil u)))
+    all-three s t u (any-of 3 0 (passed (c .0) (p .0))) (any-of 3 1 (passed (c .1 .0) (p .1 .0)))
+    (any-of 3 2 (passed (c .1 .1 .0) (p .1 .1 .0))) (sym j ∙ (rw (append-nil u)))
 derive-all ts (s ∷ t ∷ u ∷ v ∷ []) j c p h l =
-    all-four s t u v (no-text-of 4 0 refl (passed (c .0) (p .0))) (no-text-of 4 1 refl (passed (c .1 .0) (p .1 .0)))
-    (neither-of (passed (c .1 .1 .0) (p .1 .1 .0))) (fourth-of (passed (c .1 .1 .1 .0) (p .1 .1 .1 .0))) (sym j ∙ (rw (append-nil v)))
+    all-four s t u v (any-of 4 0 (passed (c .0) (p .0))) (any-of 4 1 (passed (c .1 .0) (p .1 .0)))
+    (any-of 4 2 (passed (c .1 .1 .0) (p .1 .1 .0))) (fourth-of (passed (c .1 .1 .1 .0) (p .1 .1 .1 .0))) (sym j ∙ (rw (append-nil v)))
 derive-all ts (s ∷ t ∷ u ∷ v ∷ w ∷ ss) j c p h l = absurd (omega arith)
 
 -- ---- whole codes

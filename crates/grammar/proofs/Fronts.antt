@@ -18,7 +18,7 @@ use Rattle.calendar.specs.Names.{units}
 use Rattle.formats.specs.Tokens.{Token, literal, bare, run, elapsed, colour, condition, Letter, letterY, letterM, letterD, letterH, letterS, Elapsed, hours, minutes, seconds, Comparison, equal, less, greater, atMost, atLeast, unequal, Step, read, broken, before, leading, startsWith, same, quoted, marked, generalWord, halfDayWord, runAllowed, runStep, isDigit, digitOf, numberFrom, colourNames, namedFrom, noLeadingZero, colourDigits, numbered, elapsedInside, decimalsOf, wholeOf, signedOf, conditionInside, firstForm, insideOf, closed, bracketed, FirstRow, letter, other, firstRows, firstIn, bareLiterals, stepBy, stepAt}
 use Rattle.formats.specs.Kinds.{isColour, colourIn}
 use Rattle.grammar.proofs.Tests.{every-parts}
-use Rattle.grammar.specs.Units.{Ended, WholeRun, Bracketed, ASCII-DIGIT, NFPartCompOper, oper-less, oper-at-most, oper-unequal, oper-equal, oper-greater, oper-at-least, NFPartIntNum, int-num, NFPartCondNum, cond-num-whole, cond-num-point, cond-num-minus, digit, NFPart1To56, one-digit, two-digits, fifty, fifties, INTL-COLOR, black, blue, cyan, green, magenta, red, white, yellow, BareLiteral, Spells, NFPartYear-2, NFPartYear-4, NFPartMonth, NFPartDay, NFPartHour, NFPartAbsHour, NFPartMinute, NFPartAbsMinute, NFPartSecond, NFPartAbsSecond, NFPartCond, NFPartColor-name, NFPartColor-number, NFPartNumToken1-number-sign, NFPartNumToken1-question-mark, NFPartNumToken1-zero, ASCII-PERCENT-SIGN, ASCII-COMMERCIAL-AT, ASCII-SEMICOLON, LITERAL-CHAR, LITERAL-CHAR-REPEAT, LITERAL-STRING, LITERAL-CHAR-SPACE, INTL-CHAR-DECIMAL-SEP, INTL-CHAR-NUMGRP-SEP, bare-literal, INTL-NUMFMT-GENERAL, INTL-AMPM-long, INTL-AMPM-short}
+use Rattle.grammar.specs.Units.{Ended, WholeRun, Bracketed, ASCII-DIGIT, NFPartCompOper, oper-less, oper-at-most, oper-unequal, oper-equal, oper-greater, oper-at-least, NFPartIntNum, int-num, NFPartCondNum, cond-num-whole, cond-num-point, cond-num-minus, digit, NFPart1To56, one-digit, two-digits, fifty, fifties, INTL-COLOR, black, blue, cyan, green, magenta, red, white, yellow, bareUnits, BareLiteral, Spells, NFPartYear-2, NFPartYear-4, NFPartMonth, NFPartDay, NFPartHour, NFPartAbsHour, NFPartMinute, NFPartAbsMinute, NFPartSecond, NFPartAbsSecond, NFPartCond, NFPartColor-name, NFPartColor-number, NFPartNumToken1-number-sign, NFPartNumToken1-question-mark, NFPartNumToken1-zero, ASCII-PERCENT-SIGN, ASCII-COMMERCIAL-AT, ASCII-SEMICOLON, LITERAL-CHAR, LITERAL-CHAR-REPEAT, LITERAL-STRING, LITERAL-CHAR-SPACE, INTL-CHAR-DECIMAL-SEP, INTL-CHAR-NUMGRP-SEP, bare-literal, INTL-NUMFMT-GENERAL, INTL-AMPM-long, INTL-AMPM-short}
 
 -- the step from the first of the units
 abbrev pub stepOf : List ℕ → Step
@@ -350,12 +350,12 @@ no-row ls u m (r ∷ rs) e =
 
 bare-step : {u : ℕ} (us : List ℕ) → BareLiteral u → stepAt u us ≡ read (bare u) 0
 unfolding stepAt stepBy firstRows any every bareLiterals units
-bare-step {u} us m = rw (no-row bareLiterals u m firstRows refl, m)
+bare-step {u} us m = rw (no-row bareUnits u m firstRows refl, m)
 
 pub spells-front : {t : Token} {us vs : List ℕ} → Spells t us vs → Front t us vs
 unfolding stepAt stepBy firstIn firstRows marked generalWord halfDayWord startsWith units runAllowed every colourIn
-spells-front {us = us} {vs = vs} (NFPartYear-2 r) = run-front letterY 2 us vs (omega arith) refl r
-spells-front {us = us} {vs = vs} (NFPartYear-4 r) = run-front letterY 4 us vs (omega arith) refl r
+spells-front {us = us} {vs = vs} (NFPartYear-2 r) = run-front letterY _ us vs (omega arith) refl r
+spells-front {us = us} {vs = vs} (NFPartYear-4 r) = run-front letterY _ us vs (omega arith) refl r
 spells-front {us = us} {vs = vs} (NFPartMonth {n = n} h k r) = run-front letterM n us vs h (rw (le-leb 1 n h, le-leb n 5 k)) r
 spells-front {us = us} {vs = vs} (NFPartDay {n = n} h k r) = run-front letterD n us vs h (rw (le-leb 1 n h, le-leb n 4 k)) r
 spells-front {us = us} {vs = vs} (NFPartHour {n = n} h k r) = run-front letterH n us vs h (rw (le-leb 1 n h, le-leb n 2 k)) r

@@ -130,13 +130,15 @@ derive-number ts s h f =
     let items = plain-body ts numberKind h refl in
     let (points, percents, places, wholes, decimals, has-place) = alike vs in
     let few : count isPoint ts ≤ 1 = rw (items, points) at (f .points) in
+    let few-wholes : wholePlaces ts ≤ 20 = rw (items, wholes) at (f .wholes) in
+    let few-decimals : decimalPlaces ts ≤ 15 = rw (items, decimals) at (f .decimals) in
     let has-one : any isPlace ts ≡ true = sym has-place ∙ kind-has numberKind refl ts h in
     record {
       divisions = count isDividing (commaUsesFrom false false ts);
       num = num-of vs leading (record { placed = p .placed; points = few; ahead = has-one });
       no-fraction = no-fraction-of ts (f .solidus);
-      wholes-most = rw (items, wholes) at (f .wholes);
-      decimals-most = rw (items, decimals) at (f .decimals);
+      wholes-most = omega arith;
+      decimals-most = omega arith;
       percents-most = rw (items, percents) at (f .percents);
       divisions-most = rw (h, comma-uses ts) at (f .divisions);
     }
@@ -164,8 +166,8 @@ number-fits ts d =
         points = rw (items, points) few;
         elapseds = omega arith;
         apart = plain-none (kept ts) elapseds;
-        wholes = rw (items, wholes) (d .wholes-most);
-        decimals = rw (items, decimals) (d .decimals-most);
+        wholes = rw (items, wholes) (omega (arith, d .wholes-most));
+        decimals = rw (items, decimals) (omega (arith, d .decimals-most));
         percents = rw (items, percents) (d .percents-most);
         divisions = rw (h, comma-uses ts, c .counted) divided;
         short = short-none (kept ts) elapseds;

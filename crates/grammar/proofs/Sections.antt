@@ -3,7 +3,7 @@
 use Prim.Native.Nat.{ℕ, suc, _≤_}
 use native.Mathlib.Omega.{arith}
 use mathlib.Core.Path.{_≡_, refl, sym, subst, _∙_}
-use mathlib.Core.Bool.{Bool, true, false, cond, not, _&&_, _||_}
+use mathlib.Core.Bool.{Bool, true, false, not, _&&_, _||_, and-false}
 use mathlib.Core.List.{List, [], _∷_}
 use mathlib.Core.Option.{Option, none, some}
 use lib.ListN.{length}
@@ -19,7 +19,7 @@ use Rattle.formats.specs.Limits.{sectionWithin, writtenWithin, withinLimits}
 use Rattle.formats.proofs.Formed.{kind-of-section}
 use Rattle.grammar.specs.Bodies.{Literals, NFGeneral, NFNumber, NFDateTime, NFText}
 use Rattle.grammar.specs.Codes as codes
-use Rattle.grammar.specs.Codes.{OptColor, no-color, color, NFPartCond, OptCond, no-cond, some-cond, NFAny, any-number, any-text, any-date, any-general, any-literal, NFAnyNoText, no-text-number, no-text-date, no-text-general, no-text-literal, NFAnyNoCond, no-cond-number, no-cond-text, no-cond-date, no-cond-general, no-cond-literal, NFAnyNoTextNoCond, neither-number, neither-date, neither-general, neither-literal, Fourth, fourth-text, fourth-general, fourth-literal}
+use Rattle.grammar.specs.Codes.{OptColor, no-color, color, NFPartCond, OptCond, no-cond, some-cond, NFAnyBy, any-number, any-text, any-date, any-general, any-literal, NFAnyNoCond, Fourth, fourth-text, fourth-general, fourth-literal}
 use Rattle.grammar.proofs.Tests.{no, and-parts, every-parts}
 use Rattle.grammar.proofs.Quiet.{known}
 use Rattle.grammar.proofs.Fronts.{colourShown}
@@ -106,10 +106,6 @@ part-cond {w} conditioned e =
     let (a, b) = and-parts (leb (length (w .whole)) 9) (leb (length (w .decimals)) 6) e in
     codes.cond (leb-true (length (w .whole)) 9 a) (leb-true (length (w .decimals)) 6 b)
 
-opt-cond : {o : Option Written} {us vs : List Token} → Conditioned o us vs → writtenWithin o ≡ true → OptCond us vs
-opt-cond unconditioned e = no-cond
-opt-cond conditioned e = some-cond (part-cond conditioned e)
-
 -- ---- where a section may stand, by its colour, its condition and its kind
 
 unfoldable pub standsBy : ℕ → ℕ → ℕ → Bool → Kind → Bool
@@ -154,12 +150,22 @@ passed {n} {i} {s} shown p = from (parts-headed s shown)
         derived (bodyKind (q .body)) c d (derive-body (bodyKind (q .body)) (q .body) (headed-plain c d (p .plain)) refl (fitting q (p .fitted) l)) w
         (sym (stands-by n i q) ∙ p .stands)
 
--- "only the first two" have a condition
-late-condition : {P : Type 0} (n i c : ℕ) (k : Kind) → ltb i 2 ≡ false → standsBy n i c true k ≡ true → P
+-- "only the first two" have a condition; "A text section has no condition."
+early-condition : (n i c : ℕ) (k : Kind) → standsBy n i c true k ≡ true → ltb i 2 ≡ true
 unfolding standsBy
-late-condition n i c k l e =
-    let all : T (standsBy n i c true k) = true-T e in
-    no (sym l ∙ T-true (ltb i 2) (search (and-left, and-right) depth 8))
+early-condition n i c k e = let all : T (standsBy n i c true k) = true-T e in T-true (ltb i 2) (search (and-left, and-right) depth 8)
+
+text-uncond : {P : Type 0} (n i c : ℕ) → standsBy n i c true textKind ≡ true → P
+unfolding standsBy
+text-uncond n i c e =
+    let all : T (standsBy n i c true textKind) = true-T e in
+    let never : T false = search (and-left, and-right) depth 8 in
+    absurd never
+
+-- "text only last"
+text-last : (n i c : ℕ) (d : Bool) → standsBy n i c d textKind ≡ true → eqb (suc i) n ≡ true
+unfolding standsBy
+text-last n i c d e = let all : T (standsBy n i c d textKind) = true-T e in T-true (eqb (suc i) n) (search (and-left, and-right) depth 8)
 
 -- the fourth has no colour
 coloured-fourth : {P : Type 0} (c : ℕ) (d : Bool) (k : Kind) → 1 ≤ c → standsBy 4 3 c d k ≡ true → P
@@ -169,49 +175,33 @@ coloured-fourth c d k h e =
     let none-there : c ≡ 0 = eqb-true c 0 (T-true (eqb c 0) (search (and-left, and-right) depth 8)) in
     absurd (omega arith)
 
-pub any-of : {s : List Token} → Derived 2 1 s → NFAny s
-unfolding standsBy isSome
-any-of (derived numberKind c d b w e) = any-number (opt-color c) (opt-cond d w) b
-any-of (derived textKind c unconditioned b w e) = any-text (opt-color c) b
-any-of (derived textKind c conditioned b w e) = no e
-any-of (derived dateKind c d b w e) = any-date (opt-color c) (opt-cond d w) b
-any-of (derived generalKind c d b w e) = any-general (opt-color c) (opt-cond d w) b
-any-of (derived literalKind c d b w e) = any-literal (opt-color c) (opt-cond d w) b
+opt-cond : (n i c : ℕ) (k : Kind) {o : Option Written} {us vs : List Token} → Conditioned o us vs → writtenWithin o ≡ true
+    → standsBy n i c (isSome o) k ≡ true → OptCond (ltb i 2) us vs
+unfolding isSome
+opt-cond n i c k unconditioned w e = no-cond
+opt-cond n i c k conditioned w e = some-cond (early-condition n i c k e) (part-cond conditioned w)
 
-pub no-text-of : (n i : ℕ) → eqb (suc i) n ≡ false → {s : List Token} → Derived n i s → NFAnyNoText s
-unfolding standsBy
-no-text-of n i l (derived numberKind c d b w e) = no-text-number (opt-color c) (opt-cond d w) b
-no-text-of n i l (derived textKind c d b w e) = no (rw l at e)
-no-text-of n i l (derived dateKind c d b w e) = no-text-date (opt-color c) (opt-cond d w) b
-no-text-of n i l (derived generalKind c d b w e) = no-text-general (opt-color c) (opt-cond d w) b
-no-text-of n i l (derived literalKind c d b w e) = no-text-literal (opt-color c) (opt-cond d w) b
+pub any-of : (n i : ℕ) {s : List Token} → Derived n i s → NFAnyBy (eqb (suc i) n) (ltb i 2) s
+unfolding isSome
+any-of n i (derived {c = h} numberKind c d b w e) = any-number (opt-color c) (opt-cond n i h numberKind d w e) b
+any-of n i (derived {c = h} textKind c unconditioned b w e) = any-text (text-last n i h false e) (opt-color c) b
+any-of n i (derived {c = h} textKind c conditioned b w e) = text-uncond n i h e
+any-of n i (derived {c = h} dateKind c d b w e) = any-date (opt-color c) (opt-cond n i h dateKind d w e) b
+any-of n i (derived {c = h} generalKind c d b w e) = any-general (opt-color c) (opt-cond n i h generalKind d w e) b
+any-of n i (derived {c = h} literalKind c d b w e) = any-literal (opt-color c) (opt-cond n i h literalKind d w e) b
 
 -- a body without a condition
 uncond-of : {s us : List Token} (k : Kind) → OptColor s us → Body k us → NFAnyNoCond s
-uncond-of numberKind c b = no-cond-number c b
-uncond-of textKind c b = no-cond-text c b
-uncond-of dateKind c b = no-cond-date c b
-uncond-of generalKind c b = no-cond-general c b
-uncond-of literalKind c b = no-cond-literal c b
-
-pub third-of : {s : List Token} → Derived 3 2 s → NFAnyNoCond s
-unfolding isSome
-third-of (derived k c unconditioned b w e) = uncond-of k (opt-color c) b
-third-of (derived {c = n} k c conditioned b w e) = late-condition 3 2 n k refl e
-
-pub neither-of : {s : List Token} → Derived 4 2 s → NFAnyNoTextNoCond s
-unfolding isSome standsBy
-neither-of (derived {c = n} k c conditioned b w e) = late-condition 4 2 n k refl e
-neither-of (derived numberKind c unconditioned b w e) = neither-number (opt-color c) b
-neither-of (derived textKind c unconditioned b w e) = no e
-neither-of (derived dateKind c unconditioned b w e) = neither-date (opt-color c) b
-neither-of (derived generalKind c unconditioned b w e) = neither-general (opt-color c) b
-neither-of (derived literalKind c unconditioned b w e) = neither-literal (opt-color c) b
+uncond-of numberKind c b = any-number c no-cond b
+uncond-of textKind c b = any-text refl c b
+uncond-of dateKind c b = any-date c no-cond b
+uncond-of generalKind c b = any-general c no-cond b
+uncond-of literalKind c b = any-literal c no-cond b
 
 pub fourth-of : {s : List Token} → Derived 4 3 s → Fourth s
 unfolding isSome standsBy
 fourth-of (derived {c = n} {o = o} k (colored h) d b w e) = coloured-fourth n (isSome o) k h e
-fourth-of (derived k uncolored conditioned b w e) = late-condition 4 3 0 k refl e
+fourth-of (derived k uncolored conditioned b w e) = no (early-condition 4 3 0 k e)
 fourth-of (derived numberKind uncolored unconditioned b w e) = no e
 fourth-of (derived textKind uncolored unconditioned b w e) = fourth-text b
 fourth-of (derived dateKind uncolored unconditioned b w e) = no e
@@ -297,76 +287,46 @@ passes n i k {s} {vs} {c} {o} p b e =
       within = rw (p .parts, p .written) (within-fitting q f);
     }
 
--- a section that may have a condition
-maybe-passes : (n i : ℕ) (k : Kind) {s us vs : List Token} → ((c : ℕ) (d : Bool) → standsBy n i c d k ≡ true) → OptColor s us → OptCond us vs → Body k vs → Passes n i s
-unfolding isSome
-maybe-passes n i k {us = us} f c no-cond b =
-    let u = uncond c (((body-fits k us b) .1) .brackets) in
-    passes n i k (u .parted) b (f (u .shade) false)
-maybe-passes n i k f c (some-cond d) b = let u = with-cond c d in passes n i k (u .parted) b (f (u .shade) true)
+-- where sections may have text, or a condition: these are the places that `standsBy` has for them, but for the fourth
+abbrev placed : ℕ → ℕ → Bool → Bool → Bool
+placed n i text cond = implies text (eqb (suc i) n) && implies cond (ltb i 2 && not (eqb n 1)) && not (eqb i 3)
 
--- one that has none
-uncond-passes : (n i : ℕ) (k : Kind) {s us : List Token} → ((c : ℕ) → standsBy n i c false k ≡ true) → OptColor s us → Body k us → Passes n i s
-unfolding isSome
-uncond-passes n i k {us = us} f c b =
-    let u = uncond c (((body-fits k us b) .1) .brackets) in
-    passes n i k (u .parted) b (f (u .shade))
+module _ (n i : ℕ) (text cond : Bool) (p : placed n i text cond ≡ true) where
+  not-fourth : eqb i 3 ≡ false
+  not-fourth = not-true (eqb i 3) ((and-parts (implies text (eqb (suc i) n) && implies cond (ltb i 2 && not (eqb n 1))) _ p) .1)
 
-early-stands : (n i : ℕ) (k : Kind) → eqb n 1 ≡ false → ltb i 2 ≡ true → eqb i 3 ≡ false → sameKind k textKind ≡ false → (c : ℕ) (d : Bool) → standsBy n i c d k ≡ true
-unfolding standsBy
-early-stands n i k a b e f c true = rw (a, b, e, f)
-early-stands n i k a b e f c false = rw (a, e, f)
+  untexted : (k : Kind) → sameKind k textKind ≡ false → (c : ℕ) (d : Bool) → (d ≡ true → cond ≡ true) → standsBy n i c d k ≡ true
+  unfolding standsBy
+  untexted k f c false h = rw (f, not-fourth, and-false (eqb n 1))
+  untexted k f c true h =
+      let may : cond ≡ true = h refl in
+      let first = (and-parts (implies text (eqb (suc i) n) && implies cond (ltb i 2 && not (eqb n 1))) _ p) .0 in
+      let early : (ltb i 2 && not (eqb n 1)) ≡ true = rw may at ((and-parts (implies text (eqb (suc i) n)) (implies cond (ltb i 2 && not (eqb n 1))) first) .1) in
+      let (a, b) = and-parts (ltb i 2) (not (eqb n 1)) early in
+      rw (f, not-fourth, a, not-true (eqb n 1) b)
 
-pub any-passes : {s : List Token} → NFAny s → Passes 2 1 s
-unfolding standsBy
-any-passes (any-number c d b) = maybe-passes 2 1 numberKind (early-stands 2 1 numberKind refl refl refl refl) c d b
-any-passes (any-text c b) = uncond-passes 2 1 textKind (λ c. refl) c b
-any-passes (any-date c d b) = maybe-passes 2 1 dateKind (early-stands 2 1 dateKind refl refl refl refl) c d b
-any-passes (any-general c d b) = maybe-passes 2 1 generalKind (early-stands 2 1 generalKind refl refl refl refl) c d b
-any-passes (any-literal c d b) = maybe-passes 2 1 literalKind (early-stands 2 1 literalKind refl refl refl refl) c d b
+  texted : text ≡ true → (c : ℕ) → standsBy n i c false textKind ≡ true
+  unfolding standsBy
+  texted t c =
+      let first = (and-parts (implies text (eqb (suc i) n) && implies cond (ltb i 2 && not (eqb n 1))) _ p) .0 in
+      let last : eqb (suc i) n ≡ true = rw t at ((and-parts (implies text (eqb (suc i) n)) (implies cond (ltb i 2 && not (eqb n 1))) first) .0) in
+      rw (last, not-fourth, and-false (eqb n 1))
 
-pub no-text-passes : (n i : ℕ) → eqb n 1 ≡ false → ltb i 2 ≡ true → eqb i 3 ≡ false → {s : List Token} → NFAnyNoText s → Passes n i s
-no-text-passes n i a b e (no-text-number c d x) = maybe-passes n i numberKind (early-stands n i numberKind a b e refl) c d x
-no-text-passes n i a b e (no-text-date c d x) = maybe-passes n i dateKind (early-stands n i dateKind a b e refl) c d x
-no-text-passes n i a b e (no-text-general c d x) = maybe-passes n i generalKind (early-stands n i generalKind a b e refl) c d x
-no-text-passes n i a b e (no-text-literal c d x) = maybe-passes n i literalKind (early-stands n i literalKind a b e refl) c d x
+  -- a section with a body of kind k, which may have a condition where the rule has one
+  maybe-passes : (k : Kind) → sameKind k textKind ≡ false → {s us vs : List Token} → OptColor s us → OptCond cond us vs → Body k vs → Passes n i s
+  unfolding isSome
+  maybe-passes k f {us = us} c no-cond b =
+      let u = uncond c (((body-fits k us b) .1) .brackets) in
+      passes n i k (u .parted) b (untexted k f (u .shade) false (λ h. no h))
+  maybe-passes k f c (some-cond h d) b = let u = with-cond c d in passes n i k (u .parted) b (untexted k f (u .shade) true (λ e. h))
 
--- the last section of one or three
-last-passes : (n i : ℕ) → ((k : Kind) (c : ℕ) → standsBy n i c false k ≡ true) → {s : List Token} → NFAnyNoCond s → Passes n i s
-last-passes n i f (no-cond-number c b) = uncond-passes n i numberKind (f numberKind) c b
-last-passes n i f (no-cond-text c b) = uncond-passes n i textKind (f textKind) c b
-last-passes n i f (no-cond-date c b) = uncond-passes n i dateKind (f dateKind) c b
-last-passes n i f (no-cond-general c b) = uncond-passes n i generalKind (f generalKind) c b
-last-passes n i f (no-cond-literal c b) = uncond-passes n i literalKind (f literalKind) c b
-
-single-stands : (k : Kind) (c : ℕ) → standsBy 1 0 c false k ≡ true
-unfolding standsBy
-single-stands textKind c = refl
-single-stands generalKind c = refl
-single-stands dateKind c = refl
-single-stands numberKind c = refl
-single-stands literalKind c = refl
-
-third-stands : (k : Kind) (c : ℕ) → standsBy 3 2 c false k ≡ true
-unfolding standsBy
-third-stands textKind c = refl
-third-stands generalKind c = refl
-third-stands dateKind c = refl
-third-stands numberKind c = refl
-third-stands literalKind c = refl
-
-pub single-passes : {s : List Token} → NFAnyNoCond s → Passes 1 0 s
-single-passes d = last-passes 1 0 single-stands d
-
-pub third-passes : {s : List Token} → NFAnyNoCond s → Passes 3 2 s
-third-passes d = last-passes 3 2 third-stands d
-
-pub neither-passes : {s : List Token} → NFAnyNoTextNoCond s → Passes 4 2 s
-unfolding standsBy
-neither-passes (neither-number c b) = uncond-passes 4 2 numberKind (λ c. refl) c b
-neither-passes (neither-date c b) = uncond-passes 4 2 dateKind (λ c. refl) c b
-neither-passes (neither-general c b) = uncond-passes 4 2 generalKind (λ c. refl) c b
-neither-passes (neither-literal c b) = uncond-passes 4 2 literalKind (λ c. refl) c b
+  pub any-passes : {s : List Token} → NFAnyBy text cond s → Passes n i s
+  unfolding isSome
+  any-passes (any-number c d b) = maybe-passes numberKind refl c d b
+  any-passes (any-text {us = us} t c b) = let u = uncond c (((body-fits textKind us b) .1) .brackets) in passes n i textKind (u .parted) b (texted t (u .shade))
+  any-passes (any-date c d b) = maybe-passes dateKind refl c d b
+  any-passes (any-general c d b) = maybe-passes generalKind refl c d b
+  any-passes (any-literal c d b) = maybe-passes literalKind refl c d b
 
 -- a section that is its body
 bare-passes : (n i : ℕ) (k : Kind) (s : List Token) → standsBy n i 0 false k ≡ true → Body k s → Passes n i s

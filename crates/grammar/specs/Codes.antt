@@ -1,6 +1,7 @@
 -- Level 2, bodies to codes: the rules NFAny, NFAnyNoText, NFAnyNoCond, NFAnyNoTextNoCond and All of 004, and what derives a code.
 -- Assumes nothing.
 use Prim.Native.Nat.{ℕ, _≤_}
+use mathlib.Core.Bool.{Bool, true, false}
 use mathlib.Core.List.{List, _∷_, _++_}
 use mathlib.Core.Path.{_≡_}
 use lib.ListN.{length}
@@ -21,45 +22,38 @@ pub data OptColor : List Token → List Token → Type 0 where
 pub data NFPartCond : List Token → List Token → Type 0 where
   cond : {w : Written} {ts : List Token} → length (w .whole) ≤ 9 → length (w .decimals) ≤ 6 → NFPartCond (condition w ∷ ts) ts
 
--- 004: [NFPartCond], narrowed as the colour is
-pub data OptCond : List Token → List Token → Type 0 where
-  no-cond : {ts : List Token} → OptCond ts ts
-  some-cond : {ts us : List Token} → NFPartCond ts us → OptCond ts us
+-- 004: [NFPartCond], narrowed as the colour is; in the rules that have it, `cond`
+pub data OptCond (cond : Bool) : List Token → List Token → Type 0 where
+  no-cond : {ts : List Token} → OptCond cond ts ts
+  some-cond : {ts us : List Token} → cond ≡ true → NFPartCond ts us → OptCond cond ts us
 
 -- ---- sections
 
--- The four rules are 004's. In each, NFFraction is cut ("Not now: [..] fractions"), and [NFDateTime] [NFGeneral] [NFDateTime] is
--- narrowed ("Not now: [..] date tokens beside General") to NFDateTime, NFGeneral or neither of them.
+-- The four rules are 004's, which differ in whether they have NFText, `text`, and [NFPartCond], `cond`; NFText never has a condition. In
+-- each, NFFraction is cut ("Not now: [..] fractions"), and [NFDateTime] [NFGeneral] [NFDateTime] is narrowed ("Not now: [..] date tokens
+-- beside General") to NFDateTime, NFGeneral or neither of them.
+pub data NFAnyBy (text cond : Bool) : List Token → Type 0 where
+  any-number : {ts us vs : List Token} → OptColor ts us → OptCond cond us vs → NFNumber vs → NFAnyBy text cond ts
+  any-text : {ts us : List Token} → text ≡ true → OptColor ts us → NFText us → NFAnyBy text cond ts
+  any-date : {ts us vs : List Token} → OptColor ts us → OptCond cond us vs → NFDateTime vs → NFAnyBy text cond ts
+  any-general : {ts us vs : List Token} → OptColor ts us → OptCond cond us vs → NFGeneral vs → NFAnyBy text cond ts
+  any-literal : {ts us vs : List Token} → OptColor ts us → OptCond cond us vs → Literals vs → NFAnyBy text cond ts
 
 -- NFAny = [NFPartColor] (([NFPartCond] NFNumber) / NFText / ([NFPartCond] NFFraction) / ([NFPartCond] [NFDateTime] [NFGeneral] [NFDateTime]))
-pub data NFAny : List Token → Type 0 where
-  any-number : {ts us vs : List Token} → OptColor ts us → OptCond us vs → NFNumber vs → NFAny ts
-  any-text : {ts us : List Token} → OptColor ts us → NFText us → NFAny ts
-  any-date : {ts us vs : List Token} → OptColor ts us → OptCond us vs → NFDateTime vs → NFAny ts
-  any-general : {ts us vs : List Token} → OptColor ts us → OptCond us vs → NFGeneral vs → NFAny ts
-  any-literal : {ts us vs : List Token} → OptColor ts us → OptCond us vs → Literals vs → NFAny ts
+abbrev pub NFAny : List Token → Type 0
+NFAny ts = NFAnyBy true true ts
 
 -- NFAnyNoText = [NFPartColor] [NFPartCond] (NFNumber / NFFraction / ([NFDateTime] [NFGeneral] [NFDateTime]))
-pub data NFAnyNoText : List Token → Type 0 where
-  no-text-number : {ts us vs : List Token} → OptColor ts us → OptCond us vs → NFNumber vs → NFAnyNoText ts
-  no-text-date : {ts us vs : List Token} → OptColor ts us → OptCond us vs → NFDateTime vs → NFAnyNoText ts
-  no-text-general : {ts us vs : List Token} → OptColor ts us → OptCond us vs → NFGeneral vs → NFAnyNoText ts
-  no-text-literal : {ts us vs : List Token} → OptColor ts us → OptCond us vs → Literals vs → NFAnyNoText ts
+abbrev pub NFAnyNoText : List Token → Type 0
+NFAnyNoText ts = NFAnyBy false true ts
 
 -- NFAnyNoCond = [NFPartColor] (NFNumber / NFText / NFFraction / ([NFDateTime] [NFGeneral] [NFDateTime]))
-pub data NFAnyNoCond : List Token → Type 0 where
-  no-cond-number : {ts us : List Token} → OptColor ts us → NFNumber us → NFAnyNoCond ts
-  no-cond-text : {ts us : List Token} → OptColor ts us → NFText us → NFAnyNoCond ts
-  no-cond-date : {ts us : List Token} → OptColor ts us → NFDateTime us → NFAnyNoCond ts
-  no-cond-general : {ts us : List Token} → OptColor ts us → NFGeneral us → NFAnyNoCond ts
-  no-cond-literal : {ts us : List Token} → OptColor ts us → Literals us → NFAnyNoCond ts
+abbrev pub NFAnyNoCond : List Token → Type 0
+NFAnyNoCond ts = NFAnyBy true false ts
 
 -- NFAnyNoTextNoCond = [NFPartColor] (NFNumber / NFFraction / ([NFDateTime] [NFGeneral] [NFDateTime]))
-pub data NFAnyNoTextNoCond : List Token → Type 0 where
-  neither-number : {ts us : List Token} → OptColor ts us → NFNumber us → NFAnyNoTextNoCond ts
-  neither-date : {ts us : List Token} → OptColor ts us → NFDateTime us → NFAnyNoTextNoCond ts
-  neither-general : {ts us : List Token} → OptColor ts us → NFGeneral us → NFAnyNoTextNoCond ts
-  neither-literal : {ts us : List Token} → OptColor ts us → Literals us → NFAnyNoTextNoCond ts
+abbrev pub NFAnyNoTextNoCond : List Token → Type 0
+NFAnyNoTextNoCond ts = NFAnyBy false false ts
 
 -- 004: [NFText / NFGeneral], the fourth section. 01 says the same, "The fourth is text, General or literal, without colour or
 -- condition".

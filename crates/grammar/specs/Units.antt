@@ -93,8 +93,11 @@ pub data INTL-COLOR : ℕ → List ℕ → Type 0 where
 -- ---- tokens
 
 -- added, "Literals without quotes: `$ - + / ( ) : ! ^ & ' ~ { } < > =` and space"
+abbrev pub bareUnits : List ℕ
+bareUnits = units "$-+/():!^&'~{}<>= "
+
 abbrev pub BareLiteral : ℕ → Type 0
-BareLiteral u = any (eqb u) (units "$-+/():!^&'~{}<>= ") ≡ true
+BareLiteral u = any (eqb u) bareUnits ≡ true
 
 -- a token, the units that begin with it, the units that are left
 pub data Spells : Token → List ℕ → List ℕ → Type 0 where
