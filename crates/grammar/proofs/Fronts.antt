@@ -18,7 +18,7 @@ use Rattle.calendar.specs.Names.{units}
 use Rattle.formats.specs.Tokens.{Token, literal, bare, run, elapsed, colour, condition, Letter, letterY, letterM, letterD, letterH, letterS, Elapsed, hours, minutes, seconds, Comparison, equal, less, greater, atMost, atLeast, unequal, Step, read, broken, before, leading, startsWith, same, quoted, marked, generalWord, halfDayWord, runAllowed, runStep, isDigit, digitOf, numberFrom, colourNames, namedFrom, noLeadingZero, colourDigits, numbered, elapsedInside, decimalsOf, wholeOf, signedOf, conditionInside, firstForm, insideOf, closed, bracketed, FirstRow, letter, other, firstRows, firstIn, bareLiterals, stepBy, stepAt}
 use Rattle.formats.specs.Kinds.{isColour, colourIn}
 use Rattle.grammar.proofs.Tests.{every-parts}
-use Rattle.grammar.specs.Units.{Ended, WholeRun, Bracketed, ASCII-DIGIT, NFPartCompOper, oper-less, oper-at-most, oper-unequal, oper-equal, oper-greater, oper-at-least, NFPartIntNum, int-num, NFPartCondNum, cond-num-whole, cond-num-point, cond-num-minus, digit, NFPart1To56, one-digit, two-digits, fifty, fifties, INTL-COLOR, black, blue, cyan, green, magenta, red, white, yellow, bareUnits, BareLiteral, Spells, NFPartYear-2, NFPartYear-4, NFPartMonth, NFPartDay, NFPartHour, NFPartAbsHour, NFPartMinute, NFPartAbsMinute, NFPartSecond, NFPartAbsSecond, NFPartCond, NFPartColor-name, NFPartColor-number, NFPartNumToken1-number-sign, NFPartNumToken1-question-mark, NFPartNumToken1-zero, ASCII-PERCENT-SIGN, ASCII-COMMERCIAL-AT, ASCII-SEMICOLON, LITERAL-CHAR, LITERAL-CHAR-REPEAT, LITERAL-STRING, LITERAL-CHAR-SPACE, INTL-CHAR-DECIMAL-SEP, INTL-CHAR-NUMGRP-SEP, bare-literal, INTL-NUMFMT-GENERAL, INTL-AMPM-long, INTL-AMPM-short}
+use Rattle.grammar.specs.Units.{Ended, WholeRun, Bracketed, ASCII-DIGIT, NFPartCompOper, oper-less, oper-at-most, oper-unequal, oper-equal, oper-greater, oper-at-least, NFPartIntNum, int-num, NFPartCondNum, cond-num-whole, cond-num-point, cond-num-minus, NFPart1To56, one-digit, two-digits, fifty, fifties, INTL-COLOR, black, blue, cyan, green, magenta, red, white, yellow, bareUnits, BareLiteral, Spells, NFPartYear-2, NFPartYear-4, NFPartMonth, NFPartDay, NFPartHour, NFPartAbsHour, NFPartMinute, NFPartAbsMinute, NFPartSecond, NFPartAbsSecond, NFPartCond, NFPartColor-name, NFPartColor-number, NFPartNumToken1-number-sign, NFPartNumToken1-question-mark, NFPartNumToken1-zero, ASCII-PERCENT-SIGN, ASCII-COMMERCIAL-AT, ASCII-SEMICOLON, LITERAL-CHAR, LITERAL-CHAR-REPEAT, LITERAL-STRING, LITERAL-CHAR-SPACE, INTL-CHAR-DECIMAL-SEP, INTL-CHAR-NUMGRP-SEP, bare-literal, INTL-NUMFMT-GENERAL, INTL-AMPM-long, INTL-AMPM-short}
 
 -- the step from the first of the units
 abbrev pub stepOf : List ℕ → Step
@@ -174,19 +174,20 @@ every-true f (w ∷ ws) a = rw (a .0) (every-true f ws (a .1))
 
 -- ---- numbered colours
 
-one-number : (u : ℕ) → 49 ≤ u → u ≤ 57 → colourDigits (u ∷ []) ≡ some (colour (digit u))
+one-number : (u : ℕ) → 49 ≤ u → u ≤ 57 → colourDigits (u ∷ []) ≡ some (colour (digitOf u))
 unfolding colourDigits noLeadingZero every numberFrom digitOf
 one-number u a b =
     let e : 10 * 0 + (u - 48) ≡ u - 48 = omega arith in
     rw (ne-eqb u 48 (λ h. omega arith), digit-true u (omega arith, b), e, le-leb (u - 48) 56 (omega arith))
 
-two-number : (u v : ℕ) → 49 ≤ u → u ≤ 57 → ASCII-DIGIT v → 10 * digit u + digit v ≤ 56 → colourDigits (u ∷ v ∷ []) ≡ some (colour (10 * digit u + digit v))
+two-number : (u v : ℕ) → 49 ≤ u → u ≤ 57 → ASCII-DIGIT v → 10 * digitOf u + digitOf v ≤ 56 → colourDigits (u ∷ v ∷ []) ≡ some (colour (10 * digitOf u + digitOf v))
 unfolding colourDigits noLeadingZero every numberFrom digitOf
 two-number u v a b d h =
     let e : 10 * (10 * 0 + (u - 48)) + (v - 48) ≡ 10 * (u - 48) + (v - 48) = omega arith in
     rw (ne-eqb u 48 (λ h. omega arith), digit-true u (omega arith, b), digit-true v d, e, le-leb (10 * (u - 48) + (v - 48)) 56 h)
 
 number-digits : (n : ℕ) (ws : List ℕ) → NFPart1To56 n ws → colourDigits ws ≡ some (colour n)
+unfolding digitOf
 number-digits n ws (one-digit u d) = one-number u (d .0) (d .1)
 number-digits n ws (two-digits u v d e) =
     let a = d .0 in let b = d .1 in let c = e .0 in let f = e .1 in
@@ -203,6 +204,7 @@ number-open n ws fifty = ((λ e. omega arith), ((λ e. omega arith), tt))
 number-open n ws (fifties v d) = let b = d .1 in ((λ e. omega arith), ((λ e. omega arith), tt))
 
 number-shown : (n : ℕ) (ws : List ℕ) → NFPart1To56 n ws → leb 1 n ≡ true
+unfolding digitOf
 number-shown n ws (one-digit u d) = let a = d .0 in le-leb 1 n (omega arith)
 number-shown n ws (two-digits u v d e) = let a = d .0 in le-leb 1 n (omega arith)
 number-shown n ws fifty = refl
@@ -236,7 +238,7 @@ elapsed-open seconds n = open-same 115 n (λ e. omega arith)
 -- ---- conditions
 
 abbrev pub conditionToken : Comparison → Bool → List ℕ → List ℕ → Token
-conditionToken c negative ws ds = condition (record { comparison = c; negative = negative; whole = map digit ws; decimals = map digit ds })
+conditionToken c negative ws ds = condition (record { comparison = c; negative = negative; whole = map digitOf ws; decimals = map digitOf ds })
 
 int-digits : (ws : List ℕ) → NFPartIntNum ws → All ASCII-DIGIT ws
 int-digits ws (int-num u us a) = a
@@ -249,7 +251,7 @@ digits-some : (ws : List ℕ) → NFPartIntNum ws → eqb (length ws) 0 ≡ fals
 digits-some ws (int-num u us a) = ne-eqb (suc (length us)) 0 (λ e. omega arith)
 
 whole-inside : (c : Comparison) (negative : Bool) (ws : List ℕ) → NFPartIntNum ws → wholeOf c negative ws ≡ some (conditionToken c negative ws [])
-unfolding wholeOf decimalsOf digitOf leading
+unfolding wholeOf decimalsOf leading
 whole-inside c negative ws d =
     let n : leading isDigit ws ≡ length ws
     = ap (leading isDigit) (sym (append-nil ws)) ∙ leading-all isDigit ws [] (digits-true ws (int-digits ws d)) refl in
@@ -258,7 +260,7 @@ whole-inside c negative ws d =
     rw (n, digits-some ws d, t, e)
 
 point-inside : (c : Comparison) (negative : Bool) (ws ds : List ℕ) → NFPartIntNum ws → NFPartIntNum ds → wholeOf c negative (ws ++ 46 ∷ ds) ≡ some (conditionToken c negative ws ds)
-unfolding wholeOf decimalsOf digitOf leading isDigit
+unfolding wholeOf decimalsOf leading isDigit
 point-inside c negative ws ds d e =
     let n : leading isDigit (ws ++ 46 ∷ ds) ≡ length ws = leading-all isDigit ws (46 ∷ ds) (digits-true ws (int-digits ws d)) refl in
     rw (n, digits-some ws d, take-at ws (46 ∷ ds) (length ws) refl, drop-at ws (46 ∷ ds) (length ws) refl, digits-empty ds e, every-true isDigit ds (digits-true ds (int-digits ds e)))

@@ -24,7 +24,7 @@ use Rattle.grammar.proofs.DateItems.{short-none, plain-none}
 use Rattle.grammar.proofs.Facts.{kept, Fitting}
 use Rattle.grammar.proofs.Plain.{v-free, v-comma, v-place, v-point, v-percent, Views, v-end, v-next, views-body, views-allowed, has, free-has, views-has, kind-number, kind-has}
 use Rattle.grammar.proofs.PlainBodies.{free-count, plain-body, plain-facts, body-brackets, NoSemicolon}
-use Rattle.grammar.proofs.Numbers.{num-of, num-views, num-counted}
+use Rattle.grammar.proofs.Numbers.{num-of, num-counted}
 
 -- ---- the items of a number's body are counted as its tokens are
 
@@ -146,8 +146,8 @@ derive-number ts s h f =
 pub number-fits : (ts : List Token) → NFNumber ts → (bodyKind ts ≡ numberKind) × Fitting ts
 unfolding solidusFits commasFit sorts
 number-fits ts d =
-    let vs = num-views (d .num) in
     let c = num-counted (d .num) in
+    let vs = c .views in
     let (points, percents, places, wholes, decimals, has-place) = alike vs in
     let h = kind-number ts (views-has vs textKind refl refl) (views-has vs generalKind refl refl) (views-has vs dateKind refl refl) (has-place ∙ c .holds .ahead) in
     let items = plain-body ts numberKind h refl in

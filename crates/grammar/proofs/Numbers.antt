@@ -15,7 +15,7 @@ use Rattle.formats.proofs.CommaUses.{commaUse, commaUsesFrom}
 use Rattle.grammar.specs.Bodies.{Part, leading, wholes, grouping, dividing, bared, decimals, trailing, Beside, beside-free, beside-percent, NFPartNum, beside, leading-place, leading-point, wholes-place, wholes-group, wholes-divide, wholes-point, wholes-end, grouping-place, grouping-comma, dividing-comma, dividing-point, dividing-end, bared-place, decimals-place, decimals-comma, decimals-end, trailing-comma, trailing-end}
 use Rattle.grammar.proofs.Tests.{no, no}
 use Rattle.grammar.proofs.Quiet.{Quiet, free-quiet, percent-quiet, passed-over, quiet-commas, quiet-any, quiet-integers}
-use Rattle.grammar.proofs.Plain.{v-free, v-comma, v-place, v-point, v-percent, Views, v-end, v-next}
+use Rattle.grammar.proofs.Plain.{View, v-free, v-comma, v-place, v-point, v-percent, Views, v-end, v-next}
 
 -- ---- what the tests of a number see at each part
 
@@ -89,35 +89,20 @@ divisions p ts = count isDividing (uses p ts)
 
 -- ---- from the grammar to the tests
 
-pub num-views : {p : Part} {n : ℕ} {ts : List Token} → NFPartNum p n ts → Views numberKind ts
-num-views (beside (beside-free g) d) = v-next (v-free g) (num-views d)
-num-views (beside beside-percent d) = v-next v-percent (num-views d)
-num-views (leading-place d) = v-next v-place (num-views d)
-num-views (leading-point d) = v-next v-point (num-views d)
-num-views (wholes-place d) = v-next v-place (num-views d)
-num-views (wholes-group d) = v-next v-comma (num-views d)
-num-views (wholes-divide d) = v-next v-comma (num-views d)
-num-views (wholes-point d) = v-next v-point (num-views d)
-num-views wholes-end = v-end
-num-views (grouping-place d) = v-next v-place (num-views d)
-num-views (grouping-comma d) = v-next v-comma (num-views d)
-num-views (dividing-comma d) = v-next v-comma (num-views d)
-num-views (dividing-point d) = v-next v-point (num-views d)
-num-views dividing-end = v-end
-num-views (bared-place d) = v-next v-place (num-views d)
-num-views (decimals-place d) = v-next v-place (num-views d)
-num-views (decimals-comma d) = v-next v-comma (num-views d)
-num-views decimals-end = v-end
-num-views (trailing-comma d) = v-next v-comma (num-views d)
-num-views trailing-end = v-end
-
 pub record Counted (p : Part) (n : ℕ) (ts : List Token) : Type 0 where
+  pub views : Views numberKind ts
   pub holds : Holds p ts
   pub counted : divisions p ts ≡ n
 
-counted-beside : {t : Token} (p : Part) (n : ℕ) (ts : List Token) → Quiet t → Counted p n ts → Counted p n (t ∷ ts)
-counted-beside {t} p n ts q c =
+beside-view : {t : Token} → Beside t → View numberKind t
+beside-view (beside-free g) = v-free g
+beside-view beside-percent = v-percent
+
+counted-beside : {t : Token} (p : Part) (n : ℕ) (ts : List Token) → Beside t → Counted p n ts → Counted p n (t ∷ ts)
+counted-beside {t} p n ts b c =
+    let q = beside-quiet b in
     record {
+      views = v-next (beside-view b) (c .views);
       holds = record {
         placed = rw (quiet-commas ts q (behindPoint p) (behindPlace p)) (c .holds .placed);
         points = rw (passed-over isPoint t ts (q .no-point)) (c .holds .points);
@@ -131,47 +116,47 @@ comma-groups : (p q : Part) (n : ℕ) (ts : List Token) → uses p (comma ∷ ts
     → Counted q n ts → Counted p n (comma ∷ ts)
 unfolding any count
 comma-groups p q n ts e b a c =
-    record { holds = record { placed = rw e (c .holds .placed); points = rw b at (c .holds .points); ahead = a }; counted = rw e (c .counted) }
+    record { views = v-next v-comma (c .views); holds = record { placed = rw e (c .holds .placed); points = rw b at (c .holds .points); ahead = a }; counted = rw e (c .counted) }
 
 comma-divides : (p q : Part) (n : ℕ) (ts : List Token) → uses p (comma ∷ ts) ≡ divides ∷ uses q ts → behindPoint q ≡ behindPoint p → needs p (comma ∷ ts) ≡ true
     → Counted q n ts → Counted p (suc n) (comma ∷ ts)
 unfolding any count
 comma-divides p q n ts e b a c =
-    record { holds = record { placed = rw e (c .holds .placed); points = rw b at (c .holds .points); ahead = a }; counted = rw e (ap suc (c .counted)) }
+    record { views = v-next v-comma (c .views); holds = record { placed = rw e (c .holds .placed); points = rw b at (c .holds .points); ahead = a }; counted = rw e (ap suc (c .counted)) }
 
 -- a place, or the point, in front
-counted-by : (p q : Part) (n : ℕ) (t : Token) (ts : List Token) → uses q (t ∷ ts) ≡ uses p ts → count isPoint (t ∷ ts) ≤ cond (behindPoint q) 0 1
+counted-by : (p q : Part) (n : ℕ) {t : Token} (ts : List Token) → View numberKind t → uses q (t ∷ ts) ≡ uses p ts → count isPoint (t ∷ ts) ≤ cond (behindPoint q) 0 1
     → needs q (t ∷ ts) ≡ true → Counted p n ts → Counted q n (t ∷ ts)
-counted-by p q n t ts u c a d =
-    record { holds = record { placed = rw u (d .holds .placed); points = c; ahead = a }; counted = rw u (d .counted) }
+counted-by p q n ts v u c a d =
+    record { views = v-next v (d .views); holds = record { placed = rw u (d .holds .placed); points = c; ahead = a }; counted = rw u (d .counted) }
 
 pub num-counted : {p : Part} {n : ℕ} {ts : List Token} → NFPartNum p n ts → Counted p n ts
 unfolding commaUsesFrom any count integerPlaceIn
-num-counted {p} {n} (beside {ts = ts} b d) = counted-beside p n ts (beside-quiet b) (num-counted d)
-num-counted (leading-place d) = let c = num-counted d in counted-by wholes leading _ _ _ refl (c .holds .points) refl c
-num-counted (leading-point d) = let c = num-counted d in let k = c .holds .points in counted-by bared leading _ _ _ refl (omega arith) (c .holds .ahead) c
-num-counted (wholes-place d) = let c = num-counted d in counted-by wholes wholes _ _ _ refl (c .holds .points) refl c
+num-counted {p} {n} (beside {ts = ts} b d) = counted-beside p n ts b (num-counted d)
+num-counted (leading-place d) = let c = num-counted d in counted-by wholes leading _ _ v-place refl (c .holds .points) refl c
+num-counted (leading-point d) = let c = num-counted d in let k = c .holds .points in counted-by bared leading _ _ v-point refl (omega arith) (c .holds .ahead) c
+num-counted (wholes-place d) = let c = num-counted d in counted-by wholes wholes _ _ v-place refl (c .holds .points) refl c
 num-counted (wholes-group {ts = ts} d) =
     let c = num-counted d in comma-groups wholes grouping _ ts (groups-between ts (c .holds .ahead)) refl refl c
 num-counted (wholes-divide {ts = ts} d) =
     let c = num-counted d in comma-divides wholes dividing _ ts (divides-before ts (not-true (integerPlaceIn ts) (c .holds .ahead))) refl refl c
-num-counted (wholes-point d) = let c = num-counted d in let k = c .holds .points in counted-by decimals wholes _ _ _ refl (omega arith) refl c
-num-counted wholes-end = record { holds = record { placed = refl; points = omega arith; ahead = refl }; counted = refl }
-num-counted (grouping-place d) = let c = num-counted d in counted-by wholes grouping _ _ _ refl (c .holds .points) refl c
+num-counted (wholes-point d) = let c = num-counted d in let k = c .holds .points in counted-by decimals wholes _ _ v-point refl (omega arith) refl c
+num-counted wholes-end = record { views = v-end; holds = record { placed = refl; points = omega arith; ahead = refl }; counted = refl }
+num-counted (grouping-place d) = let c = num-counted d in counted-by wholes grouping _ _ v-place refl (c .holds .points) refl c
 num-counted (grouping-comma {ts = ts} d) =
     let c = num-counted d in comma-groups grouping grouping _ ts (groups-between ts (c .holds .ahead)) refl (c .holds .ahead) c
 num-counted (dividing-comma {ts = ts} d) =
     let c = num-counted d in comma-divides dividing dividing _ ts (divides-before ts (not-true (integerPlaceIn ts) (c .holds .ahead))) refl (c .holds .ahead) c
-num-counted (dividing-point d) = let c = num-counted d in let k = c .holds .points in counted-by decimals dividing _ _ _ refl (omega arith) refl c
-num-counted dividing-end = record { holds = record { placed = refl; points = omega arith; ahead = refl }; counted = refl }
-num-counted (bared-place d) = let c = num-counted d in counted-by decimals bared _ _ _ refl (c .holds .points) refl c
-num-counted (decimals-place d) = let c = num-counted d in counted-by decimals decimals _ _ _ refl (c .holds .points) refl c
+num-counted (dividing-point d) = let c = num-counted d in let k = c .holds .points in counted-by decimals dividing _ _ v-point refl (omega arith) refl c
+num-counted dividing-end = record { views = v-end; holds = record { placed = refl; points = omega arith; ahead = refl }; counted = refl }
+num-counted (bared-place d) = let c = num-counted d in counted-by decimals bared _ _ v-place refl (c .holds .points) refl c
+num-counted (decimals-place d) = let c = num-counted d in counted-by decimals decimals _ _ v-place refl (c .holds .points) refl c
 num-counted (decimals-comma {ts = ts} d) =
     let c = num-counted d in comma-divides decimals trailing _ ts (divides-behind ts (not-true (any isPlace ts) (c .holds .ahead))) refl refl c
-num-counted decimals-end = record { holds = record { placed = refl; points = omega arith; ahead = refl }; counted = refl }
+num-counted decimals-end = record { views = v-end; holds = record { placed = refl; points = omega arith; ahead = refl }; counted = refl }
 num-counted (trailing-comma {ts = ts} d) =
     let c = num-counted d in comma-divides trailing trailing _ ts (divides-behind ts (not-true (any isPlace ts) (c .holds .ahead))) refl (c .holds .ahead) c
-num-counted trailing-end = record { holds = record { placed = refl; points = omega arith; ahead = refl }; counted = refl }
+num-counted trailing-end = record { views = v-end; holds = record { placed = refl; points = omega arith; ahead = refl }; counted = refl }
 
 -- ---- from the tests to the grammar
 

@@ -111,24 +111,13 @@ literals-of v-end c = literals-end
 literals-of (v-next {ts = ts} (v-free g) vs) c = literals-free g (literals-of vs (rw (quiet-commas ts (free-quiet g) false false) at c))
 literals-of (v-next v-comma vs) c = absurd (true≢false c)
 
-pub literals-views : {k : Kind} {ts : List Token} → Literals ts → Views k ts
-literals-views literals-end = v-end
-literals-views (literals-free g d) = v-next (v-free g) (literals-views d)
-
-literals-commas : {ts : List Token} → Literals ts → commaUsesFrom false false ts ≡ []
-unfolding commaUsesFrom
-literals-commas literals-end = refl
-literals-commas (literals-free {ts = ts} g d) = quiet-commas ts (free-quiet g) false false ∙ literals-commas d
-
-literals-kind : (ts : List Token) → Literals ts → bodyKind ts ≡ literalKind
-literals-kind ts d =
-    let vs : Views literalKind ts = literals-views d in
-    kind-literal ts (views-has vs textKind refl refl) (views-has vs generalKind refl refl) (views-has vs dateKind refl refl) (views-has vs numberKind refl refl)
-
-literals-general : {ts : List Token} → Literals ts → count isGeneral (plainItems ts) ≡ 0
-unfolding count plainItems
-literals-general literals-end = refl
-literals-general (literals-free {ts = ts} g d) = free-count 6 refl refl refl (plainItems ts) g ∙ literals-general d
+-- what a derivation shows of its tokens: what they are, that they hold no comma, and how often General
+pub literals-facts : {k : Kind} {ts : List Token} → Literals ts → Views k ts × (commaUsesFrom false false ts ≡ []) × (count isGeneral (plainItems ts) ≡ 0)
+unfolding commaUsesFrom count plainItems
+literals-facts literals-end = (v-end, refl, refl)
+literals-facts (literals-free {ts = ts} g d) =
+    let (v, c, n) = literals-facts d in
+    (v-next (v-free g) v, quiet-commas ts (free-quiet g) false false ∙ c, free-count 6 refl refl refl (plainItems ts) g ∙ n)
 
 pub derive-literals : (ts : List Token) → NoSemicolon ts → bodyKind ts ≡ literalKind → Fitting ts → Literals ts
 derive-literals ts s h f = let p = plain-facts ts literalKind h refl refl s f in literals-of (p .views) (p .placed)
@@ -136,9 +125,9 @@ derive-literals ts s h f = let p = plain-facts ts literalKind h refl refl s f in
 pub literals-fit : (ts : List Token) → Literals ts → (bodyKind ts ≡ literalKind) × Fitting ts
 unfolding sorts
 literals-fit ts d =
-    let h = literals-kind ts d in
-    let g = literals-general d in
-    (h, quiet-fitting ts literalKind h refl refl refl refl refl refl (literals-views d) (literals-commas d) (omega arith))
+    let (v, c, n) = literals-facts {k = literalKind} d in
+    let h = kind-literal ts (views-has v textKind refl refl) (views-has v generalKind refl refl) (views-has v dateKind refl refl) (views-has v numberKind refl refl) in
+    (h, quiet-fitting ts literalKind h refl refl refl refl refl refl v c (omega arith))
 
 -- ---- NFGeneral
 
@@ -160,24 +149,13 @@ general-of (v-next {ts = ts} (v-free g) vs) c n h =
 general-of (v-next v-comma vs) c n h = absurd (true≢false c)
 general-of (v-next v-general vs) c n h = general-word (general-rest vs c (omega arith))
 
-pub general-views : {ts : List Token} → NFGeneral ts → Views generalKind ts
-general-views (general-word d) = v-next v-general (literals-views d)
-general-views (general-free g d) = v-next (v-free g) (general-views d)
-
-general-commas : {ts : List Token} → NFGeneral ts → commaUsesFrom false false ts ≡ []
-unfolding commaUsesFrom
-general-commas (general-word d) = literals-commas d
-general-commas (general-free {ts = ts} g d) = quiet-commas ts (free-quiet g) false false ∙ general-commas d
-
-general-has : {ts : List Token} → NFGeneral ts → has generalKind ts ≡ true
-unfolding any tokenMakes
-general-has (general-word d) = refl
-general-has (general-free {ts = ts} g d) = free-has generalKind refl ts g ∙ general-has d
-
-general-once : {ts : List Token} → NFGeneral ts → count isGeneral (plainItems ts) ≡ 1
-unfolding count plainItems tokenItems
-general-once (general-word d) = ap suc (literals-general d)
-general-once (general-free {ts = ts} g d) = free-count 6 refl refl refl (plainItems ts) g ∙ general-once d
+pub general-facts : {ts : List Token} → NFGeneral ts
+    → Views generalKind ts × (commaUsesFrom false false ts ≡ []) × (has generalKind ts ≡ true) × (count isGeneral (plainItems ts) ≡ 1)
+unfolding commaUsesFrom any tokenMakes count plainItems tokenItems
+general-facts (general-word d) = let (v, c, n) = literals-facts d in (v-next v-general v, c, refl, ap suc n)
+general-facts (general-free {ts = ts} g d) =
+    let (v, c, h, n) = general-facts d in
+    (v-next (v-free g) v, quiet-commas ts (free-quiet g) false false ∙ c, free-has generalKind refl ts g ∙ h, free-count 6 refl refl refl (plainItems ts) g ∙ n)
 
 pub derive-general : (ts : List Token) → NoSemicolon ts → bodyKind ts ≡ generalKind → Fitting ts → NFGeneral ts
 derive-general ts s h f =
@@ -187,37 +165,24 @@ derive-general ts s h f =
 pub general-fits : (ts : List Token) → NFGeneral ts → (bodyKind ts ≡ generalKind) × Fitting ts
 unfolding sorts
 general-fits ts d =
-    let vs = general-views d in
-    let h = kind-general ts (views-has vs textKind refl refl) (general-has d) in
-    let g = general-once d in
-    (h, quiet-fitting ts generalKind h refl refl refl refl refl refl vs (general-commas d) (omega arith))
+    let (v, c, g, n) = general-facts d in
+    let h = kind-general ts (views-has v textKind refl refl) g in
+    (h, quiet-fitting ts generalKind h refl refl refl refl refl refl v c (omega arith))
 
 -- ---- NFText
 
-rest-views : {ts : List Token} → TextRest ts → Views textKind ts
-rest-views text-end = v-end
-rest-views (text-more d) = v-next v-at (rest-views d)
-rest-views (text-literal g d) = v-next (v-free g) (rest-views d)
-
-pub text-views : {ts : List Token} → NFText ts → Views textKind ts
-text-views (text-at d) = v-next v-at (rest-views d)
-text-views (text-free g d) = v-next (v-free g) (text-views d)
-
-rest-commas : {ts : List Token} → TextRest ts → commaUsesFrom false false ts ≡ []
+rest-facts : {ts : List Token} → TextRest ts → Views textKind ts × (commaUsesFrom false false ts ≡ [])
 unfolding commaUsesFrom
-rest-commas text-end = refl
-rest-commas (text-more d) = rest-commas d
-rest-commas (text-literal {ts = ts} g d) = quiet-commas ts (free-quiet g) false false ∙ rest-commas d
+rest-facts text-end = (v-end, refl)
+rest-facts (text-more d) = let (v, c) = rest-facts d in (v-next v-at v, c)
+rest-facts (text-literal {ts = ts} g d) = let (v, c) = rest-facts d in (v-next (v-free g) v, quiet-commas ts (free-quiet g) false false ∙ c)
 
-text-commas : {ts : List Token} → NFText ts → commaUsesFrom false false ts ≡ []
-unfolding commaUsesFrom
-text-commas (text-at d) = rest-commas d
-text-commas (text-free {ts = ts} g d) = quiet-commas ts (free-quiet g) false false ∙ text-commas d
-
-text-has : {ts : List Token} → NFText ts → has textKind ts ≡ true
-unfolding any tokenMakes
-text-has (text-at d) = refl
-text-has (text-free {ts = ts} g d) = free-has textKind refl ts g ∙ text-has d
+pub text-facts : {ts : List Token} → NFText ts → Views textKind ts × (commaUsesFrom false false ts ≡ []) × (has textKind ts ≡ true)
+unfolding commaUsesFrom any tokenMakes
+text-facts (text-at d) = let (v, c) = rest-facts d in (v-next v-at v, c, refl)
+text-facts (text-free {ts = ts} g d) =
+    let (v, c, h) = text-facts d in
+    (v-next (v-free g) v, quiet-commas ts (free-quiet g) false false ∙ c, free-has textKind refl ts g ∙ h)
 
 text-rest : {ts : List Token} → Views textKind ts → any isMisplaced (commaUsesFrom false false ts) ≡ false → TextRest ts
 unfolding commaUsesFrom commaUse any
@@ -242,7 +207,7 @@ derive-text ts s h f =
 pub text-fits : (ts : List Token) → NFText ts → (bodyKind ts ≡ textKind) × Fitting ts
 unfolding sorts
 text-fits ts d =
-    let vs = text-views d in
-    let h = kind-text ts (text-has d) in
-    let g = foreign textKind 6 refl (plainItems ts) (views-allowed vs) in
-    (h, quiet-fitting ts textKind h refl refl refl refl refl refl vs (text-commas d) (omega arith))
+    let (v, c, t) = text-facts d in
+    let h = kind-text ts t in
+    let n = foreign textKind 6 refl (plainItems ts) (views-allowed v) in
+    (h, quiet-fitting ts textKind h refl refl refl refl refl refl v c (omega arith))

@@ -25,8 +25,8 @@ use Rattle.grammar.proofs.Quiet.{known}
 use Rattle.grammar.proofs.Fronts.{colourShown}
 use Rattle.grammar.proofs.Facts.{Fitting, fitting, fits-fitting, within-fitting}
 use Rattle.grammar.proofs.Plain.{views-body}
-use Rattle.grammar.proofs.PlainBodies.{body-plain, NoSemicolon, literals-views, general-views, text-views, derive-literals, literals-fit, derive-general, general-fits, derive-text, text-fits}
-use Rattle.grammar.proofs.Numbers.{num-views}
+use Rattle.grammar.proofs.PlainBodies.{body-plain, NoSemicolon, literals-facts, general-facts, text-facts, derive-literals, literals-fit, derive-general, general-fits, derive-text, text-fits}
+use Rattle.grammar.proofs.Numbers.{num-counted}
 use Rattle.grammar.proofs.NumberBodies.{derive-number, number-fits}
 use Rattle.grammar.proofs.DateBodies.{date-tokens, derive-date, date-fits}
 
@@ -220,11 +220,11 @@ one-of (derived literalKind c conditioned b w e) = no e
 -- ---- from the rules to the tests
 
 body-tokens : (k : Kind) (ts : List Token) → Body k ts → NoSemicolon ts
-body-tokens textKind ts d = body-plain ts (views-body (text-views d))
-body-tokens generalKind ts d = body-plain ts (views-body (general-views d))
+body-tokens textKind ts d = body-plain ts (views-body ((text-facts d) .0))
+body-tokens generalKind ts d = body-plain ts (views-body ((general-facts d) .0))
 body-tokens dateKind ts d = body-plain ts (date-tokens ts d)
-body-tokens numberKind ts d = body-plain ts (views-body (num-views (d .num)))
-body-tokens literalKind ts d = body-plain ts (views-body (literals-views {k = literalKind} d))
+body-tokens numberKind ts d = body-plain ts (views-body ((num-counted (d .num)) .views))
+body-tokens literalKind ts d = body-plain ts (views-body ((literals-facts {k = literalKind} d) .0))
 
 -- the parts of a section that begins with these heads
 record Parted (s vs : List Token) (c : ℕ) (o : Option Written) : Type 0 where

@@ -19,7 +19,7 @@ use Rattle.formats.proofs.Lexing.{number-grows, before-most, leading-most}
 use Rattle.grammar.proofs.Fronts.{letterUnit, conditionToken}
 use Rattle.grammar.proofs.Tests.{no, and-parts}
 use Rattle.formats.specs.Tokens.{Token, literal, blank, fill, run, elapsed, colour, Letter, letterY, letterM, letterD, letterH, letterS, Elapsed, hours, minutes, seconds, Comparison, equal, less, greater, atMost, atLeast, unequal, Step, read, broken, before, leading, startsWith, same, quoted, marked, generalWord, halfDayWord, runAllowed, runStep, isDigit, digitOf, numberFrom, colourNames, namedFrom, noLeadingZero, colourDigits, numbered, elapsedInside, decimalsOf, wholeOf, signedOf, conditionInside, firstForm, insideOf, closed, bracketed, First, FirstRow, other, firstRows, firstIn, bareLiterals, stepBy, stepAt}
-use Rattle.grammar.specs.Units.{Ended, WholeRun, Bracketed, ASCII-DIGIT, NFPartCompOper, oper-less, oper-at-most, oper-unequal, oper-equal, oper-greater, oper-at-least, NFPartIntNum, int-num, NFPartCondNum, cond-num-whole, cond-num-point, cond-num-minus, digit, NFPartNumber1To6, NFPartNumber1To9, NFPart1To56, one-digit, two-digits, fifty, fifties, INTL-COLOR, black, blue, cyan, green, magenta, red, white, yellow, Spells, NFPartYear-2, NFPartYear-4, NFPartMonth, NFPartDay, NFPartHour, NFPartAbsHour, NFPartAbsMinute, NFPartSecond, NFPartAbsSecond, NFPartCond, NFPartColor-name, NFPartColor-number, NFPartNumToken1-number-sign, NFPartNumToken1-question-mark, NFPartNumToken1-zero, ASCII-PERCENT-SIGN, ASCII-COMMERCIAL-AT, ASCII-SEMICOLON, LITERAL-CHAR, LITERAL-CHAR-REPEAT, LITERAL-STRING, LITERAL-CHAR-SPACE, INTL-CHAR-DECIMAL-SEP, INTL-CHAR-NUMGRP-SEP, bare-literal, INTL-NUMFMT-GENERAL, INTL-AMPM-long, INTL-AMPM-short}
+use Rattle.grammar.specs.Units.{Ended, WholeRun, Bracketed, ASCII-DIGIT, NFPartCompOper, oper-less, oper-at-most, oper-unequal, oper-equal, oper-greater, oper-at-least, NFPartIntNum, int-num, NFPartCondNum, cond-num-whole, cond-num-point, cond-num-minus, NFPartNumber1To6, NFPartNumber1To9, NFPart1To56, one-digit, two-digits, fifty, fifties, INTL-COLOR, black, blue, cyan, green, magenta, red, white, yellow, Spells, NFPartYear-2, NFPartYear-4, NFPartMonth, NFPartDay, NFPartHour, NFPartAbsHour, NFPartAbsMinute, NFPartSecond, NFPartAbsSecond, NFPartCond, NFPartColor-name, NFPartColor-number, NFPartNumToken1-number-sign, NFPartNumToken1-question-mark, NFPartNumToken1-zero, ASCII-PERCENT-SIGN, ASCII-COMMERCIAL-AT, ASCII-SEMICOLON, LITERAL-CHAR, LITERAL-CHAR-REPEAT, LITERAL-STRING, LITERAL-CHAR-SPACE, INTL-CHAR-DECIMAL-SEP, INTL-CHAR-NUMGRP-SEP, bare-literal, INTL-NUMFMT-GENERAL, INTL-AMPM-long, INTL-AMPM-short}
 
 -- ---- facts from tests
 
@@ -169,7 +169,8 @@ digit-facts (w ∷ ws) e =
     (λ h. (digit-fact w h, digit-facts ws (rw h at e)))
     (λ h. no (rw h at e))
 
-two-good : (u v : ℕ) → NFPartNumber1To9 u → ASCII-DIGIT v → 10 * digit u + digit v ≤ 56 → NFPart1To56 (10 * digit u + digit v) (u ∷ v ∷ [])
+two-good : (u v : ℕ) → NFPartNumber1To9 u → ASCII-DIGIT v → 10 * digitOf u + digitOf v ≤ 56 → NFPart1To56 (10 * digitOf u + digitOf v) (u ∷ v ∷ [])
+unfolding digitOf
 two-good u v a b h =
     let a₁ = a .0 in let a₂ = a .1 in let b₁ = b .0 in let b₂ = b .1 in
     by-cases (leb u 52)
@@ -257,7 +258,7 @@ int-good [] h a = absurd (omega arith)
 int-good (w ∷ ws) h a = int-num w ws a
 
 decimals-good : (c : Comparison) (negative : Bool) (ws vs : List ℕ) → NFPartIntNum ws → Number c negative (ws ++ vs) (decimalsOf c negative ws vs)
-unfolding decimalsOf digitOf
+unfolding decimalsOf
 decimals-good c negative ws [] d = (ws, [], rw (append-nil ws) (cond-num-whole d), refl)
 decimals-good c negative ws (u ∷ us) d =
     cond-case (Number c negative (ws ++ u ∷ us)) (eqb u 46 && not (isEmpty us) && every isDigit us)

@@ -1,6 +1,6 @@
 -- Level 1, units to tokens: the lexical rules of 004, from NFPartYear to INTL-AMPM, and how a code's units spell its tokens.
 -- Assumes nothing.
-use Prim.Native.Nat.{ℕ, _+_, _*_, _-_, _≤_}
+use Prim.Native.Nat.{ℕ, _+_, _*_, _≤_}
 use Prim.Native.Char.{code}
 use mathlib.Core.Bool.{Bool, true, false}
 use mathlib.Core.List.{List, [], _∷_, _++_, map}
@@ -10,7 +10,7 @@ use lib.ListN.{replicate}
 use lib.Dec.{eqb}
 use Rattle.lists.specs.Lists.{any, All}
 use Rattle.calendar.specs.Names.{units}
-use Rattle.formats.specs.Tokens.{Token, literal, bare, blank, fill, place, point, comma, percent, at, semicolon, general, half, run, elapsed, colour, condition, zeroPlace, hashPlace, spacePlace, letterY, letterM, letterD, letterH, letterS, hours, minutes, seconds, short, long, Comparison, equal, less, greater, atMost, atLeast, unequal}
+use Rattle.formats.specs.Tokens.{Token, literal, bare, blank, fill, place, point, comma, percent, at, semicolon, general, half, run, elapsed, colour, condition, zeroPlace, hashPlace, spacePlace, letterY, letterM, letterD, letterH, letterS, hours, minutes, seconds, short, long, Comparison, equal, less, greater, atMost, atLeast, unequal, digitOf}
 
 -- A constructor is a production. The comment above it says "004" where the production is from there, "narrowed" where 01 cuts it,
 -- and "added" where it is 01's own, with 01's sentence. It holds for the constructors below it, up to the next comment. A token takes
@@ -68,16 +68,12 @@ NFPartNumber1To6 u = (code "1" ≤ u) × (u ≤ code "6")
 abbrev pub NFPartNumber1To9 : ℕ → Type 0
 NFPartNumber1To9 u = (code "1" ≤ u) × (u ≤ code "9")
 
--- the digit that a unit stands for
-abbrev pub digit : ℕ → ℕ
-digit u = u - code "0"
-
 -- 004: NFPart1To56, a number and its units
 pub data NFPart1To56 : ℕ → List ℕ → Type 0 where
-  one-digit : (u : ℕ) → NFPartNumber1To9 u → NFPart1To56 (digit u) (u ∷ [])
-  two-digits : (u v : ℕ) → NFPartNumber1To4 u → ASCII-DIGIT v → NFPart1To56 (10 * digit u + digit v) (u ∷ v ∷ [])
+  one-digit : (u : ℕ) → NFPartNumber1To9 u → NFPart1To56 (digitOf u) (u ∷ [])
+  two-digits : (u v : ℕ) → NFPartNumber1To4 u → ASCII-DIGIT v → NFPart1To56 (10 * digitOf u + digitOf v) (u ∷ v ∷ [])
   fifty : NFPart1To56 50 (code "5" ∷ code "0" ∷ [])
-  fifties : (v : ℕ) → NFPartNumber1To6 v → NFPart1To56 (50 + digit v) (code "5" ∷ v ∷ [])
+  fifties : (v : ℕ) → NFPartNumber1To6 v → NFPart1To56 (50 + digitOf v) (code "5" ∷ v ∷ [])
 
 -- 004: INTL-COLOR; the numbers are 01's, "Named colours are 1 Black, 2 White, .."
 pub data INTL-COLOR : ℕ → List ℕ → Type 0 where
@@ -123,7 +119,7 @@ pub data Spells : Token → List ℕ → List ℕ → Type 0 where
   -- 004: NFPartCond = "[" NFPartCompOper NFPartCondNum "]"
   NFPartCond : {c : Comparison} {negative : Bool} {os ws ds ns us vs : List ℕ} → NFPartCompOper c os → NFPartCondNum negative ws ds ns
       → Bracketed (os ++ ns) us vs
-      → Spells (condition (record { comparison = c; negative = negative; whole = map digit ws; decimals = map digit ds })) us vs
+      → Spells (condition (record { comparison = c; negative = negative; whole = map digitOf ws; decimals = map digitOf ds })) us vs
   -- 004: NFPartColor = "[" (INTL-COLOR / (NFPartStrColor NFPart1To56)) "]", whose inner brackets 004 forgets
   NFPartColor-name : {n : ℕ} {ws us vs : List ℕ} → INTL-COLOR n ws → Bracketed ws us vs → Spells (colour n) us vs
   NFPartColor-number : {n : ℕ} {ws us vs : List ℕ} → NFPart1To56 n ws → Bracketed (units "Color" ++ ws) us vs → Spells (colour n) us vs
