@@ -88,7 +88,7 @@ pub cases-right : All Right cases
 unfolding cases evaluated
 cases-right = all-equal read (λ (c : Case). c .answer) cases refl
 
--- in the order of document 01
+-- what is easily got wrong, in the order of document 01's headings
 unfoldable pub slips : List Case
 unfolding units shows colours ofText
 slips =
@@ -96,8 +96,9 @@ slips =
     denies "0" (number (pos 1) 16) answer.Range
     ∷ denies "General" (instant 2958466 0) answer.Range
     ∷ record { code = "@"; ask = aText; text = replicate 1025 97; room = 4096; answer = refused answer.Range }
-    -- a semicolon in quotes; an elapsed run of nine letters
+    -- a semicolon in quotes, and behind each mark; an elapsed run of nine letters
     ∷ shows "\"a;b\"0" (number (pos 1) 0) "a;b1" 0
+    ∷ shows "\\;_;*;" (number (pos 1) 0) "; " 0
     ∷ shows "[sssssssss]" (instant 0 5999) "000000005" 0
     -- a colour by its number and by its name, of a number, an instant and a text
     ∷ colours "[Red]0;[Color56]0" (number (negsuc 4) 0) "5" 56 1
@@ -115,7 +116,8 @@ slips =
     ∷ shows "[=0.5]h;m" (instant 0 43199999) "1" 1
     ∷ shows "[=0.5]h;m" (instant 0 43200000) "12" 0
     ∷ shows "[=0.5]h;m" (instant 0 43200001) "1" 1
-    -- without conditions: three sections at 0; 10 comes before 11; N = 0 shows a number as General and refuses an instant
+    -- without conditions: two and three sections at 0; 10 comes before 11; N = 0 shows a number as General and refuses an instant
+    ∷ shows "\"a\";\"b\"" (number (pos 0) 0) "a" 0
     ∷ shows "h;h;\"zero\"" (instant 0 0) "zero" 2
     ∷ denies "[>=10]h;[<0]h" (number (pos 5) 0) answer.NoSection
     ∷ shows "\"x\"@\"y\"@" (number (negsuc 14) 1) "-x1.5y1.5" 0
@@ -129,19 +131,24 @@ slips =
     ∷ denies "0" (instant 1 0) answer.Sort
     ∷ denies "General" (instant 1 0) answer.Sort
     ∷ denies "h" (number (pos 1) 0) answer.Sort
-    -- the minus: of a literal section, by an own condition, held back by (a) where N = 3, by no item
+    -- the minus: of a literal section, by an own condition, held back by (a) where N = 3, the fourth being none, and by no item
     ∷ shows "\"The End\"" (number (negsuc 12344) 2) "-The End" 0
     ∷ shows "0;[<0](0)" (number (negsuc 4) 0) "-(5)" 1
     ∷ shows "[>100]0;0;0" (number (negsuc 4) 0) "5" 1
+    ∷ shows "0;0;0;" (number (negsuc 4) 0) "5" 1
     ∷ colours "[Red]" (number (negsuc 4) 0) "" 3 0
     -- General up to 10^11
     ∷ shows "General" (number (pos 999999999994) 1) "99999999999" 0
     ∷ denies "General" (number (pos 999999999995) 1) answer.General
-    -- noon; a part of a second; a month behind seconds; elapsed hours; minutes behind them
+    -- 29 February 1900 and day 0
+    ∷ shows "dddd, mmmm d, yyyy" (instant 60 0) "Wednesday, February 29, 1900" 0
+    ∷ shows "ddd dd mmmmm" (instant 0 0) "Sat 00 J" 0
+    -- noon; a part of a second; a month behind seconds; elapsed hours with minutes behind them; elapsed minutes
     ∷ shows "h:mm AM/PM" (instant 0 43200000) "12:00 PM" 0
     ∷ shows "s.00" (instant 0 1239) "1.23" 0
     ∷ shows "s m" (instant 60 307000) "7 2" 0
     ∷ shows "[h]:mm" (instant 1 3660000) "25:01" 0
+    ∷ shows "[mm]:ss" (instant 1 61999) "1441:01" 0
     -- a text that is longer than the room is refused whole
     ∷ record { code = "00000000000000000"; ask = number (pos 1) 0; text = []; room = 16; answer = refused answer.TextRoom }
     ∷ []
