@@ -104,12 +104,14 @@ slips =
     ∷ colours "[Red]0;[Color56]0" (number (negsuc 4) 0) "5" 56 1
     ∷ colours "[Green]h:mm" (instant 0 53760000) "14:56" 4 0
     ∷ ofText "[Blue]\"<\"@\">\"" "ab" "<ab>" 5 0
-    -- each comparison at its bound
+    -- each comparison at its bound, and with a number below 0, which minus zero is not
     ∷ shows "[<5]\"a\";\"b\"" (number (pos 5) 0) "b" 1
     ∷ shows "[<=5]\"a\";\"b\"" (number (pos 5) 0) "a" 0
     ∷ shows "[>5]\"a\";\"b\"" (number (pos 5) 0) "b" 1
     ∷ shows "[>=10]\"a\";\"b\"" (number (pos 100) 1) "a" 0
     ∷ shows "[<>5]\"a\";\"b\"" (number (pos 5) 0) "b" 1
+    ∷ shows "[<-5]\"a\";\"b\"" (number (negsuc 3) 0) "-b" 1
+    ∷ shows "[=-0]\"a\";\"b\"" (number (pos 0) 0) "a" 0
     -- compared exactly: the last millionth, a part of it, and a millisecond to either side of noon
     ∷ shows "[=0.000001]\"a\";\"b\"" (number (pos 1) 6) "a" 0
     ∷ shows "[=0]\"a\";\"b\"" (number (pos 1) 7) "b" 1
