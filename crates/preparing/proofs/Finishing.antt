@@ -3,7 +3,7 @@
 use Prim.Native.Nat.{ℕ, suc, _+_, _*_, _≤_, _<_}
 use native.Mathlib.Omega.{arith}
 use mathlib.Core.Path.{_≡_, refl, sym, _∙_, ap}
-use mathlib.Core.Bool.{Bool, true}
+use mathlib.Core.Bool.{true}
 use mathlib.Core.List.{List, [], _∷_}
 use mathlib.Core.Option.{Option, none, some}
 use lib.ListN.{length, take, length-append, length-map}
@@ -19,7 +19,6 @@ use Rattle.formats.specs.Limits.{withinLimits}
 use Rattle.formats.specs.Accept.{partsIn, sectionsIn, fine, refused, sectionVerdict, limitVerdict, verdict, sections, acceptedBy, accept}
 use Rattle.formats.proofs.First.{verdict-fine}
 use Rattle.formats.proofs.ItemCount.{section-count}
-use Rattle.tables.specs.Words.{headWords}
 use Rattle.tables.specs.Encode.{encode}
 use Rattle.tables.specs.Calls.{wordsOf, tableOf, preparedAs, prepared, written, tableAfter}
 use Rattle.writing.specs.Put.{Put}
@@ -29,7 +28,7 @@ use Rattle.drafting.specs.declared.Examined.{Examined}
 use Rattle.drafting.specs.Draft.{Drafted}
 use Rattle.preparing.specs.Table.{countedBy, firstBy, headsBy, tableBy}
 use Rattle.drafting.specs.Examine.{Sound}
-use Rattle.preparing.proofs.Tabling.{table-same}
+use Rattle.preparing.proofs.Tabling.{heads-size, table-same}
 
 -- ---- a refusal
 module _ (code : List ℕ) (a : Answer) (k : ℕ) (v : verdict code ≡ refused a k) where
@@ -57,11 +56,6 @@ within-from k (p ∷ ps) e = by-cases (withinLimits p)
 all-within : (code : List ℕ) → verdict code ≡ fine → All (λ (p : Parts). withinLimits p ≡ true) (partsIn code)
 unfolding limitVerdict
 all-within code v = within-from 0 (partsIn code) (none-fine answer.Limit _ (verdict-fine code v .limits-fine))
-
-heads-size : (n : ℕ) (firstHas : Bool) (i : ℕ) (ds : List Draft) → length (headsBy n firstHas i ds) ≡ 12 * length ds
-unfolding headsBy headWords
-heads-size n firstHas i [] = refl
-heads-size n firstHas i (d ∷ ds) = omega (arith, heads-size n firstHas (i + 1) ds)
 
 drafted-length : (ps : List Parts) (ds : List Draft) → Drafted ps ds → length ps ≤ length ds
 drafted-length [] ds h = omega arith

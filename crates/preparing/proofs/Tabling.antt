@@ -1,12 +1,12 @@
 -- The table's words: those of the heads and of the items are those of the sections' rows.
 -- Assumes nothing.
-use Prim.Native.Nat.{ℕ, zero, suc, _+_, _*_, _≤_, _<_}
+use Prim.Native.Nat.{ℕ, suc, _+_, _*_, _≤_, _<_}
 use native.Mathlib.Omega.{arith}
 use native.Mathlib.Numerals.{add-one}
 use mathlib.Core.Path.{_≡_, refl, _∙_, ap}
 use mathlib.Core.Bool.{Bool, true, _||_}
 use mathlib.Core.List.{List, [], _∷_, _++_, map}
-use lib.ListN.{length, take, drop, getD, length-map}
+use lib.ListN.{length, take, drop, getD, length-map, length-take}
 use lib.Dec.{eqb}
 use Rattle.lists.specs.Lists.{All}
 use Rattle.lists.proofs.Bools.{by-cases, and-left, and-right, T-true, true-T}
@@ -63,14 +63,13 @@ module _ {n : ℕ} {firstHas : Bool} {old : List ℕ} {start : ℕ} {ds : List D
   heading-end h = rest-done (rw (none-left ds count i (inv .few) (inv .size) h) at (inv .rest))
 
 -- ---- the whole table
-heads-length : (n : ℕ) (firstHas : Bool) (i m : ℕ) (ds : List Draft) → length (headsBy n firstHas i (take m ds)) ≤ 12 * m
+pub heads-size : (n : ℕ) (firstHas : Bool) (i : ℕ) (ds : List Draft) → length (headsBy n firstHas i ds) ≡ 12 * length ds
 unfolding headsBy headWords
-heads-length n firstHas i zero ds = omega arith
-heads-length n firstHas i (suc m) [] = omega arith
-heads-length n firstHas i (suc m) (d ∷ ds) = omega (arith, heads-length n firstHas (i + 1) m ds)
+heads-size n firstHas i [] = refl
+heads-size n firstHas i (d ∷ ds) = omega (arith, heads-size n firstHas (i + 1) ds)
 
 pub heads-near : (n m : ℕ) (firstHas : Bool) (ds : List Draft) {l o : List ℕ} {at r : ℕ} → Put l at (headsBy n firstHas 0 (take m ds)) r o → r ≤ at + 12 * m
-heads-near n m firstHas ds x = omega (arith, x .next, heads-length n firstHas 0 m ds)
+heads-near n m firstHas ds x = omega (arith, x .next, heads-size n firstHas 0 (take m ds), length-take m ds)
 
 first-element : (ds : List Draft) (d : Draft) → length ds ≡ 4 → hasConditionBy (getD ds 0 d) ≡ firstBy ds
 unfolding firstBy

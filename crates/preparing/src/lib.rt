@@ -6,6 +6,7 @@ use answers::Prepared;
 use answers::number;
 use drafting::examine;
 use heads::put_table;
+use tables::heads::WORDS;
 ghost use mathlib.Core.Path.{_≡_};
 ghost use lib.ListN.{length};
 ghost use Rattle.answers.specs.Number.{refusedPrepared};
@@ -34,7 +35,7 @@ pub fn prepare(code: &[u16], table: &mut [u16]) -> Prepared
         return refused(answer, e.place);
     }
     let end = e.words;
-    let size = 1 + 12 * e.sections + end;
+    let size = 1 + WORDS * e.sections + end;
     if table.len() < size {
         return refused(Answer::TableRoom, 0);
     }
