@@ -146,17 +146,18 @@ isMisplaced groups = false
 isMisplaced divides = false
 isMisplaced misplaced = true
 
--- how many integer places stand among these tokens: places before their first point
-unfoldable pub integerPlaceTokens : List Token → ℕ
-integerPlaceTokens [] = 0
-integerPlaceTokens (t ∷ ts) = let r = integerPlaceTokens ts in cond (isPoint t) 0 (cond (isPlace t) (suc r) r)
-
+-- an integer place stands among these tokens: a place before their first point
 unfoldable pub integerPlaceIn : List Token → Bool
 integerPlaceIn [] = false
 integerPlaceIn (t ∷ ts) = let r = integerPlaceIn ts in cond (isPoint t) false (cond (isPlace t) true r)
 
--- the use of a comma, by the tokens of its body before it and behind it: it groups between integer places; it divides between the
--- last integer place and the point or end; it divides after the last place of all
+-- and how many do
+unfoldable pub integerPlaceTokens : List Token → ℕ
+integerPlaceTokens [] = 0
+integerPlaceTokens (t ∷ ts) = let r = integerPlaceTokens ts in cond (isPoint t) 0 (cond (isPlace t) (suc r) r)
+
+-- the use of a comma, by the tokens of its body before it and behind it: between integer places it groups; between the last integer
+-- place and the point or end it divides; after the last place of all it divides
 unfoldable pub useOf : List Token → List Token → CommaUse
 useOf before behind =
     let beforePoint = not (any isPoint before) in
