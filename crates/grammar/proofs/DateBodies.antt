@@ -48,18 +48,19 @@ from-has (from-between {ts = ts} x d) = between-has ts x ∙ from-has d
 
 -- ---- the tokens of a date
 
-sub-tokens : {ts us : List Token} → NFPartSubSecond ts us → every dateToken us ≡ true → every dateToken ts ≡ true
-unfolding every tokenMakes noBracket
-sub-tokens tenths e = e
-sub-tokens hundredths e = e
-sub-tokens thousandths e = e
-
-rest-tokens : {abs : Option Elapsed} {b : Behind} {ts : List Token} → DateTimeRest abs b ts → every dateToken ts ≡ true
-unfolding every
-rest-tokens rest-end = refl
-rest-tokens (rest-token {t = t} {ts = ts} x d) = every-in dateToken t ts ((dating-facts (dating x)) .2) (rest-tokens d)
-rest-tokens (rest-sub-second s d) = sub-tokens s (rest-tokens d)
-rest-tokens (rest-between {t = t} {ts = ts} x d) = every-in dateToken t ts ((between-facts x) .2) (rest-tokens d)
+-- each token is of a date's body, and no solidus stands before a place
+rest-facts : {abs : Option Elapsed} {b : Behind} {ts : List Token} → DateTimeRest abs b ts → (every dateToken ts ≡ true) × ((d : Bool) → solidusFrom d ts ≡ true)
+unfolding every tokenMakes noBracket solidusFrom isSolidus startsWithPlace
+rest-facts rest-end = (refl, (λ d. refl))
+rest-facts (rest-token {t = t} {ts = ts} x r) =
+    let (e, f) = rest-facts r in
+    (every-in dateToken t ts ((dating-facts (dating x)) .2) e, (λ d. rw (rest-start r, and-false (d && isSolidus t)) (f (isPlace t))))
+rest-facts (rest-sub-second tenths r) = let (e, f) = rest-facts r in (e, (λ d. rw (and-false d) (f true)))
+rest-facts (rest-sub-second hundredths r) = let (e, f) = rest-facts r in (e, (λ d. rw (and-false d) (f true)))
+rest-facts (rest-sub-second thousandths r) = let (e, f) = rest-facts r in (e, (λ d. rw (and-false d) (f true)))
+rest-facts (rest-between {t = t} {ts = ts} x r) =
+    let (e, f) = rest-facts r in
+    (every-in dateToken t ts ((between-facts x) .2) e, (λ d. rw (rest-start r, and-false (d && isSolidus t)) (f (isPlace t))))
 
 tokens-body : (ts : List Token) → every dateToken ts ≡ true → every inBody ts ≡ true
 tokens-body ts e = every-all dateToken inBody (λ t d. (and-parts (inBody t) _ d) .0) ts e
@@ -72,16 +73,6 @@ token-other t d =
     let others = (and-parts (inBody t) _ d) .1 in
     let (a, b) = and-parts (not (sameKind textKind (tokenMakes t))) (not (sameKind generalKind (tokenMakes t))) others in
     (not-true (sameKind textKind (tokenMakes t)) a, not-true (sameKind generalKind (tokenMakes t)) b)
-
--- no solidus stands before a place
-rest-solidus : {abs : Option Elapsed} {b : Behind} {ts : List Token} → DateTimeRest abs b ts → (d : Bool) → solidusFrom d ts ≡ true
-unfolding solidusFrom isSolidus startsWithPlace
-rest-solidus rest-end e = refl
-rest-solidus (rest-token {t = t} x d) e = rw (rest-start d, and-false (e && isSolidus t)) (rest-solidus d (isPlace t))
-rest-solidus (rest-sub-second tenths d) e = rw (and-false e) (rest-solidus d true)
-rest-solidus (rest-sub-second hundredths d) e = rw (and-false e) (rest-solidus d true)
-rest-solidus (rest-sub-second thousandths d) e = rw (and-false e) (rest-solidus d true)
-rest-solidus (rest-between {t = t} x d) e = rw (rest-start d, and-false (e && isSolidus t)) (rest-solidus d (isPlace t))
 
 -- ---- elapsed items and absolute tokens
 
@@ -170,7 +161,7 @@ dated-fill abs r (i ∷ is) =
 -- ---- NFDateTime
 
 pub date-tokens : (ts : List Token) → NFDateTime ts → every inBody ts ≡ true
-date-tokens ts d = tokens-body ts (rest-tokens (to-rest (d .tokens)))
+date-tokens ts d = tokens-body ts ((rest-facts (to-rest (d .tokens))) .0)
 
 date-body : (ts : List Token) → bodyKind ts ≡ dateKind → bodyItems ts ≡ dateItems (piecesFrom false 0 ts)
 unfolding bodyItems
@@ -199,7 +190,7 @@ pub date-fits : (ts : List Token) → NFDateTime ts → (bodyKind ts ≡ dateKin
 unfolding commasFit solidusFits settled sorts
 date-fits ts d =
     let rest = to-rest (d .tokens) in
-    let tokens = rest-tokens rest in
+    let tokens = (rest-facts rest) .0 in
     let h = kind-date ts (tokens-none textKind (λ t e. (token-other t e) .0) ts tokens) (tokens-none generalKind (λ t e. (token-other t e) .1) ts tokens) (from-has (d .tokens)) in
     let items = date-body ts h in
     let dated : every (dateItem (d .abs)) (kept ts) ≡ true = rw items (dated-fill (d .abs) noRun (dateItems (piecesFrom false 0 ts)) ∙ rest-dated (d .abs) rest noRun refl) in
@@ -214,7 +205,7 @@ date-fits ts d =
       record {
         brackets = body-brackets ts (tokens-body ts tokens);
         commas = rw h;
-        solidus = rest-solidus rest false;
+        solidus = (rest-facts rest) .1 false;
         allowed = rw h a;
         generals = omega arith;
         points = omega arith;
