@@ -19,26 +19,18 @@ use Rattle.grammar.proofs.Plain.{View, v-free, v-comma, v-place, v-poin
 
 -- ---- what the tests of a number see at each part
 
-abbrev behindPoint : Part → Bool
-behindPoint leading = false
-behindPoint wholes = false
-behindPoint grouping = false
-behindPoint dividing = false
-behindPoint bared = true
-behindPoint decimals = true
-behindPoint trailing = true
-
-abbrev behindPlace : Part → Bool
-behindPlace leading = false
-behindPlace wholes = true
-behindPlace grouping = true
-behindPlace dividing = true
-behindPlace bared = false
-behindPlace decimals = true
-behindPlace trailing = true
+-- whether the point stands before, and whether a place does
+abbrev behind : Part → Bool × Bool
+behind leading = (false, false)
+behind wholes = (false, true)
+behind grouping = (false, true)
+behind dividing = (false, true)
+behind bared = (true, false)
+behind decimals = (true, true)
+behind trailing = (true, true)
 
 abbrev uses : Part → List Token → List CommaUse
-uses p ts = commaUsesFrom (behindPoint p) (behindPlace p) ts
+uses p ts = commaUsesFrom ((behind p) .0) ((behind p) .1) ts
 
 -- what must still come, or may not
 abbrev needs : Part → List Token → Bool
@@ -52,7 +44,7 @@ needs trailing ts = not (any isPlace ts)
 
 pub record Holds (p : Part) (ts : List Token) : Type 0 where
   pub placed : any isMisplaced (uses p ts) ≡ false
-  pub points : count isPoint ts ≤ cond (behindPoint p) 0 1
+  pub points : count isPoint ts ≤ cond ((behind p) .0) 0 1
   pub ahead : needs p ts ≡ true
 
 -- ---- what stands beside the places
@@ -104,28 +96,28 @@ counted-beside {t} p n ts b c =
     record {
       views = v-next (beside-view b) (c .views);
       holds = record {
-        placed = rw (quiet-commas ts q (behindPoint p) (behindPlace p)) (c .holds .placed);
+        placed = rw (quiet-commas ts q ((behind p) .0) ((behind p) .1)) (c .holds .placed);
         points = rw (passed-over isPoint t ts (q .no-point)) (c .holds .points);
         ahead = beside-needs p ts q ∙ c .holds .ahead;
       };
-      counted = rw (quiet-commas ts q (behindPoint p) (behindPlace p)) (c .counted);
+      counted = rw (quiet-commas ts q ((behind p) .0) ((behind p) .1)) (c .counted);
     }
 
 -- a comma in front, by its use
-comma-groups : (p q : Part) (n : ℕ) (ts : List Token) → uses p (comma ∷ ts) ≡ groups ∷ uses q ts → behindPoint q ≡ behindPoint p → needs p (comma ∷ ts) ≡ true
+comma-groups : (p q : Part) (n : ℕ) (ts : List Token) → uses p (comma ∷ ts) ≡ groups ∷ uses q ts → (behind q) .0 ≡ (behind p) .0 → needs p (comma ∷ ts) ≡ true
     → Counted q n ts → Counted p n (comma ∷ ts)
 unfolding any count
 comma-groups p q n ts e b a c =
     record { views = v-next v-comma (c .views); holds = record { placed = rw e (c .holds .placed); points = rw b at (c .holds .points); ahead = a }; counted = rw e (c .counted) }
 
-comma-divides : (p q : Part) (n : ℕ) (ts : List Token) → uses p (comma ∷ ts) ≡ divides ∷ uses q ts → behindPoint q ≡ behindPoint p → needs p (comma ∷ ts) ≡ true
+comma-divides : (p q : Part) (n : ℕ) (ts : List Token) → uses p (comma ∷ ts) ≡ divides ∷ uses q ts → (behind q) .0 ≡ (behind p) .0 → needs p (comma ∷ ts) ≡ true
     → Counted q n ts → Counted p (suc n) (comma ∷ ts)
 unfolding any count
 comma-divides p q n ts e b a c =
     record { views = v-next v-comma (c .views); holds = record { placed = rw e (c .holds .placed); points = rw b at (c .holds .points); ahead = a }; counted = rw e (ap suc (c .counted)) }
 
 -- a place, or the point, in front
-counted-by : (p q : Part) (n : ℕ) {t : Token} (ts : List Token) → View numberKind t → uses q (t ∷ ts) ≡ uses p ts → count isPoint (t ∷ ts) ≤ cond (behindPoint q) 0 1
+counted-by : (p q : Part) (n : ℕ) {t : Token} (ts : List Token) → View numberKind t → uses q (t ∷ ts) ≡ uses p ts → count isPoint (t ∷ ts) ≤ cond ((behind q) .0) 0 1
     → needs q (t ∷ ts) ≡ true → Counted p n ts → Counted q n (t ∷ ts)
 counted-by p q n ts v u c a d =
     record { views = v-next v (d .views); holds = record { placed = rw u (d .holds .placed); points = c; ahead = a }; counted = rw u (d .counted) }
@@ -163,13 +155,13 @@ num-counted trailing-end = record { views = v-end; holds = record { placed = ref
 past-beside : {t : Token} (p : Part) (ts : List Token) → Quiet t → Holds p (t ∷ ts) → Holds p ts
 past-beside {t} p ts q h =
     record {
-      placed = rw (quiet-commas ts q (behindPoint p) (behindPlace p)) at (h .placed);
+      placed = rw (quiet-commas ts q ((behind p) .0) ((behind p) .1)) at (h .placed);
       points = rw (passed-over isPoint t ts (q .no-point)) at (h .points);
       ahead = rw (beside-needs p ts q) at (h .ahead);
     }
 
 before-beside : {t : Token} {ts : List Token} (p : Part) → Beside t → NFPartNum p (divisions p ts) ts → NFPartNum p (divisions p (t ∷ ts)) (t ∷ ts)
-before-beside {ts = ts} p b d = rw (quiet-commas ts (beside-quiet b) (behindPoint p) (behindPlace p)) (beside b d)
+before-beside {ts = ts} p b d = rw (quiet-commas ts (beside-quiet b) ((behind p) .0) ((behind p) .1)) (beside b d)
 
 tail-placed : (u : CommaUse) (us : List CommaUse) → any isMisplaced (u ∷ us) ≡ false → any isMisplaced us ≡ false
 unfolding any
@@ -178,7 +170,7 @@ tail-placed divides us e = e
 tail-placed misplaced us e = absurd (true≢false e)
 
 -- a comma of this use at part p, with part q behind it
-at-comma : (p q : Part) (u : CommaUse) (ts : List Token) → uses p (comma ∷ ts) ≡ u ∷ uses q ts → behindPoint p ≡ behindPoint q → needs q ts ≡ true
+at-comma : (p q : Part) (u : CommaUse) (ts : List Token) → uses p (comma ∷ ts) ≡ u ∷ uses q ts → (behind p) .0 ≡ (behind q) .0 → needs q ts ≡ true
     → ((r : Part) → Holds r ts → NFPartNum r (divisions r ts) ts) → Holds p (comma ∷ ts)
     → (NFPartNum q (divisions q ts) ts → NFPartNum p (count isDividing (u ∷ uses q ts)) (comma ∷ ts)) → NFPartNum p (divisions p (comma ∷ ts)) (comma ∷ ts)
 unfolding count
