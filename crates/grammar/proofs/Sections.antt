@@ -292,25 +292,20 @@ abbrev placed : ℕ → ℕ → Bool → Bool → Bool
 placed n i text cond = implies text (eqb (suc i) n) && implies cond (ltb i 2 && not (eqb n 1)) && not (eqb i 3)
 
 module _ (n i : ℕ) (text cond : Bool) (p : placed n i text cond ≡ true) where
-  not-fourth : eqb i 3 ≡ false
-  not-fourth = not-true (eqb i 3) ((and-parts (implies text (eqb (suc i) n) && implies cond (ltb i 2 && not (eqb n 1))) _ p) .1)
+  apart : (text ≡ true → eqb (suc i) n ≡ true) × (cond ≡ true → (ltb i 2 && not (eqb n 1)) ≡ true) × (eqb i 3 ≡ false)
+  apart =
+      let (f, c) = and-parts (implies text (eqb (suc i) n) && implies cond (ltb i 2 && not (eqb n 1))) _ p in
+      let (a, b) = and-parts (implies text (eqb (suc i) n)) (implies cond (ltb i 2 && not (eqb n 1))) f in
+      ((λ t. rw t at a), (λ h. rw h at b), not-true (eqb i 3) c)
 
   untexted : (k : Kind) → sameKind k textKind ≡ false → (c : ℕ) (d : Bool) → (d ≡ true → cond ≡ true) → standsBy n i c d k ≡ true
   unfolding standsBy
-  untexted k f c false h = rw (f, not-fourth, and-false (eqb n 1))
-  untexted k f c true h =
-      let may : cond ≡ true = h refl in
-      let first = (and-parts (implies text (eqb (suc i) n) && implies cond (ltb i 2 && not (eqb n 1))) _ p) .0 in
-      let early : (ltb i 2 && not (eqb n 1)) ≡ true = rw may at ((and-parts (implies text (eqb (suc i) n)) (implies cond (ltb i 2 && not (eqb n 1))) first) .1) in
-      let (a, b) = and-parts (ltb i 2) (not (eqb n 1)) early in
-      rw (f, not-fourth, a, not-true (eqb n 1) b)
+  untexted k f c false h = rw (f, apart .2, and-false (eqb n 1))
+  untexted k f c true h = let (a, b) = and-parts (ltb i 2) (not (eqb n 1)) (apart .1 (h refl)) in rw (f, apart .2, a, not-true (eqb n 1) b)
 
   texted : text ≡ true → (c : ℕ) → standsBy n i c false textKind ≡ true
   unfolding standsBy
-  texted t c =
-      let first = (and-parts (implies text (eqb (suc i) n) && implies cond (ltb i 2 && not (eqb n 1))) _ p) .0 in
-      let last : eqb (suc i) n ≡ true = rw t at ((and-parts (implies text (eqb (suc i) n)) (implies cond (ltb i 2 && not (eqb n 1))) first) .0) in
-      rw (last, not-fourth, and-false (eqb n 1))
+  texted t c = rw (apart .0 t, apart .2, and-false (eqb n 1))
 
   -- a section with a body of kind k, which may have a condition where the rule has one
   maybe-passes : (k : Kind) → sameKind k textKind ≡ false → {s us vs : List Token} → OptColor s us → OptCond cond us vs → Body k vs → Passes n i s
