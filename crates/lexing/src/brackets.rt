@@ -39,7 +39,7 @@ const LAST_COLOUR: u16 = 56;
 const NO_COLOUR: u16 = 57;
 
 // What a bracket's inside stands for.
-pub enum Inside {
+enum Inside {
     Found(Mark),
     Nothing,
 }
