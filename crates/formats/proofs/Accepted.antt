@@ -18,7 +18,7 @@ use Rattle.formats.specs.Limits.{withinLimits}
 use Rattle.formats.specs.WellFormed.{isUnit, sectionFormed, itemsInAll, allStand, wellFormed}
 use Rattle.formats.specs.Accept.{partsIn, sectionsIn, semicolons, placedOf, Verdict, fine, refused, kindVerdict, whereVerdict, limitVerdict, verdict, sections, acceptedBy, accept}
 use Rattle.formats.specs.Tokens.{lex}
-use Rattle.formats.proofs.TokenRanges.{partsInRange, parts-in-range}
+use Rattle.formats.proofs.TokenRanges.{partsInRange, parts-pass}
 use Rattle.formats.proofs.ItemCount.{items-most, section-count}
 use Rattle.formats.proofs.Formed.{section-formed}
 use Rattle.formats.proofs.First.{AllFine, verdict-fine, length-bounds, fine-none, count-few}
@@ -61,7 +61,7 @@ fine-formed code u e =
     let least : 1 ≤ length ss = omega arith in
     let greatest : length ss ≤ 4 = omega arith in
     let formed : T (every sectionFormed ss) =
-    all-formed (partsIn code) (parts-in-range code u)
+    all-formed (partsIn code) (parts-pass isUnit code u)
     (none-every fits 0 (partsIn code) (fine-none answer.Kind _ (a .kinds-fine)))
     (none-every withinLimits 0 (partsIn code) (fine-none answer.Limit _ (a .limits-fine))) in
     let stand : T (allStand ss) = stand-all ss (a .standing-fine) in

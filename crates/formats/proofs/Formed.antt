@@ -10,7 +10,7 @@ use Rattle.formats.specs.Items.{numberKind, sameKind, kindOf, itemsFit}
 use Rattle.formats.specs.Kinds.{Parts, bodyKind, commaUses, isDividing, bodyItems, lastFill, sectionOf, fits}
 use Rattle.formats.specs.Limits.{elapsedShort, sectionWithin, writtenWithin, withinLimits}
 use Rattle.formats.specs.WellFormed.{itemInRange, conditionInRange, partsFollow, oneFill, isSettled, dividingFits, sectionFormed}
-use Rattle.formats.proofs.TokenRanges.{tokenInRange, conditionDigits, partsInRange}
+use Rattle.formats.proofs.TokenRanges.{tokenInRange, conditionDigits, partsPass, partsInRange}
 use Rattle.formats.proofs.FormedItems.{settling-settles, fills-one}
 use Rattle.formats.proofs.FormedKinds.{kind-of-body}
 use Rattle.formats.proofs.FormedParts.{parts-follow}
@@ -52,7 +52,7 @@ items-settle p = settling-settles (lastFill (bodyItems (p .body)))
 
 items-ranged : (p : Parts) → T (every tokenInRange (p .body)) → T (sectionWithin (sectionOf p)) → T (every itemInRange ((sectionOf p) .items))
 unfolding sectionOf
-items-ranged p t w = items-in-range (p .body) t (within-short p w)
+items-ranged p t w = items-in-range p t (within-short p w)
 
 condition-ranged : (p : Parts) → T (conditionDigits (p .condition)) → T (writtenWithin (p .condition)) → T (conditionInRange ((sectionOf p) .condition))
 unfolding sectionOf
@@ -63,7 +63,7 @@ unfolding sectionOf
 colour-ranged p t = t
 
 pub section-formed : (p : Parts) → T (partsInRange p) → T (fits p) → T (withinLimits p) → T (sectionFormed (sectionOf p))
-unfolding partsInRange fits withinLimits sectionFormed
+unfolding partsPass fits withinLimits sectionFormed
 section-formed p r f w =
     let a : T (leb (p .colour) 56) = search (and-left, and-right) in
     let b : T (conditionDigits (p .condition)) = search (and-left, and-right) in

@@ -14,15 +14,14 @@ use Rattle.values.specs.Ranges.{between}
 use Rattle.formats.specs.Tokens as token
 use Rattle.formats.specs.Tokens.{Token, Letter, letterY, letterM, letterD, letterH, letterS, runAllowed}
 use Rattle.formats.specs.Items as item
-use Rattle.formats.specs.Items.{Item, dateKind, sameKind, Run, noRun, runOf, nearer, firstRun, meansMinutes, monthOrMinute, settledItem, settledFrom, settled}
-use Rattle.formats.specs.Kinds.{bodyKind, partZeros, isSecondsToken, piecesFrom, runItem, tokenItems, pieceItems, plainItems, dateItems, bodyItems, lastFill}
+use Rattle.formats.specs.Items.{Item, Run, meansMinutes, monthOrMinute, settledItem}
+use Rattle.formats.specs.Kinds.{Parts, runItem, tokenItems, sectionOf}
 use Rattle.formats.specs.Where.{implies}
 use Rattle.formats.specs.Limits.{elapsedShort}
 use Rattle.formats.specs.WellFormed.{isUnit, itemInRange}
-use Rattle.formats.proofs.TokenRanges.{tokenInRange}
+use Rattle.formats.proofs.TokenRanges.{tokenPasses, tokenInRange, items-pass}
 use Rattle.formats.proofs.FormedBools.{implies-in, implies-out}
-use Rattle.formats.proofs.FormedItems.{every-lastFill, settled-cases}
-use Rattle.formats.proofs.FormedPieces.{zeros-most}
+use Rattle.formats.proofs.FormedItems.{settled-cases}
 
 -- in range where it is within the limit on elapsed runs
 unfoldable pub rangedShort : Item → Bool
@@ -41,7 +40,7 @@ run-ranged letterH n t = t
 run-ranged letterS n t = t
 
 token-ranged : (d : Bool) (t : Token) → T (tokenInRange t) → T (every rangedShort (tokenItems d t))
-unfolding every rangedShort elapsedShort itemInRange tokenItems tokenInRange
+unfolding every rangedShort elapsedShort itemInRange tokenItems tokenPasses
 token-ranged d (token.literal us) h = literals-ranged us h
 token-ranged d (token.bare u) h = every-cons rangedShort (item.literal u) [] h tt
 token-ranged d (token.blank u) h = every-cons rangedShort (item.blank u) [] h tt
@@ -60,34 +59,10 @@ token-ranged d (token.elapsed e n) h =
 token-ranged d (token.colour n) h = tt
 token-ranged d (token.condition w) h = tt
 
-plain-ranged : (ts : List Token) → T (every tokenInRange ts) → T (every rangedShort (plainItems ts))
-unfolding plainItems every
-plain-ranged [] h = tt
-plain-ranged (t ∷ ts) h =
-    every-append rangedShort (tokenItems false t) (plainItems ts)
-    (token-ranged false t (every-head tokenInRange t ts h)) (plain-ranged ts (every-tail tokenInRange t ts h))
-
 part-ranged : (n : ℕ) → n ≤ 3 → eqb n 0 ≡ false → T (rangedShort (item.part n))
 unfolding rangedShort elapsedShort itemInRange
 part-ranged zero h e = absurd (eqb-false 0 0 e refl)
 part-ranged (suc n) h e = and-in (leb 1 (suc n)) (leb (suc n) 3) (le→leb 1 (suc n) (omega arith)) (le→leb (suc n) 3 h)
-
-date-ranged : (b : Bool) (skip : ℕ) (ts : List Token) → T (every tokenInRange ts) → T (every rangedShort (dateItems (piecesFrom b skip ts)))
-unfolding piecesFrom dateItems pieceItems every
-date-ranged b skip [] h = tt
-date-ranged b (suc skip) (t ∷ ts) h = date-ranged false skip ts (every-tail tokenInRange t ts h)
-date-ranged b zero (t ∷ ts) h =
-    let n = partZeros b t ts in
-    let is = dateItems (piecesFrom (isSecondsToken t) n ts) in
-    let r : T (every rangedShort is) = date-ranged (isSecondsToken t) n ts (every-tail tokenInRange t ts h) in
-    by-cases (eqb n 0)
-    (λ e. rw e (every-append rangedShort (tokenItems true t) is (token-ranged true t (every-head tokenInRange t ts h)) r))
-    (λ e. rw e (every-cons rangedShort (item.part n) is (part-ranged n (zeros-most b t ts) e) r))
-
-body-ranged : (ts : List Token) → T (every tokenInRange ts) → T (every rangedShort (bodyItems ts))
-unfolding bodyItems
-body-ranged ts h =
-    cond-both (λ (is : List Item). T (every rangedShort is)) (sameKind (bodyKind ts) dateKind) (date-ranged false 0 ts h) (plain-ranged ts h)
 
 -- a run of m of 1 to 5 is minutes only where it is one of 1 or 2
 month-ranged : (b : Bool) (n : ℕ) → T (between 1 5 n) → T (rangedShort (monthOrMinute b n))
@@ -107,13 +82,6 @@ unfolding rangedShort elapsedShort itemInRange
 item-settled e l = settled-cases (λ (i : Item) (g : Run → Run → Item). T (rangedShort i) → T (rangedShort (g e l)))
     (λ n t. month-ranged (meansMinutes e l) n t) (λ n t. month-ranged (meansMinutes e l) n (minute-month n t)) (λ i t. t)
 
-items-settled : (e : Run) (is : List Item) → T (every rangedShort is) → T (every rangedShort (settledFrom e is))
-unfolding settledFrom every
-items-settled e [] t = tt
-items-settled e (i ∷ is) t =
-    every-cons rangedShort (settledItem e (firstRun is) i) (settledFrom (nearer (runOf i) e) is)
-    (item-settled e (firstRun is) i (every-head rangedShort i is t)) (items-settled (nearer (runOf i) e) is (every-tail rangedShort i is t))
-
 within-ranged : (is : List Item) → T (every rangedShort is) → T (every elapsedShort is) → T (every itemInRange is)
 unfolding every rangedShort
 within-ranged [] t u = tt
@@ -123,9 +91,7 @@ within-ranged (i ∷ is) t u =
     (within-ranged is (every-tail rangedShort i is t) (every-tail elapsedShort i is u))
 
 -- the items of a section
-pub items-in-range : (ts : List Token) → T (every tokenInRange ts)
-    → T (every elapsedShort (settled (lastFill (bodyItems ts)))) → T (every itemInRange (settled (lastFill (bodyItems ts))))
-unfolding settled
-items-in-range ts t u =
-    within-ranged (settledFrom noRun (lastFill (bodyItems ts)))
-    (items-settled noRun (lastFill (bodyItems ts)) (every-lastFill rangedShort (bodyItems ts) (body-ranged ts t))) u
+pub items-in-range : (p : Parts) → T (every tokenInRange (p .body)) → T (every elapsedShort ((sectionOf p) .items))
+    → T (every itemInRange ((sectionOf p) .items))
+items-in-range p t u =
+    within-ranged ((sectionOf p) .items) (items-pass tokenInRange rangedShort token-ranged part-ranged item-settled p t) u

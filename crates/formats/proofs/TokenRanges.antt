@@ -1,4 +1,4 @@
--- What the tokens of a code hold: units, runs, colours and digits in their ranges, and no semicolon in a section.
+-- What the tokens of a code hold: units of the code, runs, colours and digits in their ranges, and no semicolon in a section.
 -- Assumes nothing.
 use Prim.Native.Nat.{ℕ, zero, suc, _+_, _-_, _≤_, _<_}
 use Prim.Native.String.{String}
@@ -10,13 +10,16 @@ use mathlib.Core.Option.{Option, none, some}
 use lib.ListN.{length, take, drop}
 use lib.Dec.{T, leb, ltb, eqb, leb→le, le→leb, lt→ltb}
 use Rattle.lists.specs.Lists.{every, any, isEmpty}
-use Rattle.lists.proofs.Bools.{and-left, and-right, and-in, true-T, by-cases, cond-both, cond-case, every-head, every-tail, every-cons}
+use Rattle.lists.proofs.Bools.{and-left, and-right, and-in, true-T, by-cases, cond-both, cond-case, every-head, every-tail, every-cons, every-append}
 use Rattle.lists.proofs.Counts.{every-map, every-weaker}
 use Rattle.calendar.specs.Names.{units}
 use Rattle.formats.specs.Tokens.{Letter, Elapsed, hours, minutes, seconds, Comparison, equal, less, greater, atMost, atLeast, unequal, Written, Token, literal, bare, blank, fill, place, point, comma, percent, at, semicolon, general, half, run, elapsed, colour, condition, Step, read, broken, before, leading, startsWith, same, quoted, marked, generalWord, halfDayWord, runAllowed, runStep, isDigit, digitOf, numberFrom, colourNames, namedFrom, noLeadingZero, colourDigits, numbered, elapsedInside, decimalsOf, wholeOf, signedOf, conditionInside, firstForm, insideOf, closed, bracketed, First, quote, backslash, underscore, asterisk, openBracket, capitalG, capitalA, other, letter, single, FirstRow, firstRows, firstIn, bareLiterals, stepBy, stepAt, Placed, Lexed, good, bad, onto, afterStep, lexFrom, lex}
-use Rattle.formats.specs.Kinds.{isSemicolon, isColour, isCondition, Parts, colourIn, conditionIn, afterColour, partsOf}
+use Rattle.formats.specs.Items.{Item, part, dateKind, sameKind, Run, noRun, runOf, nearer, firstRun, settledItem, settledFrom, settled}
+use Rattle.formats.specs.Kinds.{isSemicolon, isColour, isCondition, Parts, colourIn, conditionIn, afterColour, partsOf, bodyKind, isSecondsToken, partZeros, piecesFrom, tokenItems, pieceItems, plainItems, dateItems, bodyItems, lastFill, sectionOf}
 use Rattle.formats.specs.WellFormed.{isUnit}
 use Rattle.formats.specs.Accept.{placedOf, tokensOf, joined, split, partsIn}
+use Rattle.formats.proofs.FormedItems.{every-lastFill}
+use Rattle.formats.proofs.FormedPieces.{zeros-most}
 
 abbrev pub belowTen : ℕ → Bool
 belowTen d = ltb d 10
@@ -25,26 +28,30 @@ belowTen d = ltb d 10
 unfoldable pub writtenInRange : Written → Bool
 writtenInRange w = every belowTen (w .whole) && every belowTen (w .decimals)
 
-unfoldable pub tokenInRange : Token → Bool
-tokenInRange (literal us) = every isUnit us
-tokenInRange (bare u) = isUnit u
-tokenInRange (blank u) = isUnit u
-tokenInRange (fill u) = isUnit u
-tokenInRange (place p) = true
-tokenInRange point = true
-tokenInRange comma = true
-tokenInRange percent = true
-tokenInRange at = true
-tokenInRange semicolon = true
-tokenInRange general = true
-tokenInRange (half h) = true
-tokenInRange (run l n) = runAllowed l n
-tokenInRange (elapsed e n) = leb 1 n
-tokenInRange (colour n) = leb n 56
-tokenInRange (condition w) = writtenInRange w
+-- the units of a token pass a test, and its runs, colours and digits are in range
+unfoldable pub tokenPasses : (ℕ → Bool) → Token → Bool
+tokenPasses f (literal us) = every f us
+tokenPasses f (bare u) = f u
+tokenPasses f (blank u) = f u
+tokenPasses f (fill u) = f u
+tokenPasses f (place p) = true
+tokenPasses f point = true
+tokenPasses f comma = true
+tokenPasses f percent = true
+tokenPasses f at = true
+tokenPasses f semicolon = true
+tokenPasses f general = true
+tokenPasses f (half h) = true
+tokenPasses f (run l n) = runAllowed l n
+tokenPasses f (elapsed e n) = leb 1 n
+tokenPasses f (colour n) = leb n 56
+tokenPasses f (condition w) = writtenInRange w
+
+abbrev pub tokenInRange : Token → Bool
+tokenInRange = tokenPasses isUnit
 
 -- lists of units
-every-take : {A : Type 0} (f : A → Bool) (n : ℕ) (xs : List A) → T (every f xs) → T (every f (take n xs))
+pub every-take : {A : Type 0} (f : A → Bool) (n : ℕ) (xs : List A) → T (every f xs) → T (every f (take n xs))
 unfolding every
 every-take f zero xs t = tt
 every-take f (suc n) [] t = tt
@@ -182,88 +189,6 @@ singlePasses f other = true
 singlePasses f (letter l) = true
 singlePasses f (single t) = f t
 
-abbrev Ranged : Token → ℕ → Type 0
-Ranged t more = T (tokenInRange t)
-
-quoted-ranged : (us : List ℕ) → T (every isUnit us) → InStep Ranged (quoted us)
-unfolding quoted tokenInRange
-quoted-ranged us t =
-    cond-both (InStep Ranged) (eqb (before 34 us) 0 || eqb (before 34 us) (length us)) tt (every-take isUnit (before 34 us) us t)
-
-marked-ranged : (f : ℕ → Token) (us : List ℕ) → ((u : ℕ) → T (isUnit u) → T (tokenInRange (f u))) → T (every isUnit us) → InStep Ranged (marked f us)
-unfolding marked
-marked-ranged f [] h t = tt
-marked-ranged f (u ∷ us) h t = h u (every-head isUnit u us t)
-
-run-ranged : (l : Letter) (u : ℕ) (us : List ℕ) → InStep Ranged (runStep l u us)
-unfolding runStep tokenInRange
-run-ranged l u us = cond-case (InStep Ranged) (runAllowed l (suc (leading (eqb u) us))) (λ e. true-T e) (λ e. tt)
-
-general-ranged : (us : List ℕ) → InStep Ranged (generalWord us)
-unfolding generalWord tokenInRange
-general-ranged us = cond-both (InStep Ranged) (startsWith (units "General") us) tt tt
-
-half-ranged : (us : List ℕ) → InStep Ranged (halfDayWord us)
-unfolding halfDayWord tokenInRange
-half-ranged us =
-    cond-both (InStep Ranged) (startsWith (units "AM/PM") us) tt (cond-both (InStep Ranged) (startsWith (units "A/P") us) tt tt)
-
-bracketed-ranged : (us : List ℕ) → InStep Ranged (bracketed us)
-unfolding bracketed tokenInRange
-bracketed-ranged us =
-    cond-both (InStep Ranged) (eqb (before 93 us) (length us)) tt
-    (closed-step Ranged (before 93 us) (insideOf (take (before 93 us) us))
-    (inside-form (λ (t : Token). T (tokenInRange t)) (λ n h. le→leb n 56 h) (λ e n h. h) (λ w h. h) (take (before 93 us) us)))
-
-by-ranged : (f : First) (u : ℕ) (us : List ℕ) → T (singlePasses tokenInRange f) → T (isUnit u) → T (every isUnit us) → InStep Ranged (stepBy f u us)
-unfolding stepBy singlePasses tokenInRange every
-by-ranged quote u us s t ts = quoted-ranged us ts
-by-ranged backslash u us s t ts = marked-ranged (λ (v : ℕ). literal (v ∷ [])) us (λ v h. every-cons isUnit v [] h tt) ts
-by-ranged underscore u us s t ts = marked-ranged blank us (λ v h. h) ts
-by-ranged asterisk u us s t ts = marked-ranged fill us (λ v h. h) ts
-by-ranged openBracket u us s t ts = bracketed-ranged us
-by-ranged capitalG u us s t ts = general-ranged (u ∷ us)
-by-ranged capitalA u us s t ts = half-ranged (u ∷ us)
-by-ranged (letter l) u us s t ts = run-ranged l u us
-by-ranged (single x) u us s t ts = s
-by-ranged other u us s t ts = cond-both (InStep Ranged) (any (eqb u) bareLiterals) t tt
-
-rows-ranged : T (every (λ (r : FirstRow). singlePasses tokenInRange (r .first)) firstRows)
-unfolding every firstRows singlePasses tokenInRange
-rows-ranged = tt
-
-step-ranged : (u : ℕ) (us : List ℕ) → T (isUnit u) → T (every isUnit us) → InStep Ranged (stepAt u us)
-unfolding stepAt singlePasses
-step-ranged u us t ts =
-    by-ranged (firstIn firstRows u) u us (first-passes (singlePasses tokenInRange) firstRows u tt rows-ranged) t ts
-
--- the tokens of a code
-abbrev AllRanged : Lexed → Type 0
-AllRanged l = T (every tokenInRange (tokensOf (placedOf l)))
-
-onto-ranged : (p : Placed) (l : Lexed) → T (tokenInRange (p .token)) → AllRanged l → AllRanged (onto p l)
-unfolding onto placedOf tokensOf every
-onto-ranged p (good ps) t h = every-cons tokenInRange (p .token) (tokensOf ps) t h
-onto-ranged p (bad k) t h = tt
-
-after-ranged : (k : ℕ) (s : Step) (rest : ℕ → Lexed) → InStep Ranged s → ((n : ℕ) → AllRanged (rest n)) → AllRanged (afterStep k s rest)
-unfolding afterStep placedOf tokensOf every
-after-ranged k (read t more) rest h r = onto-ranged _ (rest more) h (r more)
-after-ranged k broken rest h r = tt
-
-lex-ranged : (k skip : ℕ) (us : List ℕ) → T (every isUnit us) → AllRanged (lexFrom k skip us)
-unfolding lexFrom placedOf tokensOf every
-lex-ranged k skip [] t = tt
-lex-ranged k (suc skip) (u ∷ us) t = lex-ranged (suc k) skip us (every-tail isUnit u us t)
-lex-ranged k zero (u ∷ us) t =
-    after-ranged k (stepAt u us) _
-    (step-ranged u us (every-head isUnit u us t) (every-tail isUnit u us t))
-    (λ (n : ℕ). lex-ranged (suc k) n us (every-tail isUnit u us t))
-
-pub tokens-in-range : (code : List ℕ) → T (every isUnit code) → T (every tokenInRange (tokensOf (placedOf (lex code))))
-unfolding lex
-tokens-in-range code t = lex-ranged 0 0 code t
-
 -- the sections' tokens: a test that each token but the semicolons passes is passed by every token of a section
 joined-passes : (f : Token → Bool) (t : Token) (r : List (List Token)) → T (f t) → T (every (every f) r) → T (every (every f) (joined t r))
 unfolding joined every
@@ -286,92 +211,220 @@ unfoldable pub conditionDigits : Option Written → Bool
 conditionDigits none = true
 conditionDigits (some w) = writtenInRange w
 
-unfoldable pub partsInRange : Parts → Bool
-partsInRange p =
+-- what the parts of a section hold
+unfoldable pub partsPass : (ℕ → Bool) → Parts → Bool
+partsPass f p =
     leb (p .colour) 56
     && conditionDigits (p .condition)
-    && every tokenInRange (p .body)
+    && every (tokenPasses f) (p .body)
     && every (λ (t : Token). not (isSemicolon t)) (p .body)
 
--- a token that may stand in a section
-abbrev inSection : Token → Bool
-inSection t = tokenInRange t && not (isSemicolon t)
-
-colour-in : (t : Token) → T (tokenInRange t) → T (leb (colourIn t) 56)
-unfolding colourIn tokenInRange
-colour-in (colour n) h = h
-colour-in (literal us) h = tt
-colour-in (bare u) h = tt
-colour-in (blank u) h = tt
-colour-in (fill u) h = tt
-colour-in (place p) h = tt
-colour-in point h = tt
-colour-in comma h = tt
-colour-in percent h = tt
-colour-in at h = tt
-colour-in semicolon h = tt
-colour-in general h = tt
-colour-in (half x) h = tt
-colour-in (run l n) h = tt
-colour-in (elapsed e n) h = tt
-colour-in (condition w) h = tt
-
-condition-in : (t : Token) → T (tokenInRange t) → T (conditionDigits (conditionIn t))
-unfolding conditionIn conditionDigits tokenInRange
-condition-in (condition w) h = h
-condition-in (literal us) h = tt
-condition-in (bare u) h = tt
-condition-in (blank u) h = tt
-condition-in (fill u) h = tt
-condition-in (place p) h = tt
-condition-in point h = tt
-condition-in comma h = tt
-condition-in percent h = tt
-condition-in at h = tt
-condition-in semicolon h = tt
-condition-in general h = tt
-condition-in (half x) h = tt
-condition-in (run l n) h = tt
-condition-in (elapsed e n) h = tt
-condition-in (colour n) h = tt
-
-made-in-range : (c : ℕ) (w : Option Written) (ts : List Token)
-    → T (leb c 56) → T (conditionDigits w) → T (every inSection ts) → T (partsInRange (record { colour = c; condition = w; body = ts }))
-unfolding partsInRange
-made-in-range c w ts hc hw t =
-    let a : T (every tokenInRange ts)
-    = every-weaker inSection tokenInRange (λ x h. and-left (tokenInRange x) (not (isSemicolon x)) h) ts t in
-    let b : T (every (λ (x : Token). not (isSemicolon x)) ts)
-    = every-weaker inSection (λ (x : Token). not (isSemicolon x)) (λ x h. and-right (tokenInRange x) (not (isSemicolon x)) h) ts t in
-    search and-in depth 8
-
-after-in-range : (c : ℕ) (ts : List Token) → T (leb c 56) → T (every inSection ts) → T (partsInRange (afterColour c ts))
-unfolding afterColour conditionDigits
-after-in-range c [] hc h = made-in-range c none [] hc tt h
-after-in-range c (t ∷ ts) hc h =
-    let x : T (tokenInRange t) = and-left (tokenInRange t) (not (isSemicolon t)) (every-head inSection t ts h) in
-    cond-both (λ (p : Parts). T (partsInRange p)) (isCondition t)
-    (made-in-range c (conditionIn t) ts hc (condition-in t x) (every-tail inSection t ts h))
-    (made-in-range c none (t ∷ ts) hc tt h)
-
-parts-made : (ts : List Token) → T (every inSection ts) → T (partsInRange (partsOf ts))
-unfolding partsOf
-parts-made [] h = after-in-range 0 [] tt h
-parts-made (t ∷ ts) h =
-    let x : T (tokenInRange t) = and-left (tokenInRange t) (not (isSemicolon t)) (every-head inSection t ts h) in
-    cond-both (λ (p : Parts). T (partsInRange p)) (isColour t)
-    (after-in-range (colourIn t) ts (colour-in t x) (every-tail inSection t ts h))
-    (after-in-range 0 (t ∷ ts) tt h)
+abbrev pub partsInRange : Parts → Bool
+partsInRange = partsPass isUnit
 
 false-not : (b : Bool) → b ≡ false → T (not b)
 false-not b e = rw e tt
 
-pub parts-in-range : (code : List ℕ) → T (every isUnit code) → T (every partsInRange (partsIn code))
-unfolding partsIn
-parts-in-range code t =
-    let ts = tokensOf (placedOf (lex code)) in
-    let s : T (every (every inSection) (split ts))
-    = split-passes tokenInRange inSection
-    (λ x e h. and-in (tokenInRange x) (not (isSemicolon x)) h (false-not (isSemicolon x) e)) ts (tokens-in-range code t) in
-    rw (every-map partsInRange partsOf (split ts))
-    (every-weaker (every inSection) (λ (x : List Token). partsInRange (partsOf x)) parts-made (split ts) s)
+-- ---- a test that every unit of a code passes is passed by the units of its tokens
+module _ (test : ℕ → Bool) where
+  abbrev passes : Token → Bool
+  passes = tokenPasses test
+
+  abbrev Ranged : Token → ℕ → Type 0
+  Ranged t more = T (passes t)
+
+  quoted-ranged : (us : List ℕ) → T (every test us) → InStep Ranged (quoted us)
+  unfolding quoted tokenPasses
+  quoted-ranged us t =
+      cond-both (InStep Ranged) (eqb (before 34 us) 0 || eqb (before 34 us) (length us)) tt (every-take test (before 34 us) us t)
+
+  marked-ranged : (g : ℕ → Token) (us : List ℕ) → ((u : ℕ) → T (test u) → T (passes (g u))) → T (every test us) → InStep Ranged (marked g us)
+  unfolding marked
+  marked-ranged g [] h t = tt
+  marked-ranged g (u ∷ us) h t = h u (every-head test u us t)
+
+  run-ranged : (l : Letter) (u : ℕ) (us : List ℕ) → InStep Ranged (runStep l u us)
+  unfolding runStep tokenPasses
+  run-ranged l u us = cond-case (InStep Ranged) (runAllowed l (suc (leading (eqb u) us))) (λ e. true-T e) (λ e. tt)
+
+  general-ranged : (us : List ℕ) → InStep Ranged (generalWord us)
+  unfolding generalWord tokenPasses
+  general-ranged us = cond-both (InStep Ranged) (startsWith (units "General") us) tt tt
+
+  half-ranged : (us : List ℕ) → InStep Ranged (halfDayWord us)
+  unfolding halfDayWord tokenPasses
+  half-ranged us =
+      cond-both (InStep Ranged) (startsWith (units "AM/PM") us) tt (cond-both (InStep Ranged) (startsWith (units "A/P") us) tt tt)
+
+  bracketed-ranged : (us : List ℕ) → InStep Ranged (bracketed us)
+  unfolding bracketed tokenPasses
+  bracketed-ranged us =
+      cond-both (InStep Ranged) (eqb (before 93 us) (length us)) tt
+      (closed-step Ranged (before 93 us) (insideOf (take (before 93 us) us))
+      (inside-form (λ (t : Token). T (passes t)) (λ n h. le→leb n 56 h) (λ e n h. h) (λ w h. h) (take (before 93 us) us)))
+
+  by-ranged : (x : First) (u : ℕ) (us : List ℕ) → T (singlePasses passes x) → T (test u) → T (every test us) → InStep Ranged (stepBy x u us)
+  unfolding stepBy singlePasses tokenPasses every
+  by-ranged quote u us s t ts = quoted-ranged us ts
+  by-ranged backslash u us s t ts = marked-ranged (λ (v : ℕ). literal (v ∷ [])) us (λ v h. every-cons test v [] h tt) ts
+  by-ranged underscore u us s t ts = marked-ranged blank us (λ v h. h) ts
+  by-ranged asterisk u us s t ts = marked-ranged fill us (λ v h. h) ts
+  by-ranged openBracket u us s t ts = bracketed-ranged us
+  by-ranged capitalG u us s t ts = general-ranged (u ∷ us)
+  by-ranged capitalA u us s t ts = half-ranged (u ∷ us)
+  by-ranged (letter l) u us s t ts = run-ranged l u us
+  by-ranged (single t) u us s p ts = s
+  by-ranged other u us s t ts = cond-both (InStep Ranged) (any (eqb u) bareLiterals) t tt
+
+  rows-ranged : T (every (λ (r : FirstRow). singlePasses passes (r .first)) firstRows)
+  unfolding every firstRows singlePasses tokenPasses
+  rows-ranged = tt
+
+  step-ranged : (u : ℕ) (us : List ℕ) → T (test u) → T (every test us) → InStep Ranged (stepAt u us)
+  unfolding stepAt singlePasses
+  step-ranged u us t ts =
+      by-ranged (firstIn firstRows u) u us (first-passes (singlePasses passes) firstRows u tt rows-ranged) t ts
+
+  -- the tokens of a code
+  abbrev AllRanged : Lexed → Type 0
+  AllRanged l = T (every passes (tokensOf (placedOf l)))
+
+  onto-ranged : (p : Placed) (l : Lexed) → T (passes (p .token)) → AllRanged l → AllRanged (onto p l)
+  unfolding onto placedOf tokensOf every
+  onto-ranged p (good ps) t h = every-cons passes (p .token) (tokensOf ps) t h
+  onto-ranged p (bad k) t h = tt
+
+  after-ranged : (k : ℕ) (s : Step) (rest : ℕ → Lexed) → InStep Ranged s → ((n : ℕ) → AllRanged (rest n)) → AllRanged (afterStep k s rest)
+  unfolding afterStep placedOf tokensOf every
+  after-ranged k (read t more) rest h r = onto-ranged _ (rest more) h (r more)
+  after-ranged k broken rest h r = tt
+
+  lex-ranged : (k skip : ℕ) (us : List ℕ) → T (every test us) → AllRanged (lexFrom k skip us)
+  unfolding lexFrom placedOf tokensOf every
+  lex-ranged k skip [] t = tt
+  lex-ranged k (suc skip) (u ∷ us) t = lex-ranged (suc k) skip us (every-tail test u us t)
+  lex-ranged k zero (u ∷ us) t =
+      after-ranged k (stepAt u us) _
+      (step-ranged u us (every-head test u us t) (every-tail test u us t))
+      (λ (n : ℕ). lex-ranged (suc k) n us (every-tail test u us t))
+
+  tokens-pass : (code : List ℕ) → T (every test code) → T (every passes (tokensOf (placedOf (lex code))))
+  unfolding lex
+  tokens-pass code t = lex-ranged 0 0 code t
+
+  -- a token that may stand in a section
+  abbrev inSection : Token → Bool
+  inSection t = passes t && not (isSemicolon t)
+
+  colour-in : (t : Token) → T (passes t) → T (leb (colourIn t) 56)
+  unfolding colourIn tokenPasses
+  colour-in (colour n) h = h
+  colour-in (literal us) h = tt
+  colour-in (bare u) h = tt
+  colour-in (blank u) h = tt
+  colour-in (fill u) h = tt
+  colour-in (place p) h = tt
+  colour-in point h = tt
+  colour-in comma h = tt
+  colour-in percent h = tt
+  colour-in at h = tt
+  colour-in semicolon h = tt
+  colour-in general h = tt
+  colour-in (half x) h = tt
+  colour-in (run l n) h = tt
+  colour-in (elapsed e n) h = tt
+  colour-in (condition w) h = tt
+
+  condition-in : (t : Token) → T (passes t) → T (conditionDigits (conditionIn t))
+  unfolding conditionIn conditionDigits tokenPasses
+  condition-in (condition w) h = h
+  condition-in (literal us) h = tt
+  condition-in (bare u) h = tt
+  condition-in (blank u) h = tt
+  condition-in (fill u) h = tt
+  condition-in (place p) h = tt
+  condition-in point h = tt
+  condition-in comma h = tt
+  condition-in percent h = tt
+  condition-in at h = tt
+  condition-in semicolon h = tt
+  condition-in general h = tt
+  condition-in (half x) h = tt
+  condition-in (run l n) h = tt
+  condition-in (elapsed e n) h = tt
+  condition-in (colour n) h = tt
+
+  made-in-range : (c : ℕ) (w : Option Written) (ts : List Token)
+      → T (leb c 56) → T (conditionDigits w) → T (every inSection ts) → T (partsPass test (record { colour = c; condition = w; body = ts }))
+  unfolding partsPass
+  made-in-range c w ts hc hw t =
+      let a : T (every passes ts)
+      = every-weaker inSection passes (λ x h. and-left (passes x) (not (isSemicolon x)) h) ts t in
+      let b : T (every (λ (x : Token). not (isSemicolon x)) ts)
+      = every-weaker inSection (λ (x : Token). not (isSemicolon x)) (λ x h. and-right (passes x) (not (isSemicolon x)) h) ts t in
+      search and-in depth 8
+
+  after-in-range : (c : ℕ) (ts : List Token) → T (leb c 56) → T (every inSection ts) → T (partsPass test (afterColour c ts))
+  unfolding afterColour conditionDigits
+  after-in-range c [] hc h = made-in-range c none [] hc tt h
+  after-in-range c (t ∷ ts) hc h =
+      let x : T (passes t) = and-left (passes t) (not (isSemicolon t)) (every-head inSection t ts h) in
+      cond-both (λ (p : Parts). T (partsPass test p)) (isCondition t)
+      (made-in-range c (conditionIn t) ts hc (condition-in t x) (every-tail inSection t ts h))
+      (made-in-range c none (t ∷ ts) hc tt h)
+
+  parts-made : (ts : List Token) → T (every inSection ts) → T (partsPass test (partsOf ts))
+  unfolding partsOf
+  parts-made [] h = after-in-range 0 [] tt h
+  parts-made (t ∷ ts) h =
+      let x : T (passes t) = and-left (passes t) (not (isSemicolon t)) (every-head inSection t ts h) in
+      cond-both (λ (p : Parts). T (partsPass test p)) (isColour t)
+      (after-in-range (colourIn t) ts (colour-in t x) (every-tail inSection t ts h))
+      (after-in-range 0 (t ∷ ts) tt h)
+
+  pub parts-pass : (code : List ℕ) → T (every test code) → T (every (partsPass test) (partsIn code))
+  unfolding partsIn
+  parts-pass code t =
+      let ts = tokensOf (placedOf (lex code)) in
+      let s : T (every (every inSection) (split ts))
+      = split-passes passes inSection
+      (λ x e h. and-in (passes x) (not (isSemicolon x)) h (false-not (isSemicolon x) e)) ts (tokens-pass code t) in
+      rw (every-map (partsPass test) partsOf (split ts))
+      (every-weaker (every inSection) (λ (x : List Token). partsPass test (partsOf x)) parts-made (split ts) s)
+
+-- ---- a test that the items of each token pass is passed by the items of a body
+module _ (g : Token → Bool) (f : Item → Bool)
+    (made : (ofDate : Bool) (t : Token) → T (g t) → T (every f (tokenItems ofDate t)))
+    (parts : (n : ℕ) → n ≤ 3 → eqb n 0 ≡ false → T (f (part n)))
+    (settles : (earlier later : Run) (i : Item) → T (f i) → T (f (settledItem earlier later i))) where
+  plain-pass : (ts : List Token) → T (every g ts) → T (every f (plainItems ts))
+  unfolding plainItems every
+  plain-pass [] h = tt
+  plain-pass (t ∷ ts) h =
+      every-append f (tokenItems false t) (plainItems ts) (made false t (every-head g t ts h)) (plain-pass ts (every-tail g t ts h))
+
+  date-pass : (b : Bool) (skip : ℕ) (ts : List Token) → T (every g ts) → T (every f (dateItems (piecesFrom b skip ts)))
+  unfolding piecesFrom dateItems pieceItems every
+  date-pass b skip [] h = tt
+  date-pass b (suc skip) (t ∷ ts) h = date-pass false skip ts (every-tail g t ts h)
+  date-pass b zero (t ∷ ts) h =
+      let n = partZeros b t ts in
+      let is = dateItems (piecesFrom (isSecondsToken t) n ts) in
+      let r : T (every f is) = date-pass (isSecondsToken t) n ts (every-tail g t ts h) in
+      by-cases (eqb n 0)
+      (λ e. rw e (every-append f (tokenItems true t) is (made true t (every-head g t ts h)) r))
+      (λ e. rw e (every-cons f (part n) is (parts n (zeros-most b t ts) e) r))
+
+  settled-pass : (e : Run) (is : List Item) → T (every f is) → T (every f (settledFrom e is))
+  unfolding settledFrom every
+  settled-pass e [] t = tt
+  settled-pass e (i ∷ is) t =
+      every-cons f (settledItem e (firstRun is) i) (settledFrom (nearer (runOf i) e) is)
+      (settles e (firstRun is) i (every-head f i is t)) (settled-pass (nearer (runOf i) e) is (every-tail f i is t))
+
+  pub items-pass : (p : Parts) → T (every g (p .body)) → T (every f ((sectionOf p) .items))
+  unfolding sectionOf settled bodyItems
+  items-pass p h =
+      let ts = p .body in
+      settled-pass noRun (lastFill (bodyItems ts)) (every-lastFill f (bodyItems ts)
+      (cond-both (λ (is : List Item). T (every f is)) (sameKind (bodyKind ts) dateKind) (date-pass false 0 ts h) (plain-pass ts h)))
