@@ -3,7 +3,9 @@
 use std::io::{Read, Write};
 use std::process::ExitCode;
 
-use crate::oracle::{answer, answer_lines, prepare as prepare_code, PROGRAM_TABLE_WORDS};
+use crate::oracle::{
+    answer, answer_lines_and_section, prepare as prepare_code, PROGRAM_TABLE_WORDS,
+};
 
 /// A request is three lines.
 const REQUEST_LINES: usize = 3;
@@ -16,9 +18,9 @@ pub fn prepare() -> ExitCode {
     )
 }
 
-/// Four lines for each request of three.
+/// Four lines for each request of three, and its section.
 pub fn show() -> ExitCode {
-    each(requests, answer_lines)
+    each(requests, answer_lines_and_section)
 }
 
 fn each(cut: impl Fn(&[u8]) -> Vec<&[u8]>, answered: impl Fn(&[u8]) -> Vec<u8>) -> ExitCode {

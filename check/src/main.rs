@@ -19,7 +19,7 @@ const USAGE: &str = "usage:
   check self [--count N] [--seed S] [--trace]   compare the oracle's two readings
   check vectors VALUES TABLES                   compare the oracle with lists of known rows
   check expected-prepare < codes                what preparing gives for each line
-  check expected-show < requests                what the program gives for each three lines";
+  check expected-show < requests                what the program gives for each three lines, and the section";
 
 fn main() -> ExitCode {
     let arguments: Vec<String> = std::env::args().skip(1).collect();

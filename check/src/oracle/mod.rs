@@ -24,7 +24,7 @@ mod tests;
 
 pub use code::section;
 pub use prepare::{prepare, Prepared};
-pub use program::{answer_lines, PROGRAM_TABLE_WORDS};
+pub use program::{answer_lines, answer_lines_and_section, PROGRAM_TABLE_WORDS};
 pub use reading::read;
 pub use rules::check_table;
 pub use show::show;

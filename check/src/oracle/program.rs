@@ -3,7 +3,7 @@
 use super::answer;
 use super::prepare::prepare;
 use super::show::show;
-use super::value::Value;
+use super::value::{Reading, Value};
 
 pub const PROGRAM_TABLE_WORDS: usize = 557;
 const TEXT_UNITS: usize = 4096;
@@ -12,26 +12,65 @@ const LONGEST_LINE: usize = 2048;
 /// Sixteen digits stand for every coefficient that is too large.
 const TOO_LARGE: i64 = 1_000_000_000_000_000;
 
+struct Outcome {
+    answer: u16,
+    place: u32,
+    reading: Reading,
+}
+
 /// The whole output for the whole input.
 pub fn answer_lines(input: &[u8]) -> Vec<u8> {
+    lines(&outcome(input))
+}
+
+/// The same, and a line with the section, which document 01's program does not tell.
+pub fn answer_lines_and_section(input: &[u8]) -> Vec<u8> {
+    let outcome = outcome(input);
+    let mut out = lines(&outcome);
+    out.extend(format!("section={}\n", outcome.reading.section).bytes());
+    out
+}
+
+fn outcome(input: &[u8]) -> Outcome {
     let (code, value) = match request(input) {
         Ok(request) => request,
-        Err(line) => return lines(answer::LINE, line, 0, &[]),
+        Err(line) => return refused(answer::LINE, line),
     };
     let prepared = prepare(&code, PROGRAM_TABLE_WORDS);
     if prepared.answer != answer::DONE {
-        return lines(prepared.answer, prepared.place, 0, &[]);
+        return refused(prepared.answer, prepared.place);
     }
     match show(&prepared.words, &value, TEXT_UNITS) {
-        Ok(reading) => lines(answer::DONE, 0, reading.colour, &reading.text),
-        Err(answer) => lines(answer, 0, 0, &[]),
+        Ok(reading) => Outcome {
+            answer: answer::DONE,
+            place: 0,
+            reading,
+        },
+        Err(answer) => refused(answer, 0),
     }
 }
 
-fn lines(answer: u16, place: u32, colour: u16, text: &[u16]) -> Vec<u8> {
-    let mut out = format!("answer={answer}\nplace={place}\ncolour={colour}\ntext=").into_bytes();
+fn refused(answer: u16, place: u32) -> Outcome {
+    let reading = Reading {
+        text: Vec::new(),
+        colour: 0,
+        section: 0,
+    };
+    Outcome {
+        answer,
+        place,
+        reading,
+    }
+}
+
+fn lines(outcome: &Outcome) -> Vec<u8> {
+    let mut out = format!(
+        "answer={}\nplace={}\ncolour={}\ntext=",
+        outcome.answer, outcome.place, outcome.reading.colour
+    )
+    .into_bytes();
     let ascii = |unit: &u16| u8::try_from(*unit).expect("ASCII in, ASCII out");
-    out.extend(text.iter().map(ascii));
+    out.extend(outcome.reading.text.iter().map(ascii));
     out.push(b'\n');
     out
 }

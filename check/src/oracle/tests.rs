@@ -76,6 +76,17 @@ fn the_program_writes_four_lines() {
 }
 
 #[test]
+fn the_section_is_told_behind_the_four_lines() {
+    let told = |request: &[u8]| {
+        String::from_utf8(super::answer_lines_and_section(request)).expect("plain text")
+    };
+    let plain = told(b"code=0\nkind=text\nvalue=me\n");
+    assert_eq!(plain, "answer=0\nplace=0\ncolour=0\ntext=me\nsection=4\n");
+    assert!(told(b"code=0;0\nkind=number\nvalue=-1\n").ends_with("section=1\n"));
+    assert!(told(b"code=0;\nkind=none\nvalue=-1\n").ends_with("section=0\n"));
+}
+
+#[test]
 fn the_first_malformed_line_is_told() {
     let long = format!("code={}\nkind=number\nvalue=1\n", "x".repeat(2044));
     let requests: [(&[u8], u32); 12] = [

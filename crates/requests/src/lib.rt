@@ -1,8 +1,8 @@
 // Reads the program's three lines: a code, the kind of a value, and the value.
 pub mod bytes;
-pub mod digits;
-pub mod lines;
-pub mod written;
+mod digits;
+mod lines;
+mod written;
 
 use lines::Line;
 use lines::Part;

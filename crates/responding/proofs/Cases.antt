@@ -6,8 +6,10 @@ use mathlib.Core.List.{List, [], _∷_}
 use Rattle.lists.specs.Lists.{All}
 use Rattle.calendar.specs.Names.{units}
 use Rattle.formats.proofs.Evaluate.{evaluated}
+use Rattle.tables.specs.Calls.{shownAs, textAs}
+use Rattle.preview.specs.Preview.{placeOf, previewed, previewText}
 use Rattle.requests.proofs.Cases.{worked}
-use Rattle.responding.specs.Respond.{readingOutcome, acceptedOutcome, outcomeOf, lineOf, fourLines, responseOf}
+use Rattle.responding.specs.Respond.{lineOf, fourLines, linesOf, responseOf}
 
 pub record Case : Type 0 where
   pub input : String
@@ -29,5 +31,5 @@ cases =
     ∷ []
 
 pub cases-hold : All (λ (c : Case). responseOf (units (c .input)) ≡ units (c .answer)) cases
-unfolding cases evaluated worked readingOutcome acceptedOutcome outcomeOf lineOf fourLines responseOf
+unfolding cases evaluated worked lineOf fourLines linesOf responseOf placeOf previewed previewText shownAs textAs
 cases-hold = (refl, (refl, (refl, (refl, (refl, (refl, tt))))))

@@ -1,4 +1,3 @@
-pub mod Whole
-pub mod Telling
-pub mod Bounds
+pub mod Ascii
+pub mod Answering
 pub mod Cases

@@ -1,7 +1,8 @@
 -- What the program answers: "It tests 14 first and lends 557 table words and 4,096 text units", and it writes four lines. The
--- answer is read off the code itself. A table has at most 557 words, so the one lent is never too short (7).
+-- answer is read off the code itself.
 -- Assumes nothing.
-use Prim.Native.Nat.{ℕ}
+use Prim.Native.Nat.{ℕ, _≤_}
+use mathlib.Core.Path.{_≡_}
 use mathlib.Core.Bool.{cond}
 use mathlib.Core.List.{List, [], _∷_, _++_}
 use lib.ListN.{length}
@@ -9,54 +10,51 @@ use lib.Dec.{leb}
 use Rattle.answers.specs.declared.Answer.{Answer}
 use Rattle.answers.specs.declared.Answer.the-variants as answer
 use Rattle.answers.specs.Number.{numberOf}
-use Rattle.values.specs.declared.Ask.{Ask}
 use Rattle.figures.specs.Digits.{numeral}
 use Rattle.calendar.specs.Names.{units}
-use Rattle.formats.specs.Accept.{Accepted, sections, refusal, accept}
-use Rattle.formats.specs.Reading.{Reading, refused, shown, reading}
+use Rattle.writing.specs.Put.{Put}
+use Rattle.preview.specs.Preview.{previewed, previewText}
 use Rattle.requests.specs.Lines.{lineFeed}
-use Rattle.requests.specs.Request.{Request, malformed, request, requestOf}
-
--- what is told of a request
-pub record Outcome : Type 0 where
-  pub answer : Answer
-  pub place : ℕ
-  pub colour : ℕ
-  pub text : List ℕ
-
-abbrev pub refusedOutcome : Answer → ℕ → Outcome
-refusedOutcome a k = record { answer = a; place = k; colour = 0; text = [] }
-
--- a reading has no place
-unfoldable pub readingOutcome : Reading → Outcome
-readingOutcome (refused a) = refusedOutcome a 0
-readingOutcome (shown text colour section) = record { answer = answer.Done; place = 0; colour = colour; text = text }
-
--- a code's refusal with its place, or the reading of its sections in a room of 4,096 units
-unfoldable pub acceptedOutcome : Accepted → Ask → List ℕ → Outcome
-acceptedOutcome (refusal a k) ask text = refusedOutcome a k
-acceptedOutcome (sections ss) ask text = readingOutcome (reading ss ask text 4096)
-
--- 14: "an input line is malformed", with the line
-unfoldable pub outcomeOf : Request → Outcome
-outcomeOf (malformed line) = refusedOutcome answer.Line line
-outcomeOf (request code ask text) = acceptedOutcome (accept code) ask text
+use Rattle.requests.specs.Request.{Request, refused, request, requestOf}
+use Rattle.responding.specs.declared.Told.{Told}
+use Rattle.responding.specs.declared.Responded.{Responded}
 
 -- a name, what stands behind it, and a line feed
 unfoldable pub lineOf : List ℕ → List ℕ → List ℕ
 lineOf name content = name ++ content ++ (lineFeed ∷ [])
 
-unfoldable pub fourLines : Outcome → List ℕ
-fourLines o =
-    lineOf (units "answer=") (numeral 1 (numberOf (o .answer)))
-    ++ lineOf (units "place=") (numeral 1 (o .place))
-    ++ lineOf (units "colour=") (numeral 1 (o .colour))
-    ++ lineOf (units "text=") (o .text)
+unfoldable pub fourLines : Answer → ℕ → ℕ → List ℕ → List ℕ
+fourLines answer place colour text =
+    lineOf (units "answer=") (numeral 1 (numberOf answer))
+    ++ lineOf (units "place=") (numeral 1 place)
+    ++ lineOf (units "colour=") (numeral 1 colour)
+    ++ lineOf (units "text=") text
+
+-- a malformed line is told first; else what previewing in a room of 4,096 units gives
+unfoldable pub linesOf : Request → List ℕ
+linesOf (refused a k) = fourLines a k 0 []
+linesOf (request code ask text) =
+    let p = previewed code ask text 4096 in
+    fourLines (p .answer) (p .place) (p .colour) (previewText code ask text 4096)
+
+-- the section that showed the value, 0 where none did
+unfoldable pub sectionOf : Request → ℕ
+sectionOf (refused a k) = 0
+sectionOf (request code ask text) = previewed code ask text 4096 .section
 
 -- what the whole input is answered
 unfoldable pub responseOf : List ℕ → List ℕ
-responseOf input = fourLines (outcomeOf (requestOf input))
+responseOf input = linesOf (requestOf input)
 
--- how many units are written to a room that takes all of them or none
-unfoldable pub lengthIn : List ℕ → ℕ → ℕ
-lengthIn new size = cond (leb (length new) size) (length new) 0
+-- what answering in a room of this many bytes returns; 13 where the lines are longer
+unfoldable pub responded : List ℕ → ℕ → Responded
+responded input size =
+    cond (leb (length (responseOf input)) size)
+    (record { answer = answer.Done; length = length (responseOf input); section = sectionOf (requestOf input) })
+    (record { answer = answer.TextRoom; length = 0; section = 0 })
+
+-- a request is answered in a room of units: its lines are put in front, as far as the room reaches
+pub record Answers (q : Request) (old : List ℕ) (r : Told) (out : List ℕ) : Type 0 where
+  pub short : r .length ≤ 4203
+  pub shown : r .section ≡ sectionOf q
+  pub put : Put old 0 (linesOf q) (r .length) out

@@ -2,7 +2,7 @@
 mod lines;
 
 use answers::Answer;
-use lines::write_lines;
+use lines::put_lines;
 use preview::preview;
 use requests::RequestRead;
 use requests::bytes::narrow;
@@ -10,44 +10,52 @@ use requests::bytes::put_bytes;
 use requests::read_request;
 use values::Ask;
 ghost use mathlib.Core.Path.{_≡_};
-ghost use mathlib.Core.List.{map};
-ghost use Prim.Native.Nat.{min};
-ghost use lib.ListN.{length};
-ghost use Rattle.formats.specs.Accept.{accept};
+ghost use Prim.Native.Nat.{_≤_, min};
+ghost use lib.ListN.{length, take};
+ghost use Rattle.lists.specs.Lists.{overlay};
 ghost use Rattle.tables.specs.Calls.{written};
-ghost use Rattle.requests.specs.Bytes.{lowByte};
-ghost use Rattle.responding.specs.Respond.{acceptedOutcome, fourLines, responseOf, lengthIn};
+ghost use Rattle.requests.specs.Request.{request, requestOf};
+ghost use Rattle.responding.specs.Respond.{responseOf, responded, Answers};
 
-// Rooms are made by functions of their own: only their lengths matter to the proofs.
-fn table_room() -> [u16; 557]
-    ensures { λ r. ⌜ 557 ≡ length r ⌝ }
-{
-    [0; 557]
+// What answering returns: the length of the lines where the room takes them, else 13. The section that showed the value is not
+// in the lines.
+pub struct Responded {
+    pub answer: Answer,
+    pub length: usize,
+    pub section: u16,
 }
 
+// How many units the lines of an answer are, and the section that showed the value.
+pub struct Told {
+    pub length: usize,
+    pub section: u16,
+}
+
+// Rooms are made by functions of their own: only their lengths matter to the proofs.
 fn text_room() -> [u16; 4096]
     ensures { λ r. ⌜ 4096 ≡ length r ⌝ }
 {
     [0; 4096]
 }
 
-// Previews a code and writes what it gives.
-fn respond_to(code: &[u16], ask: Ask, text: &[u16], out: &mut [u16]) -> usize
-    ensures size { λ r. ⌜ r ≡ lengthIn (fourLines (acceptedOutcome (accept (now (code .entry))) ask (now (text .entry)))) (length (now (out .entry))) ⌝ }
-    ensures out { λ r. ⌜ now (out .exit) ≡ written (fourLines (acceptedOutcome (accept (now (code .entry))) ask (now (text .entry)))) (now (out .entry)) ⌝ }
+// Previews a code and puts the lines of what it gives.
+fn respond_to(code: &[u16], ask: Ask, text: &[u16], out: &mut [u16]) -> Told
+    ensures { λ r. ⌜ Answers (request (now (code .entry)) ask (now (text .entry))) (now (out .entry)) r (now (out .exit)) ⌝ }
 {
-    let mut table = table_room();
     let mut room = text_room();
-    let p = preview(code, ask, text, &mut table, &mut room);
+    let p = preview(code, ask, text, &mut room);
     let answer = p.answer;
     let n = p.length as usize;
-    write_lines(out, answer, p.place, p.colour, &room[..n])
+    let length = put_lines(out, answer, p.place, p.colour, &room[..n]);
+    Told {
+        length,
+        section: p.section,
+    }
 }
 
-// Writes what the input is answered, where the room takes it: the result is its length. Else the result is 0.
-pub fn respond(input: &[u16], out: &mut [u16]) -> usize
-    ensures size { λ r. ⌜ r ≡ lengthIn (responseOf (now (input .entry))) (length (now (out .entry))) ⌝ }
-    ensures out { λ r. ⌜ now (out .exit) ≡ written (responseOf (now (input .entry))) (now (out .entry)) ⌝ }
+// Puts the lines that the input is answered.
+fn respond(input: &[u16], out: &mut [u16]) -> Told
+    ensures { λ r. ⌜ Answers (requestOf (now (input .entry))) (now (out .entry)) r (now (out .exit)) ⌝ }
 {
     match read_request(input) {
         RequestRead::Request(code, ask, text) => {
@@ -57,7 +65,10 @@ pub fn respond(input: &[u16], out: &mut [u16]) -> usize
             let d = text.end;
             respond_to(&input[a..b], ask, &input[c..d], out)
         }
-        RequestRead::Malformed(line) => write_lines(out, Answer::Line, line, 0, &input[..0]),
+        RequestRead::Malformed(line) => {
+            let length = put_lines(out, Answer::Line, line, 0, &input[..0]);
+            Told { length, section: 0 }
+        }
     }
 }
 
@@ -68,15 +79,8 @@ fn input_room() -> [u16; 6148]
     [0; 6148]
 }
 
-// No answer is longer (`response-short`).
+// No answer is longer.
 fn output_room() -> [u16; 4203]
-    ensures { λ r. ⌜ 4203 ≡ length r ⌝ }
-{
-    [0; 4203]
-}
-
-// The same in bytes, for the programs.
-pub fn output_bytes() -> [u8; 4203]
     ensures { λ r. ⌜ 4203 ≡ length r ⌝ }
 {
     [0; 4203]
@@ -88,18 +92,49 @@ fn at_most(n: usize, limit: usize) -> usize
     if n < limit { n } else { limit }
 }
 
-// The same of bytes to bytes. Of a longer input the first 6,148 bytes are read: the rest changes no answer.
-pub fn respond_bytes(input: &[u8], out: &mut [u8]) -> usize
-    ensures size { λ r. ⌜ r ≡ lengthIn (responseOf (now (input .entry))) (length (now (out .entry))) ⌝ }
-    ensures out { λ r. ⌜ now (out .exit) ≡ written (map lowByte (responseOf (now (input .entry)))) (now (out .entry)) ⌝ }
+// Writes what the input is answered, where the room takes it; 4,203 bytes always do. Of a longer input the first 6,148 bytes are
+// read: the rest changes no answer.
+pub fn respond_bytes(input: &[u8], out: &mut [u8]) -> Responded
+    ensures result { λ r. ⌜ r ≡ responded (now (input .entry)) (length (now (out .entry))) ⌝ }
+    ensures out { λ r. ⌜ now (out .exit) ≡ written (responseOf (now (input .entry))) (now (out .entry)) ⌝ }
+    ensures short { λ r. ⌜ length (responseOf (now (input .entry))) ≤ 4203 ⌝ }
 {
     let n = at_most(input.len(), 6148);
     let mut wide = input_room();
     put_bytes(&mut wide, 0, &input[..n]);
     let mut lines = output_room();
-    let k = respond(&wide[..n], &mut lines);
+    let told = respond(&wide[..n], &mut lines);
+    let k = told.length;
     if out.len() < k {
-        return 0;
+        return Responded {
+            answer: Answer::TextRoom,
+            length: 0,
+            section: 0,
+        };
     }
-    narrow(&lines[..k], out)
+    narrow(&lines[..k], out);
+    Responded {
+        answer: Answer::Done,
+        length: k,
+        section: told.section,
+    }
+}
+
+// Answers the first `got` bytes.
+fn respond_front(input: &[u8], got: usize, out: &mut [u8]) -> usize
+    requires { ⌜ 4203 ≤ length (now out) ⌝ }
+    ensures size { λ r. ⌜ r ≡ length (responseOf (take got (now (input .entry)))) ⌝ }
+    ensures out { λ r. ⌜ now (out .exit) ≡ overlay (responseOf (take got (now (input .entry)))) (now (out .entry)) ⌝ }
+{
+    let n = at_most(got, input.len());
+    let r = respond_bytes(&input[..n], out);
+    r.length
+}
+
+// For the program, which can lend rooms of these lengths and no others: the first `got` bytes are its input, and every answer fits.
+pub fn respond_input(input: &[u8; 6148], got: usize, out: &mut [u8; 4203]) -> usize
+    ensures size { λ r. ⌜ r ≡ length (responseOf (take got (now (input .entry)))) ⌝ }
+    ensures out { λ r. ⌜ now (out .exit) ≡ overlay (responseOf (take got (now (input .entry)))) (now (out .entry)) ⌝ }
+{
+    respond_front(input, got, out)
 }

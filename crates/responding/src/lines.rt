@@ -1,11 +1,9 @@
 // The four lines of an answer, put into a lent room.
-ghost use mathlib.Core.Path.{_≡_};
 ghost use Prim.Native.Nat.{_+_, _≤_, _<_, _^_};
 ghost use lib.ListN.{length};
 ghost use Rattle.figures.specs.Digits.{numeral};
-ghost use Rattle.tables.specs.Calls.{written};
 ghost use Rattle.writing.specs.Put.{Put};
-ghost use Rattle.responding.specs.Respond.{lineOf, fourLines, lengthIn};
+ghost use Rattle.responding.specs.Respond.{lineOf, fourLines};
 use answers::Answer;
 use answers::number;
 use requests::bytes::put_bytes;
@@ -36,30 +34,13 @@ fn put_text(room: &mut [u16], at: usize, name: &[u8], text: &[u16]) -> usize
 }
 
 // Puts the four lines.
-fn put_lines(room: &mut [u16], answer: Answer, place: u32, colour: u16, text: &[u16]) -> usize
+pub fn put_lines(room: &mut [u16], answer: Answer, place: u32, colour: u16, text: &[u16]) -> usize
     requires { ⌜ length (now text) ≤ 4096 ⌝ }
     ensures within { λ r. ⌜ r ≤ 4203 ⌝ }
-    ensures put { λ r. ⌜ Put (now (room .entry)) 0
-        (fourLines (record { answer = answer; place = place; colour = colour; text = now (text .entry) })) r (now (room .exit)) ⌝ }
+    ensures put { λ r. ⌜ Put (now (room .entry)) 0 (fourLines answer place colour (now (text .entry))) r (now (room .exit)) ⌝ }
 {
     let a = put_number(room, 0, b"answer=", number(answer) as u64);
     let b = put_number(room, a, b"place=", place as u64);
     let c = put_number(room, b, b"colour=", colour as u64);
     put_text(room, c, b"text=", text)
-}
-
-// Writes the four lines where the room takes them; they are measured first, into no room.
-pub fn write_lines(out: &mut [u16], answer: Answer, place: u32, colour: u16, text: &[u16]) -> usize
-    requires { ⌜ length (now text) ≤ 4096 ⌝ }
-    ensures size { λ r. ⌜ r ≡ lengthIn
-        (fourLines (record { answer = answer; place = place; colour = colour; text = now (text .entry) })) (length (now (out .entry))) ⌝ }
-    ensures out { λ r. ⌜ now (out .exit) ≡ written
-        (fourLines (record { answer = answer; place = place; colour = colour; text = now (text .entry) })) (now (out .entry)) ⌝ }
-{
-    let limit = out.len();
-    let n = put_lines(&mut out[..0], answer, place, colour, text);
-    if limit < n {
-        return 0;
-    }
-    put_lines(out, answer, place, colour, text)
 }

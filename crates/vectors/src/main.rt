@@ -1,8 +1,8 @@
 // Answers many requests on standard input, three lines each: the examples of document 01 and of the papers that it names, as far
-// as they fall inside its narrowing, and others. The file stdout has what another implementation of document 01 gives.
+// as they fall inside its narrowing, and others. Behind the four lines of each stands the section that showed the value. The file
+// stdout has what another implementation of document 01 gives.
 use libc::STDIN_FILENO;
 use libc::STDOUT_FILENO;
-use responding::output_bytes;
 use responding::respond_bytes;
 ghost use mathlib.Core.Path.{_≡_};
 ghost use Prim.Native.Nat.{_≤_, _<_};
@@ -13,6 +13,12 @@ fn input_bytes() -> [u8; 65537]
     ensures { λ r. ⌜ 65537 ≡ length r ⌝ }
 {
     [0; 65537]
+}
+
+fn output_bytes() -> [u8; 4203]
+    ensures { λ r. ⌜ 4203 ≡ length r ⌝ }
+{
+    [0; 4203]
 }
 
 // The place behind the line that starts at `at`, with its line feed where it has one.
@@ -31,10 +37,23 @@ fn line_end(input: &[u8], at: usize) -> usize
     i
 }
 
+fn write_section(section: u16) {
+    match section {
+        0 => io::write_all(STDOUT_FILENO, b"section=0\n"),
+        1 => io::write_all(STDOUT_FILENO, b"section=1\n"),
+        2 => io::write_all(STDOUT_FILENO, b"section=2\n"),
+        3 => io::write_all(STDOUT_FILENO, b"section=3\n"),
+        4 => io::write_all(STDOUT_FILENO, b"section=4\n"),
+        _ => io::write_all(STDOUT_FILENO, b"section=?\n"),
+    };
+}
+
 fn respond_block(block: &[u8]) {
     let mut output = output_bytes();
-    let n = respond_bytes(block, &mut output);
+    let r = respond_bytes(block, &mut output);
+    let n = r.length;
     io::write_all(STDOUT_FILENO, &output[..n]);
+    write_section(r.section);
 }
 
 // Each three lines are a request.

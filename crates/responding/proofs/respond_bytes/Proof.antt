@@ -1,14 +1,11 @@
 -- `responding::respond_bytes` meets its contract: 6,148 bytes decide what an input asks.
 -- Assumes nothing.
 use native.Mathlib.Omega.{arith}
-use mathlib.Core.Path.{refl, _∙_}
-use mathlib.Core.List.{map}
-use lib.ListN.{length-take, length-map}
+use mathlib.Core.Path.{refl, sym}
+use lib.ListN.{length-take}
+use lib.Seq.{length-take-le}
 use denote.Ref.{now}
-use Rattle.requests.specs.Bytes.{lowByte}
-use Rattle.responding.specs.Respond.{responseOf}
-use Rattle.responding.proofs.Whole.{in-front, left-out, put-whole, low-length}
-use Rattle.responding.proofs.Bounds.{told}
+use Rattle.responding.proofs.Answering.{left-out, put-whole}
 use borrow.Author.Needs.{needs}
 use Rattle.responding.proofs.respond_bytes.Statement.{statement}
 use Rattle.responding.proofs.respond_bytes.Tie as tie
@@ -45,25 +42,22 @@ respond-requires c κs = search needs
 
 returns : tie.Need-returns
 returns c =
-    let r = c .before .before in
+    let l = c .before in
+    let r = l .before in
     let o = r .before .before .before in
     let p = o .before .before in
     let i = p .before .before .before in
     let m = i .before in
     let a = m .before .before .before .args in
-    let t = told (now (a .input)) _ _ refl (i .input-room .ensures) (m .at-most .ensures) (p .put-bytes .ensures) (o .output-room .ensures) (r .respond .ensures .0) (r .respond .ensures .1) in
-    let w = left-out (now (a .out)) (map lowByte (responseOf (now (a .input)))) (rw (length-map (responseOf (now (a .input))) lowByte) (omega (arith, t .0, c .if1 .taken))) in
-    (w .0 ∙ low-length _ _, w .1)
+    left-out (now (a .input)) _ _ _ refl (i .input-room .ensures) (m .at-most .ensures) (p .put-bytes .ensures) (o .output-room .ensures) (r .respond .ensures) (now (a .out)) (omega arith)
 
 array-share-prefix-lines : tie.Need-array-share-prefix-lines
-array-share-prefix-lines c =
-    let r = c .before .before .respond in
-    in-front _ (r .last .1 .0) _ (r .ensures .0) (r .kept .1 .0) .0
+array-share-prefix-lines c = search needs
 
 slice-aggregate-narrow : tie.Need-slice-aggregate-narrow
 slice-aggregate-narrow c =
     let r = c .before .before .before .respond in
-    in-front _ (r .last .1 .0) _ (r .ensures .0) (r .kept .1 .0) .1
+    sym (length-take-le _ _ (omega (arith, r .ensures .short, r .kept .1 .0)))
 
 narrow-requires : tie.Need-narrow-requires
 narrow-requires c κs = simp length-take (omega arith)
@@ -75,15 +69,14 @@ returns-2 : tie.Need-returns-2
 returns-2 c =
     let w = c .before .before in
     let e = w .before .before .before in
-    let r = e .before .before in
+    let l = e .before in
+    let r = l .before in
     let o = r .before .before .before in
     let p = o .before .before in
     let i = p .before .before .before in
     let m = i .before in
     let a = m .before .before .before .args in
-    let t = told (now (a .input)) _ _ refl (i .input-room .ensures) (m .at-most .ensures) (p .put-bytes .ensures) (o .output-room .ensures) (r .respond .ensures .0) (r .respond .ensures .1) in
-    let v = put-whole (now (a .out)) (map lowByte (responseOf (now (a .input)))) (rw (t .1) at (w .narrow .ensures)) (rw (length-map (responseOf (now (a .input))) lowByte) (omega (arith, t .0, e .if1 .left))) in
-    (v .0 ∙ low-length _ _, v .1)
+    put-whole (now (a .input)) _ _ _ refl (i .input-room .ensures) (m .at-most .ensures) (p .put-bytes .ensures) (o .output-room .ensures) (r .respond .ensures) (now (a .out)) (omega arith) (w .narrow .ensures)
 
 pub respond-bytes-spec : {M : Type 1} → statement M
 respond-bytes-spec =

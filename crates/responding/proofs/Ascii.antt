@@ -1,0 +1,443 @@
+-- The units of an answer to ASCII lines are ASCII: an ASCII code shows an ASCII text in ASCII units, and no longer than the room.
+-- Assumes nothing.
+use Prim.Native.Nat.{ℕ, zero, suc, _+_, _/_, _%_, _^_, _-_, _≤_, max, pred}
+use Prim.Native.String.{String}
+use native.Mathlib.Omega.{arith}
+use native.Mathlib.Nat.{mod-eq-of-lt}
+use mathlib.Core.Path.{_≡_, refl, ap₂}
+use mathlib.Core.Bool.{Bool, true, false, cond, not, _&&_}
+use mathlib.Core.List.{List, [], _∷_, _++_, map}
+use lib.ListN.{length, getD, take, drop}
+use lib.Dec.{T, leb, ltb, eqb, leb→le, le→leb}
+use Rattle.lists.specs.Lists.{every, isEmpty}
+use Rattle.lists.proofs.Bools.{and-left, and-right, true-T, cond-both, cond-case, every-head, every-tail, every-cons, every-append}
+use Rattle.lists.proofs.Counts.{every-map, every-weaker}
+use Rattle.lists.proofs.Tables.{each-passes}
+use Rattle.figures.specs.Digits.{digit, digitUnit, digitUnits, width, numeral}
+use Rattle.figures.specs.General.{generalTooWide, withoutEndZeros, pointed, generalUnits}
+use Rattle.calendar.specs.Names.{units, monthNames, weekdayNames, monthName, weekdayName, shortName, firstLetter}
+use Rattle.formats.specs.Tokens as token
+use Rattle.formats.specs.Tokens.{before, startsWith, Token, Place, zeroPlace, hashPlace, spacePlace, HalfDay, short, long, Letter, letterY, letterM, letterD, letterH, letterS}
+use Rattle.formats.specs.Items.{Item, literal, blank, fill, place, point, percent, general, at, year, month, day, hour, minute, second, part, elapsed, half, Section, kindOf}
+use Rattle.formats.specs.Kinds.{Parts, sectionOf, tokenItems, runItem}
+use Rattle.formats.specs.Accept.{partsIn, sectionsIn, Verdict, fine, verdict, acceptedBy, accept}
+use Rattle.formats.specs.Accept.{refused as wrong}
+use Rattle.formats.specs.Where.{isText}
+use Rattle.formats.specs.Choice.{numberExact, instantExact, Reason, Choice, nothing, chosen, choose, TextChoice, itself, textIn, fourthFrom, textFrom, chooseText}
+use Rattle.formats.specs.Reading.{Reading, refused, within, takesNumber, takesInstant, showsGeneral, standingRounded, numberContext, instantContext, textContext, numberSign, numberUnits, readNumber, readInstant, readText, readValue, reading, readAccepted, codeReading}
+use Rattle.answers.specs.declared.Answer.{Answer}
+use Rattle.answers.specs.declared.Answer.the-variants as answer
+use Rattle.answers.specs.Number.{numberOf}
+use Rattle.values.specs.declared.Number.{Number}
+use Rattle.values.specs.declared.Day.{Day}
+use Rattle.values.specs.declared.Millisecond.{Millisecond}
+use Rattle.values.specs.declared.Value.{Value}
+use Rattle.values.specs.declared.Value.the-variants as value
+use Rattle.values.specs.declared.Ask.{Ask}
+use Rattle.values.specs.Ranges.{inRange}
+use borrow.Author.Tests.{leb-true}
+use Rattle.formats.proofs.Chosen.{chosen-passes}
+use Rattle.tables.specs.Calls.{textAs}
+use Rattle.preview.specs.Preview.{previewText}
+use Rattle.requests.specs.declared.written.Sort.{Sort}
+use Rattle.requests.specs.declared.written.Sort.the-variants as sort
+use Rattle.requests.specs.declared.written.SortRead.{SortRead}
+use Rattle.requests.specs.declared.written.SortRead.the-variants.{Known, Unknown}
+use Rattle.requests.specs.declared.written.ValueRead.{ValueRead}
+use Rattle.requests.specs.declared.written.ValueRead.the-variants as read
+use Rattle.requests.specs.Bytes.{lowByte}
+use Rattle.requests.specs.Lines.{isAscii, isLine, Field, field, missing, fieldOf}
+use Rattle.requests.specs.Written.{sortOf, valueOf, textOf}
+use Rattle.requests.specs.Request.{Request, request, fromEnd, fromValue, fromThird, fromKind, fromSecond, fromFirst, requestOf}
+use Rattle.requests.specs.Request.{refused as unasked}
+use Rattle.responding.specs.Respond.{lineOf, fourLines, linesOf, responseOf}
+use Rattle.formats.specs.Minus.{Sign, minus, notNegative, noItem, forNegatives, nought, signUnits}
+use Rattle.formats.specs.Text.{Context, insignificant, idleUnits, endsGroup, withSeparator, figureUnits, extraUnits, placeUnits, pointUnits, yearUnits, namedUnits, partUnits, halfUnits, itemUnits, digitAfter, itemsUnits, sectionUnits}
+use Rattle.formats.proofs.TokenRanges.{tokenPasses, partsPass, every-take, parts-pass, items-pass}
+use Rattle.formats.proofs.FormedItems.{settled-kept}
+
+abbrev pub Ascii : List ℕ → Type 0
+Ascii us = T (every isAscii us)
+
+-- ---- numbers
+digit-ascii : (n k : ℕ) → T (isAscii (digitUnit (digit n k)))
+unfolding isAscii digit
+digit-ascii n k = le→leb (48 + n / 10 ^ k % 10) 127 (omega arith)
+
+digits-ascii : (m n : ℕ) → Ascii (digitUnits m n)
+unfolding digitUnits every
+digits-ascii zero n = tt
+digits-ascii (suc m) n = every-cons isAscii (digitUnit (digit n m)) (digitUnits m n) (digit-ascii n m) (digits-ascii m n)
+
+numeral-ascii : (least n : ℕ) → Ascii (numeral least n)
+unfolding numeral
+numeral-ascii least n = digits-ascii (max least (width n)) n
+
+without-ascii : (us : List ℕ) → Ascii us → Ascii (withoutEndZeros us)
+unfolding withoutEndZeros every
+without-ascii [] t = tt
+without-ascii (u ∷ us) t =
+    cond-both Ascii (isEmpty (withoutEndZeros us) && eqb u 48) tt
+    (every-cons isAscii u (withoutEndZeros us) (every-head isAscii u us t) (without-ascii us (every-tail isAscii u us t)))
+
+pointed-ascii : (us : List ℕ) → Ascii us → Ascii (pointed us)
+unfolding pointed every isAscii
+pointed-ascii [] t = tt
+pointed-ascii (u ∷ us) t = t
+
+general-ascii : (n : ℕ) → Ascii (generalUnits n)
+unfolding generalUnits
+general-ascii n =
+    every-append isAscii (numeral 1 (n / 10 ^ 15)) (pointed (withoutEndZeros (digitUnits 15 n))) (numeral-ascii 1 (n / 10 ^ 15))
+    (pointed-ascii (withoutEndZeros (digitUnits 15 n)) (without-ascii (digitUnits 15 n) (digits-ascii 15 n)))
+
+-- ---- figures
+idle-ascii : (p : Place) → Ascii (idleUnits p)
+unfolding idleUnits every isAscii
+idle-ascii zeroPlace = tt
+idle-ascii hashPlace = tt
+idle-ascii spacePlace = tt
+
+separated-ascii : (us : List ℕ) → Ascii us → Ascii (withSeparator us)
+unfolding withSeparator every isAscii
+separated-ascii [] t = tt
+separated-ascii (u ∷ us) t =
+    every-cons isAscii u (cond (eqb u 32) 32 44 ∷ us) (every-head isAscii u us t)
+    (every-cons isAscii (cond (eqb u 32) 32 44) us (cond-both (λ (v : ℕ). T (isAscii v)) (eqb u 32) {x = 32} {y = 44} tt tt) (every-tail isAscii u us t))
+
+figure-ascii : (n : ℕ) (grouped : Bool) (p : Place) (q : ℕ) → Ascii (figureUnits n grouped p q)
+unfolding figureUnits every
+figure-ascii n grouped p q =
+    let us = cond (insignificant n q) (idleUnits p) (digitUnit (digit n q) ∷ []) in
+    let t : Ascii us = cond-both Ascii (insignificant n q) (idle-ascii p) (every-cons isAscii (digitUnit (digit n q)) [] (digit-ascii n q) tt) in
+    cond-both Ascii (grouped && endsGroup q) (separated-ascii us t) t
+
+extra-ascii : (n : ℕ) (grouped : Bool) (q count : ℕ) → Ascii (extraUnits n grouped q count)
+unfolding extraUnits every
+extra-ascii n grouped q zero = tt
+extra-ascii n grouped q (suc count) =
+    every-append isAscii (figureUnits n grouped hashPlace (q + count)) (extraUnits n grouped q count)
+    (figure-ascii n grouped hashPlace (q + count)) (extra-ascii n grouped q count)
+
+perhaps-ascii : (b : Bool) (us vs : List ℕ) → Ascii us → Ascii vs → Ascii (cond b us [] ++ vs)
+perhaps-ascii true us vs s t = every-append isAscii us vs s t
+perhaps-ascii false us vs s t = t
+
+place-ascii : (c : Context) (p : Place) (q : ℕ) → Ascii (placeUnits c p q)
+unfolding placeUnits
+place-ascii c p q =
+    perhaps-ascii (ltb 0 (c .integerPlaces) && eqb (suc q) (15 + c .integerPlaces)) (extraUnits (c .figures) (c .grouped) (suc q) (39 - q)) _
+    (extra-ascii (c .figures) (c .grouped) (suc q) (39 - q)) (figure-ascii (c .figures) (c .grouped) p q)
+
+point-ascii : (c : Context) → Ascii (pointUnits c)
+unfolding pointUnits every isAscii
+point-ascii c = perhaps-ascii (eqb (c .integerPlaces) 0) (extraUnits (c .figures) (c .grouped) 15 25) (46 ∷ []) (extra-ascii (c .figures) (c .grouped) 15 25) tt
+
+-- ---- days
+names-ascii : (names : List String) (n : ℕ) → T (every (λ (s : String). every isAscii (units s)) names) → Ascii (units (getD names n ""))
+unfolding units every
+names-ascii names n t = each-passes (λ (s : String). every isAscii (units s)) names n "" t tt
+
+named-ascii : (n number : ℕ) (name : List ℕ) → Ascii name → Ascii (namedUnits n number name)
+unfolding namedUnits shortName firstLetter
+named-ascii n number name t =
+    cond-both Ascii (leb n 2) (numeral-ascii n number)
+    (cond-both Ascii (eqb n 3) (every-take isAscii 3 name t) (cond-both Ascii (eqb n 4) t (every-take isAscii 1 name t)))
+
+month-ascii : (m : ℕ) → Ascii (monthName m)
+unfolding monthName monthNames units every isAscii
+month-ascii m = names-ascii monthNames (pred m) tt
+
+weekday-ascii : (w : ℕ) → Ascii (weekdayName w)
+unfolding weekdayName weekdayNames units every isAscii
+weekday-ascii w = names-ascii weekdayNames w tt
+
+half-ascii : (h : HalfDay) (late : Bool) → Ascii (halfUnits h late)
+unfolding halfUnits units every isAscii
+half-ascii short true = tt
+half-ascii short false = tt
+half-ascii long true = tt
+half-ascii long false = tt
+
+-- ---- items: of a literal the unit is shown
+unfoldable literalAscii : Item → Bool
+literalAscii (literal u) = isAscii u
+literalAscii (blank u) = true
+literalAscii (fill u) = true
+literalAscii (place p) = true
+literalAscii point = true
+literalAscii percent = true
+literalAscii general = true
+literalAscii at = true
+literalAscii (year n) = true
+literalAscii (month n) = true
+literalAscii (day n) = true
+literalAscii (hour n) = true
+literalAscii (minute n) = true
+literalAscii (second n) = true
+literalAscii (part n) = true
+literalAscii (elapsed e n) = true
+literalAscii (half h) = true
+
+item-ascii : (c : Context) → Ascii (c .standing) → (q : ℕ) (i : Item) → T (literalAscii i) → Ascii (itemUnits c q i)
+unfolding itemUnits literalAscii yearUnits partUnits units every isAscii
+item-ascii c s q (literal u) t = every-cons isAscii u [] t tt
+item-ascii c s q (blank u) t = tt
+item-ascii c s q (fill u) t = tt
+item-ascii c s q (place p) t = place-ascii c p q
+item-ascii c s q point t = point-ascii c
+item-ascii c s q percent t = tt
+item-ascii c s q general t = s
+item-ascii c s q at t = s
+item-ascii c s q (year n) t = cond-both Ascii (eqb n 2) (numeral-ascii 2 (c .date .year % 100)) (numeral-ascii 4 (c .date .year))
+item-ascii c s q (month n) t = named-ascii n (c .date .month) (monthName (c .date .month)) (month-ascii (c .date .month))
+item-ascii c s q (day n) t = named-ascii n (c .date .dayOfMonth) (weekdayName (c .date .weekday)) (weekday-ascii (c .date .weekday))
+item-ascii c s q (hour n) t = numeral-ascii n _
+item-ascii c s q (minute n) t = numeral-ascii n (c .clock .minute)
+item-ascii c s q (second n) t = numeral-ascii n (c .clock .second)
+item-ascii c s q (part n) t = digits-ascii n _
+item-ascii c s q (elapsed e n) t = numeral-ascii n _
+item-ascii c s q (half h) t = half-ascii h _
+
+items-ascii : (c : Context) → Ascii (c .standing) → (q : ℕ) (is : List Item) → T (every literalAscii is) → Ascii (itemsUnits c q is)
+unfolding itemsUnits every
+items-ascii c s q [] t = tt
+items-ascii c s q (i ∷ is) t =
+    every-append isAscii (itemUnits c q i) (itemsUnits c (digitAfter q i) is)
+    (item-ascii c s q i (every-head literalAscii i is t)) (items-ascii c s (digitAfter q i) is (every-tail literalAscii i is t))
+
+sign-ascii : (s : Sign) → Ascii (signUnits s)
+unfolding signUnits every isAscii
+sign-ascii minus = tt
+sign-ascii notNegative = tt
+sign-ascii noItem = tt
+sign-ascii forNegatives = tt
+sign-ascii nought = tt
+
+-- ---- sections of an ASCII code
+run-ascii : (l : Letter) (n : ℕ) → T (every literalAscii (runItem l n ∷ []))
+unfolding runItem literalAscii every
+run-ascii letterY n = tt
+run-ascii letterM n = tt
+run-ascii letterD n = tt
+run-ascii letterH n = tt
+run-ascii letterS n = tt
+
+token-ascii : (d : Bool) (t : Token) → T (tokenPasses isAscii t) → T (every literalAscii (tokenItems d t))
+unfolding every literalAscii tokenItems tokenPasses isAscii
+token-ascii d (token.literal us) h = rw (every-map literalAscii literal us) h
+token-ascii d (token.bare u) h = every-cons literalAscii (literal u) [] h tt
+token-ascii d (token.blank u) h = tt
+token-ascii d (token.fill u) h = tt
+token-ascii d (token.place p) h = tt
+token-ascii d token.point h = cond-both (λ (i : Item). T (every literalAscii (i ∷ []))) d {x = literal 46} {y = point} tt tt
+token-ascii d token.comma h = cond-both (λ (is : List Item). T (every literalAscii is)) d {x = literal 44 ∷ []} {y = []} tt tt
+token-ascii d token.percent h = tt
+token-ascii d token.at h = tt
+token-ascii d token.semicolon h = tt
+token-ascii d token.general h = tt
+token-ascii d (token.half x) h = tt
+token-ascii d (token.run l n) h = run-ascii l n
+token-ascii d (token.elapsed e n) h = tt
+token-ascii d (token.colour n) h = tt
+token-ascii d (token.condition w) h = tt
+
+abbrev sectionAscii : Section → Bool
+sectionAscii s = every literalAscii (s .items)
+
+same-month : (n : ℕ) → literalAscii (minute n) ≡ literalAscii (month n)
+unfolding literalAscii
+same-month n = refl
+
+part-ascii : (n : ℕ) → T (literalAscii (part n))
+unfolding literalAscii
+part-ascii n = tt
+
+section-ascii : (p : Parts) → T (partsPass isAscii p) → T (sectionAscii (sectionOf p))
+unfolding partsPass
+section-ascii p t =
+    let b : T (every (tokenPasses isAscii) (p .body)) = search (and-left, and-right) in
+    items-pass (tokenPasses isAscii) literalAscii token-ascii (λ n h e. part-ascii n)
+    (λ e l i h. rw (settled-kept literalAscii same-month e l i) h) p b
+
+code-ascii : (code : List ℕ) → Ascii code → T (every sectionAscii (sectionsIn code))
+unfolding sectionsIn
+code-ascii code t =
+    rw (every-map sectionAscii sectionOf (partsIn code))
+    (every-weaker (partsPass isAscii) (λ (p : Parts). sectionAscii (sectionOf p)) section-ascii (partsIn code) (parts-pass isAscii code t))
+
+-- ---- readings
+-- the text of a reading is ASCII, and the room takes it
+abbrev Fine : ℕ → Reading → Type 0
+Fine room d = (length (textAs d) ≤ room) × Ascii (textAs d)
+
+fine-within : (room : ℕ) (us : List ℕ) (colour i : ℕ) → Ascii us → Fine room (within room us colour i)
+unfolding within textAs every
+fine-within room us colour i t = cond-case (Fine room) (leb (length us) room) (λ e. (leb-true (length us) room e, t)) (λ e. (omega arith, tt))
+
+fine-refused : (room : ℕ) (a : Answer) → Fine room (refused a)
+unfolding textAs every
+fine-refused room a = (omega arith, tt)
+
+shown-ascii : (c : Context) (s : Section) → Ascii (c .standing) → T (sectionAscii s) → Ascii (sectionUnits c (s .items))
+unfolding sectionUnits
+shown-ascii c s t h = items-ascii c t (14 + c .integerPlaces) (s .items) h
+
+number-fine : (ss : List Section) (room : ℕ) (x : Number) (i : ℕ) (s : Section) (why : Reason) → T (sectionAscii s)
+    → Fine room (readNumber ss x room (chosen i s why))
+unfolding readNumber numberUnits numberContext
+number-fine ss room x i s why t =
+    cond-both (Fine room) (not (takesNumber (kindOf s))) (fine-refused room answer.Sort)
+    (cond-both (Fine room) (showsGeneral (kindOf s) && generalTooWide ((numberExact x) .size)) (fine-refused room answer.General)
+    (fine-within room _ (s .colour) i
+    (every-append isAscii (signUnits (numberSign ss i s why x)) (sectionUnits (numberContext s x) (s .items)) (sign-ascii _)
+    (shown-ascii (numberContext s x) s (general-ascii (standingRounded x)) t))))
+
+instant-fine : (room : ℕ) (d : Day) (m : Millisecond) (i : ℕ) (s : Section) (why : Reason) → T (sectionAscii s)
+    → Fine room (readInstant d m room (chosen i s why))
+unfolding readInstant instantContext every
+instant-fine room d m i s why t =
+    cond-both (Fine room) (not (takesInstant (kindOf s))) (fine-refused room answer.Sort)
+    (fine-within room _ (s .colour) i (shown-ascii (instantContext s d m) s tt t))
+
+-- the section that takes a text
+abbrev TextPasses : TextChoice → Type 0
+TextPasses itself = Unit {0}
+TextPasses (textIn i s) = T (sectionAscii s)
+
+fourth-passes : (i : ℕ) (ss : List Section) (other : TextChoice) → T (every sectionAscii ss) → TextPasses other → TextPasses (fourthFrom i ss other)
+unfolding fourthFrom
+fourth-passes i [] other t h = h
+fourth-passes i (s ∷ ss) other t h =
+    cond-both TextPasses (eqb i 3) (every-head sectionAscii s ss t) (fourth-passes (suc i) ss other (every-tail sectionAscii s ss t) h)
+
+text-passes : (i : ℕ) (ss : List Section) → T (every sectionAscii ss) → TextPasses (textFrom i ss)
+unfolding textFrom
+text-passes i [] t = tt
+text-passes i (s ∷ ss) t =
+    cond-both TextPasses (isText s) (every-head sectionAscii s ss t) (text-passes (suc i) ss (every-tail sectionAscii s ss t))
+
+text-fine : (room : ℕ) (text : List ℕ) (h : TextChoice) → Ascii text → TextPasses h → Fine room (readText text room h)
+unfolding readText textContext
+text-fine room text itself t h = fine-within room text 0 4 t
+text-fine room text (textIn i s) t h = fine-within room _ (s .colour) i (shown-ascii (textContext text) s t h)
+
+module _ (ss : List Section) (text : List ℕ) (room : ℕ) (h : T (every sectionAscii ss)) (t : Ascii text) where
+  by-number : (x : Number) (k : Choice) → choose ss (numberExact x) ≡ k → Fine room (readNumber ss x room k)
+  unfolding readNumber
+  by-number x nothing e = fine-refused room answer.NoSection
+  by-number x (chosen i s why) e = number-fine ss room x i s why (chosen-passes sectionAscii ss (numberExact x) i s why h e)
+
+  by-instant : (d : Day) (m : Millisecond) (k : Choice) → choose ss (instantExact d m) ≡ k → Fine room (readInstant d m room k)
+  unfolding readInstant
+  by-instant d m nothing e = fine-refused room answer.NoSection
+  by-instant d m (chosen i s why) e = instant-fine room d m i s why (chosen-passes sectionAscii ss (instantExact d m) i s why h e)
+
+  value-fine : (v : Value) → Fine room (readValue ss v text room)
+  unfolding readValue chooseText
+  value-fine (value.Number x) = by-number x (choose ss (numberExact x)) refl
+  value-fine (value.Instant d m) = by-instant d m (choose ss (instantExact d m)) refl
+  value-fine value.Text = text-fine room text (chooseText ss) t (fourth-passes 0 ss (textFrom 0 ss) h (text-passes 0 ss h))
+
+-- an ASCII code shows an ASCII text in ASCII units
+code-fine : (code : List ℕ) (ask : Ask) (text : List ℕ) (room : ℕ) → Ascii code → Ascii text → Fine room (codeReading code ask text room)
+unfolding codeReading accept acceptedBy readAccepted reading
+code-fine code ask text room c t = by-verdict (verdict code)
+  where
+    by-verdict : (v : Verdict) → Fine room (readAccepted (acceptedBy v (sectionsIn code)) ask text room)
+    by-verdict (wrong a k) = fine-refused room a
+    by-verdict fine =
+        cond-both (Fine room) (inRange (ask .value) text) (value-fine (sectionsIn code) text room (code-ascii code c) t (ask .value))
+        (fine-refused room answer.Range)
+
+-- ---- lines that are read
+every-drop : (n : ℕ) (us : List ℕ) → Ascii us → Ascii (drop n us)
+unfolding every
+every-drop zero us t = t
+every-drop (suc n) [] t = tt
+every-drop (suc n) (u ∷ us) t = every-drop n us (every-tail isAscii u us t)
+
+abbrev AsciiField : Field → Type 0
+AsciiField (field content rest) = Ascii content
+AsciiField missing = Unit {0}
+
+field-ascii : (name input : List ℕ) → AsciiField (fieldOf name input)
+unfolding fieldOf isLine
+field-ascii name input =
+    let line = take (before 10 input) input in
+    cond-case AsciiField (ltb (before 10 input) (length input) && isLine name line)
+    (λ e.
+    let t : T (ltb (before 10 input) (length input) && (leb (length line) 2048 && every isAscii line && startsWith name line)) = true-T e in
+    every-drop (length name) line (search (and-left, and-right)))
+    (λ e. tt)
+
+abbrev AsciiRequest : Request → Type 0
+AsciiRequest (unasked a k) = Unit {0}
+AsciiRequest (request code ask text) = Ascii code × Ascii text
+
+value-ascii : (code : List ℕ) (v : ValueRead) (text rest : List ℕ) → Ascii code → Ascii text → AsciiRequest (fromValue code v text rest)
+unfolding fromValue fromEnd
+value-ascii code read.Malformed text rest c t = tt
+value-ascii code (read.Known v) text rest c t = cond-both AsciiRequest (isEmpty rest) (c, t) tt
+
+text-ascii : (s : Sort) (us : List ℕ) → Ascii us → Ascii (textOf s us)
+unfolding textOf every
+text-ascii sort.Number us t = tt
+text-ascii sort.Instant us t = tt
+text-ascii sort.Text us t = t
+
+third-ascii : (code : List ℕ) (s : Sort) (f : Field) → Ascii code → AsciiField f → AsciiRequest (fromThird code s f)
+unfolding fromThird
+third-ascii code s missing c t = tt
+third-ascii code s (field content rest) c t = value-ascii code (valueOf s content) (textOf s content) rest c (text-ascii s content t)
+
+kind-ascii : (code : List ℕ) (k : SortRead) (rest : List ℕ) → Ascii code → AsciiRequest (fromKind code k rest)
+unfolding fromKind
+kind-ascii code Unknown rest c = tt
+kind-ascii code (Known s) rest c = third-ascii code s (fieldOf (units "value=") rest) c (field-ascii (units "value=") rest)
+
+second-ascii : (code : List ℕ) (f : Field) → Ascii code → AsciiRequest (fromSecond code f)
+unfolding fromSecond
+second-ascii code missing c = tt
+second-ascii code (field content rest) c = kind-ascii code (sortOf content) rest c
+
+first-ascii : (f : Field) → AsciiField f → AsciiRequest (fromFirst f)
+unfolding fromFirst
+first-ascii missing t = tt
+first-ascii (field content rest) t = second-ascii content (fieldOf (units "kind=") rest) t
+
+-- ---- lines that are written
+line-ascii : (name content : List ℕ) → Ascii name → Ascii content → Ascii (lineOf name content)
+unfolding lineOf every isAscii
+line-ascii name content n c = every-append isAscii (name ++ content) (10 ∷ []) (every-append isAscii name content n c) tt
+
+four-ascii : (a : Answer) (k colour : ℕ) (text : List ℕ) → Ascii text → Ascii (fourLines a k colour text)
+unfolding fourLines units every isAscii
+four-ascii a k colour text t =
+    let first = line-ascii (units "answer=") (numeral 1 (numberOf a)) tt (numeral-ascii 1 (numberOf a)) in
+    let second = line-ascii (units "place=") (numeral 1 k) tt (numeral-ascii 1 k) in
+    let third = line-ascii (units "colour=") (numeral 1 colour) tt (numeral-ascii 1 colour) in
+    let last = line-ascii (units "text=") text tt t in
+    let two = lineOf (units "answer=") (numeral 1 (numberOf a)) ++ lineOf (units "place=") (numeral 1 k) in
+    let three = two ++ lineOf (units "colour=") (numeral 1 colour) in
+    every-append isAscii three _ (every-append isAscii two _ (every-append isAscii (lineOf (units "answer=") (numeral 1 (numberOf a))) _ first second) third) last
+
+lines-ascii : (q : Request) → AsciiRequest q → Ascii (linesOf q)
+unfolding linesOf previewText every
+lines-ascii (unasked a k) t = four-ascii a k 0 [] tt
+lines-ascii (request code ask text) t = four-ascii _ _ _ _ (code-fine code ask text 4096 (t .0) (t .1) .1)
+
+response-ascii : (input : List ℕ) → Ascii (responseOf input)
+unfolding responseOf requestOf
+response-ascii input = lines-ascii (requestOf input) (first-ascii (fieldOf (units "code=") input) (field-ascii (units "code=") input))
+
+-- ASCII units are written as the bytes that they are
+low-same : (us : List ℕ) → Ascii us → map lowByte us ≡ us
+unfolding isAscii
+low-same [] t = refl
+low-same (u ∷ us) t =
+    let h : u ≤ 127 = leb→le u 127 (every-head isAscii u us t) in
+    ap₂ (λ (v : ℕ) (vs : List ℕ). v ∷ vs) (mod-eq-of-lt (omega arith)) (low-same us (every-tail isAscii u us t))
+
+pub response-bytes : (input : List ℕ) → map lowByte (responseOf input) ≡ responseOf input
+response-bytes input = low-same (responseOf input) (response-ascii input)
