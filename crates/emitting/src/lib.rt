@@ -16,9 +16,9 @@ ghost use Rattle.writing.specs.Put.{Put};
 ghost use Rattle.emitting.specs.Emit.{bodyWords, formWords, literalWords, madeWords, formSeconds, formHours, formDigit, formFills, pieceOf, walkAfter, walkPast, fillsLeft, Emitted};
 
 // The units of a point and a comma, which are literals of a date.
-const POINT: u16 = 46;
+const POINT_UNIT: u16 = 46;
 
-const COMMA: u16 = 44;
+const COMMA_UNIT: u16 = 44;
 
 // An item's tag and its argument. The tag 0 stands for no item.
 struct Made(u16, u16);
@@ -44,7 +44,7 @@ fn put_entry(room: &mut [u16], at: usize, tag: u16, argument: u16) -> usize
     put_unit(room, a, argument)
 }
 
-// The same, where there is an item.
+// Puts the words of an item, where there is one.
 fn put_made(room: &mut [u16], at: usize, m: Made) -> usize
     requires { ⌜ at < 2 ^ 62 ⌝ }
     ensures { λ r. ⌜ Put (now (room .entry)) at (madeWords m) r (now (room .exit)) ⌝ }
@@ -97,8 +97,8 @@ fn item_of(form: u16, argument: u16, date: bool, hours: bool, digit: u16) -> Mad
         forms::ZERO_PLACE => Made(tags::ZERO_PLACE, digit + 1),
         forms::HASH_PLACE => Made(tags::HASH_PLACE, digit + 1),
         forms::SPACE_PLACE => Made(tags::SPACE_PLACE, digit + 1),
-        forms::POINT => made_if(date, Made(tags::LITERAL, POINT), Made(tags::POINT, 0)),
-        forms::COMMA => made_if(date, Made(tags::LITERAL, COMMA), Made(0, 0)),
+        forms::POINT => made_if(date, Made(tags::LITERAL, POINT_UNIT), Made(tags::POINT, 0)),
+        forms::COMMA => made_if(date, Made(tags::LITERAL, COMMA_UNIT), Made(0, 0)),
         forms::PERCENT => Made(tags::PERCENT, 0),
         forms::AT => Made(tags::AT, 0),
         forms::GENERAL => Made(tags::GENERAL, 0),
