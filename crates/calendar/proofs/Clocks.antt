@@ -1,38 +1,35 @@
--- The clock of a millisecond of the day: its parts are in their ranges and make up the millisecond again.
+-- Clocks of milliseconds of the day, computed from the definitions.
 -- Assumes nothing.
-use mathlib.Core.Path.{_≡_}
-use Prim.Native.Nat.{ℕ, _+_, _*_, _%_, _≤_, _<_}
-use native.Mathlib.Omega.{arith}
-use borrow.Author.Tests.{eqb-false}
-use lib.Dec.{eqb}
-use Rattle.lists.proofs.Bools.{cond-case}
-use Rattle.calendar.specs.Clock.{clockOf, twelveHour}
+use mathlib.Core.Path.{_≡_, refl}
+use mathlib.Core.Bool.{Bool, true, false}
+use mathlib.Core.List.{List, [], _∷_}
+use Prim.Native.Nat.{ℕ}
+use Rattle.lists.specs.Lists.{All}
+use Rattle.calendar.specs.Clock.{clockOf, twelveHour, afternoon}
 
-pub clock-whole : (ms : ℕ) → ((clockOf ms .hour * 60 + clockOf ms .minute) * 60 + clockOf ms .second) * 1000 + clockOf ms .thousandth ≡ ms
-unfolding clockOf
-clock-whole ms = omega arith
+pub record Time : Type 0 where
+  pub ms : ℕ
+  pub hour : ℕ
+  pub minute : ℕ
+  pub afternoon : Bool
 
-pub hour-below : (ms : ℕ) → ms ≤ 86399999 → clockOf ms .hour < 24
-unfolding clockOf
-hour-below ms h = omega arith
+abbrev pub time : ℕ → ℕ → ℕ → Bool → Time
+time n h m b = record { ms = n; hour = h; minute = m; afternoon = b }
 
-pub minute-below : (ms : ℕ) → clockOf ms .minute < 60
-unfolding clockOf
-minute-below ms = omega arith
+-- 0:00, 11:59, 12:00, 12:59, 13:00, 23:59: the hour on a 12-hour clock, the minute, whether it is afternoon
+abbrev pub times : List Time
+times =
+    time 0 12 0 false
+    ∷ time 43140000 11 59 false
+    ∷ time 43200000 12 0 true
+    ∷ time 46740000 12 59 true
+    ∷ time 46800000 1 0 true
+    ∷ time 86340000 11 59 true
+    ∷ []
 
-pub second-below : (ms : ℕ) → clockOf ms .second < 60
-unfolding clockOf
-second-below ms = omega arith
+abbrev pub shown : ℕ → Time
+shown n = let c = clockOf n in time n (twelveHour (c .hour)) (c .minute) (afternoon (c .hour))
 
-pub thousandth-below : (ms : ℕ) → clockOf ms .thousandth < 1000
-unfolding clockOf
-thousandth-below ms = omega arith
-
--- "12, 1 to 11"
-pub twelve-hour : (h : ℕ) → (1 ≤ twelveHour h) × (twelveHour h ≤ 12)
-unfolding twelveHour
-twelve-hour h =
-    cond-case (λ (n : ℕ). (1 ≤ n) × (n ≤ 12)) (eqb (h % 12) 0) (λ t. omega arith)
-    (λ f.
-    let g : h % 12 ≡ 0 → ⊥ = eqb-false (h % 12) 0 f in
-    omega arith)
+pub times-right : All (λ (t : Time). shown (t .ms) ≡ t) times
+unfolding clockOf twelveHour afternoon
+times-right = (refl, (refl, (refl, (refl, (refl, (refl, tt))))))

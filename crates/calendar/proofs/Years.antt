@@ -147,14 +147,12 @@ year-is day k n a b e =
     ap {B = YearDay} (λ (x : ℕ). record { years = x; dayOfYear = yearDayOf day .dayOfYear }) (sym s)
     ∙ ap {B = YearDay} (λ (x : ℕ). record { years = k; dayOfYear = x }) t
 
-pub day-of-year : (day : ℕ) → yearDayOf day .dayOfYear ≡ suc day - firstDay (yearDayOf day .years)
-day-of-year day = omega (arith, year-found day .placed)
-
 -- a day number is at least 365 days for each year before it
 pub years-few : (day : ℕ) → 365 * yearDayOf day .years ≤ day
 years-few day =
     omega (arith, year-found day .placed, firstDay-far 0 (yearDayOf day .years) (omega arith), firstDay-1900)
 
+-- the place that is found is a day of its year, so that `month-found` holds of every date
 pub day-in-year : (day : ℕ) → yearDayOf day .dayOfYear ≤ yearDays (yearDayOf day .years)
 day-in-year day = let f = year-found day in omega (arith, f .placed, f .ends, firstDay-next (yearDayOf day .years))
 
@@ -173,7 +171,7 @@ year-cycles q rest (suc j) h a b =
     (omega (arith, ap firstDay e, firstDay-cycles q (suc j)))
     (omega (arith, firstDay-cycles q j))
 
--- the same in the code's terms, f being the year's first day in the table
+-- the year as the code finds it, f being the year's first day in the table
 pub year-later : (day k f : ℕ) → 367 ≤ day → f ≡ firstDay k → firstDay k ≤ (day - 367) % 146097 + 367 → (day - 367) % 146097 + 367 < firstDay (suc k) →
     yearDayOf day ≡ record { years = k + 400 * ((day - 367) / 146097); dayOfYear = (day - 367) % 146097 + 367 - f + 1 }
 year-later day k f h e a b =

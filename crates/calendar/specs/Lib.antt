@@ -4,5 +4,4 @@ pub mod Clock
 pub mod Names
 pub mod Found
 pub mod Made
-pub mod NameTable
 pub mod Tables

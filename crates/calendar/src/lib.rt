@@ -5,13 +5,11 @@ use values::Day;
 use values::Millisecond;
 ghost use mathlib.Core.Path.{_≡_};
 ghost use Prim.Native.Nat.{ℕ, suc, _+_, _^_, _≤_, _<_};
-ghost use lib.ListN.{getD, length};
+ghost use lib.ListN.{getD};
 ghost use Rattle.calendar.specs.Year.{leap, firstDay, yearDayOf};
 ghost use Rattle.calendar.specs.Date.{monthDays, monthDayFrom, dateOf};
 ghost use Rattle.calendar.specs.Clock.{clockOf, twelveHour, afternoon, sinceDayZero, elapsedHours, elapsedMinutes, elapsedSeconds};
-ghost use Rattle.calendar.specs.Names.{monthName, weekdayName};
 ghost use Rattle.calendar.specs.Tables.{firstDays};
-ghost use Rattle.calendar.specs.NameTable.{nameAt};
 ghost use Rattle.calendar.specs.Made.{madeYearDay, madeMonthDay, madeDate, madeClock};
 
 // A year, as 1900 + years, and a day of it, the first being 1.
@@ -222,78 +220,4 @@ pub fn elapsed_seconds(d: Day, m: Millisecond) -> u64
     ensures { λ r. ⌜ r ≡ elapsedSeconds (sinceDayZero (d .0) (m .0)) ⌝ }
 {
     since_day_zero(d, m) / 1000
-}
-
-// The place of a month's name in the table of names; 19, where no name stands, if there is no such month.
-fn month_place(month: u32) -> usize
-    ensures { λ r. ⌜ monthName month ≡ nameAt r ⌝ }
-{
-    if month == 0 {
-        return 0;
-    }
-    if 12 < month {
-        return 19;
-    }
-    month as usize - 1
-}
-
-// The same of a weekday's name.
-fn weekday_place(weekday: u32) -> usize
-    ensures { λ r. ⌜ weekdayName weekday ≡ nameAt r ⌝ }
-{
-    12 + weekday as usize
-}
-
-fn wide(byte: u8) -> u16
-    ensures { λ r. ⌜ r ≡ byte ⌝ }
-{
-    byte as u16
-}
-
-// The unit at place i of a name; 0 after its end.
-fn name_unit(place: usize, i: usize) -> u16
-    ensures { λ r. ⌜ r ≡ getD (nameAt place) i 0 ⌝ }
-{
-    if 18 < place {
-        return 0;
-    }
-    if 8 < i {
-        return 0;
-    }
-    wide(tables::NAMES[place * 9 + i])
-}
-
-fn name_length(place: usize) -> usize
-    ensures { λ r. ⌜ r ≡ length (nameAt place) ⌝ }
-{
-    if 18 < place {
-        return 0;
-    }
-    tables::NAME_LENGTHS[place]
-}
-
-// The unit at place i of a month's English name, January being month 1; 0 after its end.
-pub fn month_unit(month: u32, i: usize) -> u16
-    ensures { λ r. ⌜ r ≡ getD (monthName month) i 0 ⌝ }
-{
-    name_unit(month_place(month), i)
-}
-
-pub fn month_length(month: u32) -> usize
-    ensures { λ r. ⌜ r ≡ length (monthName month) ⌝ }
-{
-    name_length(month_place(month))
-}
-
-// The unit at place i of a weekday's English name, Sunday being weekday 1 and Saturday 0; 0 after its end.
-pub fn weekday_unit(weekday: u32, i: usize) -> u16
-    ensures { λ r. ⌜ r ≡ getD (weekdayName weekday) i 0 ⌝ }
-{
-    name_unit(weekday_place(weekday), i)
-}
-
-pub fn weekday_length(weekday: u32) -> usize
-    ensures { λ r. ⌜ r ≡ length (weekdayName weekday) ⌝ }
-{
-    name_length(weekday_place(weekday))
 }

@@ -408,12 +408,3 @@ pub const FIRST_DAYS: [u32; 401] = [
 pub const LEAP_MONTHS: [u32; 12] = [31, 29, 31, 30, 31, 30, 31, 31, 30, 31, 30, 31];
 
 pub const COMMON_MONTHS: [u32; 12] = [31, 28, 31, 30, 31, 30, 31, 31, 30, 31, 30, 31];
-
-// Nine bytes a name, the months from January on and then the weekdays from Saturday on; 0 after the end of a name.
-pub const NAMES: [u8; 171] = *b"January\0\0February\0March\0\0\0\0April\0\0\0\0\
-    May\0\0\0\0\0\0June\0\0\0\0\0July\0\0\0\0\0August\0\0\0\
-    SeptemberOctober\0\0November\0December\0\
-    Saturday\0Sunday\0\0\0Monday\0\0\0Tuesday\0\0\
-    WednesdayThursday\0Friday\0\0\0";
-
-pub const NAME_LENGTHS: [usize; 19] = [7, 8, 5, 5, 3, 4, 4, 6, 9, 7, 8, 8, 8, 6, 6, 7, 9, 8, 6];

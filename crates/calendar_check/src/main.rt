@@ -1,5 +1,7 @@
 // Writes dates and clocks. The file stdout has what Python's datetime gives, and for days 0 to 60 what document 01 says.
+ghost use Prim.Native.Nat.{_<_};
 use libc::STDOUT_FILENO;
+use tables::tags;
 use values::Day;
 use values::Millisecond;
 
@@ -13,18 +15,23 @@ fn write_number(n: u64) {
     write_byte(b' ');
 }
 
-fn write_weekday(weekday: u32) {
-    for i in 0..calendar::weekday_length(weekday) {
-        write_byte((calendar::weekday_unit(weekday, i) % 256) as u8);
+// The first n units, of which nine are looked at.
+fn write_units(units: [u16; 9], n: usize) {
+    for i in 0..9usize {
+        if i < n {
+            write_byte((units[i] % 256) as u8);
+        }
     }
-    write_byte(b' ');
 }
 
-fn write_month(month: u32) {
-    for i in 0..calendar::month_length(month) {
-        write_byte((calendar::month_unit(month, i) % 256) as u8);
-    }
-    write_byte(b'\n');
+// The name of a day's weekday or month, as a run of four letters shows it.
+fn write_name(day: u32, tag: u16)
+    requires { ⌜ 10 < tag ⌝ }
+{
+    let mut room = [0u16; 9];
+    let moment = date_text::moment_of(false, Day(day), Millisecond(0));
+    let n = date_text::put_moment_item(&mut room, 0, tag, 4, moment);
+    write_units(room, n);
 }
 
 fn show_date(day: u32) {
@@ -34,8 +41,10 @@ fn show_date(day: u32) {
     write_number(date.month as u64);
     write_number(date.day as u64);
     write_number(date.weekday as u64);
-    write_weekday(date.weekday);
-    write_month(date.month);
+    write_name(day, tags::DAY);
+    write_byte(b' ');
+    write_name(day, tags::MONTH);
+    write_byte(b'\n');
 }
 
 fn half_day(hour: u32) -> u8 {

@@ -6,7 +6,7 @@ use native.Mathlib.Omega.{arith}
 use mathlib.Core.Path.{_≡_, refl, sym, _∙_}
 use mathlib.Core.Bool.{Bool, _&&_}
 use mathlib.Core.List.{List, [], _∷_, _++_}
-use lib.ListN.{length, take}
+use lib.ListN.{length, take, List·getD-eq-default}
 use lib.Seq.{take-all}
 use lib.Dec.{T, leb, leb→le}
 use borrow.Author.Tests.{ne-eqb, le-leb, lt-leb}
@@ -72,6 +72,15 @@ month-spelt m letters e = rw e (spells (monthName m) (each-passes (λ (s : Strin
 pub weekday-spelt : (w letters : ℕ) → letters ≡ packed (weekdayName w) → Spells letters (weekdayName w)
 unfolding weekdayName weekdayNames units every
 weekday-spelt w letters e = rw e (spells (weekdayName w) (each-passes (λ (s : String). isName (units s)) weekdayNames w "" tt tt))
+
+-- no month from 13 on and no weekday from 7 on has a name
+pub no-month : (m : ℕ) → 13 ≤ m → 0 ≡ packed (monthName m)
+unfolding packed monthName monthNames units
+no-month m h = rw (List·getD-eq-default monthNames "" {n = pred m} (omega arith))
+
+pub no-weekday : (w : ℕ) → 7 ≤ w → 0 ≡ packed (weekdayName w)
+unfolding packed weekdayName weekdayNames units
+no-weekday w h = rw (List·getD-eq-default weekdayNames "" {n = w} h)
 
 -- the texts of a month or a day by the length of its run
 pub named-digits : (n number : ℕ) (name : List ℕ) → n ≤ 2 → namedUnits n number name ≡ numeral n number

@@ -1,12 +1,13 @@
 // Writes what the items of a date section show of an instant. Their texts are defined in formats/specs/Text.antt.
 use calendar::Clock;
 use calendar::Date;
+use tables::tags;
 use values::Day;
 use values::Millisecond;
+use writing::units;
 ghost use mathlib.Core.Path.{_≡_};
-ghost use mathlib.Core.Bool.{Bool, true};
 ghost use mathlib.Core.List.{List};
-ghost use Prim.Native.Nat.{ℕ, _-_, _/_, _≤_, _<_, _^_};
+ghost use Prim.Native.Nat.{ℕ, _-_, _/_, _<_, _^_};
 ghost use Rattle.formats.specs.Text.{Context, yearUnits, namedUnits, hourShown, partUnits, halfUnits, itemUnits};
 ghost use Rattle.calendar.specs.Clock.{afternoon};
 ghost use Rattle.calendar.specs.Names.{monthName, weekdayName};
@@ -15,7 +16,13 @@ ghost use Rattle.tables.specs.Decode.{halfAt, itemAt};
 ghost use Rattle.figures.specs.Digits.{numeral};
 ghost use Rattle.writing.specs.Put.{Put};
 ghost use Rattle.date_text.specs.Letters.{packed, lettersUpTo, Spells};
-ghost use Rattle.date_text.specs.Moment.{halfLetter, datedDay, momentOf, MomentIs};
+ghost use Rattle.date_text.specs.Moment.{halfLetter, momentOf, MomentIs};
+
+const LETTER_A: u16 = 65;
+
+const LETTER_M: u16 = 77;
+
+const LETTER_P: u16 = 80;
 
 // All that the items of a date section show of an instant, found once. `twelve`: the hours are those of a 12-hour clock.
 pub struct Moment {
@@ -26,23 +33,12 @@ pub struct Moment {
     pub millisecond: Millisecond,
 }
 
-// The day whose date is found.
-fn dated_day(dated: bool, d: Day) -> Day
-    ensures { λ r. ⌜ r ≡ datedDay dated d ⌝ }
-{
-    if dated {
-        return d;
-    }
-    Day(0)
-}
-
-// The moment of a day and a millisecond of it. Where no item shows the date, `dated` is false, and the date is day 0's, which
-// is found in a few steps.
-pub fn moment_of(dated: bool, twelve: bool, d: Day, m: Millisecond) -> Moment
-    ensures { λ r. ⌜ r ≡ momentOf dated twelve d m ⌝ }
+// The moment of a day and a millisecond of it.
+pub fn moment_of(twelve: bool, d: Day, m: Millisecond) -> Moment
+    ensures { λ r. ⌜ r ≡ momentOf twelve d m ⌝ }
 {
     Moment {
-        date: calendar::date_of(dated_day(dated, d)),
+        date: calendar::date_of(d),
         clock: calendar::clock_of(m),
         twelve: twelve,
         day: d,
@@ -61,11 +57,13 @@ fn put_year(room: &mut [u16], at: usize, n: u32, year: u32) -> usize
     writing::put_numeral(room, at, 4, year as u64)
 }
 
-// The letters of a month's name in one number. (No table: a constant array would be built anew at each reading.)
+// The letters of a month's name in one number; none from month 13 on, and month 0 is named as month 1.
+// (No table: a constant array would be built anew at each reading.)
 fn month_letters(month: u32) -> u64
-    ensures { λ r. ⌜ (1 ≤ month → month ≤ 12 → r ≡ packed (monthName month)) ⌝ }
+    ensures { λ r. ⌜ r ≡ packed (monthName month) ⌝ }
 {
     match month {
+        0 => 536106923438282,
         1 => 536106923438282,
         2 => 68621686208508614,
         3 => 28126785741,
@@ -77,13 +75,14 @@ fn month_letters(month: u32) -> u64
         9 => 8271858446746006227,
         10 => 504874177212879,
         11 => 64623894115235790,
-        _ => 64623894114923204,
+        12 => 64623894114923204,
+        _ => 0,
     }
 }
 
-// The same of a weekday's name.
+// The letters of a weekday's name in one number, Saturday being 0; none from weekday 7 on.
 fn weekday_letters(weekday: u32) -> u64
-    ensures { λ r. ⌜ (weekday < 7 → r ≡ packed (weekdayName weekday)) ⌝ }
+    ensures { λ r. ⌜ r ≡ packed (weekdayName weekday) ⌝ }
 {
     match weekday {
         0 => 68547021698314451,
@@ -92,7 +91,8 @@ fn weekday_letters(weekday: u32) -> u64
         3 => 535523608853204,
         4 => 8774018807436489431,
         5 => 68547021960475732,
-        _ => 4183778031942,
+        6 => 4183778031942,
+        _ => 0,
     }
 }
 
@@ -164,7 +164,7 @@ fn put_part(room: &mut [u16], at: usize, n: u32, thousandth: u32) -> usize
     requires { ⌜ at < 2 ^ 62 ⌝ }
     ensures { λ r. ⌜ Put (now (room .entry)) at (partUnits n thousandth) r (now (room .exit)) ⌝ }
 {
-    let a = writing::put_unit(room, at, 46);
+    let a = writing::put_unit(room, at, units::POINT);
     writing::put_digits(room, a, n, cut_part(n, thousandth) as u64)
 }
 
@@ -173,41 +173,58 @@ fn half_letter(hour: u32) -> u16
     ensures { λ r. ⌜ r ≡ halfLetter (afternoon hour) ⌝ }
 {
     if calendar::is_afternoon(hour) {
-        return 80;
+        return LETTER_P;
     }
-    65
+    LETTER_A
 }
 
-// A half-day mark, A or P where `mark` is 1, else AM or PM.
+// What a half-day mark's item has in a table for A or P; else it is AM or PM.
+const SHORT_MARK: u32 = 1;
+
 fn put_half(room: &mut [u16], at: usize, mark: u32, hour: u32) -> usize
     requires { ⌜ at < 2 ^ 62 ⌝ }
     ensures { λ r. ⌜ Put (now (room .entry)) at (halfUnits (halfAt mark) (afternoon hour)) r (now (room .exit)) ⌝ }
 {
     let a = writing::put_unit(room, at, half_letter(hour));
-    if mark == 1 {
+    if mark == SHORT_MARK {
         return a;
     }
-    writing::put_unit(room, a, 77)
+    writing::put_unit(room, a, LETTER_M)
 }
 
-// Puts the text of a date section's item that a table has under a tag above 10.
+// Puts the text of a date section's item that a table has under a tag above that of `@`.
 pub fn put_moment_item(room: &mut [u16], at: usize, tag: u16, argument: u16, m: Moment) -> usize
     requires { ⌜ (at < 2 ^ 62) × (10 < tag) ⌝ }
-    ensures { λ r. ⌜ ((c : Context) (q : ℕ) (dated : Bool) → (tag ≤ 13 → dated ≡ true) → MomentIs dated m c →
+    ensures { λ r. ⌜ ((c : Context) (q : ℕ) → MomentIs m c →
         Put (now (room .entry)) at (itemUnits c q (itemAt (entry tag argument))) r (now (room .exit))) ⌝ }
 {
     let n = argument as u32;
     match tag {
-        11 => put_year(room, at, n, m.date.year),
-        12 => put_named(room, at, n, m.date.month, month_letters(m.date.month)),
-        13 => put_named(room, at, n, m.date.day, weekday_letters(m.date.weekday)),
-        14 => put_hour(room, at, n, m.twelve, m.clock.hour),
-        15 => writing::put_numeral(room, at, n, m.clock.minute as u64),
-        16 => writing::put_numeral(room, at, n, m.clock.second as u64),
-        17 => put_part(room, at, n, m.clock.thousandth),
-        18 => writing::put_numeral(room, at, n, calendar::elapsed_hours(m.day, m.millisecond)),
-        19 => writing::put_numeral(room, at, n, calendar::elapsed_minutes(m.day, m.millisecond)),
-        20 => writing::put_numeral(room, at, n, calendar::elapsed_seconds(m.day, m.millisecond)),
+        tags::YEAR => put_year(room, at, n, m.date.year),
+        tags::MONTH => put_named(room, at, n, m.date.month, month_letters(m.date.month)),
+        tags::DAY => put_named(room, at, n, m.date.day, weekday_letters(m.date.weekday)),
+        tags::HOUR => put_hour(room, at, n, m.twelve, m.clock.hour),
+        tags::MINUTE => writing::put_numeral(room, at, n, m.clock.minute as u64),
+        tags::SECOND => writing::put_numeral(room, at, n, m.clock.second as u64),
+        tags::PART => put_part(room, at, n, m.clock.thousandth),
+        tags::ELAPSED_HOURS => writing::put_numeral(
+            room,
+            at,
+            n,
+            calendar::elapsed_hours(m.day, m.millisecond),
+        ),
+        tags::ELAPSED_MINUTES => writing::put_numeral(
+            room,
+            at,
+            n,
+            calendar::elapsed_minutes(m.day, m.millisecond),
+        ),
+        tags::ELAPSED_SECONDS => writing::put_numeral(
+            room,
+            at,
+            n,
+            calendar::elapsed_seconds(m.day, m.millisecond),
+        ),
         _ => put_half(room, at, n, m.clock.hour),
     }
 }

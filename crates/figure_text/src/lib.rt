@@ -1,16 +1,20 @@
 // Writes a number's figures into a lent room, placeholder by placeholder. A store past the room's end is dropped.
 ghost use mathlib.Core.Path.{_≡_};
 ghost use mathlib.Core.Bool.{cond, _&&_};
-ghost use mathlib.Core.List.{List, [], _∷_};
-ghost use Prim.Native.Nat.{ℕ, _+_, _-_, _/_, _^_, _≤_, _<_, max};
-ghost use lib.Dec.{leb, ltb, eqb};
+ghost use mathlib.Core.List.{[], _∷_};
+ghost use Prim.Native.Nat.{ℕ, _+_, _-_, _/_, _^_, _≤_, _<_};
+ghost use lib.Dec.{eqb};
 ghost use lib.ListN.{take};
-ghost use Rattle.figures.specs.Digits.{figures, digitUnit, digitUnits};
+ghost use Rattle.figures.specs.Digits.{figures, digitUnits};
 ghost use Rattle.figures.specs.General.{pointed, generalUnits};
 ghost use Rattle.formats.specs.Text.{Context, endsGroup, idleUnits, figureUnits, extraUnits, placeUnits, pointUnits};
 ghost use Rattle.writing.specs.Put.{Put};
 ghost use Rattle.figure_text.specs.Shown.{DigitsAre, FiguresAre, placeOfTag, idle, separated, figuresWith, unitsBefore};
+use tables::tags;
+use values::integers;
+use writing::digit_unit;
 use writing::put_unit;
+use writing::units;
 
 // How a rounded number's digits, that of 10^-15 first, are shown: how many places are used, the lowest place whose digit is
 // not 0, the section's integer places, and whether it groups. The digits are lent beside it: copied, they would be copied at
@@ -33,13 +37,6 @@ pub fn figures_of(digits: [u8; 40], integers: u32, grouped: bool) -> Figures
         integers,
         grouped,
     }
-}
-
-// The unit that shows a digit.
-fn digit_unit(d: u8) -> u16
-    ensures { λ r. ⌜ r ≡ digitUnit d ⌝ }
-{
-    48 + d as u16
 }
 
 // Whether the digit at q is an insignificant zero.
@@ -69,10 +66,10 @@ fn ends_group(grouped: bool, q: usize) -> bool
 fn separator(u: u16) -> u16
     ensures { λ r. ⌜ r ≡ cond (eqb u 32) 32 44 ⌝ }
 {
-    if u == 32 {
-        return 32;
+    if u == units::SPACE {
+        return units::SPACE;
     }
-    44
+    units::COMMA
 }
 
 // Puts a unit of the digit at q, with the separator behind it where one is due.
@@ -92,17 +89,17 @@ fn put_idle(room: &mut [u16], at: usize, place: u16, grouped: bool, q: usize) ->
     requires { ⌜ at + 2 < 2 ^ 63 ⌝ }
     ensures { λ r. ⌜ Put (now (room .entry)) at (separated grouped q (idleUnits (placeOfTag place))) r (now (room .exit)) ⌝ }
 {
-    if place == 4 {
-        return put_shown(room, at, 48, grouped, q);
+    if place == tags::ZERO_PLACE {
+        return put_shown(room, at, units::ZERO, grouped, q);
     }
-    if place == 5 {
+    if place == tags::HASH_PLACE {
         return at;
     }
-    put_shown(room, at, 32, grouped, q)
+    put_shown(room, at, units::SPACE, grouped, q)
 }
 
 // Puts what a place, told by its tag, shows of the digit at q.
-pub fn put_figure(
+fn put_figure(
     room: &mut [u16],
     at: usize,
     digits: &[u8; 40],
@@ -181,9 +178,9 @@ pub fn put_point(room: &mut [u16], at: usize, digits: &[u8; 40], f: Figures) -> 
 {
     if f.integers == 0 {
         let a = put_extra(room, at, digits, f, 15);
-        return put_unit(room, a, 46);
+        return put_unit(room, a, units::POINT);
     }
-    put_unit(room, at, 46)
+    put_unit(room, at, units::POINT)
 }
 
 // Puts the digits from below `high` down to `low`.
@@ -202,16 +199,6 @@ fn put_run(room: &mut [u16], at: usize, digits: &[u8; 40], high: usize, low: usi
     o
 }
 
-// The places that General shows from 10^0 on: at least one.
-fn at_least_one(used: usize) -> usize
-    ensures { λ r. ⌜ r ≡ max 16 used ⌝ }
-{
-    if used < 16 {
-        return 16;
-    }
-    used
-}
-
 // Puts a point and the decimals down to the lowest that is not 0, or nothing where there is none.
 fn put_decimals(room: &mut [u16], at: usize, digits: &[u8; 40], lowest: usize) -> usize
     requires { ⌜ at < 2 ^ 62 + 49 ⌝ }
@@ -220,18 +207,18 @@ fn put_decimals(room: &mut [u16], at: usize, digits: &[u8; 40], lowest: usize) -
         → Put (now (room .entry)) at (pointed (take (15 - lowest) (digitUnits 15 n))) r (now (room .exit))) ⌝ }
 {
     if lowest < 15 {
-        let a = put_unit(room, at, 46);
+        let a = put_unit(room, at, units::POINT);
         return put_run(room, a, digits, 15, lowest);
     }
     at
 }
 
-// Puts a number as General shows it: its integer digits, and its decimals without the zeros at their end.
+// Puts a number as General shows it: its integer digits, at least that of 10^0, and its decimals without the zeros at their end.
 pub fn put_general(room: &mut [u16], at: usize, digits: &[u8; 40], f: Figures) -> usize
     requires { ⌜ (at < 2 ^ 62) × (f .used ≤ 40) ⌝ }
     ensures within { λ r. ⌜ r ≤ at + 81 ⌝ }
     ensures put { λ r. ⌜ ((n : ℕ) → DigitsAre (now (digits .entry)) f n → Put (now (room .entry)) at (generalUnits n) r (now (room .exit))) ⌝ }
 {
-    let a = put_run(room, at, digits, at_least_one(f.used), 15);
+    let a = put_run(room, at, digits, integers::greatest(16, f.used), 15);
     put_decimals(room, a, digits, f.lowest)
 }

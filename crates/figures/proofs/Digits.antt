@@ -14,7 +14,7 @@ use lib.Seq.{ext-getD}
 use Rattle.lists.proofs.Bools.{cond-case}
 use Rattle.figures.specs.Digits.{digit, figures, digitUnits, widthUpTo, width}
 use Rattle.lists.specs.Tables.{values}
-use Rattle.figures.specs.Reading.{digitsValue, unitsValue}
+use Rattle.figures.specs.Reading.{digitsValue}
 use Rattle.figures.proofs.Tens.{ten-pos, ten-le, shift-one}
 use Rattle.lists.proofs.Tables.{value-at, values-length}
 
@@ -66,12 +66,6 @@ unfolding digitUnits
 digitUnits-length zero n = refl
 digitUnits-length (suc m) n = ap suc (digitUnits-length m n)
 
-pub digitUnits-at : (m n i : ℕ) → i < m → getD (digitUnits m n) i 0 ≡ 48 + digit n (m - suc i)
-unfolding digitUnits
-digitUnits-at zero n i h = absurd (omega arith)
-digitUnits-at (suc m) n zero h = rw (suc-sub-suc, sub-zero)
-digitUnits-at (suc m) n (suc i) h = rw suc-sub-suc (digitUnits-at m n i (omega arith))
-
 -- the digits read back as the number, once over the number of places: the digits from 10^k on, m of them
 regroup : (d v p r : ℕ) → (d + 10 * v) * p + r ≡ v * (p * 10) + (d * p + r)
 regroup d v p r = omega arith
@@ -95,26 +89,6 @@ values-read n m =
 pub figures-read : (n : ℕ) → n < 10 ^ 40 → digitsValue (figures n) ≡ n
 unfolding figures
 figures-read n h = values-read n 40 ∙ mod-eq-of-lt h
-
--- a number of forty places is told by its digits
-pub figures-injective : (n m : ℕ) → n < 10 ^ 40 → m < 10 ^ 40 → figures n ≡ figures m → n ≡ m
-figures-injective n m h g e = sym (figures-read n h) ∙ ap digitsValue e ∙ figures-read m g
-
-regroup-units : (v d p r : ℕ) → (v * 10 + d) * p + r ≡ v * (p * 10) + (d * p + r)
-regroup-units v d p r = omega arith
-
-pub digitUnits-value : (m n v : ℕ) → unitsValue v (digitUnits m n) ≡ v * 10 ^ m + n % 10 ^ m
-unfolding digitUnits unitsValue
-digitUnits-value zero n v = omega (arith, mod-one n)
-digitUnits-value (suc m) n v =
-    let d : ℕ = digit n m in
-    ap (λ (x : ℕ). unitsValue (v * 10 + x) (digitUnits m n)) (omega arith)
-    ∙ digitUnits-value m n (v * 10 + d)
-    ∙ regroup-units v d (10 ^ m) (n % 10 ^ m)
-    ∙ ap₂ (λ (x y : ℕ). v * x + y) (sym (pow-suc 10 m)) (sym (mod-next n m))
-
-pub digitUnits-read : (m n : ℕ) → unitsValue 0 (digitUnits m n) ≡ n % 10 ^ m
-digitUnits-read m n = digitUnits-value m n 0 ∙ omega (arith, zero-mul (10 ^ m))
 
 -- the number of digits
 widthUpTo-least : (k n : ℕ) → 1 ≤ widthUpTo k n

@@ -2,7 +2,7 @@
 -- Assumes nothing.
 use Rattle.figures.proofs.Tens.{ten-pos}
 use mathlib.Core.Path.{_≡_, refl, sym, ap, _∙_, ap₂}
-use mathlib.Core.Bool.{true, false, cond, _&&_}
+use mathlib.Core.Bool.{false, cond, _&&_}
 use mathlib.Core.Logic.{⊎-elim}
 use mathlib.Core.List.{List, [], _∷_, _++_}
 use Prim.Native.Nat.{ℕ, zero, suc, _+_, _-_, _/_, _%_, _^_, _≤_, _<_, max}
@@ -12,17 +12,14 @@ use native.Mathlib.Omega.{arith}
 use borrow.Author.Tests.{lt-leb, ne-eqb}
 use lib.Dec.{leb, eqb}
 use lib.ListN.{length, take}
-use lib.Seq.{length-take-le, take-nil}
+use lib.Seq.{take-nil}
 use Rattle.lists.specs.Lists.{isEmpty}
 use Rattle.figures.specs.Digits.{digit, figures, digitUnits, width, numeral}
 use Rattle.figures.specs.Rounding.{Magnitude, nearest}
 use Rattle.figures.specs.Powers.{powered}
-use Rattle.figures.specs.Bounds.{Near}
 use Rattle.figures.specs.Places.{lowestPlace, placesUsed}
-use Rattle.figures.specs.General.{generalDecimals, generalRounded, generalTooWide, withoutEndZeros, pointed, generalUnits}
-use Rattle.figures.proofs.Rounding.{half-unit, nearest-narrow, rounded-fits}
-use Rattle.figures.specs.declared.Rounded.{Rounded}
-use Rattle.figures.specs.Rounder.{roundedOf, generalOf}
+use Rattle.figures.specs.General.{generalDecimals, generalTooWide, withoutEndZeros, pointed, generalUnits}
+use Rattle.figures.proofs.Rounding.{nearest-narrow}
 use Rattle.figures.proofs.Digits.{quotient-quotient, width-unique, digitUnits-length, width-least}
 use Rattle.figures.proofs.Filling.{lt-or-le}
 use Rattle.figures.proofs.Places.{used-iff, used-most, lowest-iff, mod-lower, mod-zero-next, mod-zero-digit}
@@ -30,11 +27,6 @@ use Rattle.figures.proofs.Places.{used-iff, used-most, lowest-iff, mod-
 pub decimals-most : (x : Magnitude) → generalDecimals x ≤ 9
 unfolding generalDecimals
 decimals-most x = omega (arith, width-least (x .above / x .below))
-
--- General rounds to within half a unit of its last decimal too
-pub general-near : (x : Magnitude) → 0 < x .below → Near x (generalDecimals x) (generalRounded x)
-unfolding generalRounded
-general-near x h = half-unit x (generalDecimals x) h (omega (arith, decimals-most x))
 
 module _ (m s : ℕ) where
   pub decimals-powered : generalDecimals (powered m 0 s) ≡ 10 - width (m / 10 ^ s)
@@ -117,16 +109,6 @@ module _ (n : ℕ) where
       ∙ ap (λ (k : ℕ). take k (digitUnits 15 n)) none)
       (lt-or-le low 15)
 
-  pub decimals-count : length (withoutEndZeros (digitUnits 15 n)) ≡ 15 - lowestPlace (figures n)
-  decimals-count =
-      let k : ℕ = 15 - lowestPlace (figures n) in
-      ap length decimals-kept ∙ length-take-le k (digitUnits 15 n) (omega (arith, digitUnits-length 15 n))
-
--- what the count says of the number that the digits stand for
-pub decimals-number : {r : ℕ} {l : List ℕ} → r ≡ 15 - lowestPlace l
-    → (n : ℕ) → l ≡ figures n → withoutEndZeros (digitUnits 15 n) ≡ take r (digitUnits 15 n)
-decimals-number e n f = decimals-kept n ∙ ap (λ (r : ℕ). take r (digitUnits 15 n)) (sym (e ∙ ap (λ (l : List ℕ). 15 - lowestPlace l) f))
-
 -- the whole part of a number of forty places, by its places
 module _ (n : ℕ) (h : n < 10 ^ 40) where
   abbrev used : ℕ
@@ -154,15 +136,3 @@ module _ (n : ℕ) (h : n < 10 ^ 40) where
       let w : ℕ = max 1 (used - 15) in
       let e : max 1 (width (n / 10 ^ 15)) ≡ w = omega (arith, whole-width) in
       ap₂ (λ (k : ℕ) (us : List ℕ). digitUnits k (n / 10 ^ 15) ++ pointed us) e (decimals-kept n)
-
--- rounding to the decimals found is rounding as General does
-pub general-rounded : (l : List ℕ) (m s : ℕ) {r : Rounded} {d : ℕ} → r ≡ roundedOf l m 0 s d → d ≡ generalDecimals (powered m 0 s) → r ≡ generalOf l m s
-unfolding generalOf
-general-rounded l m s e f = e ∙ ap (roundedOf l m 0 s) f
-
-pub general-fits : (l : List ℕ) (m s : ℕ) → m < 10 ^ 15 → s ≤ 30
-    → generalOf l m s ≡ record { fits = true; digits = figures (generalRounded (powered m 0 s)) }
-unfolding generalOf generalRounded
-general-fits l m s hm hs =
-    let x = powered m 0 s in
-    rounded-fits l m 0 s (generalDecimals x) hm (omega arith) hs (omega (arith, decimals-most x))

@@ -38,7 +38,7 @@ lowest-passed l k (suc n) h e =
     ∙ lowest-further (k + n) l (omega arith) (omega (arith, e))
     ∙ lowest-passed l k n (omega arith) (omega (arith, e))
 
--- the same in the loops' words
+-- the loop from above passes four zeros
 pub used-word : (l : List ℕ) (k : ℕ) → 4 < k → digitSum l (k - 4) 4 ≡ 0 → placesUsed (k - 4) l ≡ placesUsed k l
 used-word l k h z =
     let i : k - 4 + 4 ≡ k = omega arith in

@@ -5,7 +5,7 @@ use mathlib.Core.Bool.{Bool, true, false}
 use mathlib.Core.Logic.{⊎-elim, _↔_}
 use mathlib.Core.List.{List}
 use Prim.Native.Nat.{ℕ, zero, suc, _+_, _-_, _*_, _/_, _%_, _^_, _≤_, _<_}
-use native.Mathlib.Nat.{mul-comm, mul-assoc, mul-mod-left, div-div-eq-div-mul, div-eq-of-lt, div-one, zero-div, mod-one, div-add-mod', mul-le-mul-left, zero-mul}
+use native.Mathlib.Nat.{mul-comm, mul-assoc, mul-mod-left, div-div-eq-div-mul, div-eq-of-lt, zero-div, mod-one, div-add-mod', mul-le-mul-left, zero-mul}
 use native.Mathlib.Numerals.{add-one}
 use native.Mathlib.Omega.{arith}
 use borrow.Author.Tests.{leb-true, leb-false, eqb-true, eqb-false, eq-eqb, ne-eqb}
@@ -90,16 +90,6 @@ module _ (n : ℕ) (h : n < 10 ^ 40) where
   pub used-test : (q : ℕ) → leb (placesUsed 40 (figures n)) q ≡ eqb (n / 10 ^ q) 0
   used-test q = leb-is (placesUsed 40 (figures n)) q (n / 10 ^ q) 0 (used-iff q .0) (used-iff q .1)
 
-  -- all zero
-  pub used-none : eqb (placesUsed 40 (figures n)) 0 ≡ eqb n 0
-  used-none =
-      by-cases (eqb (placesUsed 40 (figures n)) 0)
-      (λ t. t ∙ sym (eq-eqb n 0 (sym (div-one n) ∙ used-iff 0 .0 (omega (arith, eqb-true (placesUsed 40 (figures n)) 0 t)))))
-      (λ t. t ∙ sym (ne-eqb n 0 (λ e. eqb-false (placesUsed 40 (figures n)) 0 t (none-of (used-iff 0 .1 (div-one n ∙ e))))))
-    where
-      none-of : {x : ℕ} → x ≤ 0 → x ≡ 0
-      none-of h = omega arith
-
 pub used-most : (k : ℕ) (l : List ℕ) → placesUsed k l ≤ k
 unfolding placesUsed
 used-most zero l = omega arith
@@ -153,7 +143,7 @@ lowest-stop : (f k : ℕ) (l : List ℕ) → (getD l k 0 ≡ 0 → ⊥) → k �
 unfolding lowestFrom
 lowest-stop f k l d = rw (ne-eqb (getD l k 0) 0 d) refl
 
--- the same in the loops' words
+-- a step of the two loops, k being the place that they have reached
 module _ (k : ℕ) (l : List ℕ) (h : 0 < k) where
   before : suc (k - 1) ≡ k
   before = omega arith

@@ -1,17 +1,11 @@
 -- Laws of the nearest quotient and of the rounded number.
 -- Assumes nothing.
-use mathlib.Core.Path.{refl, _≡_, sym, ap, ap₂, _∙_}
+use mathlib.Core.Path.{_≡_, sym, ap, ap₂, _∙_}
 use Prim.Native.Nat.{ℕ, suc, _+_, _-_, _*_, _/_, _%_, _^_, _≤_, _<_}
 use native.Mathlib.Nat.{add-comm, div-eq-of-lt-le, div-add-mod', mod-lt, mul-le-mul-left, mul-le-mul-right, mul-lt-mul-of-pos-right, mul-left-comm, mul-right-comm, suc-mul, lt-of-lt-of-le, lt-of-le-of-lt, le-of-suc-le-suc, div-lt-iff-lt-mul, le-div-iff-mul-le, div-mul-le-self, lt-div-mul-add, mul-assoc, mul-comm, one-mul, add-mul, mul-mod-left, mul-div-mul-right, div-eq-of-lt}
 use native.Mathlib.Omega.{arith}
-use mathlib.Core.Bool.{true, _&&_}
-use lib.Dec.{ltb, leb, ltb→lt, leb→le}
 use lib.Pow.{pow-add}
-use Rattle.lists.proofs.Bools.{and-left, and-right, true-T}
-use mathlib.Core.List.{List}
-use borrow.Author.Tests.{lt-ltb, le-leb}
-use Rattle.figures.specs.Digits.{figures}
-use Rattle.figures.specs.Rounder.{roundable, roundedOf}
+use Rattle.figures.specs.Rounder.{Roundable}
 use Rattle.figures.specs.Rounding.{Magnitude, scaled, nearest, rounded}
 use Rattle.figures.specs.Bounds.{Near}
 use Rattle.figures.specs.Powers.{powered}
@@ -24,6 +18,7 @@ nearest-bound a b h =
     let p : 0 < 2 * b = omega arith in
     (omega (arith, div-mul-le-self (2 * a + b) (2 * b)), omega (arith, lt-div-mul-add {a = 2 * a + b} {b = 2 * b} p))
 
+-- kept for monotonicity: of two numbers the greater never rounds to less
 pub nearest-monotone : (a c b : ℕ) → 0 < b → a ≤ c → nearest a b ≤ nearest c b
 unfolding nearest
 nearest-monotone a c b h le =
@@ -115,9 +110,9 @@ powered-net m u v w z d e =
     ∙ ap₂ (λ (x y : ℕ). rounded (powered m x y) d) e (add-comm v z)
     ∙ powered-common m w z v d
 
--- fifteen digits at 10^z take forty places at most. (omega takes no number of more than 38 digits.)
-pub spread-small : (m z : ℕ) → m < 10 ^ 15 → z ≤ 25 → m * 10 ^ z < 10 ^ 40
-spread-small m z hm hz = lt-of-lt-of-le (mul-lt-mul-of-pos-right hm (ten-pos z)) (mul-le-mul-left (10 ^ 15) (ten-le z 25 hz))
+-- fifteen digits at 10^z, for z up to k. (omega takes no number of more than 38 digits.)
+fifteen-at : (m z k : ℕ) → m < 10 ^ 15 → z ≤ k → m * 10 ^ z < 10 ^ 15 * 10 ^ k
+fifteen-at m z k hm hz = lt-of-lt-of-le (mul-lt-mul-of-pos-right hm (ten-pos z)) (mul-le-mul-left (10 ^ 15) (ten-le z k hz))
 
 -- forty places are enough
 pub rounded-small : (m up down d : ℕ) → m < 10 ^ 15 → up ≤ 10 → d ≤ 15 → rounded (powered m up down) d < 10 ^ 40
@@ -128,7 +123,7 @@ rounded-small m up down d hm hu hd =
     unit-split (m * 10 ^ up) d hd ∙ mul-assoc m (10 ^ up) (10 ^ 15) ∙ ap (λ (x : ℕ). m * x) (sym (pow-add 10 up 15)) in
     lt-of-le-of-lt
     (mul-le-mul-right (10 ^ (15 - d)) (nearest-le a (10 ^ down) (ten-pos down)))
-    (rw e (spread-small m (up + 15) hm (omega arith)))
+    (rw e (fifteen-at m (up + 15) 25 hm (omega arith)))
 
 pub scaled-small : (m s p t d : ℕ) → m < 10 ^ 15 → p ≤ 5 → d ≤ 15 → rounded (scaled m s p t) d < 10 ^ 40
 scaled-small m s p t d hm hp hd =
@@ -173,9 +168,23 @@ module _ (m up down d : ℕ) (most : d ≤ 15) where
       ∙ mul-assoc m (10 ^ (k - down)) (10 ^ (15 - d))
       ∙ ap (λ (x : ℕ). m * x) (sym (pow-add 10 (k - down) (15 - d)) ∙ ap (λ (x : ℕ). 10 ^ x) f)
 
--- a rounded quotient of fifteen digits takes forty places at most
+-- what the rounder spreads takes forty places at most: a rounded quotient of fifteen digits, or a product of 25 at fifteen decimals
 pub quotient-small : (m k z : ℕ) → m < 10 ^ 15 → z ≤ 25 → nearest m (10 ^ k) * 10 ^ z < 10 ^ 40
-quotient-small m k z hm hz = spread-small (nearest m (10 ^ k)) z (lt-of-le-of-lt (nearest-le m (10 ^ k) (ten-pos k)) hm) hz
+quotient-small m k z hm hz = fifteen-at (nearest m (10 ^ k)) z 25 (lt-of-le-of-lt (nearest-le m (10 ^ k) (ten-pos k)) hm) hz
+
+pub product-small : (m up z : ℕ) → m * 10 ^ up < 10 ^ 25 → z ≤ up + 15 → m * 10 ^ z < 10 ^ 40
+product-small m up z h g =
+    lt-of-le-of-lt (mul-le-mul-left m (ten-le z (up + 15) g))
+    (rw (pow-add 10 up 15, ← mul-assoc m (10 ^ up) (10 ^ 15)) (mul-lt-mul-of-pos-right h (ten-pos 15)))
+
+-- five percents are in the rounder's reach
+pub roundable : {m up d : ℕ} → m < 10 ^ 15 → up ≤ 10 → d ≤ 15 → Roundable m up d
+roundable {m} {up} hm hu hd = record {
+  magnitude = hm;
+  whole = fifteen-at m up 10 hm hu;
+  power = omega arith;
+  decimals = hd;
+}
 
 -- fifteen digits are less than half of 10^16
 pub nearest-far : (m k : ℕ) → m < 10 ^ 15 → 15 < k → 0 ≡ nearest m (10 ^ k)
@@ -191,7 +200,7 @@ nearest-narrow m k hm hk =
     let less : ¬ (10 ^ 11 ≤ q) = λ h. let g : 10 ^ 11 * p ≤ q * p = mul-le-mul-right p h in omega arith in
     omega arith
 
--- the same in the code's words: p is the power, taken from a table
+-- the quotient as the code finds it, p being the power
 module _ (m p k : ℕ) (e : p ≡ 10 ^ k) where
   power-pos : 0 < p
   power-pos = rw e (ten-pos k)
@@ -207,22 +216,3 @@ module _ (m p k : ℕ) (e : p ≡ 10 ^ k) where
 
   pub remainder-fits : k ≤ 15 → 2 * (m % p) < 2 ^ 64
   remainder-fits h = omega (arith, mod-lt m power-pos, ten-le k 15 h)
-
--- what the rounder takes
-pub roundable-in : (m up down d : ℕ) → roundable m up down d ≡ true → (m < 10 ^ 15) × (up ≤ 10) × (down ≤ 30) × (d ≤ 15)
-unfolding roundable
-roundable-in m up down d e =
-    let t = true-T e in
-    let u = and-left (ltb m (10 ^ 15) && leb up 10 && leb down 30) (leb d 15) t in
-    let v = and-left (ltb m (10 ^ 15) && leb up 10) (leb down 30) u in (
-      ltb→lt m (10 ^ 15) (and-left (ltb m (10 ^ 15)) (leb up 10) v),
-      leb→le up 10 (and-right (ltb m (10 ^ 15)) (leb up 10) v),
-      leb→le down 30 (and-right (ltb m (10 ^ 15) && leb up 10) (leb down 30) u),
-      leb→le d 15 (and-right (ltb m (10 ^ 15) && leb up 10 && leb down 30) (leb d 15) t),
-    )
-
--- what the rounder answers where it takes it
-pub rounded-fits : (l : List ℕ) (m up down d : ℕ) → m < 10 ^ 15 → up ≤ 10 → down ≤ 30 → d ≤ 15
-    → roundedOf l m up down d ≡ record { fits = true; digits = figures (rounded (powered m up down) d) }
-unfolding roundedOf roundable
-rounded-fits l m up down d hm hu hv hd = rw (lt-ltb m (10 ^ 15) hm, le-leb up 10 hu, le-leb down 30 hv, le-leb d 15 hd) refl

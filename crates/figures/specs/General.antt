@@ -1,6 +1,6 @@
 -- "General: n integer digits (at least 1); round to 10 - n decimals, or none from n = 10 on; drop trailing zeros [..]."
 -- Assumes nothing.
-use Prim.Native.Nat.{ℕ, zero, suc, _-_, _/_, _^_}
+use Prim.Native.Nat.{ℕ, _-_, _/_, _^_}
 use mathlib.Core.Bool.{Bool, cond, _&&_}
 use mathlib.Core.List.{List, [], _∷_, _++_}
 use lib.Dec.{leb, eqb}

@@ -1,26 +1,10 @@
--- What the rounder answers.
+-- What the rounder takes.
 -- Assumes nothing.
-use Prim.Native.Nat.{ℕ, _^_}
-use mathlib.Core.Bool.{Bool, true, false, cond, _&&_}
-use mathlib.Core.List.{List}
-use lib.Dec.{ltb, leb}
-use Rattle.figures.specs.declared.Rounded.{Rounded}
-use Rattle.figures.specs.Digits.{figures}
-use Rattle.figures.specs.Rounding.{rounded}
-use Rattle.figures.specs.Powers.{powered}
-use Rattle.figures.specs.General.{generalDecimals}
+use Prim.Native.Nat.{ℕ, _*_, _^_, _≤_, _<_}
 
--- a magnitude of fifteen digits, five percents, a scale of fifteen and five dividing commas, fifteen decimals at most
-unfoldable pub roundable : ℕ → ℕ → ℕ → ℕ → Bool
-roundable m up down d = ltb m (10 ^ 15) && leb up 10 && leb down 30 && leb d 15
-
--- the digits of the rounded number; where it is not taken, the digits as they were
-unfoldable pub roundedOf : List ℕ → ℕ → ℕ → ℕ → ℕ → Rounded
-roundedOf digits m up down d =
-    cond (roundable m up down d)
-    (record { fits = true; digits = figures (rounded (powered m up down) d) })
-    (record { fits = false; digits = digits })
-
--- m / 10^scale as General rounds it
-unfoldable pub generalOf : List ℕ → ℕ → ℕ → Rounded
-generalOf digits m scale = roundedOf digits m 0 scale (generalDecimals (powered m 0 scale))
+-- a magnitude of fifteen digits that 10^up leaves 25 digits at most, and fifteen decimals at most: 64 bits and forty places are enough
+pub record Roundable (m up d : ℕ) : Type 0 where
+  pub magnitude : m < 10 ^ 15
+  pub whole : m * 10 ^ up < 10 ^ 25
+  pub power : up ≤ 25
+  pub decimals : d ≤ 15

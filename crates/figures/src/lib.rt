@@ -3,13 +3,12 @@ ghost use mathlib.Core.Path.{_≡_};
 ghost use Prim.Native.Nat.{ℕ, _+_, _-_, _*_, _/_, _%_, _^_, _≤_, _<_};
 ghost use lib.Dec.{leb, ltb, eqb};
 ghost use lib.IntN.{natAbs};
-ghost use lib.ListN.{take};
-ghost use Rattle.figures.specs.Digits.{figures, digitUnits, width};
+ghost use Rattle.figures.specs.Digits.{figures, width};
 ghost use Rattle.figures.specs.Rounding.{nearest, rounded};
 ghost use Rattle.figures.specs.Powers.{powered};
-ghost use Rattle.figures.specs.General.{generalDecimals, generalTooWide, withoutEndZeros};
+ghost use Rattle.figures.specs.General.{generalDecimals, generalRounded, generalTooWide};
 ghost use Rattle.figures.specs.Sign.{takenOf};
-ghost use Rattle.figures.specs.Rounder.{roundable, roundedOf, generalOf};
+ghost use Rattle.figures.specs.Rounder.{Roundable};
 ghost use Rattle.figures.specs.Places.{digitSum, placesUsed, lowestFrom, lowestPlace};
 use values::Number;
 
@@ -138,55 +137,18 @@ fn spread(zeros: [u8; 40], m: u64, z: u32) -> [u8; 40]
     digits
 }
 
-// The digits of m times 10^up / 10^down, rounded, put into forty zeros: one quotient where digits go, none where none goes.
-fn rounded_digits(zeros: [u8; 40], m: u64, up: u32, down: u32, decimals: u32) -> [u8; 40]
-    requires { ⌜ (zeros ≡ figures 0) × (m < 10 ^ 15) × (up ≤ 10) × (down ≤ 30) × (decimals ≤ 15) ⌝ }
+// The rounder: the digits of m times 10^up / 10^down rounded to so many decimals, halves up, whatever the digits were.
+// One quotient where digits go, none where none goes.
+pub fn round(digits: [u8; 40], m: u64, up: u32, down: u32, decimals: u32) -> [u8; 40]
+    requires { ⌜ Roundable m up decimals ⌝ }
     ensures { λ r. ⌜ r ≡ figures (rounded (powered m up down) decimals) ⌝ }
 {
+    let zeros = cleared(digits);
     let kept = up + decimals;
     if kept < down {
         return spread(zeros, divided(m, down - kept), 15 - decimals);
     }
     spread(zeros, m, up + 15 - down)
-}
-
-// Whether the rounder takes it: forty places and 64 bits are then enough.
-fn is_roundable(m: u64, up: u32, down: u32, decimals: u32) -> bool
-    ensures { λ r. ⌜ r ≡ roundable m up down decimals ⌝ }
-{
-    if 1000000000000000 <= m {
-        return false;
-    }
-    if 10 < up {
-        return false;
-    }
-    if 30 < down {
-        return false;
-    }
-    decimals <= 15
-}
-
-pub struct Rounded {
-    pub fits: bool,
-    pub digits: [u8; 40],
-}
-
-// The rounder: the digits of m times 10^up / 10^down rounded to so many decimals, halves up, whatever the digits were;
-// where that is not taken, the digits as they were.
-pub fn round(digits: [u8; 40], m: u64, up: u32, down: u32, decimals: u32) -> Rounded
-    ensures { λ r. ⌜ r ≡ roundedOf digits m up down decimals ⌝ }
-{
-    if is_roundable(m, up, down, decimals) {
-        let zeros = cleared(digits);
-        return Rounded {
-            fits: true,
-            digits: rounded_digits(zeros, m, up, down, decimals),
-        };
-    }
-    Rounded {
-        fits: false,
-        digits,
-    }
 }
 
 // A digit as a wider number.
@@ -268,14 +230,6 @@ pub fn lowest_place(digits: [u8; 40]) -> usize
     40
 }
 
-// Whether every digit is 0.
-pub fn is_zero(digits: [u8; 40]) -> bool
-    ensures list { λ r. ⌜ r ≡ eqb (placesUsed 40 digits) 0 ⌝ }
-    ensures number { λ r. ⌜ ((n : ℕ) → n < 10 ^ 40 → digits ≡ figures n → r ≡ eqb n 0) ⌝ }
-{
-    places_used(digits) == 0
-}
-
 // m / 10^k without what is behind the point.
 fn whole(m: u64, k: u32) -> u64
     ensures { λ r. ⌜ r ≡ m / 10 ^ k ⌝ }
@@ -320,18 +274,10 @@ pub fn general_too_wide(m: u64, scale: u32) -> bool
     100000000000 <= divided(m, scale)
 }
 
-// The digits of m / 10^scale as General rounds it; where it is not taken, the digits as they were.
-pub fn round_general(digits: [u8; 40], m: u64, scale: u32) -> Rounded
-    ensures { λ r. ⌜ r ≡ generalOf digits m scale ⌝ }
+// The digits of m / 10^scale as General rounds it.
+pub fn round_general(digits: [u8; 40], m: u64, scale: u32) -> [u8; 40]
+    requires { ⌜ m < 10 ^ 15 ⌝ }
+    ensures { λ r. ⌜ r ≡ figures (generalRounded (powered m 0 scale)) ⌝ }
 {
     round(digits, m, 0, scale, general_decimals(m, scale))
-}
-
-// How many of the fifteen decimals are left when the zeros at their end are dropped: those of place 14 and below.
-pub fn decimals_left(digits: [u8; 40]) -> usize
-    ensures list { λ r. ⌜ r ≡ 15 - lowestPlace digits ⌝ }
-    ensures number { λ r. ⌜ ((n : ℕ) → digits ≡ figures n → withoutEndZeros (digitUnits 15 n) ≡ take r (digitUnits 15 n)) ⌝ }
-{
-    let lowest = lowest_place(digits);
-    if lowest < 15 { 15 - lowest } else { 0 }
 }

@@ -22,7 +22,7 @@ use Rattle.tables.proofs.BackEntries.{span-at, tag-known, between-facts}
 use Rattle.figures.proofs.Filling.{lt-or-le}
 use Rattle.figure_text.specs.declared.Figures.{Figures}
 use Rattle.figure_text.specs.Shown.{DigitsAre, FiguresAre, placeOfTag}
-use Rattle.date_text.proofs.Items.{Apart, past}
+use Rattle.figures.proofs.Past.{Apart, past}
 use Rattle.writing.specs.Put.{Put}
 use Rattle.date_text.proofs.Lengths.{item-length}
 use Rattle.section_text.specs.declared.Subject.{Subject}

@@ -4,7 +4,7 @@ use Prim.Native.Nat.{ℕ, suc, _+_, _-_, _*_, _/_, _≤_, _<_, _^_}
 use native.Mathlib.Omega.{arith}
 use native.Mathlib.Nat.{sub-zero}
 use mathlib.Core.Path.{_≡_, refl, subst}
-use mathlib.Core.Bool.{Bool, true, false}
+use mathlib.Core.Bool.{Bool, false}
 use mathlib.Core.List.{List, _∷_}
 use lib.Dec.{T, eqb}
 use lib.ListN.{length, getD}
@@ -89,7 +89,7 @@ abbrev pub IsOf : List ℕ → Subject → List ℕ → Kind → Context → Typ
 IsOf digits s text k c = SubjectIs k digits s text c
 
 abbrev pub DatedOf : Moment → Kind → Context → Type 0
-DatedOf m k c = (k ≡ dateKind) × MomentIs true m c
+DatedOf m k c = (k ≡ dateKind) × MomentIs m c
 
 pub ready-walks : {words digits : List ℕ} {s : Subject} {text : List ℕ} → Ready words digits s text → Walkable (IsOf digits s text) words
 ready-walks r = record { context = r .context; kind = r .kind; power = r .power; subject = r .subject; fit = r .fit }
@@ -98,7 +98,7 @@ pub dated-walks : {words : List ℕ} {m : Moment} → DatedReady words m → Wal
 dated-walks r = record { context = r .context; kind = dateKind; power = r .power; subject = (refl, r .moment); fit = r .fit }
 
 pub dated-puts : {room out : List ℕ} {at r : ℕ} (m : Moment) (e : Entry)
-    → ((c : Context) (q : ℕ) → MomentIs true m c → EntryFits dateKind q e → ItemPut false room at (itemUnits c q (itemAt e)) r out)
+    → ((c : Context) (q : ℕ) → MomentIs m c → EntryFits dateKind q e → ItemPut false room at (itemUnits c q (itemAt e)) r out)
     → Puts (DatedOf m) false room at e r out
 dated-puts m e f c k q p g = f c q (p .1) (subst (λ (x : Kind). EntryFits x q e) (p .0) g)
 

@@ -1,6 +1,5 @@
 -- Where the item words of a table's sections stand, and that there is a context for a subject.
 -- Assumes nothing.
-use mathlib.Core.Bool.{true}
 use mathlib.Core.List.{List}
 use Prim.Native.Nat.{ℕ, zero, suc, _+_, _*_}
 use lib.ListN.{getD}
@@ -25,4 +24,4 @@ pub record Known (k : Kind) (digits : List ℕ) (s : Subject) (text : List ℕ) 
 -- there is a context that the moment is of
 pub record DatedKnown (m : Moment) : Type 0 where
   pub context : Context
-  pub is : MomentIs true m context
+  pub is : MomentIs m context

@@ -1,6 +1,5 @@
 -- What is asked of a section's item words to show them.
 -- Assumes nothing.
-use mathlib.Core.Bool.{true}
 use mathlib.Core.List.{List}
 use Prim.Native.Nat.{ℕ}
 use lib.Dec.{T}
@@ -33,5 +32,5 @@ pub record Ready (words digits : List ℕ) (s : Subject) (text : List ℕ) : Typ
 pub record DatedReady (words : List ℕ) (m : Moment) : Type 0 where
   pub context : Context
   pub power : ℕ
-  pub moment : MomentIs true m context
+  pub moment : MomentIs m context
   pub fit : EntriesFit dateKind power (entriesIn words)

@@ -252,7 +252,7 @@ pub fn items_start(table: &[u16], i: usize) -> usize
 // Puts the text of a date-time section's item. (Its walker is one of its own: in the other it would slow down numbers.)
 fn put_dated_item(room: &mut [u16], at: usize, tag: u16, word: u16, m: Moment) -> usize
     requires { ⌜ (at < 2 ^ 61) × T (entryInRange (entry tag word)) ⌝ }
-    ensures { λ r. ⌜ ((c : Context) (q : ℕ) → MomentIs true m c → EntryFits dateKind q (entry tag word)
+    ensures { λ r. ⌜ ((c : Context) (q : ℕ) → MomentIs m c → EntryFits dateKind q (entry tag word)
         → ItemPut false (now (room .entry)) at (itemUnits c q (itemAt (entry tag word))) r (now (room .exit))) ⌝ }
 {
     if tags::AT < tag {
@@ -269,7 +269,7 @@ fn put_dated_item(room: &mut [u16], at: usize, tag: u16, word: u16, m: Moment) -
 fn put_dated_items(room: &mut [u16], items: &[u16], m: Moment) -> usize
     requires { ⌜ (length (now items) ≤ 508) × DatedReady (now items) m ⌝ }
     ensures near { λ r. ⌜ r ≤ 41 * length (now (items .entry)) ⌝ }
-    ensures put { λ r. ⌜ ((c : Context) (q : ℕ) → MomentIs true m c → EntriesFit dateKind q (entriesIn (now (items .entry)))
+    ensures put { λ r. ⌜ ((c : Context) (q : ℕ) → MomentIs m c → EntriesFit dateKind q (entriesIn (now (items .entry)))
         → Put (now (room .entry)) 0 (itemsUnits c q (itemsAt (entriesIn (now (items .entry))))) r (now (room .exit))) ⌝ }
 {
     let n = items.len() / 2;
@@ -287,7 +287,7 @@ fn put_dated_items(room: &mut [u16], items: &[u16], m: Moment) -> usize
 // Shows a date-time section's text where the room holds it, in one pass where it surely does.
 fn show_dated_items(room: &mut [u16], items: &[u16], m: Moment, colour: u16, section: u16) -> Shown
     requires { ⌜ (length (now items) ≤ 508) × DatedReady (now items) m ⌝ }
-    ensures { λ r. ⌜ ((c : Context) (q : ℕ) → MomentIs true m c → EntriesFit dateKind q (entriesIn (now (items .entry)))
+    ensures { λ r. ⌜ ((c : Context) (q : ℕ) → MomentIs m c → EntriesFit dateKind q (entriesIn (now (items .entry)))
         → Shows (within (length (now (room .entry))) (itemsUnits c q (itemsAt (entriesIn (now (items .entry))))) colour section)
         (now (room .entry)) r (now (room .exit))) ⌝ }
 {
@@ -317,7 +317,7 @@ fn show_dated_items(room: &mut [u16], items: &[u16], m: Moment, colour: u16, sec
 // Shows section i, which is a date-time section.
 pub fn show_dated_section(room: &mut [u16], table: &[u16], i: u16, m: Moment) -> Shown
     requires { ⌜ T (passes (now table)) × (i < getD (now table) 0 0) × (kindOf (sectionIn (now table) i) ≡ dateKind) × DatedKnown m ⌝ }
-    ensures { λ r. ⌜ ((c : Context) → MomentIs true m c → c .integerPlaces ≡ integerPlaces (sectionIn (now (table .entry)) i .items)
+    ensures { λ r. ⌜ ((c : Context) → MomentIs m c → c .integerPlaces ≡ integerPlaces (sectionIn (now (table .entry)) i .items)
         → Shows (sectionReading (length (now (room .entry))) (sectionIn (now (table .entry)) i) i false c) (now (room .entry)) r (now (room .exit))) ⌝ }
 {
     let colour = choosing::word(table, i as usize, heads::COLOUR);

@@ -1,6 +1,6 @@
 -- A number in a section that shows General.
 -- Assumes nothing.
-use Prim.Native.Nat.{ℕ, zero, suc, _^_, _≤_, _<_}
+use Prim.Native.Nat.{ℕ, zero, suc, _^_, _<_}
 use native.Mathlib.Nat.{mul-one, div-one}
 use native.Mathlib.Omega.{arith}
 use mathlib.Core.Path.{_≡_, refl, sym, ap, subst, _∙_}
@@ -17,15 +17,13 @@ use Rattle.answers.specs.Number.{refusedShown}
 use Rattle.values.specs.declared.Number.{Number}
 use Rattle.lists.proofs.Bools.{T-true}
 use Rattle.figures.specs.declared.Signed.{Signed}
-use Rattle.figures.specs.declared.Rounded.{Rounded}
 use Rattle.figures.specs.Digits.{figures}
 use Rattle.figures.specs.Places.{placesUsed}
 use Rattle.figures.specs.Powers.{powered}
 use Rattle.figures.specs.General.{generalDecimals, generalRounded, generalTooWide, generalUnits}
-use Rattle.figures.specs.Rounder.{generalOf}
 use Rattle.figures.specs.Sign.{signedOf}
 use Rattle.figures.proofs.Rounding.{rounded-small}
-use Rattle.figures.proofs.General.{decimals-most, general-fits}
+use Rattle.figures.proofs.General.{decimals-most}
 use Rattle.figures.proofs.Places.{used-test}
 use Rattle.formats.specs.Items.{Kind, textKind, generalKind, dateKind, numberKind, literalKind, sameKind, kindOf, Section}
 use Rattle.formats.specs.Choice.{numberExact, Reason, chosen}
@@ -45,12 +43,10 @@ general-small : (m s : ℕ) → m < 10 ^ 15 → generalNumber m s < 10 ^ 40
 unfolding generalRounded
 general-small m s h = rounded-small m 0 s (generalDecimals (powered m 0 s)) h (omega arith) (omega (arith, decimals-most (powered m 0 s)))
 
-pub general-figures : {f : Figures} {r : Rounded} (l : List ℕ) (m s : ℕ) → r ≡ generalOf l m s → f ≡ figuresWith (r .digits) 0 false
-    → m < 10 ^ 15 → s ≤ 15 → FiguresAre (r .digits) f (contextOf (generalNumber m s))
+pub general-figures : {f : Figures} {digits : List ℕ} (m s : ℕ) → digits ≡ figures (generalNumber m s) → f ≡ figuresWith digits 0 false
+    → m < 10 ^ 15 → FiguresAre digits f (contextOf (generalNumber m s))
 unfolding contextWith
-general-figures {f} {r} l m s er ef hm hs =
-    let d : r .digits ≡ figures (generalNumber m s) = ap (λ (x : Rounded). x .digits) (er ∙ general-fits l m s hm (omega arith)) in
-    figures-are (r .digits) (contextOf (generalNumber m s)) ef d (general-small m s hm)
+general-figures {f} {digits} m s er ef hm = figures-are digits (contextOf (generalNumber m s)) ef er (general-small m s hm)
 
 pub general-of : {digits : List ℕ} {f : Figures} (m s : ℕ) → FiguresAre digits f (contextOf (generalNumber m s)) → GeneralOf digits f (generalUnits (generalNumber m s))
 unfolding contextWith

@@ -86,10 +86,10 @@ module _ (ws : List ℕ) (i : ℕ) (t : T (passes ws)) (h : i < getD ws 0 0) (e 
   instant-places d m = section-places ws i t h (instant-other (kindOf (sectionIn ws i)) e)
 
 -- the moment is that of the section's context
-module _ (s : Section) (w : Moment) (b : Bool) (d : Day) (m : Millisecond) (eb : b ≡ hasHalf (s .items)) (ew : w ≡ momentOf true b d m) where
-  pub instant-moment : MomentIs true w (instantContext s d m)
+module _ (s : Section) (w : Moment) (b : Bool) (d : Day) (m : Millisecond) (eb : b ≡ hasHalf (s .items)) (ew : w ≡ momentOf b d m) where
+  pub instant-moment : MomentIs w (instantContext s d m)
   unfolding hasHalf
-  instant-moment = moment-instant true b s d m w ew eb
+  instant-moment = moment-instant b s d m w ew eb
 
   pub instant-known : DatedKnown w
   instant-known = record { context = instantContext s d m; is = instant-moment }

@@ -12,13 +12,12 @@ use Rattle.values.specs.declared.Number.{Number}
 use Rattle.lists.specs.Lists.{count}
 use Rattle.lists.proofs.Bools.{and-right}
 use Rattle.figures.specs.declared.Signed.{Signed}
-use Rattle.figures.specs.declared.Rounded.{Rounded}
 use Rattle.figures.specs.Digits.{figures}
 use Rattle.figures.specs.Powers.{powered}
 use Rattle.figures.specs.Rounding.{scaled, rounded}
-use Rattle.figures.specs.Rounder.{roundedOf}
+use Rattle.figures.specs.Rounder.{Roundable}
 use Rattle.figures.specs.Sign.{signedOf}
-use Rattle.figures.proofs.Rounding.{powered-net, scaled-powered, rounded-small, rounded-fits}
+use Rattle.figures.proofs.Rounding.{powered-net, scaled-powered, rounded-small, roundable}
 use Rattle.formats.specs.Items.{Section, Kind, numberKind, sameKind, kindOf, isPercent, integerPlaces, decimalPlaces}
 use Rattle.formats.specs.Choice.{Reason, chosen}
 use Rattle.formats.specs.Text.{Context}
@@ -78,6 +77,10 @@ number-words ws i t h e es ef ed =
     let p : Placed ws i (r .head) = row-placed ws i noRow h in
     rw (es ∙ p .shift, ef ∙ p .flags, ed ∙ p .decimals, z) (row-words r (row-facts r (row-fits ws i noRow t h)) (ap kindOf (sym z) ∙ e))
 
+pub number-roundable : {shift flags decimals m up : ℕ} {s : Section} → NumberWords shift flags decimals s → m < 10 ^ 15 → up ≡ shift - 15
+    → Roundable m up decimals
+number-roundable w hm eu = roundable hm (omega (arith, w .shiftMost)) (w .decimalsMost)
+
 -- the section's number by the net power of ten that its shift tells
 module _ {shift flags decimals : ℕ} {s : Section} (w : NumberWords shift flags decimals s) (m scale : ℕ) where
   number-net : rounded (powered m (shift - 15) (scale + (15 - shift))) decimals ≡ sectionNumber s m scale
@@ -92,13 +95,9 @@ module _ {shift flags decimals : ℕ} {s : Section} (w : NumberWords shift flags
   number-small : m < 10 ^ 15 → sectionNumber s m scale < 10 ^ 40
   number-small h = rw (← number-net) (rounded-small m (shift - 15) (scale + (15 - shift)) decimals h (omega (arith, w .shiftMost)) (w .decimalsMost))
 
-  pub number-digits : {r : Rounded} {up down : ℕ} (l : List ℕ) → m < 10 ^ 15 → scale ≤ 15 → up ≡ shift - 15 → down ≡ 15 - shift
-      → r ≡ roundedOf l m up (scale + down) decimals → r .digits ≡ figures (sectionNumber s m scale)
-  number-digits {r} {up} {down} l hm hs eu ed e =
-      let u : up ≤ 10 = omega (arith, w .shiftMost) in
-      let v : scale + down ≤ 30 = omega arith in
-      ap (λ (x : Rounded). x .digits) (e ∙ rounded-fits l m up (scale + down) decimals hm u v (w .decimalsMost))
-      ∙ rw (eu, ed) (ap figures number-net)
+  pub number-digits : {r : List ℕ} {up down : ℕ} → up ≡ shift - 15 → down ≡ 15 - shift
+      → r ≡ figures (rounded (powered m up (scale + down)) decimals) → r ≡ figures (sectionNumber s m scale)
+  number-digits eu ed e = e ∙ rw (eu, ed) (ap figures number-net)
 
   -- the figures, in the context that shows them as the section does
   pub number-figures : {digits : List ℕ} {f : Figures} {integers : ℕ} → m < 10 ^ 15 → digits ≡ figures (sectionNumber s m scale)

@@ -73,7 +73,7 @@ fn show_instant_in(
     let kind = choosing::word(table, i as usize, heads::KIND);
     if kind == kinds::DATE_TIME {
         let flags = choosing::word(table, i as usize, heads::FLAGS);
-        let moment = date_text::moment_of(true, flags::TWELVE_HOUR <= flags, d, m);
+        let moment = date_text::moment_of(flags::TWELVE_HOUR <= flags, d, m);
         return show_dated_section(room, table, i, moment);
     }
     if kind == kinds::LITERAL {
@@ -191,8 +191,7 @@ fn show_general(
     if figures::general_too_wide(v.magnitude, v.scale) {
         return refuse(Answer::General);
     }
-    let rounded = figures::round_general([0; 40], v.magnitude, v.scale);
-    let digits = rounded.digits;
+    let digits = figures::round_general([0; 40], v.magnitude, v.scale);
     let s = Subject {
         figures: figures_of(digits, 0, false),
         lent: false,
@@ -268,8 +267,7 @@ fn number_digits(table: &[u16], i: usize, v: Signed) -> [u8; 40]
     let decimals = choosing::word(table, i, heads::DECIMALS) as u32;
     let up = excess(shift, 15);
     let down = v.scale + excess(15, shift);
-    let rounded = figures::round([0; 40], v.magnitude, up, down, decimals);
-    rounded.digits
+    figures::round([0; 40], v.magnitude, up, down, decimals)
 }
 
 // Shows a number in section i, which is a number section.

@@ -40,18 +40,17 @@ abbrev pub millisecondOf : ℕ → MillisecondMade
 millisecondOf n =
     cond (between millisecondLeast millisecondGreatest n) (millisecond.Made (record { 0 = n })) millisecond.OutOfRange
 
--- their numbers in the answer list: 0 done; 9 "the value is out of range"
-abbrev pub dayNumber : DayMade → ℕ
-dayNumber (day.Made d) = 0
-dayNumber day.OutOfRange = 9
+-- the answer list's number of what a maker answers: 0 done, 9 out of range
+abbrev pub dayAnswer : DayMade → ℕ
+dayAnswer (day.Made d) = 0
+dayAnswer day.OutOfRange = 9
 
-abbrev pub millisecondNumber : MillisecondMade → ℕ
-millisecondNumber (millisecond.Made m) = 0
-millisecondNumber millisecond.OutOfRange = 9
+abbrev pub millisecondAnswer : MillisecondMade → ℕ
+millisecondAnswer (millisecond.Made m) = 0
+millisecondAnswer millisecond.OutOfRange = 9
 
--- the number of the answer to a value that is in its range or not
-abbrev pub rangeNumber : Bool → ℕ
-rangeNumber inside = cond inside 0 9
+abbrev pub rangeAnswer : ℕ → ℕ → ℕ → ℕ
+rangeAnswer least greatest n = cond (between least greatest n) 0 9
 
 -- "a signed coefficient of at most fifteen digits and a scale 0 to 15"
 abbrev pub numberInRange : Number → Bool

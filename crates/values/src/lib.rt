@@ -1,6 +1,8 @@
 // Values: a day number, a millisecond of the day, a number, and all that showing is told.
+pub mod integers;
+
 ghost use mathlib.Core.Path.{_≡_};
-ghost use Rattle.values.specs.Ranges.{dayLeast, dayGreatest, dayOf, dayNumber, millisecondLeast, millisecondGreatest, millisecondOf, millisecondNumber, between, rangeNumber};
+ghost use Rattle.values.specs.Ranges.{dayLeast, dayGreatest, dayOf, dayAnswer, millisecondLeast, millisecondGreatest, millisecondOf, millisecondAnswer, rangeAnswer};
 
 // "A day number and a millisecond of the day are two units": a type for each, so that no call takes one for the other.
 // The field is open: a value out of range can be asked for, and is answered 9.
@@ -26,8 +28,8 @@ impl Day {
     // The day with this number, where it is one.
     pub fn new(n: u32) -> DayMade
         ensures made { λ r. ⌜ r ≡ dayOf n ⌝ }
-        ensures number { λ r. ⌜ dayNumber r ≡ rangeNumber (between dayLeast dayGreatest n) ⌝ }
         ensures ends { λ r. do ⌜ ((← ⟦Day::LEAST⟧ .entry) ≡ dayLeast) × ((← ⟦Day::GREATEST⟧ .entry) ≡ dayGreatest) ⌝ }
+        ensures answered { λ r. ⌜ dayAnswer r ≡ rangeAnswer dayLeast dayGreatest n ⌝ }
     {
         if n < Self::LEAST {
             return DayMade::OutOfRange;
@@ -47,8 +49,8 @@ impl Millisecond {
     // The millisecond of the day with this number, where it is one.
     pub fn new(n: u32) -> MillisecondMade
         ensures made { λ r. ⌜ r ≡ millisecondOf n ⌝ }
-        ensures number { λ r. ⌜ millisecondNumber r ≡ rangeNumber (between millisecondLeast millisecondGreatest n) ⌝ }
         ensures ends { λ r. do ⌜ ((← ⟦Millisecond::LEAST⟧ .entry) ≡ millisecondLeast) × ((← ⟦Millisecond::GREATEST⟧ .entry) ≡ millisecondGreatest) ⌝ }
+        ensures answered { λ r. ⌜ millisecondAnswer r ≡ rangeAnswer millisecondLeast millisecondGreatest n ⌝ }
     {
         if n < Self::LEAST {
             return MillisecondMade::OutOfRange;

@@ -2,7 +2,7 @@
 -- Assumes nothing.
 use mathlib.Core.Path.{_≡_, refl, sym, ap, _∙_}
 use mathlib.Core.List.{List, [], _∷_, _++_}
-use Prim.Native.Nat.{ℕ, suc, _+_, _<_, _≤_}
+use Prim.Native.Nat.{ℕ, suc, _+_, _<_, _≤_, min}
 use native.Mathlib.Nat.{add-zero, zero-add, add-suc, suc-add}
 use native.Mathlib.Numerals.{add-one}
 use native.Mathlib.Omega.{arith}
@@ -74,9 +74,8 @@ pub rest-copy : {l m t : List ℕ} {s at : ℕ} (u : List ℕ) (j : ℕ)
 rest-copy u j x h = rest-put {p = getD u j 0 ∷ []} (rw (drop-first u j h) at x) (record { next = refl; room = refl })
 
 pub rest-stop : {l m t q : List ℕ} {s at stop : ℕ}
-    → Rest l s t m at q → stop ≤ at → (stop < s + length t → stop ≡ length l) → Put l s t (s + length t) m
+    → Rest l s t m at q → stop ≤ at → stop ≡ min (s + length t) (length l) → Put l s t (s + length t) m
 rest-stop {l} {m} {t} {q = []} {s} {at} {stop} x h f = record { next = refl; room = x .same }
 rest-stop {l} {m} {t} {q = y ∷ q} {s} {at} {stop} x h f =
-    let e : stop ≡ length l = f (omega (arith, x .ends)) in
-    let past : length m ≤ at = omega (arith, x .size) in
+    let past : length m ≤ at = omega (arith, x .size, x .ends) in
     record { next = refl; room = sym (sets-out m at (y ∷ q) past) ∙ x .same }

@@ -2,15 +2,13 @@
 -- Assumes nothing.
 use mathlib.Core.Path.{_≡_, refl, sym, ap, ap₂, _∙_}
 use mathlib.Core.List.{List, [], _∷_, _++_}
-use Prim.Native.Nat.{ℕ, zero, suc, _+_, _-_, _/_, _%_, _*_, _^_, _<_, _≤_, max}
-use native.Mathlib.Numerals.{add-one}
+use Prim.Native.Nat.{ℕ, zero, suc, _+_, _-_, _/_, _%_, _^_, _<_, _≤_, max}
 use native.Mathlib.Nat.{div-div-eq-div-mul, pow-suc, mul-comm, max-eq-left, max-eq-right, max-le}
 use native.Mathlib.Omega.{arith}
 use native.Mathlib.Decide.{decLt}
 use lib.ListN.{length, set}
 use lib.Seq.{sets}
 use Rattle.figures.specs.Digits.{digit, digitUnits, width, numeral}
-use Rattle.figures.proofs.Tens.{ten-le}
 use Rattle.figures.proofs.Digits.{digitUnits-length, width-most, width-unique}
 use Rattle.writing.specs.Put.{Put}
 use Rattle.writing.proofs.Laws.{sets-last, put-out, put-size}

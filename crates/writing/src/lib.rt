@@ -1,10 +1,13 @@
 // Writes pieces of a text into a lent room. A store past the room's end is dropped, so that one walker can measure a text,
 // into an empty part of a room, and write it.
+pub mod units;
+
+use values::integers;
 ghost use mathlib.Core.Path.{_≡_};
-ghost use mathlib.Core.List.{List, [], _∷_};
-ghost use Prim.Native.Nat.{_+_, _≤_, _<_, _^_};
+ghost use mathlib.Core.List.{[], _∷_};
+ghost use Prim.Native.Nat.{_+_, _<_, _^_};
 ghost use lib.ListN.{length};
-ghost use Rattle.figures.specs.Digits.{digitUnits, width, numeral};
+ghost use Rattle.figures.specs.Digits.{digitUnit, digitUnits, numeral};
 ghost use Rattle.writing.specs.Put.{Put};
 
 // Puts one unit at `at`.
@@ -19,20 +22,13 @@ pub fn put_unit(room: &mut [u16], at: usize, u: u16) -> usize
     next
 }
 
-// The smaller of two places.
-fn nearer(a: usize, b: usize) -> usize
-    ensures { λ r. ⌜ (r ≤ a) × (r ≤ b) × (r < a → r ≡ b) ⌝ }
-{
-    if a < b { a } else { b }
-}
-
 // Puts a run at `at`: as much of it as the room holds is copied with no test for each unit.
 pub fn put_units(room: &mut [u16], at: usize, text: &[u16]) -> usize
     requires { ⌜ at + length (now text) < 2 ^ 63 ⌝ }
     ensures { λ r. ⌜ Put (now (room .entry)) at (now (text .entry)) r (now (room .exit)) ⌝ }
 {
     let end = at + text.len();
-    let stop = nearer(end, room.len());
+    let stop = integers::least(end, room.len());
     let mut o = at;
     let mut j = 0;
     while o < stop {
@@ -44,11 +40,10 @@ pub fn put_units(room: &mut [u16], at: usize, text: &[u16]) -> usize
 }
 
 // The unit that shows a digit.
-fn digit_unit(d: u64) -> u16
-    requires { ⌜ d < 10 ⌝ }
-    ensures { λ r. ⌜ r ≡ 48 + d ⌝ }
+pub fn digit_unit(d: u8) -> u16
+    ensures { λ r. ⌜ r ≡ digitUnit d ⌝ }
 {
-    48 + d as u16
+    units::ZERO + d as u16
 }
 
 // Puts the `count` lowest digits of n at `at`. They are found the last one first, by one division each; where the room ends
@@ -65,7 +60,7 @@ pub fn put_digits(room: &mut [u16], at: usize, count: u32, n: u64) -> usize
     let mut o = end;
     while at < o {
         o -= 1;
-        put_unit(room, o, digit_unit(rest % 10));
+        put_unit(room, o, digit_unit((rest % 10) as u8));
         rest /= 10;
     }
     end
@@ -76,8 +71,8 @@ fn put_two(room: &mut [u16], at: usize, n: u64) -> usize
     requires { ⌜ (at < 2 ^ 62) × (n < 100) ⌝ }
     ensures { λ r. ⌜ Put (now (room .entry)) at (digitUnits 2 n) r (now (room .exit)) ⌝ }
 {
-    let a = put_unit(room, at, digit_unit(n / 10));
-    put_unit(room, a, digit_unit(n % 10))
+    let a = put_unit(room, at, digit_unit((n / 10) as u8));
+    put_unit(room, a, digit_unit((n % 10) as u8))
 }
 
 // Puts n at `at`, with zeros in front up to `least` digits.
@@ -92,7 +87,7 @@ fn put_wide(room: &mut [u16], at: usize, least: u32, n: u64) -> usize
     put_digits(room, at, w, n)
 }
 
-// The same. One or two digits, as of a day or a minute, are put with no loop.
+// Puts n as `put_wide` does; one or two digits, as of a day or a minute, with no loop.
 pub fn put_numeral(room: &mut [u16], at: usize, least: u32, n: u64) -> usize
     requires { ⌜ at < 2 ^ 62 ⌝ }
     ensures { λ r. ⌜ Put (now (room .entry)) at (numeral least n) r (now (room .exit)) ⌝ }
@@ -109,5 +104,5 @@ pub fn put_numeral(room: &mut [u16], at: usize, least: u32, n: u64) -> usize
     if 9 < n {
         return put_two(room, at, n);
     }
-    put_unit(room, at, digit_unit(n))
+    put_unit(room, at, digit_unit(n as u8))
 }

@@ -8,8 +8,8 @@ use Rattle.figure_text.proofs.General.{general-runs}
 use Rattle.figure_text.proofs.put_general.Statement.{statement}
 use Rattle.figure_text.proofs.put_general.Tie as tie
 
-at-least-one-requires : tie.Need-at-least-one-requires
-at-least-one-requires c κs = search needs
+greatest-requires : tie.Need-greatest-requires
+greatest-requires c κs = search needs
 
 put-run-requires : tie.Need-put-run-requires
 put-run-requires c κs = search needs
@@ -26,11 +26,11 @@ returns c =
     let r = p .before .before .before .before in (
       omega arith,
       λ n are. put-as (general-runs are)
-          (put-put (rw (r .before .at-least-one .ensures) at (r .put-run .ensures .1 n (are .number)))
+          (put-put (rw (r .before .greatest .ensures) at (r .put-run .ensures .1 n (are .number)))
           (p .put-decimals .ensures .1 n (are .number))),
     )
 
 pub put-general-spec : {M : Type 1} → statement M
 put-general-spec =
     tie.close
-    (tie.spec at-least-one-requires put-run-requires put-decimals-requires same-length returns)
+    (tie.spec greatest-requires put-run-requires put-decimals-requires same-length returns)

@@ -1,33 +1,60 @@
--- `figures::round` meets its contract: the test picks the case.
+-- `figures::round` meets its contract: a quotient where digits go, a product where none goes.
 -- Assumes nothing.
-use mathlib.Core.Path.{refl, sym, _∙_}
+use mathlib.Core.Path.{sym, ap, _∙_}
+use Prim.Native.Nat.{ℕ, _+_, _-_, _*_, _^_}
+use native.Mathlib.Omega.{arith}
 use borrow.Author.Needs.{needs}
-use Rattle.figures.specs.Rounder.{roundedOf}
-use Rattle.figures.proofs.Rounding.{roundable-in}
+use Rattle.figures.specs.Digits.{figures}
+use Rattle.figures.proofs.Rounding.{rounded-divided, rounded-exact, quotient-small, product-small}
 use Rattle.figures.proofs.round.Statement.{statement}
 use Rattle.figures.proofs.round.Tie as tie
-
-is-roundable-requires : tie.Need-is-roundable-requires
-is-roundable-requires c κs = search needs
 
 cleared-requires : tie.Need-cleared-requires
 cleared-requires c κs = search needs
 
-rounded-digits-requires : tie.Need-rounded-digits-requires
-rounded-digits-requires c κs =
-    let a = c .before .before .before .args in
-    let t = roundable-in (a .m) (a .up) (a .down) (a .decimals) (sym (c .before .before .is-roundable .ensures) ∙ c .before .if1 .taken) in
-    (c .cleared .ensures, t .0, t .1, t .2, t .3)
+add-kept : tie.Need-add-kept
+add-kept c = search needs
+
+sub-divided : tie.Need-sub-divided
+sub-divided c = search needs
+
+divided-requires : tie.Need-divided-requires
+divided-requires c κs h = c .before .before .pre .magnitude
+
+sub-spread : tie.Need-sub-spread
+sub-spread c = search needs
+
+spread-requires : tie.Need-spread-requires
+spread-requires c κs =
+    let b = c .before .before in
+    let a = b .before .args in
+    let p = b .before .pre in
+    (b .cleared .ensures, rw (c .divided .ensures) (quotient-small (a .m) (a .down - (a .up + a .decimals)) (15 - a .decimals) (p .magnitude) (omega arith)))
 
 returns : tie.Need-returns
-unfolding roundedOf
-returns c = rw (sym (c .before .before .before .is-roundable .ensures) ∙ c .before .before .if1 .taken, c .rounded-digits .ensures) refl
+returns c =
+    let a = c .before .before .before .before .args in
+    c .spread .ensures
+    ∙ ap figures (ap (λ (x : ℕ). x * 10 ^ (15 - a .decimals)) (c .before .divided .ensures) ∙ sym (rounded-divided (a .m) (a .up) (a .down) (a .decimals) (omega arith) (omega arith)))
+
+add-spread : tie.Need-add-spread
+add-spread c = search needs
+
+sub-spread-2 : tie.Need-sub-spread-2
+sub-spread-2 c = search needs
+
+spread-requires-2 : tie.Need-spread-requires-2
+spread-requires-2 c κs =
+    let b = c .before .before in
+    let a = b .args in
+    (c .before .cleared .ensures, product-small (a .m) (a .up) (a .up + 15 - a .down) (b .pre .whole) (omega arith))
 
 returns-2 : tie.Need-returns-2
-unfolding roundedOf
-returns-2 c = rw (sym (c .before .is-roundable .ensures) ∙ c .if1 .left) refl
+returns-2 c =
+    let a = c .before .before .before .args in
+    c .spread2 .ensures ∙ ap figures (sym (rounded-exact (a .m) (a .up) (a .down) (a .decimals) (omega arith) (omega arith)))
 
 pub round-spec : {M : Type 1} → statement M
 round-spec =
     tie.close
-    (tie.spec is-roundable-requires cleared-requires rounded-digits-requires returns returns-2)
+    (tie.spec cleared-requires add-kept sub-divided divided-requires sub-spread spread-requires returns add-spread sub-spread-2 spread-requires-2 returns-2)

@@ -1,7 +1,15 @@
 -- `figures::round_general` meets its contract.
 -- Assumes nothing.
+use mathlib.Core.Path.{ap, _∙_}
+use Prim.Native.Nat.{ℕ}
+use native.Mathlib.Omega.{arith}
 use borrow.Author.Needs.{needs}
-use Rattle.figures.proofs.General.{general-rounded}
+use Rattle.figures.specs.Digits.{figures}
+use Rattle.figures.specs.Rounding.{rounded}
+use Rattle.figures.specs.Powers.{powered}
+use Rattle.figures.specs.General.{generalRounded}
+use Rattle.figures.proofs.General.{decimals-most}
+use Rattle.figures.proofs.Rounding.{roundable}
 use Rattle.figures.proofs.round_general.Statement.{statement}
 use Rattle.figures.proofs.round_general.Tie as tie
 
@@ -9,10 +17,11 @@ general-decimals-requires : tie.Need-general-decimals-requires
 general-decimals-requires c κs = search needs
 
 round-requires : tie.Need-round-requires
-round-requires c κs = search needs
+round-requires c κs = let a = c .before .args in roundable (c .before .pre) (omega arith) (omega (arith, c .general-decimals .ensures, decimals-most (powered (a .m) 0 (a .scale))))
 
 returns : tie.Need-returns
-returns c = let a = c .before .before .args in general-rounded (a .digits) (a .m) (a .scale) (c .round .ensures) (c .before .general-decimals .ensures)
+unfolding generalRounded
+returns c = let a = c .before .before .args in c .round .ensures ∙ ap (λ (d : ℕ). figures (rounded (powered (a .m) 0 (a .scale)) d)) (c .before .general-decimals .ensures)
 
 pub round-general-spec : {M : Type 1} → statement M
 round-general-spec = tie.close (tie.spec general-decimals-requires round-requires returns)

@@ -6,8 +6,6 @@ use Rattle.figures.proofs.Widths.{Wider, wider-start, wider-fits, wider
 use borrow.Author.Needs.{needs}
 use Rattle.figures.proofs.width_of.Statement.{statement}
 use Rattle.figures.proofs.width_of.Tie as tie
-use Rattle.figures.proofs.width_of.Reads as reads
-use Rattle.figures.proofs.width_of.Lts as lts
 
 abbrev Inv-loop : tie.InvT-loop
 Inv-loop n w₀ p₀ w p = Wider n w p

@@ -1,8 +1,6 @@
 -- `section_text::put_dated_item` meets its contract.
 -- Assumes nothing.
 use native.Mathlib.Omega.{arith}
-use mathlib.Core.Path.{refl}
-use mathlib.Core.Bool.{true}
 use Rattle.section_text.proofs.Items.{literal-item, blank-item, fill-item, date-plain, piece-put, unit-put, moment-put}
 use Rattle.writing.proofs.Laws.{put-none}
 use Rattle.tables.proofs.BackEntries.{tag-known}
@@ -20,7 +18,7 @@ returns : tie.Need-returns
 returns c =
     let p = c .before .before in
     let k = p .before .before in
-    λ x q i f. moment-put _ x q _ _ (k .if1 .taken) (k .before .before .pre .1) (p .put-moment-item .ensures x q true (λ _. refl) i)
+    λ x q i f. moment-put _ x q _ _ (k .if1 .taken) (k .before .before .pre .1) (p .put-moment-item .ensures x q i)
 
 put-unit-requires : tie.Need-put-unit-requires
 put-unit-requires c κs = search needs

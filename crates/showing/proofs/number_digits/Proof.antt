@@ -1,7 +1,7 @@
 -- `showing::number_digits` meets its contract.
 -- Assumes nothing.
 use mathlib.Core.Path.{refl}
-use Rattle.showing.proofs.Sections.{number-words, number-digits}
+use Rattle.showing.proofs.Sections.{number-words, number-roundable, number-digits}
 use borrow.Author.Needs.{needs}
 use Rattle.showing.proofs.number_digits.Statement.{statement}
 use Rattle.showing.proofs.number_digits.Tie as tie
@@ -31,17 +31,21 @@ add-down : tie.Need-add-down
 add-down c = search needs
 
 round-requires : tie.Need-round-requires
-round-requires c κs = search needs
+round-requires c κs =
+    let x = c .before in
+    let d = x .before .before in
+    let w = d .before in
+    let p = w .before .before .pre in
+    number-roundable (number-words _ _ (p .0) (p .1) (p .4) (w .word .ensures) refl (d .word2 .ensures)) (p .2) (x .before .excess .ensures)
 
 returns : tie.Need-returns
 returns c =
-    let r = c .before in
-    let x = r .before .before in
+    let x = c .before .before in
     let d = x .before .before in
     let w = d .before in
     let p = w .before .before .pre in
     let s = number-words _ _ (p .0) (p .1) (p .4) (w .word .ensures) refl (d .word2 .ensures) in
-    number-digits s _ _ _ (p .2) (p .3) (x .before .excess .ensures) (x .excess2 .ensures) (r .round .ensures)
+    number-digits s _ _ (x .before .excess .ensures) (x .excess2 .ensures) (c .round .ensures)
 
 pub number-digits-spec : {M : Type 1} → statement M
 number-digits-spec =

@@ -34,9 +34,9 @@ added-minus-requires c κs = search needs
 show-section-requires : tie.Need-show-section-requires
 show-section-requires c κs =
     let f = c .before .before .before .before in
-    let r = f .before .before in
+    let r = f .before in
     let p = r .before .before .before .before .before .before .pre in
-    let are = general-figures _ _ _ (r .round-general .ensures) (f .figures-of .ensures .0) (p .2) (p .3) in
+    let are = general-figures _ _ (r .round-general .ensures) (f .figures-of .ensures .0) (p .2) in
     (p .0, p .1, f .figures-of .ensures .1, not-lent refl, general-known _ _ _ _ _ (p .4) refl (general-of _ _ are))
 
 same-length : tie.Need-same-length
@@ -47,10 +47,10 @@ returns-2 c =
     let s = c .before .before in
     let m = s .before .before .before in
     let f = m .before .before in
-    let r = f .before .before in
+    let r = f .before in
     let g = r .before .before in
     let p = g .before .before .before .before .pre in
-    let are = general-figures _ _ _ (r .round-general .ensures) (f .figures-of .ensures .0) (p .2) (p .3) in
+    let are = general-figures _ _ (r .round-general .ensures) (f .figures-of .ensures .0) (p .2) in
     λ x why ev eo.
     general-shows _ _ _ why x (p .4) (sym (wide-is _ x ev) ∙ sym (g .general-too-wide .ensures) ∙ r .before .if1 .left)
     (number-text _ _ x why (p .0) (p .1) (m .added-minus .ensures) (negative-is _ x ev) eo

@@ -1,11 +1,9 @@
+-- `writing::put_digits` meets its contract.
+-- Assumes nothing.
 use Rattle.writing.proofs.Numerals.{Peeled, peeled-start, peeled-put, peeled-done, digits-out}
 use borrow.Author.Needs.{needs}
 use Rattle.writing.proofs.put_digits.Statement.{statement}
 use Rattle.writing.proofs.put_digits.Tie as tie
-use Rattle.writing.proofs.put_digits.Reads as reads
-use Rattle.writing.proofs.put_digits.Lts as lts
-use Rattle.writing.proofs.digit_unit.Reads as digit-unit-reads
-use Rattle.writing.proofs.put_unit.Reads as put-unit-reads
 
 abbrev Inv-loop : tie.InvT-loop
 Inv-loop room₀ at count n end rest₀ o₀ room rest o = Peeled room₀ at count n room o rest
@@ -24,6 +22,9 @@ loop-holds c = peeled-start _ _ _ _
 
 sub-o : tie.Need-sub-o Inv-loop μ-loop
 sub-o c = search needs
+
+cast-digit-unit : tie.Need-cast-digit-unit Inv-loop μ-loop
+cast-digit-unit c = search needs
 
 digit-unit-requires : tie.Need-digit-unit-requires Inv-loop μ-loop
 digit-unit-requires c κs = search needs
@@ -56,6 +57,7 @@ put-digits-spec =
     returns
     loop-holds
     sub-o
+    cast-digit-unit
     digit-unit-requires
     put-unit-requires
     loop-less

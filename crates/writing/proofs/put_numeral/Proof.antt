@@ -1,15 +1,11 @@
+-- `writing::put_numeral` meets its contract.
+-- Assumes nothing.
 use Prim.Native.Nat.{_<_, _≤_}
 use native.Mathlib.Omega.{arith}
 use Rattle.writing.proofs.Numerals.{numeral-one, numeral-two, numeral-two-least}
 use borrow.Author.Needs.{needs}
 use Rattle.writing.proofs.put_numeral.Statement.{statement}
 use Rattle.writing.proofs.put_numeral.Tie as tie
-use Rattle.writing.proofs.put_numeral.Reads as reads
-use Rattle.writing.proofs.put_numeral.Lts as lts
-use Rattle.writing.proofs.digit_unit.Reads as digit-unit-reads
-use Rattle.writing.proofs.put_two.Reads as put-two-reads
-use Rattle.writing.proofs.put_unit.Reads as put-unit-reads
-use Rattle.writing.proofs.put_wide.Reads as put-wide-reads
 
 put-wide-requires : tie.Need-put-wide-requires
 put-wide-requires c κs = search needs
@@ -53,6 +49,9 @@ returns-4 c =
     let t = d .before .before in
     rw (numeral-two _ _ (t .before .before .if2 .left) (t .if4 .taken) (t .before .before .before .if1 .left)) (d .put-two2 .ensures)
 
+cast-digit-unit : tie.Need-cast-digit-unit
+cast-digit-unit c = search needs
+
 digit-unit-requires : tie.Need-digit-unit-requires
 digit-unit-requires c κs = search needs
 
@@ -87,6 +86,7 @@ put-numeral-spec =
     put-two-requires-2
     same-length-4
     returns-4
+    cast-digit-unit
     digit-unit-requires
     put-unit-requires
     same-length-5

@@ -1,10 +1,10 @@
+-- `writing::put_unit` meets its contract.
+-- Assumes nothing.
 use mathlib.Core.Path.{refl, sym}
 use lib.Seq.{set-out}
 use borrow.Author.Needs.{needs}
 use Rattle.writing.proofs.put_unit.Statement.{statement}
 use Rattle.writing.proofs.put_unit.Tie as tie
-use Rattle.writing.proofs.put_unit.Reads as reads
-use Rattle.writing.proofs.put_unit.Lts as lts
 
 add-next : tie.Need-add-next
 add-next c = search needs

@@ -1,3 +1,5 @@
+-- `writing::put_units` meets its contract.
+-- Assumes nothing.
 use Prim.Native.Nat.{_+_, _-_, _≤_, _<_}
 use mathlib.Core.Path.{_≡_}
 use denote.Ref.{now}
@@ -8,9 +10,6 @@ use Rattle.writing.proofs.Laws.{rest-copy, rest-stop}
 use borrow.Author.Needs.{needs}
 use Rattle.writing.proofs.put_units.Statement.{statement}
 use Rattle.writing.proofs.put_units.Tie as tie
-use Rattle.writing.proofs.put_units.Reads as reads
-use Rattle.writing.proofs.put_units.Lts as lts
-use Rattle.writing.proofs.nearer.Reads as nearer-reads
 
 abbrev Inv-loop : tie.InvT-loop
 Inv-loop room₀ at text end stop o₀ j₀ room o j = Rest room₀ at text room o (drop j text) × (o ≡ at + j) × (j ≤ length text)
@@ -21,8 +20,8 @@ abbrev μ-loop : tie.MeasureT-loop
 add-end : tie.Need-add-end Inv-loop μ-loop
 add-end c = search needs
 
-nearer-requires : tie.Need-nearer-requires Inv-loop μ-loop
-nearer-requires c κs = search needs
+least-requires : tie.Need-least-requires Inv-loop μ-loop
+least-requires c κs = search needs
 
 loop-holds : tie.Need-loop-holds Inv-loop μ-loop
 loop-holds c = search needs
@@ -59,7 +58,7 @@ same-length : tie.Need-same-length Inv-loop μ-loop
 same-length c = search needs
 
 returns : tie.Need-returns Inv-loop μ-loop
-returns c = rest-stop (c .before .loop .inv .0) (c .loop-test .left) (c .before .before .nearer .ensures .2)
+returns c = rest-stop (c .before .loop .inv .0) (c .loop-test .left) (c .before .before .least .ensures)
 
 pub put-units-spec : {M : Type 1} → statement M
 put-units-spec =
@@ -68,7 +67,7 @@ put-units-spec =
     Inv-loop
     μ-loop
     add-end
-    nearer-requires
+    least-requires
     loop-holds
     mul-room
     shared-slice-read-room

@@ -1,10 +1,9 @@
+-- `writing::put_wide` meets its contract.
+-- Assumes nothing.
 use Rattle.writing.proofs.Numerals.{numeral-least, numeral-whole}
 use borrow.Author.Needs.{needs}
 use Rattle.writing.proofs.put_wide.Statement.{statement}
 use Rattle.writing.proofs.put_wide.Tie as tie
-use Rattle.writing.proofs.put_wide.Reads as reads
-use Rattle.writing.proofs.put_wide.Lts as lts
-use Rattle.writing.proofs.put_digits.Reads as put-digits-reads
 
 width-of-requires : tie.Need-width-of-requires
 width-of-requires c κs = search needs
