@@ -43,7 +43,7 @@ agree a b = (a && b) || (not a && not b)
 unfoldable pub sized : List ℕ → Bool
 sized ws = exactWords ws && leb (itemsSaid (headsIn ws)) 254
 
--- the same as facts
+-- a table of that size: 1 to 4 sections, exactly their words, at most 254 items
 pub record Sized (ws : List ℕ) : Type 0 where
   pub least : 1 ≤ getD ws 0 0
   pub most : getD ws 0 0 ≤ 4
@@ -135,7 +135,7 @@ hasIn h = not (eqb (h .operator) 0)
 abbrev pub minusWith : ℕ → ℕ → Bool → Bool → ℕ → Bool
 minusWith counted i has firstHas flags = agree (eqb (flags / 2 % 2) 1) (exceptionA counted i has firstHas)
 
--- the same of a section with a condition that has no such flag, and of one without a condition
+-- where a section with a condition may stand, and one without, which has the flag of exception (a) or not
 abbrev pub comparedStands : ℕ → ℕ → ℕ → Bool
 comparedStands n i kind = not (eqb kind 3) && (implies (eqb n 1) (eqb kind 1) && ltb i 2)
 

@@ -24,14 +24,14 @@ use Rattle.choosing.specs.declared.TextFound.the-variants as text
 use Rattle.choosing.specs.Seeking.{partsOfOne, exactOf, foundOf, textFoundOf, noSection, sectionIn, isCounted, takes}
 use Rattle.choosing.proofs.Places.{sections-length, Long, long}
 
--- a sign says that a number is below 0
-pub below-zero : (v : Sought) → lessThan (exactOf v) zeroExact ≡ v .negative
-unfolding lessThan exactOf smaller
-below-zero v = signed (v .negative)
+-- a number is below 0 where its sign says so
+pub below-zero : (x : Exact) → lessThan x zeroExact ≡ x .negative
+unfolding lessThan smaller
+below-zero x = signed (x .negative) (le-ltb (x .size .above * 1) (0 * x .size .below) (omega arith))
   where
-    signed : (b : Bool) → cond b true (ltb (v .above * 1) (0 * partsOfOne v)) ≡ b
-    signed true = refl
-    signed false = le-ltb (v .above * 1) (0 * partsOfOne v) (rw (zero-mul (partsOfOne v)) (omega arith))
+    signed : (b : Bool) {c : Bool} → c ≡ false → cond b true c ≡ b
+    signed true e = refl
+    signed false e = e
 
 pub above-zero : (v : Sought) → lessThan zeroExact (exactOf v) ≡ cond (v .negative) false (ltb 0 (v .above))
 unfolding lessThan exactOf smaller
@@ -56,8 +56,8 @@ module _ (n i : ℕ) (v : Sought) (s : Section) where
   fallback-only a = rw (eq-eqb n 1 a)
 
   pub fallback-first-of-two : (n ≡ 1 → ⊥) → n ≡ 2 → i ≡ 0 → not (v .negative) ≡ reasonHolds (fallback n i) s (exactOf v)
-  unfolding fallback reasonHolds
-  fallback-first-of-two a b c = rw (ne-eqb n 1 a, eq-eqb n 2 b, eq-eqb i 0 c, below-zero v)
+  unfolding fallback reasonHolds exactOf
+  fallback-first-of-two a b c = rw (ne-eqb n 1 a, eq-eqb n 2 b, eq-eqb i 0 c, below-zero (exactOf v))
 
   pub fallback-second-of-two : (n ≡ 1 → ⊥) → n ≡ 2 → (i ≡ 0 → ⊥) → true ≡ reasonHolds (fallback n i) s (exactOf v)
   unfolding fallback reasonHolds
@@ -69,8 +69,8 @@ module _ (n i : ℕ) (v : Sought) (s : Section) where
   fallback-first r a b c e = rw (ne-eqb n 1 a, ne-eqb n 2 b, eq-eqb i 0 c) e
 
   pub fallback-second : (n ≡ 1 → ⊥) → (n ≡ 2 → ⊥) → (i ≡ 0 → ⊥) → i ≡ 1 → v .negative ≡ reasonHolds (fallback n i) s (exactOf v)
-  unfolding fallback reasonHolds
-  fallback-second a b c d = rw (ne-eqb n 1 a, ne-eqb n 2 b, ne-eqb i 0 c, eq-eqb i 1 d, below-zero v)
+  unfolding fallback reasonHolds exactOf
+  fallback-second a b c d = rw (ne-eqb n 1 a, ne-eqb n 2 b, ne-eqb i 0 c, eq-eqb i 1 d, below-zero (exactOf v))
 
   pub fallback-other : (n ≡ 1 → ⊥) → (n ≡ 2 → ⊥) → (i ≡ 0 → ⊥) → (i ≡ 1 → ⊥) → true ≡ reasonHolds (fallback n i) s (exactOf v)
   unfolding fallback reasonHolds

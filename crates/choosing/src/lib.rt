@@ -16,7 +16,7 @@ use tables::heads;
 use tables::kinds;
 
 // How one number stands to another.
-pub enum Order {
+enum Order {
     Less,
     Equal,
     Greater,
@@ -325,7 +325,7 @@ fn takes(table: &[u16], counted: u16, i: usize, v: Sought) -> bool
 }
 
 // N: how many sections are neither text nor fourth.
-pub fn counted(table: &[u16]) -> u16
+fn counted(table: &[u16]) -> u16
     requires { ⌜ T (passes (now table)) ⌝ }
     ensures { λ r. ⌜ r ≡ counted (decode (now (table .entry))) ⌝ }
 {

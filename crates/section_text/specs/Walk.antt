@@ -28,7 +28,7 @@ pub record Ready (words digits : List ℕ) (s : Subject) (text : List ℕ) : Typ
   pub subject : SubjectIs kind digits s text context
   pub fit : EntriesFit kind power (entriesIn words)
 
--- the same of a date-time section's words and a moment
+-- there is a context that the moment is of, and the entries fit a date-time section
 pub record DatedReady (words : List ℕ) (m : Moment) : Type 0 where
   pub context : Context
   pub power : ℕ

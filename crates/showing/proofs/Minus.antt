@@ -1,33 +1,23 @@
 -- The added minus of a number, as `has_minus` tells it.
 -- Assumes nothing.
-use Prim.Native.Nat.{ℕ, _*_}
+use Prim.Native.Nat.{ℕ}
 use native.Mathlib.Omega.{arith}
 use mathlib.Core.Path.{_≡_, refl, sym}
 use mathlib.Core.Bool.{Bool, true, false, cond, not}
 use mathlib.Core.List.{List, [], _∷_}
-use lib.Dec.{eqb, ltb}
+use lib.Dec.{eqb}
 use lib.IntN.{pos}
 use lib.Signed.{ltZ}
 use lib.ListN.{length}
-use borrow.Author.Tests.{le-ltb, eq-eqb, ne-eqb}
+use borrow.Author.Tests.{eq-eqb, ne-eqb}
 use Rattle.values.specs.declared.Number.{Number}
 use Rattle.lists.specs.Lists.{isEmpty}
 use Rattle.formats.specs.Items.{Item, Section}
-use Rattle.formats.specs.Choice.{Exact, zeroExact, smaller, lessThan, numberExact}
+use Rattle.formats.specs.Choice.{numberExact}
 use Rattle.formats.specs.Minus.{minus, notNegative, noItem, forNegatives, nought, signFor, signUnits}
+use Rattle.choosing.proofs.Choosing.{below-zero}
 use Rattle.section_text.specs.Show.{signText}
 use Rattle.showing.specs.Minus.{minusTold}
-
--- a number is below 0 where its sign says so
-below-zero : (x : Exact) → lessThan x zeroExact ≡ x .negative
-unfolding lessThan smaller
-below-zero x =
-    let z : ltb (x .size .above * 1) (0 * x .size .below) ≡ false = le-ltb (x .size .above * 1) (0 * x .size .below) (omega arith) in
-    go (x .negative) z
-  where
-    go : (b : Bool) {c : Bool} → c ≡ false → cond b true c ≡ b
-    go true e = refl
-    go false e = e
 
 empty-told : (is : List Item) (n : ℕ) → n ≡ length is → isEmpty is ≡ eqb n 0
 unfolding isEmpty

@@ -13,7 +13,7 @@ use Rattle.choosing.specs.Seeking.{wordIn}
 unfoldable pub minusTold : Bool → Bool → Bool → Bool → Bool
 minusTold negative empty excepted nought = cond negative (cond empty false (cond excepted false (not nought))) false
 
--- the same in a table's section i, by its count of items and exception (a)
+-- in a table's section i: whether it has an item is told by its count of items, and exception (a) by N and the conditions
 abbrev pub minusIn : List ℕ → ℕ → Bool → Bool → Bool → Bool
 minusIn ws i own negative nought =
     minusTold negative (eqb (wordIn ws i 11) 0) (exceptionA (counted (decode ws)) i own (firstHasCondition (decode ws))) nought
