@@ -16,6 +16,9 @@ use writing::digit_unit;
 use writing::put_unit;
 use writing::units;
 
+// The place of 10^0 among the forty digits: the decimals stand below it.
+const UNITS_PLACE: usize = 15;
+
 // How a rounded number's digits, that of 10^-15 first, are shown: how many places are used, the lowest place whose digit is
 // not 0, the section's integer places, and whether it groups. The digits are lent beside it: copied, they would be copied at
 // each place.
@@ -43,7 +46,7 @@ pub fn figures_of(digits: [u8; 40], integers: u32, grouped: bool) -> Figures
 fn is_idle(used: usize, lowest: usize, q: usize) -> bool
     ensures { λ r. ⌜ r ≡ idle used lowest q ⌝ }
 {
-    if 14 < q {
+    if UNITS_PLACE <= q {
         return used <= q;
     }
     q < lowest
@@ -53,7 +56,7 @@ fn is_idle(used: usize, lowest: usize, q: usize) -> bool
 fn ends_group(grouped: bool, q: usize) -> bool
     ensures { λ r. ⌜ r ≡ grouped && endsGroup q ⌝ }
 {
-    if q < 16 {
+    if q <= UNITS_PLACE {
         return false;
     }
     if grouped {
@@ -143,7 +146,7 @@ fn put_before(room: &mut [u16], at: usize, digits: &[u8; 40], f: Figures, q: usi
     if f.used <= q + 1 {
         return at;
     }
-    if q < 15 {
+    if q < UNITS_PLACE {
         return at;
     }
     if q - 14 != f.integers as usize {
@@ -177,7 +180,7 @@ pub fn put_point(room: &mut [u16], at: usize, digits: &[u8; 40], f: Figures) -> 
     ensures put { λ r. ⌜ ((c : Context) → FiguresAre (now (digits .entry)) f c → Put (now (room .entry)) at (pointUnits c) r (now (room .exit))) ⌝ }
 {
     if f.integers == 0 {
-        let a = put_extra(room, at, digits, f, 15);
+        let a = put_extra(room, at, digits, f, UNITS_PLACE);
         return put_unit(room, a, units::POINT);
     }
     put_unit(room, at, units::POINT)
@@ -206,9 +209,9 @@ fn put_decimals(room: &mut [u16], at: usize, digits: &[u8; 40], lowest: usize) -
     ensures put { λ r. ⌜ ((n : ℕ) → now (digits .entry) ≡ figures n
         → Put (now (room .entry)) at (pointed (take (15 - lowest) (digitUnits 15 n))) r (now (room .exit))) ⌝ }
 {
-    if lowest < 15 {
+    if lowest < UNITS_PLACE {
         let a = put_unit(room, at, units::POINT);
-        return put_run(room, a, digits, 15, lowest);
+        return put_run(room, a, digits, UNITS_PLACE, lowest);
     }
     at
 }
@@ -219,6 +222,12 @@ pub fn put_general(room: &mut [u16], at: usize, digits: &[u8; 40], f: Figures) -
     ensures within { λ r. ⌜ r ≤ at + 81 ⌝ }
     ensures put { λ r. ⌜ ((n : ℕ) → DigitsAre (now (digits .entry)) f n → Put (now (room .entry)) at (generalUnits n) r (now (room .exit))) ⌝ }
 {
-    let a = put_run(room, at, digits, integers::greatest(16, f.used), 15);
+    let a = put_run(
+        room,
+        at,
+        digits,
+        integers::greatest(16, f.used),
+        UNITS_PLACE,
+    );
     put_decimals(room, a, digits, f.lowest)
 }
