@@ -2,20 +2,22 @@
 -- Assumes nothing.
 use Prim.Native.Nat.{ℕ, _+_, _*_, _%_, _≤_, _<_}
 use native.Mathlib.Omega.{arith}
-use mathlib.Core.Path.{_≡_, refl, sym, _∙_, ap}
+use mathlib.Core.Path.{_≡_, refl, sym, _∙_, ap, subst}
+use mathlib.Core.List.{List}
 use mathlib.Core.Bool.{Bool, true, false, true≢false, cond, not, _&&_, _||_}
 use lib.Dec.{T, leb, ltb, eqb, leb→le, le→leb, eqb→eq, not-T}
 use borrow.Author.Tests.{eq-eqb, ne-eqb, lt-ltb, lt-leb, leb-false, ltb-true, ltb-false, not-true}
 use Rattle.lists.proofs.Bools.{and-left, and-right, and-in, not-so, carry, same-test, by-cases, T-true, true-T}
 use Rattle.formats.specs.Where.{implies}
-use Rattle.tables.specs.Words.{Head}
+use Rattle.tables.specs.Words.{Head, Entry}
 use Rattle.tables.specs.Decode.{wholeAt, millionthsAt, groupedAt, thousandsAt}
 use Rattle.tables.specs.Rules.{headInRange, conditionFits, shiftTells}
 use Rattle.tables.proofs.Ranges.{HeadRanges, head-ranges, head-in-ranges}
 use Rattle.tallies.specs.declared.Tally.{Tally}
-use Rattle.tallies.specs.Tally.{hasPlaces, hasNumberItems, kindTold, allowedTold, noPlainTold, itemsFitTold, withinTold, groupingTold, decimalsTold}
+use Rattle.tallies.specs.Tally.{tallyOf, hasPlaces, hasNumberItems, kindTold, allowedTold, noPlainTold, itemsFitTold, withinTold, groupingTold, decimalsTold}
 use Rattle.checking.specs.declared.HeadWords.{HeadWords}
 use Rattle.checking.specs.Checking.{headFrom, agree, comparedTold, conditionTold, thousandsTold, shiftTold, rowTold, Undated, numberTold, otherTold}
+use Rattle.checking.proofs.Undated.{undated}
 use Rattle.checking.proofs.Rows.{Told, told, told-back}
 
 -- ---- the tests that every section must pass
@@ -67,10 +69,7 @@ condition-out h t f =
 pub record Front (h : Head) (t : Tally) : Type 0 where
   pub undated : Undated t
   pub items : h .items ≤ 254
-  pub a : h .wholeLow < 65536
-  pub b : h .wholeHigh < 65536
-  pub c : h .millionthsLow < 65536
-  pub d : h .millionthsHigh < 65536
+  pub words : (h .wholeLow < 65536) × (h .wholeHigh < 65536) × (h .millionthsLow < 65536) × (h .millionthsHigh < 65536)
   pub sound : t .sound ≡ true
   pub colour : h .colour ≤ 56
   pub fill : t .fills ≤ 1
@@ -85,11 +84,11 @@ range-in h t f k s g d =
       colour = f .colour;
       operator = leb→le _ _ (c .operator);
       negative = leb→le _ _ (c .negative);
-      wholeLow = f .a;
-      wholeHigh = f .b;
+      wholeLow = f .words .0;
+      wholeHigh = f .words .1;
       whole = leb→le _ _ (c .whole);
-      millionthsLow = f .c;
-      millionthsHigh = f .d;
+      millionthsLow = f .words .2;
+      millionthsHigh = f .words .3;
       millionths = leb→le _ _ (c .millionths);
       shift = s;
       flags = g;
@@ -378,13 +377,18 @@ pub rowed : (h : HeadWords) (t : Tally) (head : Head) (tally : Tally) (r : Bool)
     → r ≡ rowTold (headFrom h) t → r ≡ rowTold head tally
 rowed h t head tally r e f g = g ∙ ap (λ (x : Head). rowTold x t) e ∙ ap (rowTold head) f
 
-pub items-few : (h : HeadWords) (head : Head) → headFrom h ≡ head → head .items ≤ 254 → headFrom h .items ≤ 254
-items-few h head e m = omega (arith, ap (λ (x : Head). x .items) e, m)
-
--- the head was read twice
-pub colour-again : (h first : HeadWords) (head : Head) → headFrom h ≡ head → headFrom first ≡ head → first .colour ≤ 56 → headFrom h .colour ≤ 56
-colour-again h first head e f m = omega (arith, ap (λ (x : Head). x .colour) e, ap (λ (x : Head). x .colour) f, m)
-
-pub condition-again : (h first : HeadWords) (head : Head) → headFrom h ≡ head → headFrom first ≡ head
-    → conditionTold (headFrom first) ≡ true → conditionTold (headFrom h) ≡ true
-condition-again h first head e f m = ap conditionTold (e ∙ sym f) ∙ m
+-- the head is read again behind the items: what was tested of it before holds of it
+pub front-of : (h first : HeadWords) (t : Tally) (head : Head) (es : List Entry) → headFrom h ≡ head → headFrom first ≡ head → t ≡ tallyOf es
+    → head .items ≤ 254 → (h .«whole_low» < 65536) × (h .«whole_high» < 65536) × (h .«millionths_low» < 65536) × (h .«millionths_high» < 65536)
+    → first .colour ≤ 56 → conditionTold (headFrom first) ≡ true → t .sound ≡ true → t .fills ≤ 1 → h .kind ≡ kindTold t → Front (headFrom h) t
+front-of h first t head es e f g few words colour condition sound fill kind =
+    record {
+      undated = subst Undated (sym g) (undated es);
+      items = omega (arith, ap (λ (x : Head). x .items) e);
+      words = words;
+      sound = sound;
+      colour = omega (arith, ap (λ (x : Head). x .colour) e, ap (λ (x : Head). x .colour) f);
+      fill = fill;
+      condition = ap conditionTold (e ∙ sym f) ∙ condition;
+      kind = kind;
+    }

@@ -1,17 +1,16 @@
 -- `checking::row_fits` meets its contract.
 -- Assumes nothing.
 use native.Mathlib.Omega.{arith}
-use mathlib.Core.Path.{refl, sym, _∙_, subst}
+use mathlib.Core.Path.{refl, sym, _∙_}
 use lib.Dec.{eqb→eq}
 use denote.Ref.{now}
 use borrow.Author.Tests.{eqb-true, eqb-false, not-true, not-false}
 use Rattle.tables.specs.Words.{entriesIn}
 use Rattle.tables.proofs.Ranges.{head-ranges}
 use Rattle.tallies.specs.Tally.{tallyOf}
-use Rattle.checking.specs.Checking.{headFrom, Undated}
+use Rattle.checking.specs.Checking.{headFrom}
 use Rattle.lists.proofs.Bools.{carry}
-use Rattle.checking.proofs.Undated.{undated}
-use Rattle.checking.proofs.ByKind.{refused, fills-most, condition-out, Front, row-number, row-other, rowed, items-few, colour-again, condition-again}
+use Rattle.checking.proofs.ByKind.{refused, fills-most, condition-out, row-number, row-other, rowed, front-of}
 use borrow.Author.Needs.{needs}
 use Rattle.checking.proofs.row_fits.Statement.{statement}
 use Rattle.checking.proofs.row_fits.Tie as tie
@@ -67,21 +66,19 @@ number-fits-requires c κs = search needs
 
 returns-6 : tie.Need-returns-6
 returns-6 c =
-    let front : Front (headFrom (c .before .before .before .before .before .head-at2 .result)) (c .before .before .before .before .before .before .before .before .before .before .tally-words .result) = record {
-      undated = subst Undated (sym (c .before .before .before .before .before .before .before .before .before .before .tally-words .ensures)) (undated (entriesIn (now (c .before .before .before .before .before .before .before .before .before .before .before .before .before .before .before .before .before .before .args .items))));
-      items = items-few _ _ (c .before .before .before .before .before .head-at2 .ensures) (c .before .before .before .before .before .before .before .before .before .before .before .before .before .before .before .before .before .before .pre .3);
-      a = search needs;
-      b = search needs;
-      c = search needs;
-      d = search needs;
-      sound = not-false _ (c .before .before .before .before .before .before .before .before .if3 .left);
-      colour = colour-again _ (c .before .before .before .before .before .before .before .before .before .before .before .before .before .before .before .head-at .result) _ (c .before .before .before .before .before .head-at2 .ensures) (c .before .before .before .before .before .before .before .before .before .before .before .before .before .before .before .head-at .ensures) (omega (arith, c .before .before .before .before .before .before .before .before .before .before .before .before .before .if1 .left));
-      fill = omega (arith, c .before .before .before .before .before .before .if4 .left);
-      condition = condition-again _ _ _ (c .before .before .before .before .before .head-at2 .ensures) (c .before .before .before .before .before .before .before .before .before .before .before .before .before .before .before .head-at .ensures) (sym (c .before .before .before .before .before .before .before .before .before .before .before .before .condition-fits .ensures) ∙ not-false _ (c .before .before .before .before .before .before .before .before .before .before .before .if2 .left));
-      kind = c .before .before .before .if5 .taken ∙ sym (sym (c .before .before .kind .ensures) ∙ eqb-true _ _ (not-false _ (c .before .if6 .left)));
-    } in
-    rowed _ _ _ _ _ (c .before .before .before .before .before .head-at2 .ensures) (c .before .before .before .before .before .before .before .before .before .before .tally-words .ensures)
-    (c .number-fits .ensures ∙ row-number _ _ (sym (c .before .before .kind .ensures) ∙ eqb-true _ _ (not-false _ (c .before .if6 .left))) front)
+    let k = c .before .before in
+    let h = k .before .before .before in
+    let t = h .before .before .before .before .before in
+    let g = t .before .before in
+    let f = g .before .before .before in
+    let a = f .before .before .before in
+    let words = k .before .before .struct-known4 .given in
+    let two = sym (k .kind .ensures) ∙ eqb-true _ _ (not-false _ (c .before .if6 .left)) in
+    let front = front-of (h .head-at2 .result) (f .head-at .result) (t .tally-words .result) _ (entriesIn (now (a .args .items)))
+    (h .head-at2 .ensures) (f .head-at .ensures) (t .tally-words .ensures) (a .pre .3) (omega (arith, words))
+    (omega (arith, g .before .if1 .left)) (sym (g .condition-fits .ensures) ∙ not-false _ (t .before .if2 .left))
+    (not-false _ (h .before .before .before .if3 .left)) (omega (arith, h .before .if4 .left)) (k .before .if5 .taken ∙ sym two) in
+    rowed _ _ _ _ _ (h .head-at2 .ensures) (t .tally-words .ensures) (c .number-fits .ensures ∙ row-number _ _ two front)
 
 kind-requires-2 : tie.Need-kind-requires-2
 kind-requires-2 c κs = search needs
@@ -96,21 +93,20 @@ other-fits-requires c κs = search needs
 
 returns-8 : tie.Need-returns-8
 returns-8 c =
-    let front : Front (headFrom (c .before .before .before .before .before .before .head-at2 .result)) (c .before .before .before .before .before .before .before .before .before .before .before .tally-words .result) = record {
-      undated = subst Undated (sym (c .before .before .before .before .before .before .before .before .before .before .before .tally-words .ensures)) (undated (entriesIn (now (c .before .before .before .before .before .before .before .before .before .before .before .before .before .before .before .before .before .before .before .args .items))));
-      items = items-few _ _ (c .before .before .before .before .before .before .head-at2 .ensures) (c .before .before .before .before .before .before .before .before .before .before .before .before .before .before .before .before .before .before .before .pre .3);
-      a = search needs;
-      b = search needs;
-      c = search needs;
-      d = search needs;
-      sound = not-false _ (c .before .before .before .before .before .before .before .before .before .if3 .left);
-      colour = colour-again _ (c .before .before .before .before .before .before .before .before .before .before .before .before .before .before .before .before .head-at .result) _ (c .before .before .before .before .before .before .head-at2 .ensures) (c .before .before .before .before .before .before .before .before .before .before .before .before .before .before .before .before .head-at .ensures) (omega (arith, c .before .before .before .before .before .before .before .before .before .before .before .before .before .before .if1 .left));
-      fill = omega (arith, c .before .before .before .before .before .before .before .if4 .left);
-      condition = condition-again _ _ _ (c .before .before .before .before .before .before .head-at2 .ensures) (c .before .before .before .before .before .before .before .before .before .before .before .before .before .before .before .before .head-at .ensures) (sym (c .before .before .before .before .before .before .before .before .before .before .before .before .before .condition-fits .ensures) ∙ not-false _ (c .before .before .before .before .before .before .before .before .before .before .before .before .if2 .left));
-      kind = (eqb-true _ _ (not-false _ (c .before .if7 .left)) ∙ c .before .before .before .kind2 .ensures);
-    } in
-    rowed _ _ _ _ _ (c .before .before .before .before .before .before .head-at2 .ensures) (c .before .before .before .before .before .before .before .before .before .before .before .tally-words .ensures)
-    (c .other-fits .ensures ∙ row-other _ _ (λ e. c .before .before .before .before .if5 .left ((eqb-true _ _ (not-false _ (c .before .if7 .left)) ∙ c .before .before .before .kind2 .ensures) ∙ e)) front)
+    let k = c .before .before .before in
+    let h = k .before .before .before in
+    let t = h .before .before .before .before .before in
+    let g = t .before .before in
+    let f = g .before .before .before in
+    let a = f .before .before .before in
+    let words = k .before .before .struct-known4 .given in
+    let same = eqb-true _ _ (not-false _ (c .before .if7 .left)) ∙ k .kind2 .ensures in
+    let front = front-of (h .head-at2 .result) (f .head-at .result) (t .tally-words .result) _ (entriesIn (now (a .args .items)))
+    (h .head-at2 .ensures) (f .head-at .ensures) (t .tally-words .ensures) (a .pre .3) (omega (arith, words))
+    (omega (arith, g .before .if1 .left)) (sym (g .condition-fits .ensures) ∙ not-false _ (t .before .if2 .left))
+    (not-false _ (h .before .before .before .if3 .left)) (omega (arith, h .before .if4 .left)) same in
+    rowed _ _ _ _ _ (h .head-at2 .ensures) (t .tally-words .ensures)
+    (c .other-fits .ensures ∙ row-other _ _ (λ e. k .before .if5 .left (same ∙ e)) front)
 
 pub row-fits-spec : {M : Type 1} → statement M
 row-fits-spec =
