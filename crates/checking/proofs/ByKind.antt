@@ -6,7 +6,7 @@ use mathlib.Core.Path.{_≡_, refl, sym, _∙_, ap, subst}
 use mathlib.Core.List.{List}
 use mathlib.Core.Bool.{Bool, true, false, true≢false, cond, not, _&&_, _||_}
 use lib.Dec.{T, leb, ltb, eqb, leb→le, le→leb, eqb→eq, not-T}
-use borrow.Author.Tests.{eq-eqb, ne-eqb, lt-ltb, lt-leb, leb-false, ltb-true, ltb-false, not-true}
+use borrow.Author.Tests.{eq-eqb, ne-eqb, lt-leb, leb-false, ltb-true, ltb-false}
 use Rattle.lists.proofs.Bools.{and-left, and-right, and-in, not-so, carry, same-test, by-cases, T-true, true-T}
 use Rattle.formats.specs.Where.{implies}
 use Rattle.tables.specs.Words.{Head, Entry}
@@ -16,7 +16,7 @@ use Rattle.tables.proofs.Ranges.{HeadRanges, head-ranges, head-in-ranges}
 use Rattle.tallies.specs.declared.Tally.{Tally}
 use Rattle.tallies.specs.Tally.{tallyOf, hasPlaces, hasNumberItems, kindTold, allowedTold, noPlainTold, itemsFitTold, withinTold, groupingTold, decimalsTold}
 use Rattle.checking.specs.declared.HeadWords.{HeadWords}
-use Rattle.checking.specs.Checking.{headFrom, agree, comparedTold, conditionTold, thousandsTold, shiftTold, rowTold, Undated, numberTold, otherTold}
+use Rattle.checking.specs.Checking.{headFrom, agree, conditionTold, thousandsTold, shiftTold, rowTold, Undated, numberTold, otherTold}
 use Rattle.checking.proofs.Undated.{undated}
 use Rattle.checking.proofs.Rows.{Told, told, told-back}
 

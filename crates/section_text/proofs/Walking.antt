@@ -8,7 +8,6 @@ use mathlib.Core.Bool.{Bool, false}
 use mathlib.Core.List.{List, _∷_}
 use lib.Dec.{T, eqb}
 use lib.ListN.{length, getD}
-use Rattle.lists.specs.Lists.{every}
 use Rattle.lists.proofs.Bools.{and-left, and-right, every-head, every-tail}
 use Rattle.formats.specs.Items.{Kind, dateKind, itemAllowed, isPlace}
 use Rattle.formats.specs.Where.{implies}

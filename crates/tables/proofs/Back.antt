@@ -2,10 +2,10 @@
 -- Assumes nothing.
 use Prim.Native.Nat.{ℕ, suc, _+_}
 use mathlib.Core.Path.{_≡_, refl, sym, _∙_}
-use mathlib.Core.Bool.{Bool, true, false, cond, _||_}
+use mathlib.Core.Bool.{Bool}
 use mathlib.Core.List.{List, [], _∷_, map}
 use lib.ListN.{length}
-use lib.Dec.{T, eqb, eqb→eq, le→leb}
+use lib.Dec.{T, eqb→eq, le→leb}
 use Rattle.lists.specs.Lists.{every, count}
 use Rattle.lists.proofs.Bools.{and-left, and-right, and-in, nought-unless, every-head, every-tail, every-cons}
 use Rattle.formats.specs.Items.{numberKind, sameKind, kindOf, itemsKind, isPercent, itemsFit, integerPlaces}

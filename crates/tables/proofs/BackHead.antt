@@ -5,7 +5,7 @@ use native.Mathlib.Omega.{arith}
 use mathlib.Core.Path.{_≡_, refl, sym}
 use mathlib.Core.Bool.{Bool, true, false, cond, _&&_}
 use mathlib.Core.Option.{Option, none, some}
-use lib.Dec.{T, leb, ltb, eqb, leb→le, lt→ltb, eqb→eq}
+use lib.Dec.{T, ltb, eqb, lt→ltb, eqb→eq}
 use borrow.Author.Tests.{eqb-true, eqb-false}
 use Rattle.lists.proofs.Bools.{and-left, and-right, and-in, implied, implies-in, by-cases, cond-case}
 use Rattle.formats.specs.Items.{Condition}

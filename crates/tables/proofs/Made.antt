@@ -11,7 +11,6 @@ use Rattle.lists.specs.Lists.{every, count}
 use Rattle.lists.proofs.Bools.{and-in, by-cases, every-head, every-tail, every-cons}
 use Rattle.formats.specs.Items.{Section, numberKind, sameKind, kindOf, isPercent, integerPlaces}
 use Rattle.formats.specs.WellFormed.{dividingFits, sectionFormed, itemsInAll}
-use Rattle.tables.specs.Words.{Row}
 use Rattle.tables.specs.Encode.{kindWord, shiftWord, flagsWord, noMinus, hasHalf, decimalsWord, headOf, entriesOf, rowOf, rowsFrom}
 use Rattle.tables.specs.Decode.{thousandsAt, sectionAt}
 use Rattle.tables.specs.Rules.{headInRange, entryInRange, rowInRange, shiftFits, kindFits, decimalsFit, flagsFit, flagsFrom, rowFits}

@@ -1,31 +1,29 @@
 -- `table-of-code`: demand 3 between definitions. And its converse: words pass exactly when they are the table of well-formed sections.
 -- Assumes nothing.
-use Prim.Native.Nat.{ℕ, zero, suc, _+_, _*_, _≤_, _<_}
+use Prim.Native.Nat.{ℕ, suc, _+_, _*_, _≤_}
 use native.Mathlib.Omega.{arith}
-use mathlib.Core.Path.{_≡_, refl, sym, _∙_, ap}
-use mathlib.Core.Bool.{Bool, true, false, _&&_}
-use mathlib.Core.List.{List, [], _∷_, map}
+use mathlib.Core.Path.{_≡_, refl, _∙_, ap}
+use mathlib.Core.Bool.{Bool, true}
+use mathlib.Core.List.{List, [], _∷_}
 use mathlib.Core.Logic.{_↔_}
 use lib.ListN.{length, length-map}
-use lib.Dec.{T, leb, ltb, leb→le, le→leb, ltb→lt}
-use Rattle.values.specs.declared.Ask.{Ask}
-use Rattle.values.specs.Ranges.{between}
+use lib.Dec.{T, leb, leb→le, le→leb}
 use Rattle.lists.specs.Lists.{every}
-use Rattle.lists.proofs.Bools.{and-left, and-right, and-in, T-true, true-T, every-head, every-tail, every-cons}
+use Rattle.lists.proofs.Bools.{and-left, and-right, and-in, T-true, true-T}
 use Rattle.formats.specs.Items.{Section}
 use Rattle.formats.specs.Choice.{counted}
 use Rattle.formats.specs.Minus.{firstHasCondition}
 use Rattle.formats.specs.WellFormed.{isUnit, sectionFormed, itemsInAll, allStand, wellFormed}
-use Rattle.formats.specs.Accept.{Accepted, sections, refusal, accept}
-use Rattle.formats.specs.Reading.{Reading, reading, readAccepted, codeReading}
+use Rattle.formats.specs.Accept.{sections, accept}
+use Rattle.formats.specs.Reading.{readAccepted, codeReading}
 use Rattle.formats.proofs.Accepted.{accepted-formed}
-use Rattle.tables.specs.Words.{Row, tableWords, rowsIn, headsIn, itemsSaid, exactWords}
+use Rattle.tables.specs.Words.{Row, tableWords, rowsIn, itemsSaid, exactWords}
 use Rattle.tables.specs.Encode.{rowOf, headOf, rowsFrom, rowsOf, encode}
 use Rattle.tables.specs.Decode.{sectionAt, decode}
 use Rattle.tables.specs.Rules.{rowFits, flagsFrom, passes}
 use Rattle.tables.specs.Calls.{wordsOf, tableOf, tableReading}
 use Rattle.tables.specs.Promise.{TableOfCode, TableThatPasses}
-use Rattle.tables.proofs.Words.{Counted, headsOf, rows-in, words-in, words-exact, length-words, rows-counted, rows-length, Exactly, exactly}
+use Rattle.tables.proofs.Words.{headsOf, rows-in, words-in, words-exact, length-words, rows-counted, rows-length, Exactly, exactly}
 use Rattle.tables.proofs.Made.{rows-sections, rows-fit, flags-fit, made-counted}
 use Rattle.tables.proofs.Back.{rows-back, sections-formed}
 use Rattle.tables.proofs.WordRanges.{rows-are-words}

@@ -1,19 +1,16 @@
 -- The words of rows that fit are words of 16 bits.
 -- Assumes nothing.
-use Prim.Native.Nat.{ℕ, zero, suc, _+_, _*_, _≤_, _<_}
+use Prim.Native.Nat.{ℕ, _≤_, _<_}
 use native.Mathlib.Omega.{arith}
-use mathlib.Core.Path.{_≡_, refl}
-use mathlib.Core.Bool.{Bool, true, false, _&&_, _||_}
+use mathlib.Core.Bool.{Bool, true, false, _||_}
 use mathlib.Core.List.{List, [], _∷_}
 use lib.ListN.{length}
-use lib.Dec.{T, leb, ltb, eqb, leb→le, lt→ltb, eqb→eq}
+use lib.Dec.{T, eqb, lt→ltb, eqb→eq}
 use Rattle.values.specs.Ranges.{between}
 use Rattle.lists.specs.Lists.{every}
-use Rattle.lists.proofs.Bools.{and-left, and-right, every-head, every-tail, every-cons}
+use Rattle.lists.proofs.Bools.{every-head, every-tail, every-cons}
 use Rattle.formats.specs.WellFormed.{isUnit}
 use Rattle.tables.specs.Words.{Head, Entry, Row, headWords, headsWords, entriesWords, bodiesWords, tableWords}
-use Rattle.tables.specs.Encode.{entry}
-use Rattle.tables.specs.Decode.{wholeAt, millionthsAt, twoWords}
 use Rattle.tables.specs.Rules.{headInRange, entryInRange, rowFits}
 use Rattle.tables.proofs.Ranges.{head-ranges}
 use Rattle.tables.proofs.BackEntries.{also, between-facts, tag-known, by-tag}

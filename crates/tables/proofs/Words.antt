@@ -2,13 +2,11 @@
 -- Assumes nothing.
 use Prim.Native.Nat.{ℕ, zero, suc, _+_, _-_, _*_, _/_, _≤_, _<_}
 use native.Mathlib.Omega.{arith}
-use native.Mathlib.Nat.{mul-suc}
-use mathlib.Core.Path.{_≡_, refl, sym, _∙_, ap, ap₂}
-use mathlib.Core.Bool.{Bool, true, false, _&&_}
-use mathlib.Core.List.{List, [], _∷_, map}
+use mathlib.Core.Path.{_≡_, refl, sym, _∙_, ap}
+use mathlib.Core.List.{List, [], _∷_}
 use lib.ListN.{length, getD, drop, take, length-drop, drop-of-length-le}
 use lib.Seq.{drop-cons, drop-drop, getD-drop, length-take-le}
-use lib.Dec.{T, leb, eqb, leb→le, eqb→eq, le→leb, eqb-refl}
+use lib.Dec.{T, leb, leb→le, eqb→eq, le→leb, eqb-refl}
 use Rattle.values.specs.Ranges.{between}
 use Rattle.lists.proofs.Bools.{and-left, and-right, and-in}
 use Rattle.tables.specs.Words.{Head, Entry, Row, headWords, headsWords, entriesWords, bodiesWords, tableWords, headAt, headsAt, entriesAt, entriesIn, rowsAt, headsIn, rowsIn, itemsSaid, exactWords}

@@ -1,10 +1,10 @@
 -- What the pass has kept at its end, field by field: it is the tally.
 -- Assumes nothing.
-use Prim.Native.Nat.{ℕ, suc, _+_, _*_, _/_, _%_, _^_, _≤_, _<_}
+use Prim.Native.Nat.{ℕ, _+_, _*_, _/_, _%_, _^_, _≤_, _<_}
 use native.Mathlib.Omega.{arith}
 use native.Mathlib.Nat.{zero-add}
 use mathlib.Core.Path.{_≡_, refl, sym, _∙_, ap}
-use mathlib.Core.Bool.{Bool, true, false, cond, _&&_, _||_, and-false, and-true}
+use mathlib.Core.Bool.{Bool, true, false, _&&_, _||_, and-false, and-true}
 use mathlib.Core.List.{List, [], _∷_}
 use lib.Dec.{ltb, eqb, eqb·suc-zero}
 use lib.ListN.{length, getD}

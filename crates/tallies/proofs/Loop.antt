@@ -15,7 +15,7 @@ use Rattle.tables.proofs.Words.{entriesAt-length, entriesLeft, entries-front}
 use Rattle.tallies.specs.declared.Tally.{Tally}
 use Rattle.tallies.specs.declared.Walk.{Walk}
 use Rattle.tallies.specs.Tally.{tallyOf}
-use Rattle.tallies.specs.Walk.{weight, otherTests, dateTests, markTests, numberWeight, isFirstPoint, unitAfter, entrySound, stepOf, walkFrom, startOf, finishedOf, Few}
+use Rattle.tallies.specs.Walk.{otherTests, dateTests, markTests, numberWeight, isFirstPoint, unitAfter, entrySound, stepOf, walkFrom, startOf, finishedOf, Few}
 use Rattle.tallies.proofs.Packed.{ones, weight-most}
 use Rattle.tallies.proofs.Fold.{fault-most, finished-is}
 
