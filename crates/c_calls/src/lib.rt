@@ -16,12 +16,7 @@ pub fn section(code: &[u16], n: u32) -> PartNumbers {
     numfmt_section(code, n)
 }
 
-pub fn show_number(
-    table: &[u16],
-    coefficient: i64,
-    scale: u32,
-    room: &mut [u16],
-) -> ShownNumbers {
+pub fn show_number(table: &[u16], coefficient: i64, scale: u32, room: &mut [u16]) -> ShownNumbers {
     numfmt_show_number(table, coefficient, scale, room)
 }
 

@@ -45,7 +45,8 @@ fn write_section(section: u16) {
         3 => io::write_all(STDOUT_FILENO, b"section=3\n"),
         4 => io::write_all(STDOUT_FILENO, b"section=4\n"),
         _ => io::write_all(STDOUT_FILENO, b"section=?\n"),
-    };
+    }
+    ;
 }
 
 fn respond_block(block: &[u8]) {
