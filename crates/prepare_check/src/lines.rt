@@ -8,6 +8,12 @@ ghost use Rattle.prepare_check.specs.Lines.{mark, spaced, spacedAll, lin
 use writing::put_numeral;
 use writing::put_unit;
 
+const LINE_FEED: u16 = 10;
+
+const SPACE: u16 = 32;
+
+const EXCLAMATION: u16 = 33;
+
 // Puts `!` where something is not sound.
 fn put_mark(room: &mut [u16], at: usize, sound: bool) -> usize
     requires { ⌜ at < 2 ^ 61 ⌝ }
@@ -17,7 +23,7 @@ fn put_mark(room: &mut [u16], at: usize, sound: bool) -> usize
     if sound {
         return at;
     }
-    put_unit(room, at, 33)
+    put_unit(room, at, EXCLAMATION)
 }
 
 // Puts a number.
@@ -35,7 +41,7 @@ fn put_spaced(room: &mut [u16], at: usize, n: u64) -> usize
     ensures within { λ r. ⌜ r ≤ at + 26 ⌝ }
     ensures { λ r. ⌜ Put (now (room .entry)) at (spaced n) r (now (room .exit)) ⌝ }
 {
-    let a = put_unit(room, at, 32);
+    let a = put_unit(room, at, SPACE);
     put_number(room, a, n)
 }
 
@@ -65,5 +71,5 @@ pub fn put_line(room: &mut [u16], sound: bool, answer: u16, place: u32, words: &
     let c = put_spaced(room, b, place as u64);
     let d = put_spaced(room, c, words.len() as u64);
     let e = put_words(room, d, words);
-    put_unit(room, e, 10)
+    put_unit(room, e, LINE_FEED)
 }

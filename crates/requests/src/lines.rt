@@ -9,6 +9,14 @@ ghost use Rattle.lists.specs.Lists.{every};
 ghost use Rattle.requests.specs.Lines.{isAscii, isLine};
 ghost use Rattle.requests.specs.Reads.{LineAt};
 
+// The unit that ends a line.
+const LINE_FEED: u16 = 10;
+
+// The most bytes of a line before its line feed.
+const LONGEST: usize = 2048;
+
+const LAST_ASCII: u16 = 127;
+
 // A part of the lent units: where it starts, and where the units behind it start.
 pub struct Part {
     pub start: usize,
@@ -27,7 +35,7 @@ fn is_ascii(us: &[u16]) -> bool
 {
     let mut i: usize = 0;
     while i < us.len() {
-        if 127 < us[i] {
+        if LAST_ASCII < us[i] {
             return false;
         }
         i += 1;
@@ -39,7 +47,7 @@ fn is_ascii(us: &[u16]) -> bool
 fn is_line(line: &[u16], name: &[u8]) -> bool
     ensures { λ r. ⌜ r ≡ isLine (now (name .entry)) (now (line .entry)) ⌝ }
 {
-    if 2048 < line.len() {
+    if LONGEST < line.len() {
         return false;
     }
     is_ascii(line) & starts_with(line, name)
@@ -50,7 +58,7 @@ pub fn line_at(input: &[u16], at: usize, name: &[u8]) -> Line
     requires { ⌜ at ≤ length (now input) ⌝ }
     ensures { λ r. ⌜ LineAt (now (input .entry)) at (now (name .entry)) r ⌝ }
 {
-    let n = scan(&input[at..], Set::But(10));
+    let n = scan(&input[at..], Set::But(LINE_FEED));
     let end = at + n;
     if end == input.len() {
         return Line::Malformed;

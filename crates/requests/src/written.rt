@@ -36,6 +36,10 @@ pub enum ValueRead {
     Malformed,
 }
 
+const POINT: u16 = 46;
+
+const SOLIDUS: u16 = 47;
+
 // The least coefficient that is too large: any larger one is read as it.
 const LARGE: u64 = 1000000000000000;
 
@@ -72,7 +76,7 @@ fn unsigned(negative: bool, us: &[u16]) -> ValueRead
     requires { ⌜ length (now us) ≤ 2048 ⌝ }
     ensures { λ r. ⌜ r ≡ unsignedOf negative (now (us .entry)) ⌝ }
 {
-    let n = scan(us, Set::But(46));
+    let n = scan(us, Set::But(POINT));
     if !is_digits(&us[..n]) {
         return ValueRead::Malformed;
     }
@@ -118,7 +122,7 @@ fn count(us: &[u16]) -> u32
 fn instant(us: &[u16]) -> ValueRead
     ensures { λ r. ⌜ r ≡ instantOf (now (us .entry)) ⌝ }
 {
-    let n = scan(us, Set::But(47));
+    let n = scan(us, Set::But(SOLIDUS));
     if n == us.len() {
         return ValueRead::Malformed;
     }

@@ -11,6 +11,8 @@ use writing::put_numeral;
 use writing::put_unit;
 use writing::put_units;
 
+const LINE_FEED: u16 = 10;
+
 // Puts a line with a number.
 fn put_number(room: &mut [u16], at: usize, name: &[u8], n: u64) -> usize
     requires { ⌜ (at < 2 ^ 60) × (length (now name) ≤ 7) ⌝ }
@@ -19,7 +21,7 @@ fn put_number(room: &mut [u16], at: usize, name: &[u8], n: u64) -> usize
 {
     let a = put_bytes(room, at, name);
     let b = put_numeral(room, a, 1, n);
-    put_unit(room, b, 10)
+    put_unit(room, b, LINE_FEED)
 }
 
 // Puts a line with a text.
@@ -30,7 +32,7 @@ fn put_text(room: &mut [u16], at: usize, name: &[u8], text: &[u16]) -> usize
 {
     let a = put_bytes(room, at, name);
     let b = put_units(room, a, text);
-    put_unit(room, b, 10)
+    put_unit(room, b, LINE_FEED)
 }
 
 // Puts the four lines.

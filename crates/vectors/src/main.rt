@@ -37,7 +37,7 @@ fn line_end(input: &[u8], at: usize) -> usize
     i
 }
 
-fn write_section(section: u16) {
+fn write_section(section: u16) -> bool {
     match section {
         0 => io::write_all(STDOUT_FILENO, b"section=0\n"),
         1 => io::write_all(STDOUT_FILENO, b"section=1\n"),
@@ -46,7 +46,6 @@ fn write_section(section: u16) {
         4 => io::write_all(STDOUT_FILENO, b"section=4\n"),
         _ => io::write_all(STDOUT_FILENO, b"section=?\n"),
     }
-    ;
 }
 
 fn respond_block(block: &[u8]) {

@@ -30,7 +30,7 @@ returns c =
     let t = p .before .before in
     let k = t .before .before .before in
     let u = units-known (k .before .args .code .now) (λ i. omega (arith, k .shared-slice-known .given i)) in
-    let r = refused-shows _ u _ (p .prepare .ensures .0) (m .number .ensures) (t .table-room .ensures) (c .before .if1 .taken) _ _ _ in
+    let r = refused-shows _ u _ (p .prepare .ensures .0) (m .number .ensures) (t .table-room .ensures) (λ z. absurd (omega (arith, z))) _ _ _ in
     (c .refused .ensures ∙ r .0, r .1)
 
 cast-words : tie.Need-cast-words
@@ -61,7 +61,7 @@ returns-2 c =
     let t = p .before .before in
     let k = t .before .before .before in
     let u = units-known (k .before .args .code .now) (λ i. omega (arith, k .shared-slice-known .given i)) in
-    let d = made _ u _ (p .prepare .ensures .0) (m .number .ensures) (t .table-room .ensures) (i .if1 .left) in
+    let d = made _ u _ (p .prepare .ensures .0) (m .number .ensures) (t .table-room .ensures) (omega arith) in
     made-shows _ u _ (p .prepare .ensures .0) (m .number .ensures) (t .table-room .ensures) d _ refl (p .prepare .ensures .1)
     _ _ (k .before .args .room .now) _ (s .show .ensures .0) (s .show .ensures .1)
 
