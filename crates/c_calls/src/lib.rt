@@ -8,22 +8,22 @@ use c_api::numfmt_show_instant;
 use c_api::numfmt_show_number;
 use c_api::numfmt_show_text;
 
-pub fn prepare(code: &[u16], table: &mut [u16]) -> PreparedNumbers {
+fn prepare(code: &[u16], table: &mut [u16]) -> PreparedNumbers {
     numfmt_prepare(code, table)
 }
 
-pub fn section(code: &[u16], n: u32) -> PartNumbers {
+fn section(code: &[u16], n: u32) -> PartNumbers {
     numfmt_section(code, n)
 }
 
-pub fn show_number(table: &[u16], coefficient: i64, scale: u32, room: &mut [u16]) -> ShownNumbers {
+fn show_number(table: &[u16], coefficient: i64, scale: u32, room: &mut [u16]) -> ShownNumbers {
     numfmt_show_number(table, coefficient, scale, room)
 }
 
-pub fn show_instant(table: &[u16], day: u32, millisecond: u32, room: &mut [u16]) -> ShownNumbers {
+fn show_instant(table: &[u16], day: u32, millisecond: u32, room: &mut [u16]) -> ShownNumbers {
     numfmt_show_instant(table, day, millisecond, room)
 }
 
-pub fn show_text(table: &[u16], text: &[u16], room: &mut [u16]) -> ShownNumbers {
+fn show_text(table: &[u16], text: &[u16], room: &mut [u16]) -> ShownNumbers {
     numfmt_show_text(table, text, room)
 }
