@@ -29,7 +29,8 @@ use Rattle.requests.specs.Reads.{partOf, Within, Reads}
 use Rattle.requests.proofs.Prefixes.{request-prefix}
 use Rattle.responding.specs.declared.Told.{Told}
 use Rattle.responding.specs.declared.Responded.{Responded}
-use Rattle.responding.specs.Respond.{fourLines, linesOf, sectionOf, responseOf, responded, Answers}
+use Rattle.responding.specs.Respond.{fourLines, linesOf, sectionOf, responseOf, responded}
+use Rattle.responding.specs.Answers.{Answers}
 use Rattle.responding.proofs.Ascii.{response-bytes}
 
 -- ---- how much of the room a preview shows

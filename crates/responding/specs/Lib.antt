@@ -1,1 +1,2 @@
 pub mod Respond
+pub mod Answers

@@ -1,8 +1,7 @@
 -- What the program answers: "It tests 14 first and lends 557 table words and 4,096 text units", and it writes four lines. The
 -- answer is read off the code itself.
 -- Assumes nothing.
-use Prim.Native.Nat.{ℕ, _≤_}
-use mathlib.Core.Path.{_≡_}
+use Prim.Native.Nat.{ℕ}
 use mathlib.Core.Bool.{cond}
 use mathlib.Core.List.{List, [], _∷_, _++_}
 use lib.ListN.{length}
@@ -12,11 +11,9 @@ use Rattle.answers.specs.declared.Answer.the-variants as answer
 use Rattle.answers.specs.Number.{numberOf}
 use Rattle.figures.specs.Digits.{numeral}
 use Rattle.calendar.specs.Names.{units}
-use Rattle.writing.specs.Put.{Put}
 use Rattle.preview.specs.Preview.{previewed, previewText}
 use Rattle.requests.specs.Lines.{lineFeed}
 use Rattle.requests.specs.Request.{Request, refused, request, requestOf}
-use Rattle.responding.specs.declared.Told.{Told}
 use Rattle.responding.specs.declared.Responded.{Responded}
 
 -- a name, what stands behind it, and a line feed
@@ -52,9 +49,3 @@ responded input size =
     cond (leb (length (responseOf input)) size)
     (record { answer = answer.Done; length = length (responseOf input); section = sectionOf (requestOf input) })
     (record { answer = answer.TextRoom; length = 0; section = 0 })
-
--- a request is answered in a room of units: its lines are put in front, as far as the room reaches
-pub record Answers (q : Request) (old : List ℕ) (r : Told) (out : List ℕ) : Type 0 where
-  pub short : r .length ≤ 4203
-  pub shown : r .section ≡ sectionOf q
-  pub put : Put old 0 (linesOf q) (r .length) out

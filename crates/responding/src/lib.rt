@@ -15,7 +15,8 @@ ghost use lib.ListN.{length, take};
 ghost use Rattle.lists.specs.Lists.{overlay};
 ghost use Rattle.tables.specs.Calls.{written};
 ghost use Rattle.requests.specs.Request.{request, requestOf};
-ghost use Rattle.responding.specs.Respond.{responseOf, responded, Answers};
+ghost use Rattle.responding.specs.Answers.{Answers};
+ghost use Rattle.responding.specs.Respond.{responseOf, responded};
 
 // What answering returns: the length of the lines where the room takes them, else 13. The section that showed the value is not
 // in the lines.
@@ -26,9 +27,9 @@ pub struct Responded {
 }
 
 // How many units the lines of an answer are, and the section that showed the value.
-pub struct Told {
-    pub length: usize,
-    pub section: u16,
+struct Told {
+    length: usize,
+    section: u16,
 }
 
 // Rooms are made by functions of their own: only their lengths matter to the proofs.
