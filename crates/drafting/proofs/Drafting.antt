@@ -14,12 +14,15 @@ use Rattle.calendar.specs.Names.{units}
 use Rattle.lists.specs.Lists.{count, isSome}
 use Rattle.lists.proofs.Bools.{and-left, and-right, true-T}
 use Rattle.formats.specs.Tokens.{Token, Written, startsWith, conditionInside}
-use Rattle.formats.specs.Items.{Item, kindOf, sameKind, dateKind, settled}
+use Rattle.formats.specs.Items.{Item, kindOf, integerPlaces, sameKind, dateKind, settled}
 use Rattle.formats.specs.Kinds.{isFillToken, Parts, partsOf, conditionOf, sectionOf, fits, commasFit, bodyKind, bodyItems, lastFill}
 use Rattle.formats.specs.Limits.{writtenWithin, sectionWithin, withinLimits}
-use Rattle.tables.specs.Words.{Entry, entriesAt, entriesWords}
+use Rattle.tables.specs.Words.{Entry, entriesIn}
 use Rattle.tables.specs.Encode.{operatorWord, negativeWord, wholePart, millionthsPart, bit, entriesOf, shiftWord}
 use Rattle.tables.specs.Decode.{itemsAt}
+use Rattle.tables.specs.Standing.{shiftOf}
+use Rattle.tables.proofs.Words.{length-entries, entries-in-words}
+use Rattle.tables.proofs.Standing.{sectionKind, shift-word}
 use Rattle.tables.proofs.MadeItems.{items-back, entries-length}
 use Rattle.marks.specs.Marks.{tokensIn}
 use Rattle.writing.specs.Put.{Put}
@@ -34,11 +37,11 @@ use Rattle.bodies.specs.Sections.{headingParts, HeadingOf}
 use Rattle.bodies.proofs.Inside.{condition-at}
 use Rattle.marks.proofs.Words.{tokens-drop}
 use Rattle.tallies.specs.declared.Tally.{Tally}
-use Rattle.tallies.specs.Tally.{entriesIn, tallyOf, kindTold, withinTold, decimalsTold}
-use Rattle.tallies.proofs.Told.{percents-are, half-told, items-fit-told, within-told, decimals-told, section-kind-told, number-told}
+use Rattle.tallies.specs.Tally.{tallyOf, kindTold, withinTold, decimalsTold}
+use Rattle.tallies.proofs.Told.{percents-are, half-told, items-fit-told, within-told, decimals-told, section-kind-told}
 use Rattle.emitting.specs.Emit.{bodyWords}
 use Rattle.drafting.specs.declared.Body.{Body}
-use Rattle.drafting.specs.Draft.{ConditionAs, headingCondition, noCondition, thousandsBy, shiftBy, shiftTold, fitsBy, bodyBy, BodyOf, DraftOf}
+use Rattle.drafting.specs.Draft.{ConditionAs, headingCondition, noCondition, thousandsBy, shiftTold, fitsBy, bodyBy, BodyOf, DraftOf}
 
 -- ---- the condition
 conditioned : (w : Written) (r : Compared) → ComparedBy w r → ConditionAs (some w) r
@@ -92,29 +95,16 @@ clamped-inside code start size room e l h =
     rw same h
 
 -- ---- the items' words read back
-entries-back : (es : List Entry) → entriesAt (length es) (entriesWords es []) ≡ es
-unfolding entriesAt entriesWords
-entries-back [] = refl
-entries-back (e ∷ es) = ap (λ (xs : List Entry). e ∷ xs) (entries-back es)
-
-words-length : (es : List Entry) → length (entriesWords es []) ≡ 2 * length es
-unfolding entriesWords
-words-length [] = refl
-words-length (e ∷ es) = omega (arith, words-length es)
-
 module _ (ts : List Token) where
   abbrev items : List Item
   items = settled (lastFill (bodyItems ts))
 
   pub body-length : length (bodyWords ts) ≡ 2 * length items
   unfolding entriesOf
-  body-length = words-length (entriesOf items) ∙ rw (entries-length _ items)
+  body-length = omega (arith, length-entries (entriesOf items) [], entries-length (14 + integerPlaces items) items)
 
   pub body-entries : entriesIn (bodyWords ts) ≡ entriesOf items
-  unfolding entriesIn
-  body-entries =
-      let half : length (entriesWords (entriesOf items) []) / 2 ≡ length (entriesOf items) = omega (arith, words-length (entriesOf items)) in
-      rw half (entries-back (entriesOf items))
+  body-entries = entries-in-words (entriesOf items)
 
 -- ---- the body
 pub within-bounds : (t : Tally) (thousands : ℕ) → withinTold t thousands ≡ true → (t .percents ≤ 5) × (thousands ≤ 5)
@@ -144,9 +134,11 @@ module _ (p : Parts) where
   unfolding fits commasFit factsOf commasOf
   fits-same = rw (items-fit-told entries, ← section-items)
 
-  shift-same : shiftBy (tallyOf entries) ((sectionOf p) .thousands) ≡ shiftWord (sectionOf p)
-  unfolding shiftWord kindOf
-  shift-same = rw (number-told entries, percents-are entries, ← section-items)
+  kind-same : kindTold (tallyOf entries) ≡ sectionKind (sectionOf p)
+  kind-same = section-kind-told entries (sectionOf p) section-items
+
+  shift-same : shiftOf (kindTold (tallyOf entries)) (tallyOf entries .percents) ((sectionOf p) .thousands) ≡ shiftWord (sectionOf p)
+  shift-same = rw (kind-same, percents-are entries, ← section-items) (sym (shift-word (sectionOf p)))
 
   pub body-drafted : BodyOf p (bodyBy (factsOf (p .body)) (commasOf (p .body)) (tallyOf entries) (length (items (p .body))))
   body-drafted =
@@ -155,7 +147,7 @@ module _ (p : Parts) where
       record {
         fits = fits-same;
         within = w;
-        kind = section-kind-told entries (sectionOf p) section-items;
+        kind = kind-same;
         shift = λ t. rw t (rw thousands-same shift-same);
         grouped = unfold sectionOf factsOf commasOf in refl;
         twelve = half-told entries ∙ rw (← section-items);

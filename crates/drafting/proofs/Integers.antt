@@ -4,16 +4,17 @@ use Prim.Native.Nat.{ℕ, zero, suc, _+_, _-_, _*_, _≤_, _<_, min}
 use native.Mathlib.Omega.{arith}
 use mathlib.Core.Path.{_≡_, refl, sym, _∙_, ap}
 use mathlib.Core.Bool.{Bool, true, false, cond, _&&_, true≢false}
-use mathlib.Core.List.{List, [], _∷_, _++_, map}
+use mathlib.Core.List.{List, [], _∷_}
 use lib.ListN.{length, drop, getD}
 use lib.Dec.{ltb, eqb}
 use borrow.Author.Tests.{lt-ltb, le-ltb}
 use native.Mathlib.Nat.{zero-min}
 use Rattle.lists.proofs.Bools.{by-cases}
 use Rattle.formats.specs.Tokens as token
-use Rattle.formats.specs.Tokens.{Token, Letter, letterY, letterM, letterD, letterH, letterS}
-use Rattle.formats.specs.Items.{Item, literal, integerPlaces, sameKind, dateKind}
-use Rattle.formats.specs.Kinds.{formOf, integerPlaceTokens, isPlace, isPoint, isZero, isZeroIn, isSecondsToken, leadingZeros, partZeros, Piece, whole, secondPart, piecesFrom, runItem, tokenItems, pieceItems, plainItems, dateItems, bodyKind, bodyItems}
+use Rattle.formats.specs.Tokens.{Token}
+use Rattle.formats.specs.Items.{integerPlaces, sameKind, dateKind}
+use Rattle.formats.specs.Kinds.{formOf, integerPlaceTokens, isPlace, isPoint, isZero, isZeroIn, isSecondsToken, leadingZeros, partZeros, Piece, whole, secondPart, piecesFrom, pieceItems, dateItems, bodyKind, bodyItems}
+use Rattle.formats.proofs.FormedGrouping.{token-places, places-plain}
 use Rattle.marks.specs.Marks.{markToken, tokenAt, tokensIn}
 use Rattle.bodies.specs.declared.facts.Facts.{Facts}
 use Rattle.bodies.specs.Forms.{placeForm}
@@ -25,50 +26,9 @@ use Rattle.emitting.proofs.Forms.{tells}
 use Rattle.drafting.specs.declared.places.Parting.{Parting}
 use Rattle.drafting.specs.Draft.{datePlaces, partForm}
 
--- ---- the places that a token makes
-literals-places : (us : List ℕ) (is : List Item) → integerPlaces (map literal us ++ is) ≡ integerPlaces is
-unfolding integerPlaces
-literals-places [] is = refl
-literals-places (u ∷ us) is = literals-places us is
-
-run-places : (l : Letter) (n : ℕ) (is : List Item) → integerPlaces (runItem l n ∷ is) ≡ integerPlaces is
-unfolding integerPlaces runItem
-run-places letterY n is = refl
-run-places letterM n is = refl
-run-places letterD n is = refl
-run-places letterH n is = refl
-run-places letterS n is = refl
-
 -- one more where it is a place
 abbrev more : Bool → ℕ → ℕ
 more b n = cond b (suc n) n
-
-token-places : (date : Bool) (t : Token) (is : List Item) → integerPlaces (tokenItems date t ++ is)
-    ≡ cond (isPoint t) (cond date (integerPlaces is) 0) (more (isPlace t) (integerPlaces is))
-unfolding integerPlaces tokenItems
-token-places date (token.literal us) is = literals-places us is
-token-places date (token.bare u) is = refl
-token-places date (token.blank u) is = refl
-token-places date (token.fill u) is = refl
-token-places date (token.place p) is = refl
-token-places true token.point is = refl
-token-places false token.point is = refl
-token-places true token.comma is = refl
-token-places false token.comma is = refl
-token-places date token.percent is = refl
-token-places date token.at is = refl
-token-places date token.semicolon is = refl
-token-places date token.general is = refl
-token-places date (token.half h) is = refl
-token-places date (token.run l n) is = run-places l n is
-token-places date (token.elapsed e n) is = refl
-token-places date (token.colour n) is = refl
-token-places date (token.condition w) is = refl
-
-places-plain : (ts : List Token) → integerPlaces (plainItems ts) ≡ integerPlaceTokens ts
-unfolding plainItems integerPlaces integerPlaceTokens
-places-plain [] = refl
-places-plain (t ∷ ts) = token-places false t (plainItems ts) ∙ rw (places-plain ts)
 
 -- ---- the places of a date
 point-other : (t : Token) → isPoint t ≡ true → (isSecondsToken t ≡ false) × (isPlace t ≡ false)

@@ -12,9 +12,9 @@ use Rattle.formats.specs.Tokens.{Token, Written, lex}
 use Rattle.formats.specs.Items.{kindOf}
 use Rattle.formats.specs.Accept.{placedOf, tokensOf, partsIn}
 use Rattle.formats.specs.Kinds.{Parts, partsOf, conditionIn, conditionOf, sectionOf, fits, isPlace, isPoint, isZero, isSecondsToken}
-use Rattle.formats.specs.Where.{implies}
 use Rattle.formats.specs.Limits.{writtenWithin, withinLimits, sectionWithin}
 use Rattle.tables.specs.Encode.{kindWord, operatorWord, negativeWord, wholePart, millionthsPart, bit, shiftWord, hasHalf, decimalsWord}
+use Rattle.tables.specs.Standing.{shiftOf}
 use Rattle.marks.specs.Marks.{tokenAt, tokensIn}
 use Rattle.bodies.specs.declared.conditions.Compared.{Compared}
 use Rattle.emitting.specs.Emit.{bodyWords}
@@ -81,12 +81,9 @@ noDraft =
 abbrev pub thousandsBy : Facts → Commas → ℕ
 thousandsBy f c = cond (f .number) (c .thousands) 0
 
-abbrev pub shiftBy : Tally → ℕ → ℕ
-shiftBy t thousands = cond (eqb (kindTold t) 2) (15 + 2 * t .percents - 3 * thousands) 0
-
 -- the shift is told where the section is within the limits
 abbrev pub shiftTold : Tally → ℕ → ℕ
-shiftTold t thousands = cond (withinTold t thousands) (shiftBy t thousands) 0
+shiftTold t thousands = cond (withinTold t thousands) (shiftOf (kindTold t) (t .percents) thousands) 0
 
 abbrev pub fitsBy : Facts → Commas → Tally → Bool
 fitsBy f c t = f .plain && (f .date || not (c .misplaced)) && f .solidus && itemsFitTold t
@@ -149,30 +146,8 @@ pub record Lexes (code tokens : List ℕ) (n : ℕ) : Type 0 where
   pub same : tokensIn code tokens ≡ tokensOf (placedOf (lex code))
   pub many : n ≡ length (partsIn code)
 
--- ---- the tests on a draft
 abbrev pub hasConditionBy : Draft → Bool
 hasConditionBy d = not (eqb (d .condition .operator) 0)
-
-abbrev pub isTextBy : Draft → Bool
-isTextBy d = eqb (d .body .kind) 3
-
--- where section i of n may stand
-unfoldable pub standsBy : ℕ → ℕ → Draft → Bool
-standsBy n i d =
-    implies (isTextBy d) (eqb (i + 1) n)
-    && implies (eqb n 1 && hasConditionBy d) (eqb (d .body .kind) 1)
-    && implies (hasConditionBy d) (ltb i 2)
-    && implies (isTextBy d) (not (hasConditionBy d))
-    && implies (eqb i 3) (isTextBy d || eqb (d .body .kind) 1 || eqb (d .body .kind) 0)
-    && implies (eqb i 3) (eqb (d .colour) 0 && not (hasConditionBy d))
-
--- the test of the answer of this number, of section i of n
-unfoldable pub passesBy : ℕ → ℕ → ℕ → Draft → Bool
-passesBy test n i d = cond (eqb test 4) (d .body .fits) (cond (eqb test 5) (standsBy n i d) (d .within))
-
--- the place of what fails, where it is below n
-abbrev pub foundBelow : ℕ → ℕ → Option ℕ
-foundBelow n r = cond (ltb r n) (some r) none
 
 -- ---- a condition token's units write a condition
 unfoldable pub writesDigit : Option Written → Bool

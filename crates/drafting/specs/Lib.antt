@@ -1,2 +1,1 @@
 pub mod Draft
-pub mod Examine

@@ -10,7 +10,8 @@ use lib.ListN.{length}
 use lib.Dec.{T, leb, le→leb}
 use Rattle.answers.specs.declared.Answer.the-variants as answer
 use Rattle.lists.specs.Lists.{every, firstFailing, isSome}
-use Rattle.lists.proofs.Bools.{and-in, every-head, every-tail, every-cons, true-T, by-cases}
+use Rattle.lists.proofs.Bools.{and-in, every-head, every-tail, every-cons}
+use Rattle.lists.proofs.First.{none-every}
 use Rattle.formats.specs.Items.{Section}
 use Rattle.formats.specs.Kinds.{Parts, sectionOf, fits}
 use Rattle.formats.specs.Where.{standsAt}
@@ -22,18 +23,6 @@ use Rattle.formats.proofs.TokenRanges.{partsInRange, parts-pass}
 use Rattle.formats.proofs.ItemCount.{items-most, section-count}
 use Rattle.formats.proofs.Formed.{section-formed}
 use Rattle.formats.proofs.First.{AllFine, verdict-fine, length-bounds, fine-none, count-few}
-
--- where no element fails, every element passes
-none-every : {A : Type 0} (f : A → Bool) (k : ℕ) (xs : List A) → firstFailing (λ (i : ℕ) (x : A). f x) k xs ≡ none → T (every f xs)
-unfolding firstFailing every
-none-every f k [] e = tt
-none-every f k (x ∷ xs) e =
-    by-cases (f x)
-    (λ h. every-cons f x xs (true-T h) (none-every f (suc k) xs (rw h at e)))
-    (λ h. let z : _≡_ {A = ℕ} 0 1 = some-none k (rw h at e) in absurd (omega arith))
-  where
-    some-none : (k : ℕ) → _≡_ {A = Option ℕ} (some k) none → _≡_ {A = ℕ} 0 1
-    some-none k e = cc
 
 -- every section of parts that are in range, fit and keep the limits is formed
 all-formed : (ps : List Parts) → T (every partsInRange ps) → T (every fits ps) → T (every withinLimits ps)

@@ -4,13 +4,13 @@ use Prim.Native.Nat.{ℕ, zero, suc, _+_, _-_, _≤_, _<_}
 use Prim.Native.String.{String}
 use native.Mathlib.Omega.{arith}
 use mathlib.Core.Path.{_≡_}
-use mathlib.Core.Bool.{Bool, true, false, not, _&&_, _||_}
+use mathlib.Core.Bool.{Bool, true, false, not, _&&_, _||_, true≢false}
 use mathlib.Core.List.{List, [], _∷_, map}
 use mathlib.Core.Option.{Option, none, some}
 use lib.ListN.{length, take, drop}
 use lib.Dec.{T, leb, ltb, eqb, leb→le, le→leb, lt→ltb}
 use Rattle.lists.specs.Lists.{every, any, isEmpty}
-use Rattle.lists.proofs.Bools.{and-left, and-right, and-in, true-T, by-cases, cond-both, cond-case, every-head, every-tail, every-cons, every-append}
+use Rattle.lists.proofs.Bools.{and-left, and-right, and-in, true-T, by-cases, cond-both, cond-case, every-head, every-tail, every-cons, every-append, every-take}
 use Rattle.lists.proofs.Counts.{every-map, every-weaker}
 use Rattle.calendar.specs.Names.{units}
 use Rattle.formats.specs.Tokens.{Letter, Elapsed, hours, minutes, seconds, Comparison, equal, less, greater, atMost, atLeast, unequal, Written, Token, literal, bare, blank, fill, place, point, comma, percent, at, semicolon, general, half, run, elapsed, colour, condition, Step, read, broken, before, leading, startsWith, same, quoted, marked, generalWord, halfDayWord, runAllowed, runStep, isDigit, digitOf, numberFrom, colourNames, namedFrom, noLeadingZero, colourDigits, numbered, elapsedInside, decimalsOf, wholeOf, signedOf, conditionInside, firstForm, insideOf, closed, bracketed, First, quote, backslash, underscore, asterisk, openBracket, capitalG, capitalA, other, letter, single, FirstRow, firstRows, firstIn, bareLiterals, stepBy, stepAt, Placed, Lexed, good, bad, onto, afterStep, lexFrom, lex}
@@ -24,9 +24,9 @@ use Rattle.formats.proofs.FormedPieces.{zeros-most}
 abbrev pub belowTen : ℕ → Bool
 belowTen d = ltb d 10
 
--- the digits of a condition are digits
+-- the digits of a condition are digits, and some stand before its point
 unfoldable pub writtenInRange : Written → Bool
-writtenInRange w = every belowTen (w .whole) && every belowTen (w .decimals)
+writtenInRange w = every belowTen (w .whole) && every belowTen (w .decimals) && not (isEmpty (w .whole))
 
 -- the units of a token pass a test, and its runs, colours and digits are in range
 unfoldable pub tokenPasses : (ℕ → Bool) → Token → Bool
@@ -50,18 +50,16 @@ tokenPasses f (condition w) = writtenInRange w
 abbrev pub tokenInRange : Token → Bool
 tokenInRange = tokenPasses isUnit
 
--- lists of units
-pub every-take : {A : Type 0} (f : A → Bool) (n : ℕ) (xs : List A) → T (every f xs) → T (every f (take n xs))
-unfolding every
-every-take f zero xs t = tt
-every-take f (suc n) [] t = tt
-every-take f (suc n) (x ∷ xs) t = every-cons f x (take n xs) (every-head f x xs t) (every-take f n xs (every-tail f x xs t))
-
 -- the units that `leading` counts pass its test
 leading-every : (f : ℕ → Bool) (us : List ℕ) → T (every f (take (leading f us) us))
 unfolding leading every
 leading-every f [] = tt
 leading-every f (u ∷ us) = by-cases (f u) (λ e. rw e (rw e (leading-every f us))) (λ e. rw e tt)
+
+leading-some : (f : ℕ → Bool) (us : List ℕ) → eqb (leading f us) 0 ≡ false → T (not (isEmpty (map digitOf (take (leading f us) us))))
+unfolding leading isEmpty
+leading-some f [] e = absurd (true≢false e)
+leading-some f (u ∷ us) e = by-cases (f u) (λ t. rw t tt) (λ t. absurd (true≢false (rw t at e)))
 
 digit-below : (u : ℕ) → T (isDigit u) → T (belowTen (digitOf u))
 unfolding isDigit digitOf
@@ -111,22 +109,25 @@ module _ (P : Token → Type 0)
       (λ h. elapses e (length us) (length-least us (and-left (not (isEmpty us)) (every (eqb u) us) (true-T h))))
       (λ h. tt)
 
-  decimals-form : (c : Comparison) (negative : Bool) (whole us : List ℕ) → T (every isDigit whole) → InForm P (decimalsOf c negative whole us)
+  decimals-form : (c : Comparison) (negative : Bool) (whole us : List ℕ) → T (every isDigit whole) → T (not (isEmpty (map digitOf whole)))
+      → InForm P (decimalsOf c negative whole us)
   unfolding decimalsOf every writtenInRange
-  decimals-form c negative whole [] t = conditions _ (and-in (every belowTen (map digitOf whole)) true (digits-below whole t) tt)
-  decimals-form c negative whole (u ∷ us) t =
+  decimals-form c negative whole [] t s = let a = digits-below whole t in conditions _ (search and-in)
+  decimals-form c negative whole (u ∷ us) t s =
       cond-case (InForm P) (eqb u 46 && not (isEmpty us) && every isDigit us)
       (λ h.
       let a : T (eqb u 46 && not (isEmpty us) && every isDigit us) = true-T h in
       let d : T (every isDigit us) = search (and-left, and-right) in
-      conditions _ (and-in (every belowTen (map digitOf whole)) (every belowTen (map digitOf us)) (digits-below whole t) (digits-below us d)))
+      let b = digits-below whole t in
+      let k = digits-below us d in
+      conditions _ (search and-in))
       (λ h. tt)
 
   whole-form : (c : Comparison) (negative : Bool) (us : List ℕ) → InForm P (wholeOf c negative us)
   unfolding wholeOf
   whole-form c negative us =
-      cond-both (InForm P) (eqb (leading isDigit us) 0) tt
-      (decimals-form c negative (take (leading isDigit us) us) (drop (leading isDigit us) us) (leading-every isDigit us))
+      cond-case (InForm P) (eqb (leading isDigit us) 0) (λ e. tt)
+      (λ e. decimals-form c negative (take (leading isDigit us) us) (drop (leading isDigit us) us) (leading-every isDigit us) (leading-some isDigit us e))
 
   signed-form : (c : Comparison) (us : List ℕ) → InForm P (signedOf c us)
   unfolding signedOf
@@ -308,7 +309,7 @@ module _ (test : ℕ → Bool) where
       (step-ranged u us (every-head test u us t) (every-tail test u us t))
       (λ (n : ℕ). lex-ranged (suc k) n us (every-tail test u us t))
 
-  tokens-pass : (code : List ℕ) → T (every test code) → T (every passes (tokensOf (placedOf (lex code))))
+  pub tokens-pass : (code : List ℕ) → T (every test code) → T (every passes (tokensOf (placedOf (lex code))))
   unfolding lex
   tokens-pass code t = lex-ranged 0 0 code t
 
@@ -335,7 +336,7 @@ module _ (test : ℕ → Bool) where
   colour-in (elapsed e n) h = tt
   colour-in (condition w) h = tt
 
-  condition-in : (t : Token) → T (passes t) → T (conditionDigits (conditionIn t))
+  pub condition-in : (t : Token) → T (passes t) → T (conditionDigits (conditionIn t))
   unfolding conditionIn conditionDigits tokenPasses
   condition-in (condition w) h = h
   condition-in (literal us) h = tt

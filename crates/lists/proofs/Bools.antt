@@ -1,9 +1,10 @@
 -- Tests and their facts: conjunctions, cases of a test, and tests over a list.
 -- Assumes nothing.
-use Prim.Native.Nat.{ℕ}
+use Prim.Native.Nat.{ℕ, zero, suc}
 use mathlib.Core.Path.{_≡_, refl, sym, subst}
 use mathlib.Core.Bool.{Bool, true, false, cond, not, _&&_, _||_, true≢false}
 use mathlib.Core.List.{List, [], _∷_, _++_}
+use lib.ListN.{take, drop}
 use lib.Dec.{T, eqb}
 use Rattle.lists.specs.Lists.{every, any}
 
@@ -118,3 +119,15 @@ module _ {A : Type 0} (f : A → Bool) where
   unfolding every
   every-append [] ys t u = u
   every-append (x ∷ xs) ys t u = every-cons x (xs ++ ys) (every-head x xs t) (every-append xs ys (every-tail x xs t) u)
+
+  pub every-take : (n : ℕ) (xs : List A) → T (every f xs) → T (every f (take n xs))
+  unfolding every
+  every-take zero xs t = tt
+  every-take (suc n) [] t = tt
+  every-take (suc n) (x ∷ xs) t = every-cons x (take n xs) (every-head x xs t) (every-take n xs (every-tail x xs t))
+
+  pub every-drop : (n : ℕ) (xs : List A) → T (every f xs) → T (every f (drop n xs))
+  unfolding every
+  every-drop zero xs t = t
+  every-drop (suc n) [] t = tt
+  every-drop (suc n) (x ∷ xs) t = every-drop n xs (every-tail x xs t)

@@ -9,8 +9,9 @@ use mathlib.Core.Logic.{_↔_}
 use mathlib.Core.List.{List, [], _∷_}
 use mathlib.Core.Option.{Option, none, some}
 use lib.ListN.{length, getD}
-use Rattle.lists.specs.Lists.{firstFailing}
-use Rattle.lists.proofs.Bools.{by-cases}
+use lib.Dec.{T}
+use Rattle.lists.specs.Lists.{every, firstFailing}
+use Rattle.lists.proofs.Bools.{by-cases, true-T, every-cons}
 
 -- of a list that begins at place `start`, the i-th element fails, and every earlier one passes
 pub record FirstFailing {A : Type 0} (f : ℕ → A → Bool) (start : ℕ) (xs : List A) (i : ℕ) : Type 0 where
@@ -90,3 +91,10 @@ module _ {A : Type 0} (f : ℕ → A → Bool) where
 
   pub pass-all : (d : A) (xs : List A) → firstFailing f 0 xs ≡ none → (j : ℕ) → j < length xs → f j (getD xs j d) ≡ true
   pass-all d xs e j h = rw (zero-add j) at (none-from 0 xs e d j h)
+
+-- the same, of a test that does not look at the place
+pub none-every : {A : Type 0} (f : A → Bool) (start : ℕ) (xs : List A) → firstFailing (λ (i : ℕ) (x : A). f x) start xs ≡ none → T (every f xs)
+unfolding firstFailing every
+none-every f start [] e = tt
+none-every f start (x ∷ xs) e =
+    by-cases (f x) (λ t. every-cons f x xs (true-T t) (none-every f (suc start) xs (rw t at e))) (λ t. no-some (rw t at e))

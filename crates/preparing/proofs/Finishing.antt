@@ -1,33 +1,32 @@
 -- What preparing answers and leaves, from what examining told.
 -- Assumes nothing.
-use Prim.Native.Nat.{ℕ, suc, _+_, _*_, _≤_, _<_}
+use Prim.Native.Nat.{ℕ, _+_, _*_, _≤_, _<_}
 use native.Mathlib.Omega.{arith}
-use mathlib.Core.Path.{_≡_, refl, sym, _∙_, ap}
-use mathlib.Core.Bool.{true}
+use mathlib.Core.Path.{_≡_, sym, _∙_, ap}
 use mathlib.Core.List.{List, [], _∷_}
-use mathlib.Core.Option.{Option, none, some}
 use lib.ListN.{length, take, length-append, length-map}
 use lib.Seq.{sets, length-take-le}
+use lib.Dec.{T}
 use borrow.Author.Tests.{le-leb, lt-leb}
 use Rattle.answers.specs.declared.Answer.{Answer}
 use Rattle.answers.specs.declared.Answer.the-variants as answer
 use Rattle.answers.specs.Number.{refusedPrepared}
-use Rattle.lists.specs.Lists.{All, overlay, firstFailing}
-use Rattle.lists.proofs.Bools.{by-cases}
+use Rattle.lists.specs.Lists.{every, overlay}
+use Rattle.lists.proofs.First.{none-every}
 use Rattle.formats.specs.Kinds.{Parts, sectionOf}
 use Rattle.formats.specs.Limits.{withinLimits}
-use Rattle.formats.specs.Accept.{partsIn, sectionsIn, fine, refused, sectionVerdict, limitVerdict, verdict, sections, acceptedBy, accept}
-use Rattle.formats.proofs.First.{verdict-fine}
+use Rattle.formats.specs.Accept.{partsIn, sectionsIn, fine, refused, limitVerdict, verdict, sections, acceptedBy, accept}
+use Rattle.formats.proofs.First.{verdict-fine, fine-none}
 use Rattle.formats.proofs.ItemCount.{section-count}
 use Rattle.tables.specs.Encode.{encode}
 use Rattle.tables.specs.Calls.{wordsOf, tableOf, preparedAs, prepared, written, tableAfter}
 use Rattle.writing.specs.Put.{Put}
 use Rattle.writing.proofs.Laws.{sets-overlay}
 use Rattle.drafting.specs.declared.Draft.{Draft}
-use Rattle.drafting.specs.declared.Examined.{Examined}
+use Rattle.examining.specs.declared.Examined.{Examined}
 use Rattle.drafting.specs.Draft.{Drafted}
 use Rattle.preparing.specs.Table.{countedBy, firstBy, headsBy, tableBy}
-use Rattle.drafting.specs.Examine.{Sound}
+use Rattle.examining.specs.Examine.{Sound}
 use Rattle.preparing.proofs.Tabling.{heads-size, table-same}
 
 -- ---- a refusal
@@ -41,21 +40,9 @@ module _ (code : List ℕ) (a : Answer) (k : ℕ) (v : verdict code ≡ refused 
   refused-table old = rw (v, le-leb 0 (length old) (omega arith))
 
 -- ---- the table
-none-fine : (a : Answer) (o : Option ℕ) → sectionVerdict a o ≡ fine → o ≡ none
-unfolding sectionVerdict
-none-fine a none e = refl
-none-fine a (some k) e = let z : _≡_ {A = ℕ} 0 1 = cc in absurd (omega arith)
-
-within-from : (k : ℕ) (ps : List Parts) → firstFailing (λ (i : ℕ) (p : Parts). withinLimits p) k ps ≡ none → All (λ (p : Parts). withinLimits p ≡ true) ps
-unfolding firstFailing
-within-from k [] e = tt
-within-from k (p ∷ ps) e = by-cases (withinLimits p)
-    (λ t. (t, within-from (suc k) ps (rw t at e)))
-    (λ t. let y = rw t at e in let z : _≡_ {A = ℕ} 0 1 = cc in absurd (omega arith))
-
-all-within : (code : List ℕ) → verdict code ≡ fine → All (λ (p : Parts). withinLimits p ≡ true) (partsIn code)
+all-within : (code : List ℕ) → verdict code ≡ fine → T (every withinLimits (partsIn code))
 unfolding limitVerdict
-all-within code v = within-from 0 (partsIn code) (none-fine answer.Limit _ (verdict-fine code v .limits-fine))
+all-within code v = none-every withinLimits 0 (partsIn code) (fine-none answer.Limit _ (verdict-fine code v .limits-fine))
 
 drafted-length : (ps : List Parts) (ds : List Draft) → Drafted ps ds → length ps ≤ length ds
 drafted-length [] ds h = omega arith

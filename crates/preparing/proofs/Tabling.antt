@@ -3,29 +3,31 @@
 use Prim.Native.Nat.{ℕ, suc, _+_, _*_, _≤_, _<_}
 use native.Mathlib.Omega.{arith}
 use native.Mathlib.Numerals.{add-one}
-use mathlib.Core.Path.{_≡_, refl, _∙_, ap}
-use mathlib.Core.Bool.{Bool, true, _||_}
+use mathlib.Core.Path.{_≡_, refl, sym, _∙_, ap}
+use mathlib.Core.Bool.{Bool, true}
 use mathlib.Core.List.{List, [], _∷_, _++_, map}
 use lib.ListN.{length, take, drop, getD, length-map, length-take}
-use lib.Dec.{eqb}
-use Rattle.lists.specs.Lists.{All}
-use Rattle.lists.proofs.Bools.{by-cases, and-left, and-right, T-true, true-T}
+use lib.Dec.{T}
+use Rattle.lists.specs.Lists.{every}
+use Rattle.lists.proofs.Bools.{and-parts, T-true, every-head, every-tail}
 use Rattle.formats.specs.Items.{Section}
 use Rattle.formats.specs.Kinds.{Parts, sectionOf}
 use Rattle.formats.specs.Limits.{writtenWithin, sectionWithin, withinLimits}
-use Rattle.formats.specs.Where.{isText}
 use Rattle.formats.specs.Choice.{countedFrom, counted}
 use Rattle.formats.specs.Minus.{firstHasCondition, exceptionA}
-use Rattle.tables.specs.Words.{Head, Entry, headWords, headsWords, entriesWords, bodiesWords, tableWords}
+use Rattle.tables.specs.Words.{Head, headWords, headsWords, bodiesWords, tableWords}
 use Rattle.tables.specs.Encode.{bit, lowWord, highWord, flagsWord, hasHalf, headOf, noMinus, rowOf, rowsFrom, rowsOf, encode}
+use Rattle.tables.proofs.Words.{entries-append}
+use Rattle.tables.proofs.Promise.{rows-many}
+use Rattle.tables.proofs.Standing.{sectionKind, counted-kinds}
 use Rattle.writing.specs.Put.{Put, Rest}
 use Rattle.writing.proofs.Laws.{put-put, rest-start, rest-put, rest-done}
 use Rattle.emitting.specs.Emit.{bodyWords}
 use Rattle.drafting.specs.declared.Draft.{Draft}
 use Rattle.drafting.specs.Draft.{DraftOf, Drafted, itemWords, hasConditionBy}
-use Rattle.preparing.specs.Table.{firstBy, countedBy, headBy, headsBy, tableBy}
-use Rattle.drafting.proofs.Testing.{front, none-left}
-use Rattle.drafting.proofs.Refusing.{text-same, condition-same}
+use Rattle.preparing.specs.Table.{draftKind, firstBy, countedBy, headBy, headsBy, tableBy}
+use Rattle.examining.proofs.Testing.{front, none-left}
+use Rattle.examining.proofs.Refusing.{condition-same}
 
 -- ---- the loop over the heads
 pub record Heading (n : ℕ) (firstHas : Bool) (old : List ℕ) (start : ℕ) (ds : List Draft) (count : ℕ) (room : List ℕ) (at i : ℕ) : Type 0 where
@@ -96,12 +98,10 @@ head-put n i firstHas d has none flags negative low high small large eh em ef en
     rw (← f, ← en, ← el, ← eg, ← es, ← ej) x
 
 -- ---- the rows
-module _ (p : Parts) (d : Draft) (x : DraftOf p d) (within : withinLimits p ≡ true) where
+module _ (p : Parts) (d : Draft) (x : DraftOf p d) (within : T (withinLimits p)) where
   parts : (writtenWithin (p .condition) ≡ true) × (sectionWithin (sectionOf p) ≡ true)
   unfolding withinLimits
-  parts =
-      let w = true-T within in
-      (T-true _ (and-left (writtenWithin (p .condition)) (sectionWithin (sectionOf p)) w), T-true _ (and-right (writtenWithin (p .condition)) (sectionWithin (sectionOf p)) w))
+  parts = and-parts (writtenWithin (p .condition)) (sectionWithin (sectionOf p)) (T-true _ within)
 
   condition-within : d .condition .within ≡ true
   condition-within = x .condition .within ∙ parts .0
@@ -131,7 +131,7 @@ module _ (p : Parts) (d : Draft) (x : DraftOf p d) (within : withinLimits p ≡ 
       }
 
 abbrev AllWithin : List Parts → Type 0
-AllWithin ps = All (λ (p : Parts). withinLimits p ≡ true) ps
+AllWithin ps = T (every withinLimits ps)
 
 heads-same : (n i : ℕ) (firstHas : Bool) (ps : List Parts) (ds : List Draft) (ws : List ℕ) → Drafted ps ds → AllWithin ps
     → headsBy n firstHas i (take (length ps) ds) ++ ws ≡ headsWords (rowsFrom n i firstHas (map sectionOf ps)) ws
@@ -139,40 +139,27 @@ unfolding headsBy headsWords headWords rowsFrom rowOf
 heads-same n i firstHas [] ds ws h w = refl
 heads-same n i firstHas (p ∷ ps) [] ws h w = absurd h
 heads-same n i firstHas (p ∷ ps) (d ∷ ds) ws h w =
-    ap (λ (k : Head). headWords k (headsBy n firstHas (i + 1) (take (length ps) ds) ++ ws)) (head-same p d (h .0) (w .0) n i firstHas)
-    ∙ ap (headWords (headOf n i firstHas (sectionOf p))) (rw (← (add-one i)) (heads-same n (i + 1) firstHas ps ds ws (h .1) (w .1)))
-
-entries-append : (es : List Entry) (ws : List ℕ) → entriesWords es ws ≡ entriesWords es [] ++ ws
-unfolding entriesWords
-entries-append [] ws = refl
-entries-append (e ∷ es) ws = ap (λ (xs : List ℕ). e .tag ∷ e .argument ∷ xs) (entries-append es ws)
+    ap (λ (k : Head). headWords k (headsBy n firstHas (i + 1) (take (length ps) ds) ++ ws)) (head-same p d (h .0) (every-head withinLimits p ps w) n i firstHas)
+    ∙ ap (headWords (headOf n i firstHas (sectionOf p))) (rw (← (add-one i)) (heads-same n (i + 1) firstHas ps ds ws (h .1) (every-tail withinLimits p ps w)))
 
 bodies-same : (n i : ℕ) (firstHas : Bool) (ps : List Parts) → bodiesWords (rowsFrom n i firstHas (map sectionOf ps)) [] ≡ itemWords ps
 unfolding bodiesWords rowsFrom rowOf itemWords sectionOf
 bodies-same n i firstHas [] = refl
 bodies-same n i firstHas (p ∷ ps) = entries-append _ _ ∙ ap (λ (ws : List ℕ). bodyWords (p .body) ++ ws) (bodies-same n (suc i) firstHas ps)
 
-counted-same : (i : ℕ) (ps : List Parts) (ds : List Draft) → Drafted ps ds → countedBy i (take (length ps) ds) ≡ countedFrom i (map sectionOf ps)
-unfolding countedBy countedFrom
-counted-same i [] ds h = refl
-counted-same i (p ∷ ps) [] h = absurd h
-counted-same i (p ∷ ps) (d ∷ ds) h =
-    let r = counted-same (i + 1) ps ds (h .1) in
-    let e = text-same p d (h .0) in
-    by-cases (isText (sectionOf p) || eqb i 3)
-    (λ t. rw (e, t, r, add-one i))
-    (λ t. rw (e, t, r, add-one i) (rw (add-one (countedFrom (suc i) (map sectionOf ps)))))
+kinds-same : (ps : List Parts) (ds : List Draft) → Drafted ps ds → map draftKind (take (length ps) ds) ≡ map sectionKind (map sectionOf ps)
+kinds-same [] ds h = refl
+kinds-same (p ∷ ps) [] h = absurd h
+kinds-same (p ∷ ps) (d ∷ ds) h = rw (h .0 .body .kind, kinds-same ps ds (h .1))
+
+counted-same : (ps : List Parts) (ds : List Draft) → Drafted ps ds → countedBy 0 (take (length ps) ds) ≡ countedFrom 0 (map sectionOf ps)
+counted-same ps ds h = rw (kinds-same ps ds h) (sym (counted-kinds 0 (map sectionOf ps)))
 
 first-same : (ps : List Parts) (ds : List Draft) → 1 ≤ length ps → Drafted ps ds → firstBy ds ≡ firstHasCondition (map sectionOf ps)
 unfolding firstBy firstHasCondition
 first-same [] ds l h = absurd (omega arith)
 first-same (p ∷ ps) [] l h = absurd h
 first-same (p ∷ ps) (d ∷ ds) l h = condition-same p d (h .0)
-
-rows-many : (n i : ℕ) (b : Bool) (ss : List Section) → length (rowsFrom n i b ss) ≡ length ss
-unfolding rowsFrom
-rows-many n i b [] = refl
-rows-many n i b (s ∷ ss) = ap suc (rows-many n (suc i) b ss)
 
 -- the words of drafts and items are the table of the sections
 pub table-same : (ps : List Parts) (ds : List Draft) (n : ℕ) → n ≡ length ps → 1 ≤ n → Drafted ps ds → AllWithin ps
@@ -182,5 +169,5 @@ table-same ps ds n e l h w =
     let ss : List Section = map sectionOf ps in
     let c : ℕ = countedFrom 0 ss in
     let f : Bool = firstHasCondition ss in
-    rw (e, counted-same 0 ps ds h, first-same ps ds (omega arith) h, rows-many c 0 f ss, bodies-same c 0 f ps, length-map ps sectionOf)
+    rw (e, counted-same ps ds h, first-same ps ds (omega arith) h, rows-many c 0 f ss, bodies-same c 0 f ps, length-map ps sectionOf)
     (ap (λ (ws : List ℕ). length ps ∷ ws) (heads-same c 0 f ps ds (itemWords ps) h w))

@@ -1,23 +1,22 @@
 -- The words of a table, from the drafts of a code's sections.
 -- Assumes nothing.
 use Prim.Native.Nat.{ℕ, _+_}
-use mathlib.Core.Bool.{Bool, false, cond, not, _||_}
-use mathlib.Core.List.{List, [], _∷_, _++_}
+use mathlib.Core.Bool.{Bool, false}
+use mathlib.Core.List.{List, [], _∷_, _++_, map}
 use lib.ListN.{take}
-use lib.Dec.{eqb}
 use Rattle.formats.specs.Minus.{exceptionA}
 use Rattle.tables.specs.Words.{Head, headWords}
 use Rattle.tables.specs.Encode.{lowWord, highWord, bit, flagsWord}
+use Rattle.tables.specs.Standing.{countedKinds}
 use Rattle.drafting.specs.declared.Draft.{Draft}
-use Rattle.drafting.specs.Draft.{hasConditionBy, isTextBy}
+use Rattle.drafting.specs.Draft.{hasConditionBy}
 
--- "N counts the sections that are neither text nor fourth."
-abbrev pub countsBy : ℕ → Draft → Bool
-countsBy i d = not (isTextBy d || eqb i 3)
+abbrev pub draftKind : Draft → ℕ
+draftKind d = d .body .kind
 
-unfoldable pub countedBy : ℕ → List Draft → ℕ
-countedBy i [] = 0
-countedBy i (d ∷ ds) = let r = countedBy (i + 1) ds in cond (countsBy i d) (r + 1) r
+-- N of sections with these drafts, the first of which is section i
+abbrev pub countedBy : ℕ → List Draft → ℕ
+countedBy i ds = countedKinds i (map draftKind ds)
 
 unfoldable pub headBy : ℕ → ℕ → Bool → Draft → Head
 headBy n i firstHas d =

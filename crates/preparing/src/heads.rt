@@ -6,15 +6,15 @@ use tables::kinds;
 use writing::put_unit;
 use writing::put_units;
 ghost use mathlib.Core.Path.{_≡_};
-ghost use mathlib.Core.Bool.{cond};
 ghost use mathlib.Core.List.{[]};
 ghost use Prim.Native.Nat.{_+_, _≤_, _<_, _^_};
 ghost use lib.ListN.{length, take};
 ghost use Rattle.formats.specs.Minus.{exceptionA};
 ghost use Rattle.tables.specs.Words.{headWords};
 ghost use Rattle.tables.specs.Encode.{bit, lowWord, highWord, flagsWord};
+ghost use Rattle.tables.specs.Standing.{countedOne};
 ghost use Rattle.writing.specs.Put.{Put};
-ghost use Rattle.preparing.specs.Table.{countsBy, countedBy, headBy, headsBy, tableBy};
+ghost use Rattle.preparing.specs.Table.{countedBy, headBy, headsBy, tableBy};
 
 fn bit_of(b: bool) -> u16
     ensures { λ r. ⌜ (r ≡ bit b) × (r ≤ 1) ⌝ }
@@ -55,13 +55,13 @@ fn flags_word(grouped: bool, no_minus: bool, twelve: bool) -> u16
 // One more where section i is neither text nor fourth.
 fn counted_with(d: Draft, i: usize, counted: usize) -> usize
     requires { ⌜ counted ≤ 4 ⌝ }
-    ensures { λ r. ⌜ r ≡ cond (countsBy i d) (counted + 1) counted ⌝ }
+    ensures { λ r. ⌜ r ≡ counted + countedOne i (d .body .kind) ⌝ }
 {
     let body = d.body;
-    if !((body.kind == kinds::TEXT) | (i == 3)) {
-        return counted + 1;
+    if (body.kind == kinds::TEXT) | (i == 3) {
+        return counted;
     }
-    counted
+    counted + 1
 }
 
 // How many of n sections are neither text nor fourth: document 01's N.

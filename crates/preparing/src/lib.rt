@@ -4,7 +4,7 @@ mod heads;
 use answers::Answer;
 use answers::Prepared;
 use answers::number;
-use drafting::examine;
+use examining::examine;
 use heads::put_table;
 use tables::heads::WORDS;
 ghost use mathlib.Core.Path.{_≡_};

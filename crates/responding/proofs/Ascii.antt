@@ -10,7 +10,7 @@ use mathlib.Core.List.{List, [], _∷_, _++_, map}
 use lib.ListN.{length, getD, take, drop}
 use lib.Dec.{T, leb, ltb, eqb, leb→le, le→leb}
 use Rattle.lists.specs.Lists.{every, isEmpty}
-use Rattle.lists.proofs.Bools.{and-left, and-right, true-T, cond-both, cond-case, every-head, every-tail, every-cons, every-append}
+use Rattle.lists.proofs.Bools.{and-left, and-right, true-T, cond-both, cond-case, every-head, every-tail, every-cons, every-append, every-take, every-drop}
 use Rattle.lists.proofs.Counts.{every-map, every-weaker}
 use Rattle.lists.proofs.Tables.{each-passes}
 use Rattle.figures.specs.Digits.{digit, digitUnit, digitUnits, width, numeral}
@@ -53,7 +53,7 @@ use Rattle.requests.specs.Request.{refused as unasked}
 use Rattle.responding.specs.Respond.{lineOf, fourLines, linesOf, responseOf}
 use Rattle.formats.specs.Minus.{Sign, minus, notNegative, noItem, forNegatives, nought, signUnits}
 use Rattle.formats.specs.Text.{Context, insignificant, idleUnits, endsGroup, withSeparator, figureUnits, extraUnits, placeUnits, pointUnits, yearUnits, namedUnits, partUnits, halfUnits, itemUnits, digitAfter, itemsUnits, sectionUnits}
-use Rattle.formats.proofs.TokenRanges.{tokenPasses, partsPass, every-take, parts-pass, items-pass}
+use Rattle.formats.proofs.TokenRanges.{tokenPasses, partsPass, parts-pass, items-pass}
 use Rattle.formats.proofs.FormedItems.{settled-kept}
 
 abbrev pub Ascii : List ℕ → Type 0
@@ -351,12 +351,6 @@ code-fine code ask text room c t = by-verdict (verdict code)
         (fine-refused room answer.Range)
 
 -- ---- lines that are read
-every-drop : (n : ℕ) (us : List ℕ) → Ascii us → Ascii (drop n us)
-unfolding every
-every-drop zero us t = t
-every-drop (suc n) [] t = tt
-every-drop (suc n) (u ∷ us) t = every-drop n us (every-tail isAscii u us t)
-
 abbrev AsciiField : Field → Type 0
 AsciiField (field content rest) = Ascii content
 AsciiField missing = Unit {0}
@@ -368,7 +362,7 @@ field-ascii name input =
     cond-case AsciiField (ltb (before 10 input) (length input) && isLine name line)
     (λ e.
     let t : T (ltb (before 10 input) (length input) && (leb (length line) 2048 && every isAscii line && startsWith name line)) = true-T e in
-    every-drop (length name) line (search (and-left, and-right)))
+    every-drop isAscii (length name) line (search (and-left, and-right)))
     (λ e. tt)
 
 abbrev AsciiRequest : Request → Type 0

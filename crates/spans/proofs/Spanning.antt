@@ -17,11 +17,11 @@ use Rattle.formats.proofs.First.{semicolon-places}
 use Rattle.formats.proofs.Lexing.{step-inside}
 use Rattle.formats.proofs.ItemCount.{section-count}
 use Rattle.lexing.specs.Buffer.{semicolonsIn}
-use Rattle.drafting.specs.declared.Examined.{Examined}
+use Rattle.examining.specs.declared.Examined.{Examined}
 use Rattle.spans.specs.declared.SectionSpan.{SectionSpan}
-use Rattle.drafting.specs.Examine.{Buffered, Sound}
+use Rattle.examining.specs.Examine.{Buffered, Sound}
 use Rattle.spans.specs.Span.{SpanIs, startBehind, endBefore, unitPlace}
-use Rattle.drafting.proofs.Answering.{places-same, token-fine}
+use Rattle.examining.proofs.Answering.{places-same, token-fine}
 
 -- ---- between places
 next-start : (start k n : ℕ) (ks : List ℕ) → startBehind (suc k) n ks ≡ startBehind start (suc n) (k ∷ ks)

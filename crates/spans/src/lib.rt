@@ -1,6 +1,6 @@
 // Where the sections of a code stand in it.
 use answers::number;
-use drafting::examine;
+use examining::examine;
 use lexing::buffer::semicolon_count;
 use lexing::buffer::semicolon_place;
 ghost use mathlib.Core.Path.{_≡_};
@@ -10,7 +10,7 @@ ghost use lib.ListN.{length, take};
 ghost use Rattle.formats.specs.Tokens.{lex};
 ghost use Rattle.formats.specs.Accept.{fine, placedOf, semicolons, spanBy, sectionSpan, sectionPart};
 ghost use Rattle.lexing.specs.Buffer.{semicolonsIn};
-ghost use Rattle.drafting.specs.Examine.{Buffered};
+ghost use Rattle.examining.specs.Examine.{Buffered};
 ghost use Rattle.spans.specs.Span.{SpanIs, startBehind, endBefore, unitPlace};
 
 // A section of a code: the place of its first unit, and how many units it has.

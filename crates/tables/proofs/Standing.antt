@@ -1,6 +1,6 @@
 -- Where a section stands, N and the shift are what the words of its head tell.
 -- Assumes nothing.
-use Prim.Native.Nat.{ℕ, suc, _+_}
+use Prim.Native.Nat.{ℕ, suc, _+_, _≤_}
 use native.Mathlib.Omega.{arith}
 use native.Mathlib.Numerals.{add-one}
 use mathlib.Core.Path.{_≡_, refl}
@@ -8,6 +8,7 @@ use mathlib.Core.Bool.{Bool, true, false, cond, _||_}
 use mathlib.Core.List.{List, [], _∷_, map}
 use lib.Dec.{eqb}
 use Rattle.lists.specs.Lists.{count}
+use Rattle.lists.proofs.Bools.{cond-both}
 use Rattle.formats.specs.Items.{Section, Kind, textKind, generalKind, numberKind, literalKind, sameKind, kindOf, isPercent}
 use Rattle.formats.specs.Where.{hasCondition, standsAt}
 use Rattle.formats.specs.Choice.{countedFrom}
@@ -50,6 +51,10 @@ counted-kinds i [] = refl
 counted-kinds i (s ∷ ss) =
     rw (counted-kinds (suc i) ss, text-word (kindOf s), add-one i)
     (one-more (sameKind (kindOf s) textKind || eqb i 3) (countedKinds (suc i) (map sectionKind ss)))
+
+pub one-most : (i kind : ℕ) → countedOne i kind ≤ 1
+unfolding countedOne
+one-most i kind = cond-both (λ n. n ≤ 1) (eqb kind 3 || eqb i 3) (omega arith) (omega arith)
 
 pub shift-word : (s : Section) → shiftWord s ≡ shiftOf (sectionKind s) (count isPercent (s .items)) (s .thousands)
 unfolding shiftWord shiftOf

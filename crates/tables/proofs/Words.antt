@@ -2,8 +2,10 @@
 -- Assumes nothing.
 use Prim.Native.Nat.{ℕ, zero, suc, _+_, _-_, _*_, _/_, _≤_, _<_}
 use native.Mathlib.Omega.{arith}
-use mathlib.Core.Path.{_≡_, refl, sym, _∙_, ap}
-use mathlib.Core.List.{List, [], _∷_}
+use native.Mathlib.Nat.{mul-suc}
+use mathlib.Core.Path.{_≡_, refl, sym, _∙_, ap, ap₂}
+use mathlib.Core.Bool.{Bool, true, false, _&&_}
+use mathlib.Core.List.{List, [], _∷_, _++_, map}
 use lib.ListN.{length, getD, drop, take, length-drop, drop-of-length-le}
 use lib.Seq.{drop-cons, drop-drop, getD-drop, length-take-le}
 use lib.Dec.{T, leb, leb→le, eqb→eq, le→leb, eqb-refl}
@@ -64,6 +66,12 @@ pub length-entries : (es : List Entry) (ws : List ℕ) → length (entriesWords 
 unfolding entriesWords
 length-entries [] ws = omega arith
 length-entries (e ∷ es) ws = omega (arith, length-entries es ws)
+
+-- the words of entries, and those behind them
+pub entries-append : (es : List Entry) (ws : List ℕ) → entriesWords es ws ≡ entriesWords es [] ++ ws
+unfolding entriesWords
+entries-append [] ws = refl
+entries-append (e ∷ es) ws = ap (λ (xs : List ℕ). e .tag ∷ e .argument ∷ xs) (entries-append es ws)
 
 -- the entries in words that were written for them, and in a part of a table's words
 pub entries-in-words : (es : List Entry) → entriesIn (entriesWords es []) ≡ es

@@ -8,8 +8,8 @@ use denote.Ref.{now}
 use lib.ListN.{length-take}
 use lib.Seq.{length-take-le}
 use Rattle.formats.specs.Accept.{fine, verdict}
-use Rattle.drafting.specs.Examine.{Sound}
-use Rattle.drafting.proofs.Answering.{examined-no, examined-fine}
+use Rattle.examining.specs.Examine.{Sound}
+use Rattle.examining.proofs.Answering.{examined-no, examined-fine}
 use Rattle.preparing.proofs.Finishing.{refused-prepared, refused-table, room-prepared, room-table, done-prepared, done-table}
 use borrow.Author.Needs.{needs}
 use Rattle.preparing.proofs.prepare.Statement.{statement}

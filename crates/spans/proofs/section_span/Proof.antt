@@ -7,8 +7,8 @@ use mathlib.Core.List.{List}
 use denote.Ref.{now}
 use lib.ListN.{length-take}
 use Rattle.formats.specs.Accept.{fine, verdict}
-use Rattle.drafting.specs.Examine.{Sound}
-use Rattle.drafting.proofs.Answering.{examined-no, examined-fine}
+use Rattle.examining.specs.Examine.{Sound}
+use Rattle.examining.proofs.Answering.{examined-no, examined-fine}
 use Rattle.spans.proofs.Spanning.{section-refused, section-fine, section-there, section-missing}
 use borrow.Author.Needs.{needs}
 use Rattle.spans.proofs.section_span.Statement.{statement}

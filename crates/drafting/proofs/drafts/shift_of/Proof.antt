@@ -6,6 +6,7 @@ use mathlib.Core.Path.{_≡_, sym, _∙_}
 use mathlib.Core.Bool.{true}
 use borrow.Author.Tests.{eq-eqb, ne-eqb, not-true, not-false}
 use Rattle.lists.proofs.Bools.{by-cases}
+use Rattle.tables.specs.Standing.{shiftOf}
 use Rattle.tallies.specs.Tally.{kindTold, withinTold}
 use Rattle.drafting.proofs.Drafting.{within-bounds}
 use borrow.Author.Needs.{needs}
@@ -16,6 +17,7 @@ returns : tie.Need-returns
 returns c = rw (sym (c .before .within .ensures) ∙ not-true _ (c .if1 .taken))
 
 returns-2 : tie.Need-returns-2
+unfolding shiftOf
 returns-2 c =
     let a = c .before .before .before .before .args in
     by-cases (withinTold (a .t) (a .thousands))
@@ -42,6 +44,7 @@ sub-result : tie.Need-sub-result
 sub-result c = omega (arith, bounds c)
 
 returns-3 : tie.Need-returns-3
+unfolding shiftOf
 returns-3 c =
     let s = c .before .before .before .before .before in
     rw (told c, eq-eqb (kindTold (s .args .t)) 2 (sym (c .before .before .kind .ensures) ∙ c .before .if2 .left))

@@ -1,14 +1,14 @@
--- `drafting::verdicts::first_failing` meets its contract.
+-- `examining::verdicts::first_failing` meets its contract.
 -- Assumes nothing.
 use Prim.Native.Nat.{_-_}
 use native.Mathlib.Omega.{arith}
 use mathlib.Core.Path.{sym, _∙_}
 use borrow.Author.Tests.{not-true, not-false}
-use Rattle.drafting.specs.Draft.{passesBy}
-use Rattle.drafting.proofs.Testing.{Seeking, seeking-start, seeking-fail, seeking-step, seeking-end}
+use Rattle.examining.specs.Examine.{passesBy}
+use Rattle.examining.proofs.Testing.{Seeking, seeking-start, seeking-fail, seeking-step, seeking-end}
 use borrow.Author.Needs.{needs}
-use Rattle.drafting.proofs.verdicts.first_failing.Statement.{statement}
-use Rattle.drafting.proofs.verdicts.first_failing.Tie as tie
+use Rattle.examining.proofs.verdicts.first_failing.Statement.{statement}
+use Rattle.examining.proofs.verdicts.first_failing.Tie as tie
 
 abbrev Inv-loop : tie.InvT-loop
 Inv-loop n test drafts place₀ place = Seeking (passesBy test n) drafts n place

@@ -1,12 +1,14 @@
 // The tests on the drafts of a code's sections.
-use super::Draft;
-use super::has_condition;
+use drafting::Draft;
+use drafting::has_condition;
 use tables::kinds;
 ghost use mathlib.Core.Path.{_≡_};
 ghost use Prim.Native.Nat.{_+_, _≤_};
 ghost use lib.ListN.{take};
 ghost use Rattle.lists.specs.Lists.{firstFailing};
-ghost use Rattle.drafting.specs.Draft.{standsBy, passesBy, foundBelow};
+ghost use Rattle.tables.specs.Standing.{headStands};
+ghost use Rattle.drafting.specs.Draft.{hasConditionBy};
+ghost use Rattle.examining.specs.Examine.{passesBy, foundBelow};
 
 // The tests of a section, by the numbers of their answers.
 pub const KIND: u16 = 4;
@@ -18,7 +20,7 @@ pub const LIMIT: u16 = 6;
 // Section i of n may stand where it does.
 fn stands(d: Draft, n: usize, i: usize) -> bool
     requires { ⌜ i ≤ 4 ⌝ }
-    ensures { λ r. ⌜ r ≡ standsBy n i d ⌝ }
+    ensures { λ r. ⌜ r ≡ headStands n i (d .body .kind) (d .colour) (hasConditionBy d) ⌝ }
 {
     let body = d.body;
     let text = body.kind == kinds::TEXT;

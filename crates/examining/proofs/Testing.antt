@@ -10,8 +10,8 @@ use lib.ListN.{length, take, drop, getD, drop-of-length-le}
 use lib.Seq.{drop-cons, getD-take, length-take-le}
 use borrow.Author.Tests.{lt-ltb, le-ltb}
 use Rattle.lists.specs.Lists.{firstFailing}
 use Rattle.drafting.specs.declared.Draft.{Draft}
-use Rattle.drafting.specs.Draft.{foundBelow}
+use Rattle.examining.specs.Examine.{foundBelow}
 
 module _ (ds : List Draft) (n i : ℕ) (few : n ≤ 4) (size : length ds ≡ 4) where
   pub front : i < n → (d : Draft) → drop i (take n ds) ≡ getD ds i d ∷ drop (i + 1) (take n ds)

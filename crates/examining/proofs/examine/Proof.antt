@@ -1,4 +1,4 @@
--- `drafting::examine` meets its contract.
+-- `examining::examine` meets its contract.
 -- Assumes nothing.
 use Prim.Native.Nat.{ℕ, _*_, _≤_, _<_}
 use native.Mathlib.Omega.{arith}
@@ -8,11 +8,11 @@ use denote.Ref.{now}
 use lib.ListN.{length, take}
 use Rattle.formats.specs.Accept.{fine, lengthVerdict}
 use Rattle.lexing.specs.declared.buffer.Filled.the-variants.{All}
-use Rattle.drafting.specs.Examine.{Buffered}
-use Rattle.drafting.proofs.Answering.{examined-refused, examined-front, length-none, length-over, length-fair, filled-few, filled-all, filled-bad, token-inside}
+use Rattle.examining.specs.Examine.{Buffered}
+use Rattle.examining.proofs.Answering.{examined-refused, examined-front, length-none, length-over, length-fair, filled-few, filled-all, filled-bad, token-inside}
 use borrow.Author.Needs.{needs}
-use Rattle.drafting.proofs.examine.Statement.{statement}
-use Rattle.drafting.proofs.examine.Tie as tie
+use Rattle.examining.proofs.examine.Statement.{statement}
+use Rattle.examining.proofs.examine.Tie as tie
 
 -- what filling left, of a code of a length that is fine
 module _ (f : tie.After-fill) where

@@ -1,10 +1,10 @@
--- `drafting::verdicts::passes` meets its contract.
+-- `examining::verdicts::passes` meets its contract.
 -- Assumes nothing.
 use borrow.Author.Tests.{eq-eqb, ne-eqb}
-use Rattle.drafting.specs.Draft.{passesBy}
+use Rattle.examining.specs.Examine.{passesBy}
 use borrow.Author.Needs.{needs}
-use Rattle.drafting.proofs.verdicts.passes.Statement.{statement}
-use Rattle.drafting.proofs.verdicts.passes.Tie as tie
+use Rattle.examining.proofs.verdicts.passes.Statement.{statement}
+use Rattle.examining.proofs.verdicts.passes.Tie as tie
 
 returns : tie.Need-returns
 unfolding passesBy

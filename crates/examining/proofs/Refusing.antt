@@ -1,68 +1,38 @@
 -- What the tests on drafts say of the sections: the verdicts 4, 5 and 6.
 -- Assumes nothing.
 use Prim.Native.Nat.{ℕ, suc}
-use native.Mathlib.Numerals.{add-one}
 use mathlib.Core.Path.{_≡_, refl, sym, _∙_}
-use mathlib.Core.Bool.{Bool, true, cond, not}
+use mathlib.Core.Bool.{Bool, cond}
 use mathlib.Core.List.{List, [], _∷_, map}
-use mathlib.Core.Option.{Option, none, some}
 use lib.ListN.{length, take, length-map}
-use lib.Dec.{ltb, eqb}
+use lib.Dec.{ltb}
 use Rattle.answers.specs.declared.Answer.{Answer}
 use Rattle.answers.specs.declared.Answer.the-variants as answer
-use Rattle.lists.specs.Lists.{isSome, firstFailing}
+use Rattle.lists.specs.Lists.{firstFailing}
 use Rattle.lists.proofs.Bools.{by-cases}
-use Rattle.formats.specs.Tokens.{Comparison, equal, less, greater, atMost, atLeast, unequal}
-use Rattle.formats.specs.Items.{Condition, Kind, textKind, generalKind, dateKind, numberKind, literalKind, sameKind, kindOf}
 use Rattle.formats.specs.Kinds.{Parts, fits, conditionOf, sectionOf}
-use Rattle.formats.specs.Where.{hasCondition, isText, standsAt}
+use Rattle.formats.specs.Where.{hasCondition, standsAt}
 use Rattle.formats.specs.Limits.{withinLimits}
 use Rattle.formats.specs.Accept.{fine, refused, sectionVerdict, kindVerdict, whereVerdict, limitVerdict}
-use Rattle.tables.specs.Encode.{kindWord, comparisonWord, operatorWord}
+use Rattle.tables.specs.Standing.{headStands}
+use Rattle.tables.proofs.MadeHeads.{operator-some}
+use Rattle.tables.proofs.Standing.{head-stands}
 use Rattle.drafting.specs.declared.Draft.{Draft}
-use Rattle.drafting.specs.Draft.{DraftOf, Drafted, hasConditionBy, isTextBy, standsBy, passesBy, foundBelow}
+use Rattle.drafting.specs.Draft.{DraftOf, Drafted, hasConditionBy}
+use Rattle.examining.specs.Examine.{passesBy, foundBelow}
 
 -- ---- one section
--- what a kind word tells of a kind: text, General, literal
-kind-word : (k : Kind) → (eqb (kindWord k) 3 ≡ sameKind k textKind) × (eqb (kindWord k) 1 ≡ sameKind k generalKind) × (eqb (kindWord k) 0 ≡ sameKind k literalKind)
-unfolding kindWord
-kind-word textKind = (refl, refl, refl)
-kind-word generalKind = (refl, refl, refl)
-kind-word dateKind = (refl, refl, refl)
-kind-word numberKind = (refl, refl, refl)
-kind-word literalKind = (refl, refl, refl)
-
-some-word : (c : Comparison) → not (eqb (comparisonWord c) 0) ≡ true
-unfolding comparisonWord
-some-word equal = refl
-some-word less = refl
-some-word greater = refl
-some-word atMost = refl
-some-word atLeast = refl
-some-word unequal = refl
-
-condition-word : (o : Option Condition) → not (eqb (operatorWord o) 0) ≡ isSome o
-unfolding operatorWord isSome
-condition-word none = refl
-condition-word (some c) = some-word (c .comparison)
-
 module _ (p : Parts) (d : Draft) (h : DraftOf p d) where
-  pub text-same : isTextBy d ≡ isText (sectionOf p)
-  text-same = rw (h .body .kind) (kind-word (kindOf (sectionOf p)) .0)
-
   pub condition-same : hasConditionBy d ≡ hasCondition (sectionOf p)
   unfolding sectionOf
-  condition-same = rw (h .condition .operator) (condition-word (conditionOf (p .condition)))
+  condition-same = rw (h .condition .operator) (operator-some (conditionOf (p .condition)))
 
   colour-same : d .colour ≡ (sectionOf p) .colour
   unfolding sectionOf
   colour-same = h .colour
 
-  stands-same : (n i : ℕ) → standsBy n i d ≡ standsAt n i (sectionOf p)
-  unfolding standsBy standsAt
-  stands-same n i =
-      let k = kind-word (kindOf (sectionOf p)) in
-      rw (h .body .kind, k .0, k .1, k .2, condition-same, colour-same, add-one i)
+  stands-same : (n i : ℕ) → headStands n i (d .body .kind) (d .colour) (hasConditionBy d) ≡ standsAt n i (sectionOf p)
+  stands-same n i = rw (h .body .kind, colour-same, condition-same) (sym (head-stands n i (sectionOf p)))
 
 -- ---- the first section that fails
 module _ (g : ℕ → Parts → Bool) (f : ℕ → Draft → Bool) (same : (i : ℕ) (p : Parts) (d : Draft) → DraftOf p d → f i d ≡ g i p) where

@@ -1,12 +1,12 @@
--- `drafting::verdicts::stands` meets its contract.
+-- `examining::verdicts::stands` meets its contract.
 -- Assumes nothing.
-use Rattle.drafting.specs.Draft.{standsBy}
+use Rattle.tables.specs.Standing.{headStands}
 use borrow.Author.Needs.{needs}
-use Rattle.drafting.proofs.verdicts.stands.Statement.{statement}
-use Rattle.drafting.proofs.verdicts.stands.Tie as tie
+use Rattle.examining.proofs.verdicts.stands.Statement.{statement}
+use Rattle.examining.proofs.verdicts.stands.Tie as tie
 
 returns : tie.Need-returns
-unfolding standsBy
+unfolding headStands
 returns c = rw (c .before .has-condition .ensures)
 
 pub stands-spec : {M : Type 1} → statement M

@@ -25,13 +25,13 @@ use Rattle.lexing.specs.declared.buffer.Filled.{Filled}
 use Rattle.lexing.specs.Buffer.{lexMeant, countOf, Fills, semicolonsIn}
 use Rattle.lexing.proofs.Semicolons.{semicolons-in}
 use Rattle.writing.proofs.Laws.{put-size}
 use Rattle.drafting.specs.declared.sections.Drafts.{Drafts}
-use Rattle.drafting.specs.declared.Examined.{Examined}
-use Rattle.drafting.specs.Draft.{itemWords, AllDrafted, Lexes, passesBy, foundBelow}
-use Rattle.drafting.specs.Examine.{verdictOf, sectionsVerdict, ExaminedAs, Buffered}
+use Rattle.examining.specs.declared.Examined.{Examined}
+use Rattle.drafting.specs.Draft.{itemWords, AllDrafted, Lexes}
+use Rattle.examining.specs.Examine.{passesBy, foundBelow, verdictOf, sectionsVerdict, ExaminedAs, Buffered}
 use Rattle.drafting.proofs.Drafting.{put-read}
 use Rattle.drafting.proofs.Sectioning.{items-room}
-use Rattle.drafting.proofs.Refusing.{kind-told, where-told, limit-told}
+use Rattle.examining.proofs.Refusing.{kind-told, where-told, limit-told}
 
 -- ---- a refusal
 pub examined-refused : (code tokens out : List ℕ) (r : Examined) (a : Answer) (k : ℕ) → (r .answer ≡ a) × (r .place ≡ k) → eqb (numberOf a) 0 ≡ false

@@ -1,12 +1,12 @@
--- `drafting::examine_tokens` meets its contract.
+-- `examining::examine_tokens` meets its contract.
 -- Assumes nothing.
 use native.Mathlib.Omega.{arith}
 use mathlib.Core.Path.{refl}
 use denote.Ref.{now}
-use Rattle.drafting.proofs.Answering.{examined-refused, verdict-count, count-inside, lexes-all, verdict-sections}
+use Rattle.examining.proofs.Answering.{examined-refused, verdict-count, count-inside, lexes-all, verdict-sections}
 use borrow.Author.Needs.{needs}
-use Rattle.drafting.proofs.examine_tokens.Statement.{statement}
-use Rattle.drafting.proofs.examine_tokens.Tie as tie
+use Rattle.examining.proofs.examine_tokens.Statement.{statement}
+use Rattle.examining.proofs.examine_tokens.Tie as tie
 
 cast-refused : tie.Need-cast-refused
 cast-refused c =

@@ -2,18 +2,32 @@
 -- Assumes nothing.
 use Prim.Native.Nat.{ℕ, _*_, _≤_}
 use mathlib.Core.Path.{_≡_}
-use mathlib.Core.Bool.{cond}
+use mathlib.Core.Bool.{Bool, cond}
 use mathlib.Core.List.{List}
+use mathlib.Core.Option.{Option, none, some}
 use lib.ListN.{length, take}
-use lib.Dec.{eqb}
+use lib.Dec.{ltb, eqb}
 use Rattle.answers.specs.declared.Answer.{Answer}
 use Rattle.answers.specs.Number.{numberOf}
 use Rattle.formats.specs.Tokens.{good, lex}
 use Rattle.formats.specs.Accept.{Verdict, fine, refused, orElse, lengthVerdict, kindVerdict, whereVerdict, limitVerdict, verdict, partsIn, sectionsIn}
+use Rattle.tables.specs.Standing.{headStands}
 use Rattle.marks.specs.Marks.{placedIn}
-use Rattle.drafting.specs.declared.Examined.{Examined}
-use Rattle.drafting.specs.Draft.{Drafted, itemWords}
+use Rattle.drafting.specs.declared.Draft.{Draft}
+use Rattle.examining.specs.declared.Examined.{Examined}
+use Rattle.drafting.specs.Draft.{Drafted, itemWords, hasConditionBy}
 
+-- ---- the tests on a draft
+-- the test of the answer of this number, of section i of n
+unfoldable pub passesBy : ℕ → ℕ → ℕ → Draft → Bool
+passesBy test n i d =
+    cond (eqb test 4) (d .body .fits) (cond (eqb test 5) (headStands n i (d .body .kind) (d .colour) (hasConditionBy d)) (d .within))
+
+-- the place of what fails, where it is below n
+abbrev pub foundBelow : ℕ → ℕ → Option ℕ
+foundBelow n r = cond (ltb r n) (some r) none
+
+-- ---- the answer
 -- the verdict that an answer and a place stand for
 unfoldable pub verdictOf : Answer → ℕ → Verdict
 verdictOf a k = cond (eqb (numberOf a) 0) fine (refused a k)

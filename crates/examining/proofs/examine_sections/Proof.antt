@@ -1,12 +1,12 @@
--- `drafting::examine_sections` meets its contract.
+-- `examining::examine_sections` meets its contract.
 -- Assumes nothing.
 use native.Mathlib.Omega.{arith}
 use mathlib.Core.Path.{refl}
 use denote.Ref.{now}
-use Rattle.drafting.proofs.Answering.{examined-refused, verdict-kind, verdict-where, verdict-limit, examined-done}
+use Rattle.examining.proofs.Answering.{examined-refused, verdict-kind, verdict-where, verdict-limit, examined-done}
 use borrow.Author.Needs.{needs}
-use Rattle.drafting.proofs.examine_sections.Statement.{statement}
-use Rattle.drafting.proofs.examine_sections.Tie as tie
+use Rattle.examining.proofs.examine_sections.Statement.{statement}
+use Rattle.examining.proofs.examine_sections.Tie as tie
 
 draft-all-requires : tie.Need-draft-all-requires
 draft-all-requires c κs =
