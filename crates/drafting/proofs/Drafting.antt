@@ -4,7 +4,7 @@ use Prim.Native.Nat.{ℕ, zero, suc, _+_, _-_, _*_, _/_, _≤_, _<_}
 use native.Mathlib.Omega.{arith}
 use mathlib.Core.Path.{_≡_, refl, sym, _∙_, ap}
 use mathlib.Core.Bool.{Bool, true, false, _&&_, true≢false}
-use mathlib.Core.List.{List, [], _∷_, _++_, append-assoc}
+use mathlib.Core.List.{List, [], _++_, append-assoc}
 use mathlib.Core.Option.{some}
 use native.Mathlib.Decide.{decLe}
 use lib.ListN.{length, take, drop, length-take, length-drop, drop-of-length-le}
@@ -14,7 +14,7 @@ use Rattle.calendar.specs.Names.{units}
 use Rattle.lists.specs.Lists.{count, isSome}
 use Rattle.lists.proofs.Bools.{and-left, and-right, true-T}
 use Rattle.formats.specs.Tokens.{Token, Written, startsWith, conditionInside}
-use Rattle.formats.specs.Items.{Item, kindOf, integerPlaces, sameKind, dateKind, settled}
+use Rattle.formats.specs.Items.{Item, integerPlaces, sameKind, dateKind, settled}
 use Rattle.formats.specs.Kinds.{isFillToken, Parts, partsOf, conditionOf, sectionOf, fits, commasFit, bodyKind, bodyItems, lastFill}
 use Rattle.formats.specs.Limits.{writtenWithin, sectionWithin, withinLimits}
 use Rattle.tables.specs.Words.{Entry, entriesIn}
@@ -37,11 +37,11 @@ use Rattle.bodies.specs.Sections.{headingParts, HeadingOf}
 use Rattle.bodies.proofs.Inside.{condition-at}
 use Rattle.marks.proofs.Words.{tokens-drop}
 use Rattle.tallies.specs.declared.Tally.{Tally}
-use Rattle.tallies.specs.Tally.{tallyOf, kindTold, withinTold, decimalsTold}
+use Rattle.tallies.specs.Tally.{tallyOf, kindTold, withinTold}
 use Rattle.tallies.proofs.Told.{percents-are, half-told, items-fit-told, within-told, decimals-told, section-kind-told}
 use Rattle.emitting.specs.Emit.{bodyWords}
 use Rattle.drafting.specs.declared.Body.{Body}
-use Rattle.drafting.specs.Draft.{ConditionAs, headingCondition, noCondition, thousandsBy, shiftTold, fitsBy, bodyBy, BodyOf, DraftOf}
+use Rattle.drafting.specs.Draft.{ConditionAs, headingCondition, noCondition, thousandsBy, fitsBy, bodyBy, BodyOf, DraftOf}
 
 -- ---- the condition
 conditioned : (w : Written) (r : Compared) → ComparedBy w r → ConditionAs (some w) r
@@ -71,28 +71,17 @@ module _ (code : List ℕ) (h : Heading) where
   unfolding headingCondition conditionOf operatorWord negativeWord wholePart millionthsPart bit writtenWithin
   condition-none e = rw e (record { operator = refl; within = refl; negative = λ t. refl; whole = λ t. refl; millionths = λ t. refl })
 
-  module _ (here : h .condition ≡ true) (r : Compared) where
-    pub condition-some : ComparedBy (writtenInside (take (h .argument) (drop (suc (h .start)) code))) r → ConditionAs (headingCondition code h) r
-    unfolding headingCondition
-    condition-some b = rw (here, condition-at code (h .argument) (h .start)) (conditioned _ r b)
+  pub condition-some : h .condition ≡ true → (r : Compared) → ComparedBy (writtenInside (take (h .argument) (drop (suc (h .start)) code))) r → ConditionAs (headingCondition code h) r
+  unfolding headingCondition
+  condition-some here r b = rw (here, condition-at code (h .argument) (h .start)) (conditioned _ r b)
 
-    -- the units end with the code
-    pub condition-clamped : (room : ℕ) → room ≡ length code - h .start - 1 → room ≤ h .argument
-        → ComparedBy (writtenInside (take room (drop (suc (h .start)) code))) r → ConditionAs (headingCondition code h) r
-    condition-clamped room e l b =
-        let us : List ℕ = drop (suc (h .start)) code in
-        let size : length us ≡ length code - suc (h .start) = length-drop (suc (h .start)) code in
-        let same : take room us ≡ take (h .argument) us = take-all room us (omega arith) ∙ sym (take-all (h .argument) us (omega arith)) in
-        condition-some (rw same at b)
-
--- the same units, clamped to the code
-pub clamped-inside : (code : List ℕ) (start size room : ℕ) → room ≡ length code - start - 1 → room ≤ size
-    → isSome (conditionInside (take size (drop (suc start) code))) ≡ true → isSome (conditionInside (take room (drop (suc start) code))) ≡ true
-clamped-inside code start size room e l h =
+-- the units end with the code
+pub clamped : (code : List ℕ) (start size room : ℕ) → room ≡ length code - start - 1 → room ≤ size
+    → take room (drop (suc start) code) ≡ take size (drop (suc start) code)
+clamped code start size room e l =
     let us : List ℕ = drop (suc start) code in
     let d : length us ≡ length code - suc start = length-drop (suc start) code in
-    let same : take room us ≡ take size us = take-all room us (omega arith) ∙ sym (take-all size us (omega arith)) in
-    rw same h
+    take-all room us (omega arith) ∙ sym (take-all size us (omega arith))
 
 -- ---- the items' words read back
 module _ (ts : List Token) where
@@ -111,12 +100,6 @@ pub within-bounds : (t : Tally) (thousands : ℕ) → withinTold t thousands ≡
 within-bounds t thousands e =
     let w : T (withinTold t thousands) = true-T e in
     (search (and-left, and-right, leb→le), search (and-left, and-right, leb→le))
-
-pub body-made : (f : Facts) (c : Commas) (t : Tally) (thousands kind shift decimals items : ℕ) (fits within grouped : Bool)
-    → thousands ≡ thousandsBy f c → fits ≡ fitsBy f c t → within ≡ withinTold t thousands → kind ≡ kindTold t → shift ≡ shiftTold t thousands
-    → grouped ≡ (f .number && c .grouped) → decimals ≡ decimalsTold t
-    → _≡_ {A = Body} (record { fits = fits; within = within; kind = kind; shift = shift; grouped = grouped; twelve = t .halves; decimals = decimals; items = items }) (bodyBy f c t items)
-body-made f c t thousands kind shift decimals items fits within grouped a b d e g h k = rw (b, d, e, g, h, k, a)
 
 module _ (p : Parts) where
   abbrev entries : List Entry

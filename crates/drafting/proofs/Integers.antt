@@ -7,13 +7,13 @@ use mathlib.Core.Bool.{Bool, true, false, cond, _&&_, true≢false}
 use mathlib.Core.List.{List, [], _∷_}
 use lib.ListN.{length, drop, getD}
 use lib.Dec.{ltb, eqb}
-use borrow.Author.Tests.{lt-ltb, le-ltb}
+use borrow.Author.Tests.{lt-ltb, le-ltb, eqb-true}
 use native.Mathlib.Nat.{zero-min}
-use Rattle.lists.proofs.Bools.{by-cases}
+use Rattle.lists.proofs.Bools.{by-cases, and-parts}
 use Rattle.formats.specs.Tokens as token
 use Rattle.formats.specs.Tokens.{Token}
 use Rattle.formats.specs.Items.{integerPlaces, sameKind, dateKind}
-use Rattle.formats.specs.Kinds.{formOf, integerPlaceTokens, isPlace, isPoint, isZero, isZeroIn, isSecondsToken, leadingZeros, partZeros, Piece, whole, secondPart, piecesFrom, pieceItems, dateItems, bodyKind, bodyItems}
+use Rattle.formats.specs.Kinds.{formOf, integerPlaceTokens, isPlace, isPoint, isZero, isSecondsToken, leadingZeros, partZeros, Piece, whole, secondPart, piecesFrom, pieceItems, dateItems, bodyKind, bodyItems}
 use Rattle.formats.proofs.FormedGrouping.{token-places, places-plain}
 use Rattle.marks.specs.Marks.{markToken, tokenAt, tokensIn}
 use Rattle.bodies.specs.declared.facts.Facts.{Facts}
@@ -31,56 +31,31 @@ abbrev more : Bool → ℕ → ℕ
 more b n = cond b (suc n) n
 
 -- ---- the places of a date
-point-other : (t : Token) → isPoint t ≡ true → (isSecondsToken t ≡ false) × (isPlace t ≡ false)
-unfolding isSecondsToken
-point-other token.point e = (refl, refl)
-point-other (token.literal us) e = absurd (true≢false (sym e))
-point-other (token.bare u) e = absurd (true≢false (sym e))
-point-other (token.blank u) e = absurd (true≢false (sym e))
-point-other (token.fill u) e = absurd (true≢false (sym e))
-point-other (token.place p) e = absurd (true≢false (sym e))
-point-other token.comma e = absurd (true≢false (sym e))
-point-other token.percent e = absurd (true≢false (sym e))
-point-other token.at e = absurd (true≢false (sym e))
-point-other token.semicolon e = absurd (true≢false (sym e))
-point-other token.general e = absurd (true≢false (sym e))
-point-other (token.half h) e = absurd (true≢false (sym e))
-point-other (token.run l n) e = absurd (true≢false (sym e))
-point-other (token.elapsed x n) e = absurd (true≢false (sym e))
-point-other (token.colour n) e = absurd (true≢false (sym e))
-point-other (token.condition w) e = absurd (true≢false (sym e))
+point-place : (t : Token) → isPoint t ≡ true → isPlace t ≡ false
+point-place t e = rw (eqb-true (formOf t) 5 e) refl
 
 -- the items of a token that belongs to no part, with those that follow
 piece-places : (n : ℕ) (t : Token) (ps : List Piece) → (eqb n 0 ≡ false → isPlace t ≡ false)
     → integerPlaces (dateItems (cond (eqb n 0) (whole t ∷ ps) (secondPart n ∷ ps))) ≡ more (isPlace t) (integerPlaces (dateItems ps))
 unfolding dateItems pieceItems integerPlaces
 piece-places n t ps h = by-cases (eqb n 0)
-    (λ e. rw e (token-places true t (dateItems ps) ∙ by-cases (isPoint t) (λ p. rw (p, point-other t p .1)) (λ p. rw p)))
+    (λ e. rw e (token-places true t (dateItems ps) ∙ by-cases (isPoint t) (λ p. rw (p, point-place t p)) (λ p. rw p)))
     (λ e. rw (e, h e))
 
 zeros-room : (b : Bool) (t : Token) (ts : List Token) → partZeros b t ts ≡ min (cond (b && isPoint t) 3 0) (leadingZeros ts)
 unfolding partZeros
 zeros-room b t ts = by-cases (b && isPoint t) (λ e. rw e) (λ e. rw (e, zero-min (leadingZeros ts)))
 
-pub and-second : (a b : Bool) → (a && b) ≡ true → b ≡ true
-and-second true b e = e
-and-second false b e = absurd (true≢false (sym e))
-
 part-no-place : (b : Bool) (t : Token) (ts : List Token) → eqb (partZeros b t ts) 0 ≡ false → isPlace t ≡ false
 unfolding partZeros
 part-no-place b t ts e = by-cases (b && isPoint t)
-    (λ p. point-other t (and-second b (isPoint t) p) .1)
+    (λ p. point-place t (and-parts b (isPoint t) p .1))
     (λ p. absurd (true≢false (rw p at e)))
 
 -- a token that belongs to no part
 module _ (b : Bool) (t : Token) (ts : List Token) where
   abbrev room : ℕ
   room = cond (b && isPoint t) 3 0
-
-  room-other : 0 < room → isSecondsToken t ≡ false
-  room-other h = by-cases (b && isPoint t)
-      (λ p. point-other t (and-second b (isPoint t) p) .0)
-      (λ p. let z = rw p at h in absurd (omega arith))
 
   other-date : integerPlaces (dateItems (piecesFrom (isSecondsToken t) (min room (leadingZeros ts)) ts)) ≡ datePlaces (isSecondsToken t) room ts
       → integerPlaces (dateItems (piecesFrom b 0 (t ∷ ts))) ≡ more (isPlace t) (datePlaces (isSecondsToken t) room ts)
@@ -90,20 +65,20 @@ module _ (b : Bool) (t : Token) (ts : List Token) where
       ∙ ap (λ (n : ℕ). more (isPlace t) n) (rw (zeros-room b t ts) ih)
 
 -- the zeros that belong to a part are passed over
-places-skip : (b : Bool) (left : ℕ) (ts : List Token) (skip : ℕ) → skip ≡ min left (leadingZeros ts) → (0 < left → b ≡ false)
+places-skip : (b : Bool) (left : ℕ) (ts : List Token) (skip : ℕ) → skip ≡ min left (leadingZeros ts)
     → integerPlaces (dateItems (piecesFrom b skip ts)) ≡ datePlaces b left ts
 unfolding datePlaces piecesFrom dateItems integerPlaces leadingZeros
-places-skip b left [] skip e h = refl
-places-skip b left (t ∷ ts) zero e h =
-    let later = other-date b t ts (places-skip (isSecondsToken t) (room b t ts) ts (min (room b t ts) (leadingZeros ts)) refl (room-other b t ts)) in
+places-skip b left [] skip e = refl
+places-skip b left (t ∷ ts) zero e =
+    let later = other-date b t ts (places-skip (isSecondsToken t) (room b t ts) ts (min (room b t ts) (leadingZeros ts)) refl) in
     by-cases (isZero t)
     (λ z. let y = rw z at e in let none : ltb 0 left ≡ false = le-ltb 0 left (omega arith) in rw (z, none) later)
     (λ z. rw z later)
-places-skip b left (t ∷ ts) (suc skip) e h =
+places-skip b left (t ∷ ts) (suc skip) e =
     by-cases (isZero t)
     (λ z. let y = rw z at e in
     let some : ltb 0 left ≡ true = lt-ltb 0 left (omega arith) in
-    rw (z, some) (places-skip false (left - 1) ts skip (omega arith) (λ l. refl)))
+    rw (z, some) (places-skip false (left - 1) ts skip (omega arith)))
     (λ z. let y = rw z at e in absurd (omega arith))
 
 -- ---- the places of a body
@@ -111,7 +86,7 @@ pub places-body : (ts : List Token)
     → integerPlaces (bodyItems ts) ≡ cond (sameKind (bodyKind ts) dateKind) (datePlaces false 0 ts) (integerPlaceTokens ts)
 unfolding bodyItems
 places-body ts = by-cases (sameKind (bodyKind ts) dateKind)
-    (λ e. rw e (places-skip false 0 ts 0 (sym (zero-min (leadingZeros ts))) (λ h. refl)))
+    (λ e. rw e (places-skip false 0 ts 0 (sym (zero-min (leadingZeros ts)))))
     (λ e. rw e (places-plain ts))
 
 places-few : (ts : List Token) → integerPlaceTokens ts ≤ length ts

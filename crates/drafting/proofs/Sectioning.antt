@@ -7,7 +7,7 @@ use mathlib.Core.Path.{_≡_, refl, sym, _∙_, ap}
 use mathlib.Core.Bool.{false}
 use mathlib.Core.List.{List, [], _∷_, _++_, map}
 use mathlib.Core.Option.{none}
-use lib.ListN.{length, take, drop, getD, set, length-set, length-append, length-take, length-drop, drop-of-length-le}
+use lib.ListN.{length, take, drop, getD, set, length-set, length-append, length-drop, drop-of-length-le}
 use lib.Seq.{take-all, drop-cons, drop-drop}
 use lib.Dec.{T, eqb}
 use borrow.Author.Tests.{eqb-false}
@@ -44,10 +44,6 @@ pub first-drafted : (code part : List ℕ) (ts : List Token) (old out : List ℕ
     → Put old at (bodyWords ((partsOf (tokensIn code part)) .body)) (at + 2 * d .body .items) out
     → FirstDrafted ts old at (record { draft = d; size = size }) out
 first-drafted code part ts old out at size d e s x y = record { size = s; draft = rw (← e) x; put = rw (← e) y }
-
--- a part from the front is no longer
-pub front-short : (ws : List ℕ) (n : ℕ) → length ws ≤ 762 → length (take n ws) ≤ 762
-front-short ws n h = rw (length-take n ws) (omega arith)
 
 -- ---- the items' words of all sections
 items-length : (ps : List Parts) → length (itemWords ps) ≡ 2 * itemsInAll (map sectionOf ps)

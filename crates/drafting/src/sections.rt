@@ -17,9 +17,9 @@ ghost use Rattle.emitting.specs.Emit.{bodyWords};
 ghost use Rattle.drafting.specs.Draft.{noDraft, hasDigit, FirstDrafted, AllDrafted, Lexes};
 
 // The next section: its draft, and how many tokens it has.
-pub struct Next {
-    pub draft: Draft,
-    pub size: usize,
+struct Next {
+    draft: Draft,
+    size: usize,
 }
 
 // The drafts of all sections, and how many words their items have.

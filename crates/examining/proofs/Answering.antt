@@ -123,10 +123,6 @@ pub count-inside : (code : List ℕ) (k : ℕ) → verdict code ≡ refused answ
 count-inside code k e = let f = count-refused code k e in step-inside code k _ (f .here .step)
 
 -- ---- 2
-pub verdict-token : (code words : List ℕ) (k : ℕ) → lengthVerdict code ≡ fine → lexMeant code words (Bad k) ≡ lex code → verdict code ≡ refused answer.Token k
-unfolding verdict orElse lexMeant tokenVerdict
-verdict-token code words k f e = rw (f, ← e)
-
 pub token-inside : (code : List ℕ) (k : ℕ) → verdict code ≡ refused answer.Token k → k < length code
 token-inside code k e = token-refused code k e .inside
 
@@ -149,7 +145,8 @@ module _ (code old words : List ℕ) (r : Filled) (f : Fills code old words r) w
       }
 
   pub filled-bad : (k : ℕ) → r ≡ Bad k → lengthVerdict code ≡ fine → verdict code ≡ refused answer.Token k
-  filled-bad k e fair = verdict-token code words k fair (rw e at (f .same))
+  unfolding verdict orElse lexMeant tokenVerdict
+  filled-bad k e fair = let same : lexMeant code words (Bad k) ≡ lex code = rw e at (f .same) in rw (fair, ← same)
 
 -- what was told of the first words holds of all
 pub examined-front : (code words out : List ℕ) (r : Examined) (k : ℕ) → ExaminedAs code (take k words) r out → ExaminedAs code words r out

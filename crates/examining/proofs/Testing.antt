@@ -1,4 +1,4 @@
--- The loops over drafts, and what their tests say of the sections.
+-- The first drafts of four, one by one, and the loop for the first that fails a test.
 -- Assumes nothing.
 use Prim.Native.Nat.{ℕ, _+_, _≤_, _<_}
 use native.Mathlib.Omega.{arith}

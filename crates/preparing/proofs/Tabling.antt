@@ -16,7 +16,7 @@ use Rattle.formats.specs.Limits.{writtenWithin, sectionWithin, withinLimits}
 use Rattle.formats.specs.Choice.{countedFrom, counted}
 use Rattle.formats.specs.Minus.{firstHasCondition, exceptionA}
 use Rattle.tables.specs.Words.{Head, headWords, headsWords, bodiesWords, tableWords}
-use Rattle.tables.specs.Encode.{bit, lowWord, highWord, flagsWord, hasHalf, headOf, noMinus, rowOf, rowsFrom, rowsOf, encode}
+use Rattle.tables.specs.Encode.{lowWord, highWord, flagsWord, hasHalf, headOf, noMinus, rowOf, rowsFrom, rowsOf, encode}
 use Rattle.tables.proofs.Words.{entries-append}
 use Rattle.tables.proofs.Promise.{rows-many}
 use Rattle.tables.proofs.Standing.{sectionKind, counted-kinds}
@@ -83,19 +83,6 @@ pub table-put : (n many : ℕ) (first : Bool) (ds : List Draft) (words : List �
     → Put l 0 (n ∷ []) a m → Put m a (headsBy many first 0 (take n ds)) b o → Put o b words r q → Put l 0 (tableBy n ds words) r q
 unfolding tableBy
 table-put n many first ds words d e f s x y z = rw (← e, ← (first-element ds d s), ← f) (put-put (put-put x y) z)
-
--- ---- a head
-pub head-put : (n i : ℕ) (firstHas : Bool) (d : Draft) (has none : Bool) (flags negative low high small large : ℕ) {l o : List ℕ} {at r : ℕ}
-    → has ≡ hasConditionBy d → none ≡ exceptionA n i has firstHas → flags ≡ flagsWord (d .body .grouped) none (d .body .twelve)
-    → negative ≡ bit (d .condition .negative) → low ≡ lowWord (d .condition .whole) → high ≡ highWord (d .condition .whole)
-    → small ≡ lowWord (d .condition .millionths) → large ≡ highWord (d .condition .millionths)
-    → Put l at
-    (d .body .kind ∷ d .colour ∷ d .condition .operator ∷ negative ∷ low ∷ high ∷ small ∷ large ∷ d .body .shift ∷ flags ∷ d .body .decimals ∷ d .body .items ∷ []) r o
-    → Put l at (headWords (headBy n i firstHas d) []) r o
-unfolding headWords headBy
-head-put n i firstHas d has none flags negative low high small large eh em ef en el eg es ej x =
-    let f : flags ≡ flagsWord (d .body .grouped) (exceptionA n i (hasConditionBy d) firstHas) (d .body .twelve) = ef ∙ rw (em, eh) in
-    rw (← f, ← en, ← el, ← eg, ← es, ← ej) x
 
 -- ---- the rows
 module _ (p : Parts) (d : Draft) (x : DraftOf p d) (within : T (withinLimits p)) where

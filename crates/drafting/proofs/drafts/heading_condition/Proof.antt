@@ -4,7 +4,7 @@ use native.Mathlib.Omega.{arith}
 use mathlib.Core.Path.{refl}
 use denote.Ref.{now}
 use borrow.Author.Tests.{not-true, not-false}
-use Rattle.drafting.proofs.Drafting.{start-inside, condition-none, condition-some, condition-clamped, clamped-inside}
+use Rattle.drafting.proofs.Drafting.{start-inside, condition-none, condition-some, clamped}
 use borrow.Author.Needs.{needs}
 use Rattle.drafting.proofs.drafts.heading_condition.Statement.{statement}
 use Rattle.drafting.proofs.drafts.heading_condition.Tie as tie
@@ -39,14 +39,15 @@ condition-of-requires-2 c κs =
     let h = s .args .h in (
       s .pre .0,
       omega (arith, start-inside (now (s .args .code)) h (s .pre .1 (not-false (s .args .h .condition) (d .if1 .left)))),
-      clamped-inside (now (s .args .code)) (h .start) (h .argument) _ refl (omega (arith, c .if2 .left)) (s .pre .1 (not-false (s .args .h .condition) (d .if1 .left))),
+      rw (clamped (now (s .args .code)) (h .start) (h .argument) _ refl (omega (arith, c .if2 .left))) (s .pre .1 (not-false (s .args .h .condition) (d .if1 .left))),
     )
 
 returns-3 : tie.Need-returns-3
 returns-3 c =
     let d = c .before .before .before .before in
     let s = d .before .before .before in
-    condition-clamped (now (s .args .code)) (s .args .h) (not-false (s .args .h .condition) (d .if1 .left)) _ _ refl (omega (arith, c .before .if2 .left)) (c .condition-of2 .ensures)
+    condition-some (now (s .args .code)) (s .args .h) (not-false (s .args .h .condition) (d .if1 .left)) _
+    (rw (clamped (now (s .args .code)) (s .args .h .start) (s .args .h .argument) _ refl (omega (arith, c .before .if2 .left))) at (c .condition-of2 .ensures))
 
 pub heading-condition-spec : {M : Type 1} → statement M
 heading-condition-spec =

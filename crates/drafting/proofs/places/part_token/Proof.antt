@@ -3,7 +3,7 @@
 use native.Mathlib.Omega.{arith}
 use lib.Dec.{ltb, eqb}
 use borrow.Author.Tests.{ltb-true}
-use Rattle.drafting.proofs.Integers.{and-second}
+use Rattle.lists.proofs.Bools.{and-parts}
 use borrow.Author.Needs.{needs}
 use Rattle.drafting.proofs.places.part_token.Statement.{statement}
 use Rattle.drafting.proofs.places.part_token.Tie as tie
@@ -11,7 +11,7 @@ use Rattle.drafting.proofs.places.part_token.Tie as tie
 sub-t7 : tie.Need-sub-t7
 sub-t7 c =
     let a = c .before .before .before .args in
-    omega (arith, ltb-true 0 (a .s .left) (and-second (eqb (a .form) 4) (ltb 0 (a .s .left)) (c .before .if1 .taken)))
+    omega (arith, ltb-true 0 (a .s .left) (and-parts (eqb (a .form) 4) (ltb 0 (a .s .left)) (c .before .if1 .taken) .1))
 
 returns : tie.Need-returns
 returns c = rw (c .before .if1 .taken)

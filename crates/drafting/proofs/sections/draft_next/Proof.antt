@@ -6,7 +6,8 @@ use lib.Seq.{length-take-le}
 use mathlib.Core.Path.{sym}
 use denote.Ref.{now}
 use Rattle.drafting.proofs.Digits.{digits-take}
-use Rattle.drafting.proofs.Sectioning.{first-tokens, first-drafted, front-short}
+use Rattle.drafting.proofs.Drafting.{part-short}
+use Rattle.drafting.proofs.Sectioning.{first-tokens, first-drafted}
 use borrow.Author.Needs.{needs}
 use Rattle.drafting.proofs.sections.draft_next.Statement.{statement}
 use Rattle.drafting.proofs.sections.draft_next.Tie as tie
@@ -22,7 +23,7 @@ draft-section-requires c κs =
     let s = e .before .before .before .before in
     let code = now (s .args .code) in
     let tokens = now (s .args .tokens) in (
-      (s .pre .0 .0, front-short tokens (3 * e .section-end .result) (s .pre .0 .1), s .pre .0 .2),
+      (s .pre .0 .0, part-short tokens (3 * e .section-end .result) 0 (s .pre .0 .1), s .pre .0 .2),
       (
         rw (first-tokens code tokens (e .section-end .result) (e .section-end .ensures)) (s .pre .1 .0),
         digits-take code tokens (e .section-end .result) (s .pre .1 .1),
