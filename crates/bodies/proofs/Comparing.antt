@@ -1,6 +1,6 @@
 -- A condition as a table has it, from its comparison, its sign and its digits.
 -- Assumes nothing.
-use Prim.Native.Nat.{ℕ, _+_, _-_, _*_, _^_, _≤_, _<_}
+use Prim.Native.Nat.{ℕ, _+_, _-_, _*_, _^_, _≤_, _<_, min}
 use mathlib.Core.Path.{_≡_, refl, sym, ap, _∙_}
 use mathlib.Core.Bool.{Bool, true, false, not, _&&_, true≢false}
 use mathlib.Core.List.{List, map}
@@ -36,7 +36,7 @@ sign-of n w m e = by-cases (ltb 0 (w + m))
     (λ t. let p = ltb-true 0 (w + m) t in rw (t, ne-eqb n 0 (λ z. omega arith)))
     (λ t. let p = ltb-false 0 (w + m) t in rw (t, eq-eqb n 0 (omega arith)))
 
-module _ (us : List ℕ) (n b : ℕ) (e : n ≡ leading isDigit us) (f : b ≡ n + 1 - (n + 1 - length us)) where
+module _ (us : List ℕ) (n b : ℕ) (e : n ≡ leading isDigit us) (f : b ≡ min (n + 1) (length us)) where
   pub whole-length : n ≡ length (take n us)
   whole-length = let m = leading-most isDigit us in sym (length-take-le n us (omega arith))
 

@@ -1,9 +1,9 @@
 // The uses of a body's commas, in one pass over its tokens.
-use super::bools::between;
 use marks::forms::COMMA;
 use marks::forms::POINT;
 use marks::forms::SPACE_PLACE;
 use marks::forms::ZERO_PLACE;
+use values::integers::is_between;
 ghost use mathlib.Core.Path.{_≡_};
 ghost use mathlib.Core.List.{List};
 ghost use Prim.Native.Nat.{ℕ, _≤_};
@@ -84,7 +84,7 @@ fn scan_token(s: Scan, form: u16) -> Scan
     if form == POINT {
         return at_point(s);
     }
-    if between(form, ZERO_PLACE, SPACE_PLACE) {
+    if is_between(ZERO_PLACE, SPACE_PLACE, form) {
         return at_place(s);
     }
     s

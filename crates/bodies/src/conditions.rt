@@ -1,5 +1,6 @@
 // The condition that the units inside a bracket write.
-use super::bools::between;
+use values::integers::is_between;
+use values::integers::least;
 ghost use mathlib.Core.Path.{_≡_};
 ghost use mathlib.Core.Bool.{true, false};
 ghost use Prim.Native.Nat.{suc, _+_, _-_, _^_, _≤_, _<_};
@@ -66,7 +67,7 @@ fn digits(us: &[u16]) -> usize
 {
     let mut i: usize = 0;
     while i < us.len() {
-        if between(us[i], ZERO, NINE) {
+        if is_between(ZERO, NINE, us[i]) {
             i += 1;
         } else {
             return i;
@@ -98,12 +99,6 @@ fn number(us: &[u16], places: usize) -> u32
         i += 1;
     }
     v
-}
-
-fn least(a: usize, b: usize) -> usize
-    ensures { λ r. ⌜ r ≡ a - (a - b) ⌝ }
-{
-    if a < b { a } else { b }
 }
 
 // A condition whose digits pass the limits.

@@ -1,5 +1,4 @@
 // The facts of a body, in one pass over its tokens.
-use super::bools::between;
 use marks::forms::AT;
 use marks::forms::BARE;
 use marks::forms::COLOUR;
@@ -11,6 +10,7 @@ use marks::forms::POINT;
 use marks::forms::SPACE_PLACE;
 use marks::forms::YEARS;
 use marks::forms::ZERO_PLACE;
+use values::integers::is_between;
 ghost use mathlib.Core.Path.{_≡_};
 ghost use mathlib.Core.List.{List};
 ghost use Prim.Native.Nat.{ℕ, _+_, _-_, _≤_};
@@ -64,10 +64,10 @@ fn rank_of(form: u16) -> u16
     if form == GENERAL {
         return GENERAL_RANK;
     }
-    if between(form, YEARS, ELAPSED_SECONDS) {
+    if is_between(YEARS, ELAPSED_SECONDS, form) {
         return DATE_RANK;
     }
-    if between(form, ZERO_PLACE, SPACE_PLACE) {
+    if is_between(ZERO_PLACE, SPACE_PLACE, form) {
         return NUMBER_RANK;
     }
     0
@@ -92,7 +92,7 @@ fn see(s: Seen, form: u16, argument: u16) -> Seen
     requires { ⌜ (s .fills ≤ 762) × (s .places ≤ 762) ⌝ }
     ensures { λ r. ⌜ r ≡ seeForm s form argument ⌝ }
 {
-    let place = between(form, ZERO_PLACE, SPACE_PLACE);
+    let place = is_between(ZERO_PLACE, SPACE_PLACE, form);
     let point = s.point | (form == POINT);
     Seen {
         rank: higher(s.rank, rank_of(form)),

@@ -17,8 +17,8 @@ at-point-requires c κs = search needs
 returns-2 : tie.Need-returns-2
 returns-2 c = search (needs, scan-point)
 
-between-requires : tie.Need-between-requires
-between-requires c κs = search needs
+is-between-requires : tie.Need-is-between-requires
+is-between-requires c κs = search needs
 
 at-place-requires : tie.Need-at-place-requires
 at-place-requires c κs = search needs
@@ -37,7 +37,7 @@ scan-token-spec =
     returns
     at-point-requires
     returns-2
-    between-requires
+    is-between-requires
     at-place-requires
     returns-3
     returns-4)

@@ -16,14 +16,14 @@ abbrev μ-loop : tie.MeasureT-loop
 loop-holds : tie.Need-loop-holds Inv-loop μ-loop
 loop-holds c = search (needs, leading-start)
 
-mul-between : tie.Need-mul-between Inv-loop μ-loop
-mul-between c = search needs
+mul-is-between : tie.Need-mul-is-between Inv-loop μ-loop
+mul-is-between c = search needs
 
-shared-slice-read-between : tie.Need-shared-slice-read-between Inv-loop μ-loop
-shared-slice-read-between c = search needs
+shared-slice-read-is-between : tie.Need-shared-slice-read-is-between Inv-loop μ-loop
+shared-slice-read-is-between c = search needs
 
-between-requires : tie.Need-between-requires Inv-loop μ-loop
-between-requires c κs = search needs
+is-between-requires : tie.Need-is-between-requires Inv-loop μ-loop
+is-between-requires c κs = search needs
 
 add-i : tie.Need-add-i Inv-loop μ-loop
 add-i c = search needs
@@ -47,9 +47,9 @@ digits-spec =
     Inv-loop
     μ-loop
     loop-holds
-    mul-between
-    shared-slice-read-between
-    between-requires
+    mul-is-between
+    shared-slice-read-is-between
+    is-between-requires
     add-i
     loop-less
     loop-again

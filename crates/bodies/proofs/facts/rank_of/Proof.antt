@@ -11,14 +11,14 @@ returns c = search (needs, rank-text)
 returns-2 : tie.Need-returns-2
 returns-2 c = search (needs, rank-general)
 
-between-requires : tie.Need-between-requires
-between-requires c κs = search needs
+is-between-requires : tie.Need-is-between-requires
+is-between-requires c κs = search needs
 
 returns-3 : tie.Need-returns-3
 returns-3 c = search (needs, rank-date)
 
-between-requires-2 : tie.Need-between-requires-2
-between-requires-2 c κs = search needs
+is-between-requires-2 : tie.Need-is-between-requires-2
+is-between-requires-2 c κs = search needs
 
 returns-4 : tie.Need-returns-4
 returns-4 c = search (needs, rank-place)
@@ -29,4 +29,4 @@ returns-5 c = search (needs, rank-none)
 pub rank-of-spec : {M : Type 1} → statement M
 rank-of-spec =
     tie.close
-    (tie.spec returns returns-2 between-requires returns-3 between-requires-2 returns-4 returns-5)
+    (tie.spec returns returns-2 is-between-requires returns-3 is-between-requires-2 returns-4 returns-5)

@@ -4,8 +4,8 @@ use borrow.Author.Needs.{needs}
 use Rattle.bodies.proofs.facts.see.Statement.{statement}
 use Rattle.bodies.proofs.facts.see.Tie as tie
 
-between-requires : tie.Need-between-requires
-between-requires c κs = search needs
+is-between-requires : tie.Need-is-between-requires
+is-between-requires c κs = search needs
 
 rank-of-requires : tie.Need-rank-of-requires
 rank-of-requires c κs = search needs
@@ -23,9 +23,9 @@ returns : tie.Need-returns
 returns c =
     let n = c .before .before in
     let h = n .before .before .before .before in
-    rw (h .higher .ensures, h .before .rank-of .ensures, n .counted .ensures, c .before .counted2 .ensures, h .before .before .before .between .ensures)
+    rw (h .higher .ensures, h .before .rank-of .ensures, n .counted .ensures, c .before .counted2 .ensures, h .before .before .before .is-between .ensures)
 
 pub see-spec : {M : Type 1} → statement M
 see-spec =
     tie.close
-    (tie.spec between-requires rank-of-requires higher-requires counted-requires counted-requires-2 returns)
+    (tie.spec is-between-requires rank-of-requires higher-requires counted-requires counted-requires-2 returns)
