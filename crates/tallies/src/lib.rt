@@ -10,6 +10,7 @@ ghost use Rattle.tallies.specs.Tally.{tallyOf, hasPlaces, hasNumberItems
 ghost use Rattle.tallies.specs.Walk.{runAt, lower, faultOf, tooLong, countedOf, datedOf, stepOf, startOf, finishedOf, withoutDates, Few, Weights};
 use tables::kinds;
 use tables::tags;
+use values::integers::is_between;
 
 // What the items of a section tell together.
 pub struct Tally {
@@ -132,12 +133,6 @@ fn start() -> Walk
         earlier: NO_RUN,
         behind: OTHER_BEFORE,
     }
-}
-
-fn is_between(least: u16, greatest: u16, n: u16) -> bool
-    ensures { λ r. ⌜ r ≡ between least greatest n ⌝ }
-{
-    (least <= n) & (n <= greatest)
 }
 
 fn fault(fits: bool) -> u64
