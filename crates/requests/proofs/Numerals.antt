@@ -14,6 +14,7 @@ use lib.Seq.{drop-cons}
 use Rattle.lists.specs.Lists.{every, isEmpty}
 use Rattle.lists.proofs.Bools.{and-left, and-right, true-T, T-true}
 use Rattle.formats.specs.Tokens.{leading, isDigit, digitOf, numberFrom}
+use Rattle.formats.proofs.Lexing.{number-grows}
 use Rattle.lexing.proofs.Scanning.{every-leading}
 use Rattle.requests.specs.Written.{isDigits}
 
@@ -42,11 +43,6 @@ module _ (xs ys : List ℕ) (a b : Bool) (e : a ≡ isDigits xs) (f : b ≡ isDi
   digits-second = digits-each ys (sym f ∙ T-true b (and-right a b (true-T h)))
 
 -- ---- the number up to a limit
-number-least : (v : ℕ) (ds : List ℕ) → v ≤ numberFrom v ds
-unfolding numberFrom
-number-least v [] = omega arith
-number-least v (d ∷ ds) = omega (arith, number-least (10 * v + d) ds)
-
 -- a number that has passed the limit stays past it
 pub capped-from : (a limit : ℕ) (ds : List ℕ) → min (numberFrom (min a limit) ds) limit ≡ min (numberFrom a ds) limit
 capped-from a limit ds =
@@ -54,7 +50,7 @@ capped-from a limit ds =
       | yes h ↦ rw (min-eq-left h)
       | no h ↦
           let l : limit ≤ a = omega arith in
-          rw (min-eq-right l) (omega (arith, number-least limit ds, number-least a ds))
+          rw (min-eq-right l) (omega (arith, number-grows limit ds, number-grows a ds))
     ]
 
 -- what the loop of `number_behind` keeps
