@@ -9,7 +9,7 @@ use Rattle.formats.specs.Items.{Item, itemBelongs, isElapsed, isHalf}
 use Rattle.formats.specs.Limits.{elapsedShort}
 use Rattle.tables.specs.Words.{Entry}
 use Rattle.tables.specs.Decode.{itemsAt}
-use Rattle.tables.proofs.Each.{by-item}
+use Rattle.formats.proofs.Each.{by-item}
 use Rattle.tallies.specs.Tally.{belongsDate, isElapsedOf, tallyOf}
 use Rattle.checking.specs.Checking.{Undated}
 

@@ -4,11 +4,10 @@ use mathlib.Core.Path.{_≡_, refl, _∙_}
 use mathlib.Core.Bool.{Bool, true, false, cond, not, _&&_, _||_, true≢false}
 use mathlib.Core.List.{List, [], _∷_, _++_}
 use Rattle.lists.specs.Lists.{any}
-use Rattle.lists.proofs.Bools.{by-cases}
+use Rattle.lists.proofs.Bools.{by-cases, cond-self}
 use Rattle.lists.proofs.Counts.{any-append}
 use Rattle.formats.specs.Tokens.{Token}
 use Rattle.formats.specs.Kinds.{isPlace, isPoint, isComma, CommaUse, groups, divides, misplaced, integerPlaceIn, useOf, usesFrom, commaUses}
-use Rattle.formats.proofs.FormedBools.{cond-self}
 
 -- the use of a comma: whether the point stands before it, whether a place does, and what follows it
 unfoldable pub commaUse : Bool → Bool → List Token → CommaUse

@@ -17,6 +17,7 @@ use Rattle.formats.specs.Items.{Item, literal, blank, fill, place, point
 use Rattle.formats.specs.Text.{Context, firstDigit, firstDecimal, insignificant, figureUnits, unitsBeyond, placeUnits, pointUnits, itemUnits, digitAfter, itemsUnits}
 use Rattle.formats.specs.Figures.{readFrom, unitsRead, Counts, figurePieces}
 use Rattle.formats.proofs.FigureUnits.{digit-in, figure-aside, figure-read, extra-read, idle-nought, cut-exact}
+use Rattle.formats.proofs.Each.{by-item}
 
 -- the pieces of a section's text, one an item
 unfoldable pub itemPieces : Context → ℕ → List Item → List (List ℕ)
@@ -36,23 +37,12 @@ figuresShown c q is = figurePieces is (itemPieces c q is)
 item-case : (P : Item → Type 0) → ((p : Place) → P (place p)) → P point
     → ((i : Item) → isPlace i ≡ false → isPoint i ≡ false → sameKind numberKind (itemMakes i) ≡ false → P i) → (i : Item) → P i
 unfolding itemMakes
-item-case P f g h (place p) = f p
-item-case P f g h point = g
-item-case P f g h (literal u) = h (literal u) refl refl refl
-item-case P f g h (blank u) = h (blank u) refl refl refl
-item-case P f g h (fill u) = h (fill u) refl refl refl
-item-case P f g h percent = h percent refl refl refl
-item-case P f g h general = h general refl refl refl
-item-case P f g h at = h at refl refl refl
-item-case P f g h (year n) = h (year n) refl refl refl
-item-case P f g h (month n) = h (month n) refl refl refl
-item-case P f g h (day n) = h (day n) refl refl refl
-item-case P f g h (hour n) = h (hour n) refl refl refl
-item-case P f g h (minute n) = h (minute n) refl refl refl
-item-case P f g h (second n) = h (second n) refl refl refl
-item-case P f g h (part n) = h (part n) refl refl refl
-item-case P f g h (elapsed e n) = h (elapsed e n) refl refl refl
-item-case P f g h (half a) = h (half a) refl refl refl
+item-case P f g h =
+    by-item P (λ u. h (literal u) refl refl refl) (λ u. h (blank u) refl refl refl) (λ u. h (fill u) refl refl refl) f
+    g (h percent refl refl refl) (h general refl refl refl) (h at refl refl refl)
+    (λ n. h (year n) refl refl refl) (λ n. h (month n) refl refl refl) (λ n. h (day n) refl refl refl) (λ n. h (hour n) refl refl refl)
+    (λ n. h (minute n) refl refl refl) (λ n. h (second n) refl refl refl) (λ n. h (part n) refl refl refl)
+    (λ e n. h (elapsed e n) refl refl refl) (λ a. h (half a) refl refl refl)
 
 -- a number section has a place
 pub makes-place : (i : Item) → sameKind numberKind (itemMakes i) ≡ isPlace i

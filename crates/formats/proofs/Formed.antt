@@ -5,7 +5,7 @@ use mathlib.Core.Path.{_≡_}
 use mathlib.Core.Bool.{Bool, true, false, cond, _||_}
 use lib.Dec.{T, leb, eqb}
 use Rattle.lists.specs.Lists.{every, count}
-use Rattle.lists.proofs.Bools.{and-left, and-right, and-in}
+use Rattle.lists.proofs.Bools.{and-left, and-right, and-in, nought-unless}
 use Rattle.formats.specs.Items.{numberKind, sameKind, kindOf, itemsFit}
 use Rattle.formats.specs.Kinds.{Parts, bodyKind, commaUses, isDividing, bodyItems, lastFill, sectionOf, fits}
 use Rattle.formats.specs.Limits.{elapsedShort, sectionWithin, writtenWithin, withinLimits}
@@ -18,10 +18,6 @@ use Rattle.formats.proofs.FormedGrouping.{grouping-fits}
 use Rattle.formats.proofs.FormedLengths.{items-in-range}
 use Rattle.formats.proofs.FormedCondition.{condition-in-range}
 
-divides-only : (b : Bool) (n : ℕ) → T (b || eqb (cond b n 0) 0)
-divides-only true n = tt
-divides-only false n = tt
-
 -- the kind of a section is the kind of its body
 pub kind-of-section : (p : Parts) → kindOf (sectionOf p) ≡ bodyKind (p .body)
 unfolding kindOf sectionOf
@@ -30,7 +26,7 @@ kind-of-section p = kind-of-body (p .body)
 dividing-fits : (p : Parts) → T (dividingFits (sectionOf p))
 unfolding dividingFits sectionOf
 dividing-fits p =
-    rw (kind-of-section p) (divides-only (sameKind (bodyKind (p .body)) numberKind) (count isDividing (commaUses (p .body))))
+    rw (kind-of-section p) (nought-unless (sameKind (bodyKind (p .body)) numberKind) (count isDividing (commaUses (p .body))))
 
 -- the items of a section keep the limit on elapsed runs
 within-short : (p : Parts) → T (sectionWithin (sectionOf p)) → T (every elapsedShort ((sectionOf p) .items))

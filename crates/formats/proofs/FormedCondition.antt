@@ -11,13 +11,12 @@ use lib.ListN.{length}
 use lib.Pow.{pow-add}
 use lib.Dec.{T, leb, ltb, eqb, leb→le, ltb→lt, lt→ltb}
 use Rattle.lists.specs.Lists.{every}
-use Rattle.lists.proofs.Bools.{and-left, and-right, and-in, every-head, every-tail}
+use Rattle.lists.proofs.Bools.{and-left, and-right, and-in, every-head, every-tail, or-right}
 use Rattle.formats.specs.Tokens.{Written, numberFrom}
 use Rattle.formats.specs.Kinds.{millionthsOf, conditionOf}
 use Rattle.formats.specs.Where.{implies}
 use Rattle.formats.specs.Limits.{writtenWithin}
 use Rattle.formats.specs.WellFormed.{conditionInRange}
-use Rattle.formats.proofs.FormedBools.{or-right}
 use Rattle.formats.proofs.TokenRanges.{writtenInRange, conditionDigits}
 
 -- a digit more: the algebra over plain variables

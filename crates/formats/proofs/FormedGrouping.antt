@@ -8,15 +8,15 @@ use mathlib.Core.List.{List, [], _∷_, _++_, map, append-assoc}
 use lib.Dec.{T, leb, le→leb}
 use borrow.Author.Tests.{eqb-true, not-true}
 use Rattle.lists.specs.Lists.{any}
-use Rattle.lists.proofs.Bools.{by-cases, cond-both, and-left, and-right, T-true, true-T}
+use Rattle.lists.proofs.Bools.{by-cases, cond-both, and-left, and-right, T-true, true-T, implies-in}
 use Rattle.formats.specs.Tokens as token
 use Rattle.formats.specs.Tokens.{Token, Letter, letterY, letterM, letterD, letterH, letterS}
 use Rattle.formats.specs.Items as item
 use Rattle.formats.specs.Items.{Item, numberKind, sameKind, kindIndex, integerPlaces, settled, noRun}
 use Rattle.formats.specs.Kinds.{formOf, isPlace, isPoint, isComma, Parts, bodyKind, CommaUse, divides, misplaced, isGrouping, integerPlaceTokens, integerPlaceIn, useOf, usesFrom, commaUses, runItem, tokenItems, plainItems, bodyItems, lastFill, sectionOf}
 use Rattle.formats.specs.WellFormed.{groupingFits}
-use Rattle.formats.proofs.FormedBools.{implies-in}
 use Rattle.formats.proofs.FormedItems.{places-lastFill, places-settled}
+use Rattle.formats.proofs.Each.{by-token, by-letter}
 
 literals-places : (us : List ℕ) (is : List Item) → integerPlaces (map item.literal us ++ is) ≡ integerPlaces is
 unfolding integerPlaces
@@ -25,34 +25,19 @@ literals-places (u ∷ us) is = literals-places us is
 
 run-places : (l : Letter) (n : ℕ) (is : List Item) → integerPlaces (runItem l n ∷ is) ≡ integerPlaces is
 unfolding integerPlaces runItem
-run-places letterY n is = refl
-run-places letterM n is = refl
-run-places letterD n is = refl
-run-places letterH n is = refl
-run-places letterS n is = refl
+run-places l n is = by-letter (λ (k : Letter). integerPlaces (runItem k n ∷ is) ≡ integerPlaces is) refl refl refl refl refl l
 
 -- the integer places of a token's items in front of others
 pub token-places : (date : Bool) (t : Token) (is : List Item) → integerPlaces (tokenItems date t ++ is)
     ≡ cond (isPoint t) (cond date (integerPlaces is) 0) (cond (isPlace t) (suc (integerPlaces is)) (integerPlaces is))
 unfolding integerPlaces tokenItems
-token-places date (token.literal us) is = literals-places us is
-token-places date (token.bare u) is = refl
-token-places date (token.blank u) is = refl
-token-places date (token.fill u) is = refl
-token-places date (token.place p) is = refl
-token-places true token.point is = refl
-token-places false token.point is = refl
-token-places true token.comma is = refl
-token-places false token.comma is = refl
-token-places date token.percent is = refl
-token-places date token.at is = refl
-token-places date token.semicolon is = refl
-token-places date token.general is = refl
-token-places date (token.half h) is = refl
-token-places date (token.run l n) is = run-places l n is
-token-places date (token.elapsed e n) is = refl
-token-places date (token.colour n) is = refl
-token-places date (token.condition w) is = refl
+token-places date t is =
+    by-token
+    (λ (t : Token). integerPlaces (tokenItems date t ++ is)
+    ≡ cond (isPoint t) (cond date (integerPlaces is) 0) (cond (isPlace t) (suc (integerPlaces is)) (integerPlaces is)))
+    (λ us. literals-places us is) (λ u. refl) (λ u. refl) (λ u. refl) (λ p. refl)
+    (by-cases date (λ e. rw e) (λ e. rw e)) (by-cases date (λ e. rw e) (λ e. rw e))
+    refl refl refl refl (λ h. refl) (λ l n. run-places l n is) (λ e n. refl) (λ n. refl) (λ w. refl) t
 
 pub places-plain : (ts : List Token) → integerPlaces (plainItems ts) ≡ integerPlaceTokens ts
 unfolding plainItems integerPlaces integerPlaceTokens

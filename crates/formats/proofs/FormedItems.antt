@@ -7,43 +7,66 @@ use mathlib.Core.Bool.{Bool, true, false, cond, not, _&&_, _||_, true≢false}
 use mathlib.Core.List.{List, [], _∷_}
 use lib.Dec.{T, leb, eqb, le→leb, eqb-refl}
 use Rattle.lists.specs.Lists.{every, any, count}
-use Rattle.lists.proofs.Bools.{by-cases, cond-both, and-left, and-right, and-in, T-true, true-T, every-head, every-tail, every-cons}
+use Rattle.lists.proofs.Bools.{no, by-cases, cond-both, cond-case, and-left, and-right, and-in, T-true, true-T, every-head, every-tail, every-cons}
 use Rattle.formats.specs.Items.{Item, literal, blank, fill, place, point, percent, general, at, year, month, day, hour, minute, second, part, elapsed, half, sortOf, isFill, isPlace, isPoint, isPart, integerPlaces, Run, noRun, runOf, nearer, firstRun, meansMinutes, monthOrMinute, settledItem, settledFrom, settled}
 use Rattle.formats.specs.Kinds.{lastFill}
 use Rattle.formats.specs.WellFormed.{oneFill, settledTest, isSettled, isSeconds, partsFrom}
+use Rattle.formats.proofs.Each.{by-item}
 
 -- what holds of every fill holds of an item that is one
 fill-case : (P : Item → Type 0) → ((u : ℕ) → P (fill u)) → (i : Item) → isFill i ≡ true → P i
-fill-case P f (fill u) e = f u
-fill-case P f (literal u) e = absurd (true≢false (sym e))
-fill-case P f (blank u) e = absurd (true≢false (sym e))
-fill-case P f (place p) e = absurd (true≢false (sym e))
-fill-case P f point e = absurd (true≢false (sym e))
-fill-case P f percent e = absurd (true≢false (sym e))
-fill-case P f general e = absurd (true≢false (sym e))
-fill-case P f at e = absurd (true≢false (sym e))
-fill-case P f (year n) e = absurd (true≢false (sym e))
-fill-case P f (month n) e = absurd (true≢false (sym e))
-fill-case P f (day n) e = absurd (true≢false (sym e))
-fill-case P f (hour n) e = absurd (true≢false (sym e))
-fill-case P f (minute n) e = absurd (true≢false (sym e))
-fill-case P f (second n) e = absurd (true≢false (sym e))
-fill-case P f (part n) e = absurd (true≢false (sym e))
-fill-case P f (elapsed s n) e = absurd (true≢false (sym e))
-fill-case P f (half h) e = absurd (true≢false (sym e))
+fill-case P f =
+    by-item (λ (i : Item). isFill i ≡ true → P i) (λ u. no) (λ u. no) (λ u e. f u) (λ p. no) no no no no
+    (λ n. no) (λ n. no) (λ n. no) (λ n. no) (λ n. no) (λ n. no) (λ n. no) (λ x n. no) (λ h. no)
 
 -- what holds of every fill holds of an item that is left out
 pub dropped : (P : Item → Type 0) → ((u : ℕ) → P (fill u)) → (i : Item) (is : List Item) → (isFill i && any isFill is) ≡ true → P i
 dropped P f i is h = fill-case P f i (T-true (isFill i) (and-left (isFill i) (any isFill is) (true-T h)))
 
--- a test that fails at fills passes for some item exactly where it did before fills were left out
-pub any-lastFill : (f : Item → Bool) → ((u : ℕ) → f (fill u) ≡ false) → (is : List Item) → any f (lastFill is) ≡ any f is
-unfolding lastFill any
-any-lastFill f g [] = refl
-any-lastFill f g (i ∷ is) =
-    by-cases (isFill i && any isFill is)
-    (λ h. rw (h, dropped (λ (j : Item). f j ≡ false) g i is h) (any-lastFill f g is))
-    (λ h. rw (h, any-lastFill f g is))
+-- an item and what it becomes between two runs: the rule for m tells of a month and a minute, and leaves every other item
+pub settled-cases : (P : Item → (Run → Run → Item) → Type 0)
+    → ((n : ℕ) → P (month n) (λ e l. monthOrMinute (meansMinutes e l) n))
+    → ((n : ℕ) → P (minute n) (λ e l. monthOrMinute (meansMinutes e l) n))
+    → ((i : Item) → P i (λ e l. i)) → (i : Item) → P i (λ e l. settledItem e l i)
+unfolding settledItem
+settled-cases P p q r =
+    by-item (λ (i : Item). P i (λ e l. settledItem e l i)) (λ u. r (literal u)) (λ u. r (blank u)) (λ u. r (fill u)) (λ o. r (place o))
+    (r point) (r percent) (r general) (r at) (λ n. r (year n)) p (λ n. r (day n)) (λ n. r (hour n)) q (λ n. r (second n)) (λ n. r (part n))
+    (λ x n. r (elapsed x n)) (λ h. r (half h))
+
+-- settling keeps whatever is the same of months and minutes
+module _ {A : Type 0} (f : Item → A) (same : (n : ℕ) → f (minute n) ≡ f (month n)) where
+  month-kept : (b : Bool) (n : ℕ) → f (monthOrMinute b n) ≡ f (month n)
+  unfolding monthOrMinute
+  month-kept b n = cond-both (λ (i : Item). f i ≡ f (month n)) (b && leb n 2) (same n) refl
+
+  pub settled-kept : (e l : Run) (i : Item) → f (settledItem e l i) ≡ f i
+  settled-kept e l = settled-cases (λ (i : Item) (g : Run → Run → Item). f (g e l) ≡ f i)
+      (λ n. month-kept (meansMinutes e l) n) (λ n. month-kept (meansMinutes e l) n ∙ sym (same n)) (λ i. refl)
+
+-- what passes over fills and goes on from what is behind an item is the same of the fills that are left; and what is the same of a month
+-- and a minute is kept when runs of m are settled
+module _ {A : Type 0} (h : List Item → A) (on : (i : Item) (is js : List Item) → h is ≡ h js → h (i ∷ is) ≡ h (i ∷ js)) where
+  pub fills-kept : ((u : ℕ) (is : List Item) → h (fill u ∷ is) ≡ h is) → (is : List Item) → h (lastFill is) ≡ h is
+  unfolding lastFill
+  fills-kept over [] = refl
+  fills-kept over (i ∷ is) =
+      let r = fills-kept over is in
+      cond-case (λ (js : List Item). h js ≡ h (i ∷ is)) (isFill i && any isFill is)
+      (λ e. r ∙ sym (dropped (λ (j : Item). h (j ∷ is) ≡ h is) (λ u. over u is) i is e))
+      (λ e. on i (lastFill is) is r)
+
+  pub runs-kept : ((n : ℕ) (is : List Item) → h (minute n ∷ is) ≡ h (month n ∷ is)) → (e : Run) (is : List Item) → h (settledFrom e is) ≡ h is
+  unfolding settledFrom
+  runs-kept same e [] = refl
+  runs-kept same e (i ∷ is) =
+      let js = settledFrom (nearer (runOf i) e) is in
+      settled-kept (λ (j : Item). h (j ∷ js)) (λ n. same n js) e (firstRun is) i ∙ on i js is (runs-kept same (nearer (runOf i) e) is)
+
+  pub both-kept : ((u : ℕ) (is : List Item) → h (fill u ∷ is) ≡ h is) → ((n : ℕ) (is : List Item) → h (minute n ∷ is) ≡ h (month n ∷ is))
+      → (is : List Item) → h (settled (lastFill is)) ≡ h is
+  unfolding settled
+  both-kept over same is = runs-kept same noRun (lastFill is) ∙ fills-kept over is
 
 pub every-lastFill : (f : Item → Bool) (is : List Item) → T (every f is) → T (every f (lastFill is))
 unfolding lastFill every
@@ -53,14 +76,8 @@ every-lastFill f (i ∷ is) t =
     cond-both (λ js. T (every f js)) (isFill i && any isFill is) r (every-cons f i (lastFill is) (every-head f i is t) r)
 
 pub places-lastFill : (is : List Item) → integerPlaces (lastFill is) ≡ integerPlaces is
-unfolding lastFill integerPlaces
-places-lastFill [] = refl
-places-lastFill (i ∷ is) =
-    by-cases (isFill i && any isFill is)
-    (λ h.
-    rw (h, dropped (λ (j : Item). isPoint j ≡ false) (λ u. refl) i is h, dropped (λ (j : Item). isPlace j ≡ false) (λ u. refl) i is h)
-    (places-lastFill is))
-    (λ h. rw (h, places-lastFill is))
+unfolding integerPlaces
+places-lastFill = fills-kept integerPlaces (λ i is js e. rw e) (λ u is. refl)
 
 -- "only the last [fill] in a section is kept"
 fills-left : (is : List Item) → count isFill (lastFill is) ≡ cond (any isFill is) 1 0
@@ -74,10 +91,6 @@ fills-left (i ∷ is) =
 seconds-fill : (u : ℕ) → isSeconds (fill u) ≡ false
 unfolding isSeconds
 seconds-fill u = refl
-
-seconds-month : (n : ℕ) → isSeconds (minute n) ≡ isSeconds (month n)
-unfolding isSeconds
-seconds-month n = refl
 
 -- what may stand behind any item may stand behind seconds
 parts-more : (b : Bool) (is : List Item) → T (partsFrom false is) → T (partsFrom b is)
@@ -99,73 +112,24 @@ parts-lastFill b (i ∷ is) t =
     (and-left (not (isPart i) || b) (partsFrom (isSeconds i) is) t)
     (parts-lastFill (isSeconds i) is (and-right (not (isPart i) || b) (partsFrom (isSeconds i) is) t))))
 
--- an item and what it becomes between two runs: the rule for m tells of a month and a minute, and leaves every other item
-pub settled-cases : (P : Item → (Run → Run → Item) → Type 0)
-    → ((n : ℕ) → P (month n) (λ e l. monthOrMinute (meansMinutes e l) n))
-    → ((n : ℕ) → P (minute n) (λ e l. monthOrMinute (meansMinutes e l) n))
-    → ((i : Item) → P i (λ e l. i)) → (i : Item) → P i (λ e l. settledItem e l i)
-unfolding settledItem
-settled-cases P p q r (month n) = p n
-settled-cases P p q r (minute n) = q n
-settled-cases P p q r (literal u) = r (literal u)
-settled-cases P p q r (blank u) = r (blank u)
-settled-cases P p q r (fill u) = r (fill u)
-settled-cases P p q r (place o) = r (place o)
-settled-cases P p q r point = r point
-settled-cases P p q r percent = r percent
-settled-cases P p q r general = r general
-settled-cases P p q r at = r at
-settled-cases P p q r (year n) = r (year n)
-settled-cases P p q r (day n) = r (day n)
-settled-cases P p q r (hour n) = r (hour n)
-settled-cases P p q r (second n) = r (second n)
-settled-cases P p q r (part n) = r (part n)
-settled-cases P p q r (elapsed s n) = r (elapsed s n)
-settled-cases P p q r (half h) = r (half h)
-
--- settling keeps whatever is the same of months and minutes
-module _ {A : Type 0} (f : Item → A) (same : (n : ℕ) → f (minute n) ≡ f (month n)) where
-  month-kept : (b : Bool) (n : ℕ) → f (monthOrMinute b n) ≡ f (month n)
-  unfolding monthOrMinute
-  month-kept b n = cond-both (λ (i : Item). f i ≡ f (month n)) (b && leb n 2) (same n) refl
-
-  pub settled-kept : (e l : Run) (i : Item) → f (settledItem e l i) ≡ f i
-  settled-kept e l = settled-cases (λ (i : Item) (g : Run → Run → Item). f (g e l) ≡ f i)
-      (λ n. month-kept (meansMinutes e l) n) (λ n. month-kept (meansMinutes e l) n ∙ sym (same n)) (λ i. refl)
-
 -- the rule for m looks at the runs only for whether m means minutes
 pub settled-same : (e l f m : Run) → meansMinutes e l ≡ meansMinutes f m → (i : Item) → settledItem e l i ≡ settledItem f m i
 settled-same e l f m h = settled-cases (λ (i : Item) (g : Run → Run → Item). g e l ≡ g f m) (λ n. rw h) (λ n. rw h) (λ i. refl)
 
-pub any-settled : (f : Item → Bool) → ((n : ℕ) → f (minute n) ≡ f (month n)) → (e : Run) (is : List Item) → any f (settledFrom e is) ≡ any f is
-unfolding any settledFrom
-any-settled f g e [] = refl
-any-settled f g e (i ∷ is) = rw (settled-kept f g e (firstRun is) i, any-settled f g (nearer (runOf i) e) is)
-
-pub count-settled : (f : Item → Bool) → ((n : ℕ) → f (minute n) ≡ f (month n)) → (e : Run) (is : List Item) → count f (settledFrom e is) ≡ count f is
-unfolding count settledFrom
-count-settled f g e [] = refl
-count-settled f g e (i ∷ is) = rw (settled-kept f g e (firstRun is) i, count-settled f g (nearer (runOf i) e) is)
+count-settled : (e : Run) (is : List Item) → count isFill (settledFrom e is) ≡ count isFill is
+unfolding count
+count-settled = runs-kept (count isFill) (λ i is js e. rw e) (λ n is. refl)
 
 pub places-settled : (e : Run) (is : List Item) → integerPlaces (settledFrom e is) ≡ integerPlaces is
-unfolding integerPlaces settledFrom
-places-settled e [] = refl
-places-settled e (i ∷ is) =
-    rw (
-      settled-kept isPoint (λ n. refl) e (firstRun is) i,
-      settled-kept isPlace (λ n. refl) e (firstRun is) i,
-      places-settled (nearer (runOf i) e) is,
-    )
+unfolding integerPlaces
+places-settled = runs-kept integerPlaces (λ i is js e. rw e) (λ n is. refl)
 
 pub parts-settled : (b : Bool) (e : Run) (is : List Item) → partsFrom b (settledFrom e is) ≡ partsFrom b is
-unfolding partsFrom settledFrom
-parts-settled b e [] = refl
-parts-settled b e (i ∷ is) =
-    rw (
-      settled-kept isPart (λ n. refl) e (firstRun is) i,
-      settled-kept isSeconds seconds-month e (firstRun is) i,
-      parts-settled (isSeconds i) (nearer (runOf i) e) is,
-    )
+unfolding partsFrom isSeconds
+parts-settled b e is =
+    ap (λ (f : Bool → Bool). f b)
+    (runs-kept (λ (js : List Item) (c : Bool). partsFrom c js)
+    (λ i js ks e. ap {B = Bool → Bool} (λ (f : Bool → Bool) (c : Bool). (not (isPart i) || c) && f (isSeconds i)) e) (λ n is. refl) e is)
 
 -- a run stays the run that it was, for what stands behind it and before it
 run-settled : (e l : Run) (i : Item) → runOf (settledItem e l i) ≡ runOf i
@@ -173,9 +137,8 @@ unfolding runOf
 run-settled e l i = settled-kept runOf (λ n. refl) e l i
 
 first-settled : (e : Run) (is : List Item) → firstRun (settledFrom e is) ≡ firstRun is
-unfolding firstRun settledFrom
-first-settled e [] = refl
-first-settled e (i ∷ is) = rw (run-settled e (firstRun is) i, first-settled (nearer (runOf i) e) is)
+unfolding firstRun runOf
+first-settled = runs-kept firstRun (λ i is js e. rw e) (λ n is. refl)
 
 -- to settle once more changes nothing
 settled-again : (e l : Run) (i : Item) → settledItem e l (settledItem e l i) ≡ settledItem e l i
@@ -201,5 +164,5 @@ pub fills-one : (is : List Item) → T (oneFill (settled (lastFill is)))
 unfolding oneFill settled
 fills-one is =
     le→leb (count isFill (settledFrom noRun (lastFill is))) 1
-    (rw (count-settled isFill (λ n. refl) noRun (lastFill is), fills-left is)
+    (rw (count-settled noRun (lastFill is), fills-left is)
     (cond-both (λ n. n ≤ 1) (any isFill is) (omega arith) (omega arith)))

@@ -7,16 +7,16 @@ use mathlib.Core.Bool.{Bool, true, false, cond, true≢false}
 use mathlib.Core.List.{List, [], _∷_, _++_, map}
 use lib.Dec.{eqb}
 use Rattle.lists.specs.Lists.{any}
-use Rattle.lists.proofs.Bools.{by-cases, cond-both, cond-case}
+use Rattle.lists.proofs.Bools.{by-cases, cond-both, cond-case, cond-self, or-cond}
 use Rattle.lists.proofs.Counts.{any-append, any-map}
 use Rattle.formats.specs.Tokens as token
 use Rattle.formats.specs.Tokens.{Token, Letter, letterY, letterM, letterD, letterH, letterS}
 use Rattle.formats.specs.Items as item
-use Rattle.formats.specs.Items.{Item, Kind, textKind, generalKind, dateKind, numberKind, literalKind, sameKind, kindFrom, itemMakes, itemsKind, settledFrom, settled, noRun}
+use Rattle.formats.specs.Items.{Item, Kind, textKind, generalKind, dateKind, numberKind, literalKind, sameKind, kindFrom, itemMakes, itemsKind, settled}
 use Rattle.formats.specs.Kinds.{tokenMakes, bodyKind, isPoint, isZero, leadingZeros, partZeros, isSecondsToken, piecesFrom, runItem, tokenItems, pieceItems, plainItems, dateItems, bodyItems, lastFill}
-use Rattle.formats.proofs.FormedBools.{cond-self, or-cond}
-use Rattle.formats.proofs.FormedItems.{any-lastFill, any-settled}
+use Rattle.formats.proofs.FormedItems.{both-kept}
 use Rattle.formats.proofs.FormedPieces.{point-case, zero-case, zeros-follow, zeros-point}
+use Rattle.formats.proofs.Each.{by-token, by-letter}
 
 -- whether an item or a token makes this kind
 abbrev itemIs : Kind → Item → Bool
@@ -33,11 +33,8 @@ module _ (k : Kind) (shown : sameKind k literalKind ≡ false) where
 
   run-makes : (l : Letter) (n : ℕ) → any (itemIs k) (runItem l n ∷ []) ≡ sameKind k dateKind
   unfolding any itemMakes runItem
-  run-makes letterY n = cond-self (sameKind k dateKind)
-  run-makes letterM n = cond-self (sameKind k dateKind)
-  run-makes letterD n = cond-self (sameKind k dateKind)
-  run-makes letterH n = cond-self (sameKind k dateKind)
-  run-makes letterS n = cond-self (sameKind k dateKind)
+  run-makes l n =
+      let r = cond-self (sameKind k dateKind) in by-letter (λ (m : Letter). any (itemIs k) (runItem m n ∷ []) ≡ sameKind k dateKind) r r r r r l
 
   point-makes : (b : Bool) → any (itemIs k) (cond b (item.literal 46) item.point ∷ []) ≡ sameKind k literalKind
   unfolding any itemMakes
@@ -52,22 +49,12 @@ module _ (k : Kind) (shown : sameKind k literalKind ≡ false) where
   -- a token makes what its items make
   token-makes : (b : Bool) (t : Token) → any (itemIs k) (tokenItems b t) ≡ tokenIs k t
   unfolding any itemMakes tokenMakes tokenItems
-  token-makes b (token.literal us) = literals-make us ∙ sym shown
-  token-makes b (token.bare u) = cond-self (sameKind k literalKind)
-  token-makes b (token.blank u) = cond-self (sameKind k literalKind)
-  token-makes b (token.fill u) = cond-self (sameKind k literalKind)
-  token-makes b (token.place p) = cond-self (sameKind k numberKind)
-  token-makes b token.point = point-makes b
-  token-makes b token.comma = comma-makes b
-  token-makes b token.percent = cond-self (sameKind k literalKind)
-  token-makes b token.at = cond-self (sameKind k textKind)
-  token-makes b token.semicolon = sym shown
-  token-makes b token.general = cond-self (sameKind k generalKind)
-  token-makes b (token.half h) = cond-self (sameKind k literalKind)
-  token-makes b (token.run l n) = run-makes l n
-  token-makes b (token.elapsed e n) = cond-self (sameKind k dateKind)
-  token-makes b (token.colour n) = sym shown
-  token-makes b (token.condition w) = sym shown
+  token-makes b =
+      let r = cond-self (sameKind k literalKind) in
+      by-token (λ (t : Token). any (itemIs k) (tokenItems b t) ≡ tokenIs k t)
+      (λ us. literals-make us ∙ sym shown) (λ u. r) (λ u. r) (λ u. r) (λ p. cond-self (sameKind k numberKind)) (point-makes b) (comma-makes b)
+      r (cond-self (sameKind k textKind)) (sym shown) (cond-self (sameKind k generalKind)) (λ h. r) run-makes (λ e n. cond-self (sameKind k dateKind))
+      (λ n. sym shown) (λ w. sym shown)
 
   -- a token's items in front of others
   token-front : (b : Bool) (t : Token) (is : List Item) → any (itemIs k) (tokenItems b t ++ is) ≡ cond (tokenIs k t) true (any (itemIs k) is)
@@ -110,11 +97,9 @@ module _ (k : Kind) (shown : sameKind k literalKind ≡ false) where
 -- what the body's items make, once the fills are left out and the runs of m settled
 module _ (k : Kind) (shown : sameKind k literalKind ≡ false) where
   kept-makes : (is : List Item) → any (sameKind k) (map itemMakes (settled (lastFill is))) ≡ any (itemIs k) is
-  unfolding settled itemMakes
+  unfolding any itemMakes
   kept-makes is =
-      any-map (sameKind k) itemMakes (settledFrom noRun (lastFill is))
-      ∙ any-settled (itemIs k) (λ n. refl) noRun (lastFill is)
-      ∙ any-lastFill (itemIs k) (λ u. shown) is
+      any-map (sameKind k) itemMakes (settled (lastFill is)) ∙ both-kept (any (itemIs k)) (λ i is js e. rw e) (λ u is. rw shown) (λ n is. refl) is
 
   plain-kept : (ts : List Token) → any (sameKind k) (map itemMakes (settled (lastFill (plainItems ts)))) ≡ any (sameKind k) (map tokenMakes ts)
   plain-kept ts = kept-makes (plainItems ts) ∙ plain-makes k shown ts ∙ sym (any-map (sameKind k) tokenMakes ts)

@@ -8,7 +8,7 @@ use mathlib.Core.List.{List, [], _∷_, map}
 use lib.Dec.{T, leb, eqb, leb→le, le→leb}
 use borrow.Author.Tests.{eqb-false}
 use Rattle.lists.specs.Lists.{every}
-use Rattle.lists.proofs.Bools.{by-cases, cond-both, cond-case, and-left, and-right, and-in, true-T, every-head, every-tail, every-cons, every-append}
+use Rattle.lists.proofs.Bools.{by-cases, cond-both, cond-case, and-left, and-right, and-in, true-T, every-head, every-tail, every-cons, every-append, implied, implies-in}
 use Rattle.lists.proofs.Counts.{every-map}
 use Rattle.values.specs.Ranges.{between}
 use Rattle.formats.specs.Tokens as token
@@ -20,8 +20,8 @@ use Rattle.formats.specs.Where.{implies}
 use Rattle.formats.specs.Limits.{elapsedShort}
 use Rattle.formats.specs.WellFormed.{isUnit, itemInRange}
 use Rattle.formats.proofs.TokenRanges.{tokenPasses, tokenInRange, items-pass}
-use Rattle.formats.proofs.FormedBools.{implies-in, implies-out}
 use Rattle.formats.proofs.FormedItems.{settled-cases}
+use Rattle.formats.proofs.Each.{by-token, by-letter}
 
 -- in range where it is within the limit on elapsed runs
 unfoldable pub rangedShort : Item → Bool
@@ -33,31 +33,22 @@ literals-ranged us t = rw (every-map rangedShort item.literal us) t
 
 run-ranged : (l : Letter) (n : ℕ) → T (runAllowed l n) → T (rangedShort (runItem l n))
 unfolding rangedShort elapsedShort itemInRange runItem runAllowed
-run-ranged letterY n t = t
-run-ranged letterM n t = t
-run-ranged letterD n t = t
-run-ranged letterH n t = t
-run-ranged letterS n t = t
+run-ranged l n = by-letter (λ (k : Letter). T (runAllowed k n) → T (rangedShort (runItem k n))) (λ t. t) (λ t. t) (λ t. t) (λ t. t) (λ t. t) l
+
+one : (i : Item) → T (rangedShort i) → T (every rangedShort (i ∷ []))
+unfolding every
+one i h = every-cons rangedShort i [] h tt
 
 token-ranged : (d : Bool) (t : Token) → T (tokenInRange t) → T (every rangedShort (tokenItems d t))
 unfolding every rangedShort elapsedShort itemInRange tokenItems tokenPasses
-token-ranged d (token.literal us) h = literals-ranged us h
-token-ranged d (token.bare u) h = every-cons rangedShort (item.literal u) [] h tt
-token-ranged d (token.blank u) h = every-cons rangedShort (item.blank u) [] h tt
-token-ranged d (token.fill u) h = every-cons rangedShort (item.fill u) [] h tt
-token-ranged d (token.place p) h = tt
-token-ranged d token.point h = cond-both (λ (i : Item). T (every rangedShort (i ∷ []))) d {x = item.literal 46} {y = item.point} tt tt
-token-ranged d token.comma h = cond-both (λ (is : List Item). T (every rangedShort is)) d {x = item.literal 44 ∷ []} {y = []} tt tt
-token-ranged d token.percent h = tt
-token-ranged d token.at h = tt
-token-ranged d token.semicolon h = tt
-token-ranged d token.general h = tt
-token-ranged d (token.half k) h = tt
-token-ranged d (token.run l n) h = every-cons rangedShort (runItem l n) [] (run-ranged l n h) tt
-token-ranged d (token.elapsed e n) h =
-    every-cons rangedShort (item.elapsed e n) [] (implies-in (leb n 9) (leb 1 n && leb n 9) (λ s. and-in (leb 1 n) (leb n 9) h (true-T s))) tt
-token-ranged d (token.colour n) h = tt
-token-ranged d (token.condition w) h = tt
+token-ranged d =
+    by-token (λ (t : Token). T (tokenInRange t) → T (every rangedShort (tokenItems d t)))
+    literals-ranged (λ u h. one (item.literal u) h) (λ u h. one (item.blank u) h) (λ u h. one (item.fill u) h) (λ p h. tt)
+    (λ h. cond-both (λ (i : Item). T (every rangedShort (i ∷ []))) d {x = item.literal 46} {y = item.point} tt tt)
+    (λ h. cond-both (λ (is : List Item). T (every rangedShort is)) d {x = item.literal 44 ∷ []} {y = []} tt tt)
+    (λ h. tt) (λ h. tt) (λ h. tt) (λ h. tt) (λ k h. tt) (λ l n h. one (runItem l n) (run-ranged l n h))
+    (λ e n h. one (item.elapsed e n) (implies-in (leb n 9) (leb 1 n && leb n 9) (λ s. and-in (leb 1 n) (leb n 9) h (true-T s))))
+    (λ n h. tt) (λ w h. tt)
 
 part-ranged : (n : ℕ) → n ≤ 3 → eqb n 0 ≡ false → T (rangedShort (item.part n))
 unfolding rangedShort elapsedShort itemInRange
@@ -87,7 +78,7 @@ unfolding every rangedShort
 within-ranged [] t u = tt
 within-ranged (i ∷ is) t u =
     every-cons itemInRange i is
-    (implies-out (elapsedShort i) (itemInRange i) (every-head rangedShort i is t) (every-head elapsedShort i is u))
+    (implied (elapsedShort i) (itemInRange i) (every-head rangedShort i is t) (every-head elapsedShort i is u))
     (within-ranged is (every-tail rangedShort i is t) (every-tail elapsedShort i is u))
 
 -- the items of a section

@@ -5,7 +5,7 @@ use mathlib.Core.Path.{_≡_, refl}
 use mathlib.Core.Bool.{Bool, true, false, cond}
 use mathlib.Core.List.{List, [], _∷_, _++_, map}
 use lib.Dec.{T, eqb}
-use Rattle.lists.proofs.Bools.{by-cases, cond-both, T-true, true-T}
+use Rattle.lists.proofs.Bools.{by-cases, cond-both, T-true, true-T, implied, implies-in}
 use Rattle.formats.specs.Tokens as token
 use Rattle.formats.specs.Tokens.{Token, Letter, letterY, letterM, letterD, letterH, letterS}
 use Rattle.formats.specs.Items as item
@@ -13,9 +13,9 @@ use Rattle.formats.specs.Items.{Item, dateKind, sameKind, settled, noRun
 use Rattle.formats.specs.Kinds.{bodyKind, isPoint, partZeros, isSecondsLetter, isSecondsToken, piecesFrom, runItem, tokenItems, pieceItems, plainItems, dateItems, bodyItems, lastFill}
 use Rattle.formats.specs.Where.{implies}
 use Rattle.formats.specs.WellFormed.{isSeconds, partsFrom, partsFollow}
-use Rattle.formats.proofs.FormedBools.{implies-in, implies-out}
 use Rattle.formats.proofs.FormedItems.{parts-lastFill, parts-settled}
 use Rattle.formats.proofs.FormedPieces.{point-case, zeros-point}
+use Rattle.formats.proofs.Each.{by-token, by-letter}
 
 -- the items may stand behind any item; behind seconds where b says that they may start with a part of a second
 abbrev Follow : Bool → List Item → Type 0
@@ -28,11 +28,9 @@ literals-follow (u ∷ us) is c f = literals-follow us is false f
 
 run-follows : (l : Letter) (n : ℕ) (is : List Item) (c : Bool) → Follow (isSecondsLetter l) is → T (partsFrom c (runItem l n ∷ is))
 unfolding partsFrom isSeconds isSecondsLetter runItem
-run-follows letterY n is c f = f false tt
-run-follows letterM n is c f = f false tt
-run-follows letterD n is c f = f false tt
-run-follows letterH n is c f = f false tt
-run-follows letterS n is c f = f true tt
+run-follows l n is c =
+    by-letter (λ (k : Letter). Follow (isSecondsLetter k) is → T (partsFrom c (runItem k n ∷ is)))
+    (λ f. f false tt) (λ f. f false tt) (λ f. f false tt) (λ f. f false tt) (λ f. f true tt) l
 
 point-follows : (d : Bool) (is : List Item) (c : Bool) → Follow false is → T (partsFrom c (cond d (item.literal 46) item.point ∷ is))
 unfolding partsFrom isSeconds
@@ -47,22 +45,12 @@ comma-follows false is c f = f c tt
 -- the items of a token hold no part of a second, and end with seconds where the token is seconds
 token-follows : (d : Bool) (t : Token) (is : List Item) (c : Bool) → Follow (isSecondsToken t) is → T (partsFrom c (tokenItems d t ++ is))
 unfolding partsFrom isSeconds isSecondsToken tokenItems
-token-follows d (token.literal us) is c f = literals-follow us is c f
-token-follows d (token.bare u) is c f = f false tt
-token-follows d (token.blank u) is c f = f false tt
-token-follows d (token.fill u) is c f = f false tt
-token-follows d (token.place p) is c f = f false tt
-token-follows d token.point is c f = point-follows d is c f
-token-follows d token.comma is c f = comma-follows d is c f
-token-follows d token.percent is c f = f false tt
-token-follows d token.at is c f = f false tt
-token-follows d token.semicolon is c f = f c tt
-token-follows d token.general is c f = f false tt
-token-follows d (token.half h) is c f = f false tt
-token-follows d (token.run l n) is c f = run-follows l n is c f
-token-follows d (token.elapsed e n) is c f = f (isSecondsElapsed e) (implies-in (isSecondsElapsed e) (isSecondsElapsed e) true-T)
-token-follows d (token.colour n) is c f = f c tt
-token-follows d (token.condition w) is c f = f c tt
+token-follows d t is c =
+    by-token (λ (t : Token). Follow (isSecondsToken t) is → T (partsFrom c (tokenItems d t ++ is)))
+    (λ us f. literals-follow us is c f) (λ u f. f false tt) (λ u f. f false tt) (λ u f. f false tt) (λ p f. f false tt)
+    (point-follows d is c) (comma-follows d is c) (λ f. f false tt) (λ f. f false tt) (λ f. f c tt) (λ f. f false tt) (λ h f. f false tt)
+    (λ l n f. run-follows l n is c f) (λ e n f. f (isSecondsElapsed e) (implies-in (isSecondsElapsed e) (isSecondsElapsed e) true-T))
+    (λ n f. f c tt) (λ w f. f c tt) t
 
 plain-follow : (ts : List Token) (c : Bool) → T (partsFrom c (plainItems ts))
 unfolding plainItems partsFrom
@@ -87,7 +75,7 @@ date-follow b zero (t ∷ ts) c h =
     (λ e.
     let p = zeros-point b t ts e in
     let r : T (implies (isSecondsToken t) false) = rw (point-ends t (p .1)) tt in
-    rw (e, T-true c (implies-out b c h (true-T (p .0)))) (date-follow (isSecondsToken t) (partZeros b t ts) ts false r))
+    rw (e, T-true c (implied b c h (true-T (p .0)))) (date-follow (isSecondsToken t) (partZeros b t ts) ts false r))
 
 body-follows : (ts : List Token) → T (partsFrom false (bodyItems ts))
 unfolding bodyItems

@@ -2,52 +2,27 @@
 -- Assumes nothing.
 use Prim.Native.Nat.{_≤_}
 use native.Mathlib.Omega.{arith}
-use mathlib.Core.Path.{_≡_, refl, sym}
+use mathlib.Core.Path.{_≡_, refl}
 use mathlib.Core.Bool.{Bool, true, false, _&&_, true≢false}
 use mathlib.Core.List.{List}
 use lib.Dec.{eqb}
-use Rattle.lists.proofs.Bools.{by-cases, cond-both}
-use Rattle.formats.specs.Tokens.{Token, literal, bare, blank, fill, place, point, comma, percent, at, semicolon, general, half, run, elapsed, colour, condition, Place}
+use Rattle.lists.proofs.Bools.{no, by-cases, cond-both}
+use Rattle.formats.specs.Tokens.{Token, place, point, Place}
 use Rattle.formats.specs.Kinds.{isPoint, isZero, leadingZeros, partZeros}
+use Rattle.formats.proofs.Each.{by-token}
 
 -- what holds of the point holds of a token that is one
 pub point-case : (P : Token → Type 0) → P point → (t : Token) → isPoint t ≡ true → P t
-point-case P p point e = p
-point-case P p (literal us) e = absurd (true≢false (sym e))
-point-case P p (bare u) e = absurd (true≢false (sym e))
-point-case P p (blank u) e = absurd (true≢false (sym e))
-point-case P p (fill u) e = absurd (true≢false (sym e))
-point-case P p (place q) e = absurd (true≢false (sym e))
-point-case P p comma e = absurd (true≢false (sym e))
-point-case P p percent e = absurd (true≢false (sym e))
-point-case P p at e = absurd (true≢false (sym e))
-point-case P p semicolon e = absurd (true≢false (sym e))
-point-case P p general e = absurd (true≢false (sym e))
-point-case P p (half h) e = absurd (true≢false (sym e))
-point-case P p (run l n) e = absurd (true≢false (sym e))
-point-case P p (elapsed s n) e = absurd (true≢false (sym e))
-point-case P p (colour n) e = absurd (true≢false (sym e))
-point-case P p (condition w) e = absurd (true≢false (sym e))
+point-case P p =
+    by-token (λ (t : Token). isPoint t ≡ true → P t) (λ us. no) (λ u. no) (λ u. no) (λ u. no) (λ q. no) (λ e. p) no no no no no
+    (λ h. no) (λ l n. no) (λ x n. no) (λ n. no) (λ w. no)
 
 -- what holds of every place holds of a token that is a zero
 pub zero-case : (P : Token → Type 0) → ((q : Place) → P (place q)) → (t : Token) → isZero t ≡ true → P t
 unfolding isZero
-zero-case P p (place q) e = p q
-zero-case P p point e = absurd (true≢false (sym e))
-zero-case P p (literal us) e = absurd (true≢false (sym e))
-zero-case P p (bare u) e = absurd (true≢false (sym e))
-zero-case P p (blank u) e = absurd (true≢false (sym e))
-zero-case P p (fill u) e = absurd (true≢false (sym e))
-zero-case P p comma e = absurd (true≢false (sym e))
-zero-case P p percent e = absurd (true≢false (sym e))
-zero-case P p at e = absurd (true≢false (sym e))
-zero-case P p semicolon e = absurd (true≢false (sym e))
-zero-case P p general e = absurd (true≢false (sym e))
-zero-case P p (half h) e = absurd (true≢false (sym e))
-zero-case P p (run l n) e = absurd (true≢false (sym e))
-zero-case P p (elapsed s n) e = absurd (true≢false (sym e))
-zero-case P p (colour n) e = absurd (true≢false (sym e))
-zero-case P p (condition w) e = absurd (true≢false (sym e))
+zero-case P p =
+    by-token (λ (t : Token). isZero t ≡ true → P t) (λ us. no) (λ u. no) (λ u. no) (λ u. no) (λ q e. p q) no no no no no no
+    (λ h. no) (λ l n. no) (λ x n. no) (λ n. no) (λ w. no)
 
 -- a part of a second takes at most three zeros, and no more than follow its point
 pub zeros-most : (b : Bool) (t : Token) (ts : List Token) → partZeros b t ts ≤ 3

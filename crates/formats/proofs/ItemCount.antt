@@ -18,6 +18,7 @@ use Rattle.formats.specs.Accept.{placedOf, tokensOf, semicolons, joined,
 use Rattle.formats.specs.WellFormed.{itemsInAll}
 use Rattle.formats.proofs.FormedPieces.{point-case, zeros-point}
 use Rattle.formats.proofs.TokenRanges.{InStep, closed-step, inside-form, first-passes, singlePasses}
+use Rattle.formats.proofs.Each.{by-token}
 
 -- how many items a token makes of a date: elsewhere it makes no more, and it has at least as many units
 unfoldable pub weight : Token → ℕ
@@ -126,22 +127,11 @@ tokens-weight code = omega (arith, lex-weight 0 0 code)
 -- a section's items are no more than its tokens weigh
 token-items : (t : Token) → length (tokenItems false t) ≤ weight t
 unfolding tokenItems weight
-token-items (token.literal us) = omega arith
-token-items (token.bare u) = omega arith
-token-items (token.blank u) = omega arith
-token-items (token.fill u) = omega arith
-token-items (token.place p) = omega arith
-token-items token.point = omega arith
-token-items token.comma = omega arith
-token-items token.percent = omega arith
-token-items token.at = omega arith
-token-items token.semicolon = omega arith
-token-items token.general = omega arith
-token-items (token.half h) = omega arith
-token-items (token.run l n) = omega arith
-token-items (token.elapsed e n) = omega arith
-token-items (token.colour n) = omega arith
-token-items (token.condition w) = omega arith
+token-items =
+    by-token (λ (t : Token). length (tokenItems false t) ≤ weight t)
+    (λ us. omega arith) (λ u. omega arith) (λ u. omega arith) (λ u. omega arith) (λ p. omega arith)
+    (omega arith) (omega arith) (omega arith) (omega arith) (omega arith) (omega arith)
+    (λ h. omega arith) (λ l n. omega arith) (λ e n. omega arith) (λ n. omega arith) (λ w. omega arith)
 
 plain-items : (ts : List Token) → length (plainItems ts) ≤ weights ts
 unfolding plainItems weights

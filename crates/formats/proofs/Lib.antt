@@ -2,7 +2,7 @@ pub mod Evaluate
 pub mod Cases
 pub mod TokenRanges
 pub mod ItemCount
-pub mod FormedBools
+pub mod Each
 pub mod CommaUses
 pub mod FormedItems
 pub mod FormedPieces

@@ -20,6 +20,7 @@ use Rattle.formats.specs.WellFormed.{isUnit}
 use Rattle.formats.specs.Accept.{placedOf, tokensOf, joined, split, partsIn}
 use Rattle.formats.proofs.FormedItems.{every-lastFill}
 use Rattle.formats.proofs.FormedPieces.{zeros-most}
+use Rattle.formats.proofs.Each.{by-token}
 
 abbrev pub belowTen : ℕ → Bool
 belowTen d = ltb d 10
@@ -319,41 +320,17 @@ module _ (test : ℕ → Bool) where
 
   colour-in : (t : Token) → T (passes t) → T (leb (colourIn t) 56)
   unfolding colourIn tokenPasses
-  colour-in (colour n) h = h
-  colour-in (literal us) h = tt
-  colour-in (bare u) h = tt
-  colour-in (blank u) h = tt
-  colour-in (fill u) h = tt
-  colour-in (place p) h = tt
-  colour-in point h = tt
-  colour-in comma h = tt
-  colour-in percent h = tt
-  colour-in at h = tt
-  colour-in semicolon h = tt
-  colour-in general h = tt
-  colour-in (half x) h = tt
-  colour-in (run l n) h = tt
-  colour-in (elapsed e n) h = tt
-  colour-in (condition w) h = tt
+  colour-in =
+      by-token (λ (t : Token). T (passes t) → T (leb (colourIn t) 56))
+      (λ us h. tt) (λ u h. tt) (λ u h. tt) (λ u h. tt) (λ p h. tt) (λ h. tt) (λ h. tt) (λ h. tt) (λ h. tt) (λ h. tt) (λ h. tt)
+      (λ x h. tt) (λ l n h. tt) (λ e n h. tt) (λ n h. h) (λ w h. tt)
 
   pub condition-in : (t : Token) → T (passes t) → T (conditionDigits (conditionIn t))
   unfolding conditionIn conditionDigits tokenPasses
-  condition-in (condition w) h = h
-  condition-in (literal us) h = tt
-  condition-in (bare u) h = tt
-  condition-in (blank u) h = tt
-  condition-in (fill u) h = tt
-  condition-in (place p) h = tt
-  condition-in point h = tt
-  condition-in comma h = tt
-  condition-in percent h = tt
-  condition-in at h = tt
-  condition-in semicolon h = tt
-  condition-in general h = tt
-  condition-in (half x) h = tt
-  condition-in (run l n) h = tt
-  condition-in (elapsed e n) h = tt
-  condition-in (colour n) h = tt
+  condition-in =
+      by-token (λ (t : Token). T (passes t) → T (conditionDigits (conditionIn t)))
+      (λ us h. tt) (λ u h. tt) (λ u h. tt) (λ u h. tt) (λ p h. tt) (λ h. tt) (λ h. tt) (λ h. tt) (λ h. tt) (λ h. tt) (λ h. tt)
+      (λ x h. tt) (λ l n h. tt) (λ e n h. tt) (λ n h. tt) (λ w h. h)
 
   made-in-range : (c : ℕ) (w : Option Written) (ts : List Token)
       → T (leb c 56) → T (conditionDigits w) → T (every inSection ts) → T (partsPass test (record { colour = c; condition = w; body = ts }))

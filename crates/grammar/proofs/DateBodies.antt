@@ -8,15 +8,15 @@ use mathlib.Core.List.{List, [], _∷_, _++_}
 use mathlib.Core.Option.{Option}
 use borrow.Author.Tests.{not-true}
 use Rattle.lists.specs.Lists.{every, any, count}
-use Rattle.lists.proofs.Bools.{by-cases}
+use Rattle.lists.proofs.Bools.{no, and-parts, by-cases}
 use Rattle.lists.proofs.Counts.{any-map}
 use Rattle.formats.specs.Tokens.{Token, fill, run, elapsed, letterY, letterM, letterD, letterH, letterS, Elapsed, hours, minutes, seconds}
 use Rattle.formats.specs.Items as item
 use Rattle.formats.specs.Items.{Item, Kind, textKind, generalKind, dateKind, sameKind, itemAllowed, isFill, isElapsed, Run, noRun, runOf, nearer, firstRun, settledItem, settledFrom, settled, isSecondsElapsed}
 use Rattle.formats.specs.Kinds.{isPlace, isPoint, noBracket, tokenMakes, bodyKind, isSolidus, startsWithPlace, solidusFrom, solidusFits, commasFit, isSecondsLetter, isSecondsToken, runItem, tokenItems, piecesFrom, dateItems, bodyItems, lastFill}
-use Rattle.formats.proofs.FormedItems.{dropped}
+use Rattle.formats.proofs.FormedItems.{dropped, fills-kept}
 use Rattle.grammar.specs.Bodies.{Behind, behindOther, NFAbsTimeToken, NFPartAbsHour, NFPartAbsSecond, NFPartAbsMinute, NFDateTimeToken, NFPartYear, NFPartMonth, NFPartMonth-long, NFPartDay, NFPartHour, NFPartMinute, NFPartSecond, absolute, NFPartSubSecond, tenths, hundredths, thousandths, Between, DateTimeRest, rest-end, rest-token, rest-sub-second, rest-between, DateTimeFrom, from-token, from-between, isAbsolute, NFDateTime}
-use Rattle.grammar.proofs.Tests.{no, and-parts, every-in, every-all, every-none}
+use Rattle.grammar.proofs.Tests.{every-in, every-all, every-none}
 use Rattle.grammar.proofs.Quiet.{passed-over}
 use Rattle.grammar.proofs.Kept.{sorts, count-kept, allowed-kept, foreign, no-integers, no-decimals}
 use Rattle.grammar.proofs.Facts.{kept, Fitting}
@@ -130,12 +130,8 @@ unfolding runOf
 fill-run u = refl
 
 first-fill : (is : List Item) → firstRun (lastFill is) ≡ firstRun is
-unfolding firstRun lastFill nearer
-first-fill [] = refl
-first-fill (i ∷ is) =
-    by-cases (isFill i && any isFill is)
-    (λ h. rw (h, dropped (λ (j : Item). runOf j ≡ noRun) fill-run i is h) (first-fill is))
-    (λ h. rw (h, first-fill is))
+unfolding firstRun nearer runOf
+first-fill = fills-kept firstRun (λ i is js e. rw e) (λ u is. refl)
 
 fill-dated : (abs : Option Elapsed) (r : Run) (is : List Item) (u : ℕ)
     → every (dateItem abs) (settledFrom r (item.fill u ∷ is)) ≡ every (dateItem abs) (settledFrom r is)

@@ -9,11 +9,11 @@ use mathlib.Core.Option.{Option, none, some}
 use lib.Dec.{leb, eqb}
 use borrow.Author.Tests.{eqb-true, not-true}
 use Rattle.lists.specs.Lists.{every, any, count}
-use Rattle.lists.proofs.Bools.{by-cases}
+use Rattle.lists.proofs.Bools.{no, and-parts, by-cases}
 use Rattle.formats.specs.Tokens.{Elapsed, hours, minutes, seconds}
 use Rattle.formats.specs.Items.{Item, literal, blank, fill, place, point, percent, general, at, year, month, day, hour, minute, second, part, elapsed, half, dateKind, itemBelongs, itemAllowed, isElapsed, isPlain, noPlain}
 use Rattle.formats.specs.Limits.{elapsedShort}
-use Rattle.grammar.proofs.Tests.{no, and-parts, both, every-parts, every-in, every-with, every-all, every-none, none-every}
+use Rattle.grammar.proofs.Tests.{both, every-parts, every-in, every-with, every-all, every-none, none-every}
 
 abbrev elapsedIndex : Elapsed → ℕ
 elapsedIndex hours = 0

@@ -12,14 +12,14 @@ use lib.Seq.{drop-nil}
 use lib.Dec.{leb, eqb}
 use borrow.Author.Tests.{eqb-true, eqb-false, leb-true, leb-false, le-leb, lt-leb}
 use Rattle.lists.specs.Lists.{every}
-use Rattle.lists.proofs.Bools.{by-cases}
+use Rattle.lists.proofs.Bools.{no, and-parts, by-cases}
 use Rattle.formats.specs.Tokens.{Token, literal, bare, blank, fill, place, point, comma, percent, at, semicolon, general, half, run, elapsed, colour, condition, HalfDay, Place, zeroPlace, hashPlace, spacePlace, Letter, letterY, letterM, letterD, letterH, letterS, Elapsed, hours, minutes, seconds}
 use Rattle.formats.specs.Items as item
 use Rattle.formats.specs.Items.{Item, textKind, generalKind, dateKind, sameKind, Run, hourRun, secondRun, otherRun, noRun, runOf, runOfElapsed, nearer, firstRun, meansMinutes, monthOrMinute, settledItem, settledFrom, isSecondsElapsed}
 use Rattle.formats.specs.Kinds.{isPoint, isPlace, startsWithPlace, noBracket, tokenMakes, whole, isSecondsLetter, isSecondsToken, isZeroIn, isZero, leadingZeros, partZeros, piecesFrom, runItem, tokenItems, pieceItems, dateItems}
 use Rattle.formats.proofs.FormedPieces.{zero-case}
 use Rattle.grammar.specs.Bodies.{free-string, free-repeat, free-space, free-bare, Behind, behindSeconds, behindHours, behindOther, past, NFAbsTimeToken, NFPartAbsHour, NFPartAbsSecond, NFPartAbsMinute, NFDateTimeToken, NFPartYear, NFPartMonth, NFPartMonth-long, NFPartDay, NFPartHour, NFPartMinute, NFPartSecond, absolute, NFPartSubSecond, tenths, hundredths, thousandths, Between, between-free, between-AMPM, between-comma, between-point, DateTimeRest, rest-end, rest-token, rest-sub-second, rest-between, isAbsolute}
-use Rattle.grammar.proofs.Tests.{no, and-parts, every-parts}
+use Rattle.grammar.proofs.Tests.{every-parts}
 use Rattle.grammar.proofs.Quiet.{free-kept}
 use Rattle.grammar.proofs.Plain.{inBody}
 use Rattle.grammar.proofs.DateItems.{counts, counts-some, some-counts, dateItem}

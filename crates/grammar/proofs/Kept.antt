@@ -8,50 +8,19 @@ use mathlib.Core.List.{List, [], _∷_}
 use lib.Dec.{leb, eqb}
 use borrow.Author.Tests.{eqb-true}
 use Rattle.lists.specs.Lists.{every, any, count}
-use Rattle.lists.proofs.Bools.{by-cases, cond-both, T-true, and-left, true-T}
+use Rattle.lists.proofs.Bools.{no, by-cases, cond-both, T-true, and-left, true-T}
 use Rattle.formats.specs.Items.{Item, literal, blank, fill, place, point, percent, general, at, year, month, day, hour, minute, second, part, elapsed, half, Kind, textKind, generalKind, dateKind, numberKind, sameKind, itemBelongs, itemAllowed, sortOf, isFill, isPlace, isPoint, integerPlaces, decimalPlaces, Run, noRun, runOf, nearer, firstRun, settledFrom, settled}
 use Rattle.formats.specs.Kinds.{lastFill}
-use Rattle.grammar.proofs.Tests.{no}
-use Rattle.formats.proofs.FormedItems.{settled-kept, count-settled, places-lastFill, places-settled}
+use Rattle.formats.proofs.FormedItems.{both-kept}
+use Rattle.formats.proofs.Each.{by-item}
 
 -- ---- fills left out, runs of m settled
-
--- an item that is left out is a fill
-pub dropped-fill : (i : Item) (is : List Item) → (isFill i && any isFill is) ≡ true → sortOf i ≡ 2
-dropped-fill i is h = eqb-true (sortOf i) 2 (T-true (isFill i) (and-left (isFill i) (any isFill is) (true-T h)))
-
--- a test by sorts: of the sort alone
-module _ (f : ℕ → Bool) where
-  abbrev bySort : Item → Bool
-  bySort i = f (sortOf i)
-
-  every-fill : f 2 ≡ true → (is : List Item) → every bySort (lastFill is) ≡ every bySort is
-  unfolding lastFill every
-  every-fill g [] = refl
-  every-fill g (i ∷ is) =
-      by-cases (isFill i && any isFill is)
-      (λ h. rw (h, dropped-fill i is h, g) (every-fill g is))
-      (λ h. rw (h, every-fill g is))
-
-  count-fill : f 2 ≡ false → (is : List Item) → count bySort (lastFill is) ≡ count bySort is
-  unfolding lastFill count
-  count-fill g [] = refl
-  count-fill g (i ∷ is) =
-      by-cases (isFill i && any isFill is)
-      (λ h. rw (h, dropped-fill i is h, g) (count-fill g is))
-      (λ h. rw (h, count-fill g is))
-
-every-settled : (f : Item → Bool) → ((n : ℕ) → f (minute n) ≡ f (month n)) → (e : Run) (is : List Item) → every f (settledFrom e is) ≡ every f is
-unfolding every settledFrom
-every-settled f g e [] = refl
-every-settled f g e (i ∷ is) = rw (settled-kept f g e (firstRun is) i, every-settled f g (nearer (runOf i) e) is)
 
 -- a sort other than fill, month or minute is counted alike
 pub count-kept : (k : ℕ) → eqb 2 k ≡ false → eqb 12 k ≡ eqb 9 k → (is : List Item)
     → count (λ (i : Item). eqb (sortOf i) k) (settled (lastFill is)) ≡ count (λ (i : Item). eqb (sortOf i) k) is
-unfolding settled
-count-kept k g h is =
-    count-settled (λ (i : Item). eqb (sortOf i) k) (λ n. h) noRun (lastFill is) ∙ count-fill (λ (n : ℕ). eqb n k) g is
+unfolding count
+count-kept k g h = both-kept (count (λ (i : Item). eqb (sortOf i) k)) (λ i is js e. rw e) (λ u is. rw g) (λ n is. rw h)
 
 -- ---- the sorts of items that a kind may hold
 
@@ -62,34 +31,13 @@ sorts k n =
 
 pub allowed-sorts : (k : Kind) (i : Item) → itemAllowed k i ≡ sorts k (sortOf i)
 unfolding itemAllowed itemBelongs sorts
-allowed-sorts k (literal u) = refl
-allowed-sorts k (blank u) = refl
-allowed-sorts k (fill u) = refl
-allowed-sorts k (place p) = refl
-allowed-sorts k point = refl
-allowed-sorts k percent = refl
-allowed-sorts k general = refl
-allowed-sorts k at = refl
-allowed-sorts k (year n) = refl
-allowed-sorts k (month n) = refl
-allowed-sorts k (day n) = refl
-allowed-sorts k (hour n) = refl
-allowed-sorts k (minute n) = refl
-allowed-sorts k (second n) = refl
-allowed-sorts k (part n) = refl
-allowed-sorts k (elapsed e n) = refl
-allowed-sorts k (half h) = refl
-
-every-sorts : (k : Kind) (is : List Item) → every (itemAllowed k) is ≡ every (λ (i : Item). sorts k (sortOf i)) is
-unfolding every
-every-sorts k [] = refl
-every-sorts k (i ∷ is) = rw (allowed-sorts k i, every-sorts k is)
+allowed-sorts k =
+    by-item (λ (i : Item). itemAllowed k i ≡ sorts k (sortOf i)) (λ u. refl) (λ u. refl) (λ u. refl) (λ p. refl) refl refl refl refl
+    (λ n. refl) (λ n. refl) (λ n. refl) (λ n. refl) (λ n. refl) (λ n. refl) (λ n. refl) (λ e n. refl) (λ h. refl)
 
 pub allowed-kept : (k : Kind) (is : List Item) → every (itemAllowed k) (settled (lastFill is)) ≡ every (itemAllowed k) is
-unfolding settled sorts
-allowed-kept k is =
-    every-settled (itemAllowed k) (λ n. allowed-sorts k (minute n) ∙ sym (allowed-sorts k (month n))) noRun (lastFill is)
-    ∙ every-sorts k (lastFill is) ∙ every-fill (sorts k) refl is ∙ sym (every-sorts k is)
+unfolding every itemAllowed itemBelongs
+allowed-kept k = both-kept (every (itemAllowed k)) (λ i is js e. rw e) (λ u is. refl) (λ n is. refl)
 
 -- a sort that the kind does not hold is not there
 pub foreign : (k : Kind) (n : ℕ) → sorts k n ≡ false → (is : List Item) → every (itemAllowed k) is ≡ true → count (λ (i : Item). eqb (sortOf i) n) is ≡ 0
@@ -127,23 +75,13 @@ no-decimals (i ∷ is) e =
 -- ---- the places before and behind the point
 
 pub integers-kept : (is : List Item) → integerPlaces (settled (lastFill is)) ≡ integerPlaces is
-unfolding settled
-integers-kept is = places-settled noRun (lastFill is) ∙ places-lastFill is
-
-decimals-fill : (is : List Item) → decimalPlaces (lastFill is) ≡ decimalPlaces is
-unfolding lastFill decimalPlaces
-decimals-fill [] = refl
-decimals-fill (i ∷ is) =
-    by-cases (isFill i && any isFill is)
-    (λ h. rw (h, dropped-fill i is h) (decimals-fill is))
-    (λ h. rw (h, decimals-fill is, count-fill (λ (n : ℕ). eqb n 3) refl is))
-
-decimals-settled : (e : Run) (is : List Item) → decimalPlaces (settledFrom e is) ≡ decimalPlaces is
-unfolding decimalPlaces settledFrom
-decimals-settled e [] = refl
-decimals-settled e (i ∷ is) =
-    rw (settled-kept isPoint (λ n. refl) e (firstRun is) i, decimals-settled (nearer (runOf i) e) is, count-settled isPlace (λ n. refl) (nearer (runOf i) e) is)
+unfolding integerPlaces
+integers-kept = both-kept integerPlaces (λ i is js e. rw e) (λ u is. refl) (λ n is. refl)
 
 pub decimals-kept : (is : List Item) → decimalPlaces (settled (lastFill is)) ≡ decimalPlaces is
-unfolding settled
-decimals-kept is = decimals-settled noRun (lastFill is) ∙ decimals-fill is
+unfolding decimalPlaces count
+decimals-kept is =
+    ap (λ (p : ℕ × ℕ). p .1)
+    (both-kept (λ (js : List Item). (count isPlace js, decimalPlaces js))
+    (λ i js ks e. ap {B = ℕ × ℕ} (λ (p : ℕ × ℕ). (cond (isPlace i) (suc (p .0)) (p .0), cond (isPoint i) (p .0) (p .1))) e)
+    (λ u is. refl) (λ n is. refl) is)

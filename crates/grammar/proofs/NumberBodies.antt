@@ -9,7 +9,7 @@ use mathlib.Core.Logic.{_≢_}
 use lib.Dec.{eqb}
 use borrow.Author.Tests.{eqb-true}
 use Rattle.lists.specs.Lists.{every, any, count}
-use Rattle.lists.proofs.Bools.{by-cases}
+use Rattle.lists.proofs.Bools.{no, and-parts, by-cases}
 use Rattle.formats.specs.Tokens.{Token, bare, place, Place}
 use Rattle.formats.specs.Items as item
 use Rattle.formats.specs.Items.{textKind, generalKind, dateKind, numberKind, integerPlaces, itemAllowed}
@@ -17,7 +17,6 @@ use Rattle.formats.specs.Kinds as kind
 use Rattle.formats.specs.Kinds.{isPlace, isPoint, bodyKind, tokenMakes, isDividing, commasFit, isSolidus, startsWithPlace, solidusFrom, solidusFits, tokenItems, plainItems, bodyItems}
 use Rattle.formats.proofs.CommaUses.{commaUsesFrom, comma-uses}
 use Rattle.grammar.specs.Bodies.{free-string, free-repeat, free-space, free-bare, leading, isPercent, wholePlaces, decimalPlaces, NFNumber}
-use Rattle.grammar.proofs.Tests.{no, and-parts}
 use Rattle.grammar.proofs.Quiet.{free-quiet, free-percent, free-kept, passed-over, quiet-any, quiet-wholes, quiet-decimals}
 use Rattle.grammar.proofs.Kept.{sorts, count-kept, foreign}
 use Rattle.grammar.proofs.DateItems.{short-none, plain-none}

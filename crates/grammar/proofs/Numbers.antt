@@ -7,13 +7,12 @@ use mathlib.Core.Bool.{Bool, true, false, cond, not, true≢false}
 use mathlib.Core.List.{List, _∷_}
 use borrow.Author.Tests.{not-true}
 use Rattle.lists.specs.Lists.{any, count}
-use Rattle.lists.proofs.Bools.{by-cases}
+use Rattle.lists.proofs.Bools.{no, by-cases}
 use Rattle.formats.specs.Tokens.{Token, comma}
 use Rattle.formats.specs.Items.{numberKind}
 use Rattle.formats.specs.Kinds.{isPlace, isPoint, CommaUse, groups, divides, misplaced, isMisplaced, isDividing, integerPlaceIn}
 use Rattle.formats.proofs.CommaUses.{commaUse, commaUsesFrom}
 use Rattle.grammar.specs.Bodies.{Part, leading, wholes, grouping, dividing, bared, decimals, trailing, Beside, beside-free, beside-percent, NFPartNum, beside, leading-place, leading-point, wholes-place, wholes-group, wholes-divide, wholes-point, wholes-end, grouping-place, grouping-comma, dividing-comma, dividing-point, dividing-end, bared-place, decimals-place, decimals-comma, decimals-end, trailing-comma, trailing-end}
-use Rattle.grammar.proofs.Tests.{no, no}
 use Rattle.grammar.proofs.Quiet.{Quiet, free-quiet, percent-quiet, passed-over, quiet-commas, quiet-any, quiet-integers}
 use Rattle.grammar.proofs.Plain.{View, v-free, v-comma, v-place, v-point, v-percent, Views, v-end, v-next}
 

@@ -5,14 +5,14 @@ use mathlib.Core.Path.{_≡_, refl, sym, _∙_}
 use mathlib.Core.Bool.{Bool, true, false, not, _&&_, true≢false}
 use mathlib.Core.List.{List, [], _∷_, map}
 use Rattle.lists.specs.Lists.{every, any}
-use Rattle.lists.proofs.Bools.{by-cases}
+use Rattle.lists.proofs.Bools.{no, and-parts, by-cases}
 use Rattle.lists.proofs.Counts.{every-both}
 use Rattle.formats.specs.Tokens.{Token, literal, bare, blank, fill, place, point, comma, percent, at, semicolon, general, half, run, elapsed, colour, condition, Place, Letter, letterY, letterM, letterD, letterH, letterS}
 use Rattle.formats.specs.Items as item
 use Rattle.formats.specs.Items.{Kind, textKind, generalKind, dateKind, numberKind, literalKind, sameKind, itemBelongs, itemAllowed, kindFrom}
 use Rattle.formats.specs.Kinds.{isSemicolon, noBracket, tokenMakes, bodyKind, tokenItems, runItem, plainItems}
 use Rattle.grammar.specs.Bodies.{Free, free-string, free-repeat, free-space, free-bare}
-use Rattle.grammar.proofs.Tests.{no, and-parts, both, every-parts, every-in}
+use Rattle.grammar.proofs.Tests.{both, every-parts, every-in}
 
 -- a token of a body: no semicolon, no colour, no condition
 abbrev pub inBody : Token → Bool

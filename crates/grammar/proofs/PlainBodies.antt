@@ -8,13 +8,14 @@ use mathlib.Core.List.{List, [], _++_}
 use borrow.Author.Tests.{not-true}
 use lib.Dec.{eqb}
 use Rattle.lists.specs.Lists.{every, any, count}
+use Rattle.lists.proofs.Bools.{no, and-parts}
 use Rattle.formats.specs.Tokens.{Token}
 use Rattle.formats.specs.Items as item
 use Rattle.formats.specs.Items.{Item, Kind, textKind, generalKind, dateKind, numberKind, literalKind, sameKind, sortOf, isGeneral, isPlace, isPercent, isPoint, isElapsed}
 use Rattle.formats.specs.Kinds.{isSemicolon, noBracket, bodyKind, tokenMakes, isMisplaced, commasFit, solidusFrom, solidusFits, tokenItems, plainItems, bodyItems}
 use Rattle.formats.proofs.CommaUses.{commaUse, commaUsesFrom, comma-uses}
 use Rattle.grammar.specs.Bodies.{Free, Literals, literals-end, literals-free, NFGeneral, general-word, general-free, TextRest, text-end, text-more, text-literal, NFText, text-at, text-free}
-use Rattle.grammar.proofs.Tests.{no, and-parts, both, every-with, every-all}
+use Rattle.grammar.proofs.Tests.{both, every-with, every-all}
 use Rattle.grammar.proofs.Quiet.{free-quiet, free-kept, quiet-commas, quiet-solidus}
 use Rattle.grammar.proofs.Kept.{sorts, count-kept, foreign, no-integers, no-decimals}
 use Rattle.grammar.proofs.DateItems.{short-none, plain-none}

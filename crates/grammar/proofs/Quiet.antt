@@ -5,12 +5,12 @@ use mathlib.Core.Path.{_≡_, refl, _∙_}
 use mathlib.Core.Bool.{Bool, true, false, or-false}
 use mathlib.Core.List.{List, [], _∷_, _++_, map}
 use Rattle.lists.specs.Lists.{any, count}
+use Rattle.lists.proofs.Bools.{no}
 use Rattle.formats.specs.Tokens.{Token, literal, bare, blank, fill, place, point, comma, percent, at, semicolon, general, half, run, elapsed, colour, condition, Written}
 use Rattle.formats.specs.Items as item
 use Rattle.formats.specs.Items.{Item}
 use Rattle.formats.specs.Kinds.{isPlace, isPoint, isComma, isSemicolon, isColour, isCondition, colourIn, integerPlaceIn, solidusFrom, tokenItems}
 use Rattle.formats.proofs.CommaUses.{commaUsesFrom}
-use Rattle.grammar.proofs.Tests.{no}
 use Rattle.grammar.specs.Bodies.{Free, free-string, free-repeat, free-space, free-bare, wholePlaces, decimalPlaces, isPercent}
 
 -- neither a place nor the point nor a comma

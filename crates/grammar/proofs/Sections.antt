@@ -10,7 +10,7 @@ use lib.ListN.{length}
 use lib.Dec.{T, leb, ltb, eqb}
 use borrow.Author.Tests.{leb-true, le-leb, eqb-true, not-true}
 use Rattle.lists.specs.Lists.{every, isSome}
-use Rattle.lists.proofs.Bools.{by-cases, and-left, and-right, T-true, true-T}
+use Rattle.lists.proofs.Bools.{no, and-parts, by-cases, and-left, and-right, T-true, true-T}
 use Rattle.formats.specs.Tokens.{Token, at, colour, condition, Written}
 use Rattle.formats.specs.Items.{Kind, textKind, generalKind, dateKind, numberKind, literalKind, sameKind}
 use Rattle.formats.specs.Kinds.{isColour, isCondition, noBracket, Parts, colourIn, conditionIn, afterColour, partsOf, bodyKind, conditionOf, sectionOf, fits}
@@ -20,7 +20,7 @@ use Rattle.formats.proofs.Formed.{kind-of-section}
 use Rattle.grammar.specs.Bodies.{Literals, NFGeneral, NFNumber, NFDateTime, NFText}
 use Rattle.grammar.specs.Codes as codes
 use Rattle.grammar.specs.Codes.{OptColor, no-color, color, NFPartCond, OptCond, no-cond, some-cond, NFAnyBy, any-number, any-text, any-date, any-general, any-literal, NFAnyNoCond, Fourth, fourth-text, fourth-general, fourth-literal}
-use Rattle.grammar.proofs.Tests.{no, and-parts, every-parts}
+use Rattle.grammar.proofs.Tests.{every-parts}
 use Rattle.grammar.proofs.Quiet.{known}
 use Rattle.grammar.proofs.Fronts.{colourShown}
 use Rattle.grammar.proofs.Facts.{Fitting, fitting, fits-fitting, within-fitting}

@@ -1,18 +1,10 @@
 -- Tests and their facts: a conjunction that holds holds in each part, and the other way round.
 -- Assumes nothing.
-use mathlib.Core.Path.{_≡_, refl, sym}
+use mathlib.Core.Path.{_≡_, refl}
 use mathlib.Core.Bool.{Bool, true, false, cond, not, _&&_, true≢false}
 use mathlib.Core.List.{List, [], _∷_}
 use Rattle.lists.specs.Lists.{every, any}
-use Rattle.lists.proofs.Bools.{by-cases}
-
--- nothing follows from a test that fails and holds
-pub no : {P : Type 0} → false ≡ true → P
-no e = absurd (true≢false (sym e))
-
-pub and-parts : (a b : Bool) → (a && b) ≡ true → (a ≡ true) × (b ≡ true)
-and-parts true b e = (refl, e)
-and-parts false b e = no e
+use Rattle.lists.proofs.Bools.{no, by-cases}
 
 pub both : (a b : Bool) → a ≡ true → b ≡ true → (a && b) ≡ true
 both true b e f = f

@@ -8,6 +8,10 @@ use lib.ListN.{take, drop}
 use lib.Dec.{T, eqb}
 use Rattle.lists.specs.Lists.{every, any}
 
+-- nothing follows from a test that fails and holds
+pub no {ℓ} : {P : Type ℓ} → false ≡ true → P
+no e = absurd (true≢false (sym e))
+
 pub and-left : (a b : Bool) → T (a && b) → T a
 and-left true b t = tt
 and-left false b t = t
@@ -27,6 +31,14 @@ cond-left false b t = t
 pub cond-right : (a b : Bool) → T (cond a b false) → T b
 cond-right true b t = t
 cond-right false b t = absurd t
+
+pub or-right : (a b : Bool) → T b → T (a || b)
+or-right true b t = tt
+or-right false b t = t
+
+pub or-cond : (a b : Bool) → (a || b) ≡ cond a true b
+or-cond true b = refl
+or-cond false b = refl
 
 pub or-false : (a b : Bool) → a || b ≡ false → (a ≡ false) × (b ≡ false)
 or-false true b e = absurd (true≢false e)
@@ -49,7 +61,7 @@ not-so false t = refl
 
 pub and-parts : (a b : Bool) → (a && b) ≡ true → (a ≡ true) × (b ≡ true)
 and-parts true b e = (refl, e)
-and-parts false b e = absurd (true≢false (sym e))
+and-parts false b e = no e
 
 -- out of and into "where the first is so, the second must be"
 pub implied : (a b : Bool) → T (not a || b) → T a → T b

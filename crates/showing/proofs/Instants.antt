@@ -22,7 +22,7 @@ use Rattle.formats.specs.Reading.{takesInstant, instantContext, readInstant}
 use Rattle.tables.specs.Encode.{bit, flagsWord, hasHalf, headOf}
 use Rattle.tables.specs.Decode.{itemsAt, decode}
 use Rattle.tables.specs.Rules.{passes}
-use Rattle.tables.proofs.Each.{by-item, by-kind}
+use Rattle.formats.proofs.Each.{by-item, by-kind}
 use Rattle.tables.proofs.MadeHeads.{bit-most}
 use Rattle.date_text.specs.declared.Moment.{Moment}
 use Rattle.date_text.specs.Moment.{momentOf, MomentIs}

@@ -14,7 +14,7 @@ use Rattle.formats.specs.Choice.{Reason, chosen}
 use Rattle.formats.specs.Reading.{takesNumber, takesInstant, showsGeneral, readNumber}
 use Rattle.tables.specs.Encode.{kindWord, headOf}
 use Rattle.tables.specs.Rules.{passes}
-use Rattle.tables.proofs.Each.{by-kind}
+use Rattle.formats.proofs.Each.{by-kind}
 use Rattle.choosing.specs.Seeking.{sectionIn, wordIn}
 use Rattle.choosing.proofs.Places.{words-by-place}
 use Rattle.section_text.specs.Show.{Shows}

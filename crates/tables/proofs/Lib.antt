@@ -1,6 +1,5 @@
 pub mod Evaluate
 pub mod Cases
-pub mod Each
 pub mod Words
 pub mod Ranges
 pub mod MadeItems

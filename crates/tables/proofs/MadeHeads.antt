@@ -18,7 +18,7 @@ use Rattle.tables.specs.Words.{Head}
 use Rattle.tables.specs.Encode.{kindWord, comparisonWord, operatorWord, bit, negativeWord, wholePart, millionthsPart, lowWord, highWord, shiftWord, flagsWord, noMinus, hasHalf, decimalsWord, headOf}
 use Rattle.tables.specs.Decode.{comparisonAt, twoWords, wholeAt, millionthsAt, conditionAt, groupedAt, thousandsAt}
 use Rattle.tables.specs.Rules.{headInRange, conditionFits, shiftTells}
-use Rattle.tables.proofs.Each.{by-kind, by-comparison}
+use Rattle.formats.proofs.Each.{by-kind, by-comparison}
 use Rattle.tables.proofs.Ranges.{head-in-ranges}
 
 -- what a section that is formed keeps to

@@ -16,7 +16,7 @@ use Rattle.formats.specs.Text.{digitAfter}
 use Rattle.tables.specs.Encode.{placeTag, elapsedTag, halfWord, entryOf, entriesFrom, entriesOf}
 use Rattle.tables.specs.Decode.{halfAt, itemAt, itemsAt}
 use Rattle.tables.specs.Rules.{entryInRange, powersFrom, powersRunDown}
-use Rattle.tables.proofs.Each.{by-item, by-place, by-elapsed, by-half}
+use Rattle.formats.proofs.Each.{by-item, by-place, by-elapsed, by-half}
 
 -- an item's entry reads back as the item, whatever its arguments
 pub item-back : (q : ℕ) (i : Item) → itemAt (entryOf q i) ≡ i

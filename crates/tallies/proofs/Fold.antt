@@ -20,7 +20,7 @@ use Rattle.formats.specs.WellFormed.{isSeconds, partsFrom, partsFollow, settled
 use Rattle.tables.specs.Words.{Entry}
 use Rattle.tables.specs.Encode.{bit}
 use Rattle.tables.specs.Decode.{itemAt, itemsAt}
-use Rattle.tables.proofs.Each.{by-item, by-elapsed}
+use Rattle.formats.proofs.Each.{by-item, by-elapsed}
 use Rattle.tables.proofs.MadeHeads.{bit-back}
 use Rattle.tables.proofs.BackEntries.{items-length}
 use Rattle.tallies.specs.declared.Walk.{Walk}

@@ -1,9 +1,40 @@
--- What holds of each form of an item, a place, an elapsed run, a half-day mark, a kind or a comparison holds of all of them: so that a
--- law that is computed at each form takes a line, not a line for each form.
+-- What holds of each form of a token, a letter, an item, a place, an elapsed run, a half-day mark, a kind or a comparison holds of all of
+-- them: so that a law that is computed at each form takes a line, not a line for each form.
 -- Assumes nothing.
 use Prim.Native.Nat.{ℕ}
-use Rattle.formats.specs.Tokens.{Place, zeroPlace, hashPlace, spacePlace, Elapsed, hours, minutes, seconds, HalfDay, short, long, Comparison, equal, less, greater, atMost, atLeast, unequal}
+use mathlib.Core.List.{List}
+use Rattle.formats.specs.Tokens as token
+use Rattle.formats.specs.Tokens.{Token, Letter, letterY, letterM, letterD, letterH, letterS, Written, Place, zeroPlace, hashPlace, spacePlace, Elapsed, hours, minutes, seconds, HalfDay, short, long, Comparison, equal, less, greater, atMost, atLeast, unequal}
 use Rattle.formats.specs.Items.{Item, literal, blank, fill, place, point, percent, general, at, year, month, day, hour, minute, second, part, elapsed, half, Kind, textKind, generalKind, dateKind, numberKind, literalKind}
+
+pub by-token {ℓ} : (P : Token → Type ℓ) → ((us : List ℕ) → P (token.literal us)) → ((u : ℕ) → P (token.bare u)) → ((u : ℕ) → P (token.blank u)) → ((u : ℕ) → P (token.fill u))
+    → ((p : Place) → P (token.place p)) → P token.point → P token.comma → P token.percent → P token.at → P token.semicolon → P token.general
+    → ((h : HalfDay) → P (token.half h)) → ((l : Letter) (n : ℕ) → P (token.run l n)) → ((e : Elapsed) (n : ℕ) → P (token.elapsed e n))
+    → ((n : ℕ) → P (token.colour n)) → ((w : Written) → P (token.condition w))
+    → (t : Token) → P t
+by-token P li ba bl fi pl po co pe a se ge ha ru el cl cn (token.literal us) = li us
+by-token P li ba bl fi pl po co pe a se ge ha ru el cl cn (token.bare u) = ba u
+by-token P li ba bl fi pl po co pe a se ge ha ru el cl cn (token.blank u) = bl u
+by-token P li ba bl fi pl po co pe a se ge ha ru el cl cn (token.fill u) = fi u
+by-token P li ba bl fi pl po co pe a se ge ha ru el cl cn (token.place p) = pl p
+by-token P li ba bl fi pl po co pe a se ge ha ru el cl cn token.point = po
+by-token P li ba bl fi pl po co pe a se ge ha ru el cl cn token.comma = co
+by-token P li ba bl fi pl po co pe a se ge ha ru el cl cn token.percent = pe
+by-token P li ba bl fi pl po co pe a se ge ha ru el cl cn token.at = a
+by-token P li ba bl fi pl po co pe a se ge ha ru el cl cn token.semicolon = se
+by-token P li ba bl fi pl po co pe a se ge ha ru el cl cn token.general = ge
+by-token P li ba bl fi pl po co pe a se ge ha ru el cl cn (token.half h) = ha h
+by-token P li ba bl fi pl po co pe a se ge ha ru el cl cn (token.run l n) = ru l n
+by-token P li ba bl fi pl po co pe a se ge ha ru el cl cn (token.elapsed e n) = el e n
+by-token P li ba bl fi pl po co pe a se ge ha ru el cl cn (token.colour n) = cl n
+by-token P li ba bl fi pl po co pe a se ge ha ru el cl cn (token.condition w) = cn w
+
+pub by-letter {ℓ} : (P : Letter → Type ℓ) → P letterY → P letterM → P letterD → P letterH → P letterS → (l : Letter) → P l
+by-letter P y m d h s letterY = y
+by-letter P y m d h s letterM = m
+by-letter P y m d h s letterD = d
+by-letter P y m d h s letterH = h
+by-letter P y m d h s letterS = s
 
 pub by-item {ℓ} : (P : Item → Type ℓ) → ((u : ℕ) → P (literal u)) → ((u : ℕ) → P (blank u)) → ((u : ℕ) → P (fill u)) → ((p : Place) → P (place p))
     → P point → P percent → P general → P at
