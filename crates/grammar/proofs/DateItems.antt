@@ -13,6 +13,7 @@ use Rattle.lists.proofs.Bools.{no, and-parts, by-cases}
 use Rattle.formats.specs.Tokens.{Elapsed, hours, minutes, seconds}
 use Rattle.formats.specs.Items.{Item, literal, blank, fill, place, point, percent, general, at, year, month, day, hour, minute, second, part, elapsed, half, dateKind, itemBelongs, itemAllowed, isElapsed, isPlain, noPlain}
 use Rattle.formats.specs.Limits.{elapsedShort}
+use Rattle.formats.proofs.Each.{by-elapsed}
 use Rattle.grammar.proofs.Tests.{both, every-parts, every-in, every-with, every-all, every-none, none-every}
 
 abbrev elapsedIndex : Elapsed → ℕ
@@ -64,12 +65,6 @@ dateItem abs (part n) = true
 dateItem abs (elapsed x n) = counts abs x && leb n 9
 dateItem abs (half h) = true
 
--- what holds of each unit
-by-three : (P : Elapsed → Type 0) → P hours → P minutes → P seconds → (x : Elapsed) → P x
-by-three P h m s hours = h
-by-three P h m s minutes = m
-by-three P h m s seconds = s
-
 abbrev Unplain : Item → Elapsed → Type 0
 Unplain i x = dateItem (some x) i ≡ (itemAllowed dateKind i && not (isPlain x i))
 
@@ -82,22 +77,22 @@ data Sorted : Item → Type 0 where
 sorted : (i : Item) → Sorted i
 unfolding elapsedShort noPlain dateItem itemAllowed itemBelongs isPlain
 sorted (elapsed x n) = timed x n
-sorted (literal u) = calm refl refl (λ js. refl) refl (by-three (Unplain (literal u)) refl refl refl)
-sorted (blank u) = calm refl refl (λ js. refl) refl (by-three (Unplain (blank u)) refl refl refl)
-sorted (fill u) = calm refl refl (λ js. refl) refl (by-three (Unplain (fill u)) refl refl refl)
-sorted (place p) = calm refl refl (λ js. refl) refl (by-three (Unplain (place p)) refl refl refl)
-sorted point = calm refl refl (λ js. refl) refl (by-three (Unplain point) refl refl refl)
-sorted percent = calm refl refl (λ js. refl) refl (by-three (Unplain percent) refl refl refl)
-sorted general = calm refl refl (λ js. refl) refl (by-three (Unplain general) refl refl refl)
-sorted at = calm refl refl (λ js. refl) refl (by-three (Unplain at) refl refl refl)
-sorted (year n) = calm refl refl (λ js. refl) refl (by-three (Unplain (year n)) refl refl refl)
-sorted (month n) = calm refl refl (λ js. refl) refl (by-three (Unplain (month n)) refl refl refl)
-sorted (day n) = calm refl refl (λ js. refl) refl (by-three (Unplain (day n)) refl refl refl)
-sorted (hour n) = calm refl refl (λ js. refl) refl (by-three (Unplain (hour n)) refl refl refl)
-sorted (minute n) = calm refl refl (λ js. refl) refl (by-three (Unplain (minute n)) refl refl refl)
-sorted (second n) = calm refl refl (λ js. refl) refl (by-three (Unplain (second n)) refl refl refl)
-sorted (part n) = calm refl refl (λ js. refl) refl (by-three (Unplain (part n)) refl refl refl)
-sorted (half h) = calm refl refl (λ js. refl) refl (by-three (Unplain (half h)) refl refl refl)
+sorted (literal u) = calm refl refl (λ js. refl) refl (by-elapsed (Unplain (literal u)) refl refl refl)
+sorted (blank u) = calm refl refl (λ js. refl) refl (by-elapsed (Unplain (blank u)) refl refl refl)
+sorted (fill u) = calm refl refl (λ js. refl) refl (by-elapsed (Unplain (fill u)) refl refl refl)
+sorted (place p) = calm refl refl (λ js. refl) refl (by-elapsed (Unplain (place p)) refl refl refl)
+sorted point = calm refl refl (λ js. refl) refl (by-elapsed (Unplain point) refl refl refl)
+sorted percent = calm refl refl (λ js. refl) refl (by-elapsed (Unplain percent) refl refl refl)
+sorted general = calm refl refl (λ js. refl) refl (by-elapsed (Unplain general) refl refl refl)
+sorted at = calm refl refl (λ js. refl) refl (by-elapsed (Unplain at) refl refl refl)
+sorted (year n) = calm refl refl (λ js. refl) refl (by-elapsed (Unplain (year n)) refl refl refl)
+sorted (month n) = calm refl refl (λ js. refl) refl (by-elapsed (Unplain (month n)) refl refl refl)
+sorted (day n) = calm refl refl (λ js. refl) refl (by-elapsed (Unplain (day n)) refl refl refl)
+sorted (hour n) = calm refl refl (λ js. refl) refl (by-elapsed (Unplain (hour n)) refl refl refl)
+sorted (minute n) = calm refl refl (λ js. refl) refl (by-elapsed (Unplain (minute n)) refl refl refl)
+sorted (second n) = calm refl refl (λ js. refl) refl (by-elapsed (Unplain (second n)) refl refl refl)
+sorted (part n) = calm refl refl (λ js. refl) refl (by-elapsed (Unplain (part n)) refl refl refl)
+sorted (half h) = calm refl refl (λ js. refl) refl (by-elapsed (Unplain (half h)) refl refl refl)
 
 -- a test that only an elapsed item may fail
 unless-elapsed : (f : Item → Bool) → ((i : Item) → isElapsed i ≡ false → f i ≡ true) → (is : List Item) → count isElapsed is ≡ 0 → every f is ≡ true
@@ -138,7 +133,7 @@ date-short abs is e = every-all (dateItem abs) elapsedShort (λ i d. (date-parts
 
 date-plain : (x : Elapsed) {i : Item} → Sorted i → dateItem (some x) i ≡ true → isPlain x i ≡ false
 unfolding isPlain
-date-plain x (timed y n) e = by-three (λ (z : Elapsed). isPlain z (elapsed y n) ≡ false) refl refl refl x
+date-plain x (timed y n) e = by-elapsed (λ (z : Elapsed). isPlain z (elapsed y n) ≡ false) refl refl refl x
 date-plain x {i} (calm o s a f g) e = not-true (isPlain x i) ((and-parts (itemAllowed dateKind i) (not (isPlain x i)) (sym (g x) ∙ e)) .1)
 
 no-plain : (x : Elapsed) (is : List Item) → every (dateItem (some x)) is ≡ true → any (isPlain x) is ≡ false

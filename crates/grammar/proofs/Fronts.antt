@@ -13,7 +13,7 @@ use lib.Seq.{take-at, drop-at, drop-append-add, take-length, drop-length}
 use lib.Dec.{T, leb, eqb}
 use borrow.Author.Tests.{ne-eqb, eq-eqb, eqb-true, le-leb, not-true}
 use Rattle.lists.specs.Lists.{every, any, isEmpty, All}
-use Rattle.lists.proofs.Bools.{by-cases, cond-left, cond-right, T-true}
+use Rattle.lists.proofs.Bools.{by-cases, cond-left, cond-right, not-so}
 use Rattle.calendar.specs.Names.{units}
 use Rattle.formats.specs.Tokens.{Token, literal, bare, run, elapsed, colour, condition, Letter, letterY, letterM, letterD, letterH, letterS, Elapsed, hours, minutes, seconds, Comparison, equal, less, greater, atMost, atLeast, unequal, Step, read, broken, before, leading, startsWith, same, quoted, marked, generalWord, halfDayWord, runAllowed, runStep, isDigit, digitOf, numberFrom, colourNames, namedFrom, noLeadingZero, colourDigits, numbered, elapsedInside, decimalsOf, wholeOf, signedOf, conditionInside, firstForm, insideOf, closed, bracketed, FirstRow, letter, other, firstRows, firstIn, bareLiterals, stepBy, stepAt}
 use Rattle.formats.specs.Kinds.{isColour, colourIn}
@@ -116,8 +116,7 @@ unfolding every namedFrom same
 none-named n [] us t = refl
 none-named n (name ∷ names) us t =
     let a : T (not (startsWith (units name) us)) = cond-left (not (startsWith (units name) us)) _ t in
-    let b : startsWith (units name) us ≡ false = not-true (startsWith (units name) us) (T-true (not (startsWith (units name) us)) a) in
-    rw (b, and-false (eqb (length (units name)) (length us))) (none-named (suc n) names us (cond-right (not (startsWith (units name) us)) _ t))
+    rw (not-so (startsWith (units name) us) a, and-false (eqb (length (units name)) (length us))) (none-named (suc n) names us (cond-right (not (startsWith (units name) us)) _ t))
 
 -- a colour's name: what it stands for, that no closing bracket is in it, and that its number is above 0
 named : (n : ℕ) (ws : List ℕ) → INTL-COLOR n ws → (insideOf ws ≡ some (colour n)) × T (every (λ (w : ℕ). not (eqb w 93)) ws) × (leb 1 n ≡ true)

@@ -6,11 +6,12 @@ use mathlib.Core.Bool.{Bool, true, false, or-false}
 use mathlib.Core.List.{List, [], _∷_, _++_, map}
 use Rattle.lists.specs.Lists.{any, count}
 use Rattle.lists.proofs.Bools.{no}
-use Rattle.formats.specs.Tokens.{Token, literal, bare, blank, fill, place, point, comma, percent, at, semicolon, general, half, run, elapsed, colour, condition, Written}
+use Rattle.formats.specs.Tokens.{Token, percent, semicolon, colour, condition, Written}
 use Rattle.formats.specs.Items as item
 use Rattle.formats.specs.Items.{Item}
 use Rattle.formats.specs.Kinds.{isPlace, isPoint, isComma, isSemicolon, isColour, isCondition, colourIn, integerPlaceIn, solidusFrom, tokenItems}
 use Rattle.formats.proofs.CommaUses.{commaUsesFrom}
+use Rattle.formats.proofs.Each.{by-token}
 use Rattle.grammar.specs.Bodies.{Free, free-string, free-repeat, free-space, free-bare, wholePlaces, decimalPlaces, isPercent}
 
 -- neither a place nor the point nor a comma
@@ -78,19 +79,8 @@ module _ {t : Token} (ts : List Token) (q : Quiet t) where
 -- a semicolon, a colour or a condition by its test
 pub known : (t : Token) → (isSemicolon t ≡ true → t ≡ semicolon) × (isColour t ≡ true → t ≡ colour (colourIn t)) × (isCondition t ≡ true → (w : Written) × (t ≡ condition w))
 unfolding colourIn
-known semicolon = ((λ e. refl), no, no)
-known (colour n) = (no, (λ e. refl), no)
-known (condition w) = (no, no, (λ e. (w, refl)))
-known (literal us) = (no, no, no)
-known (bare u) = (no, no, no)
-known (blank u) = (no, no, no)
-known (fill u) = (no, no, no)
-known (place q) = (no, no, no)
-known point = (no, no, no)
-known comma = (no, no, no)
-known percent = (no, no, no)
-known at = (no, no, no)
-known general = (no, no, no)
-known (half h) = (no, no, no)
-known (run l n) = (no, no, no)
-known (elapsed x n) = (no, no, no)
+known =
+    by-token (λ (t : Token). (isSemicolon t ≡ true → t ≡ semicolon) × (isColour t ≡ true → t ≡ colour (colourIn t)) × (isCondition t ≡ true → (w : Written) × (t ≡ condition w)))
+    (λ us. (no, no, no)) (λ u. (no, no, no)) (λ u. (no, no, no)) (λ u. (no, no, no)) (λ p. (no, no, no)) (no, no, no) (no, no, no) (no, no, no) (no, no, no)
+    ((λ e. refl), no, no) (no, no, no) (λ h. (no, no, no)) (λ l n. (no, no, no)) (λ x n. (no, no, no))
+    (λ n. (no, (λ e. refl), no)) (λ w. (no, no, (λ e. (w, refl))))
