@@ -15,6 +15,7 @@ use Rattle.tables.specs.Words.{Entry}
 use Rattle.tables.specs.Encode.{kindWord, hasHalf, decimalsWord}
 use Rattle.tables.specs.Decode.{itemsAt}
 use Rattle.tables.specs.Rules.{entryInRange, powersRunDown}
+use Rattle.formats.proofs.FigureItems.{makes-place}
 use Rattle.formats.proofs.Each.{by-item, by-elapsed, by-kind}
 use Rattle.tables.proofs.Standing.{number-word}
 use Rattle.tallies.specs.Tally.{makesText, makesDate, belongsDate, isElapsedOf, soundEntries, tallyOf, hasPlaces, hasNumberItems, kindTold, allowedTold, itemsFitTold, oneFillTold, withinTold, groupingTold, decimalsTold}
@@ -25,12 +26,6 @@ makes-general : (i : Item) → sameKind generalKind (itemMakes i) ≡ isGeneral 
 unfolding itemMakes
 makes-general =
     by-item (λ i. sameKind generalKind (itemMakes i) ≡ isGeneral i) (λ u. refl) (λ u. refl) (λ u. refl) (λ p. refl) refl refl refl refl
-    (λ n. refl) (λ n. refl) (λ n. refl) (λ n. refl) (λ n. refl) (λ n. refl) (λ n. refl) (λ e n. refl) (λ h. refl)
-
-makes-number : (i : Item) → sameKind numberKind (itemMakes i) ≡ isPlace i
-unfolding itemMakes
-makes-number =
-    by-item (λ i. sameKind numberKind (itemMakes i) ≡ isPlace i) (λ u. refl) (λ u. refl) (λ u. refl) (λ p. refl) refl refl refl refl
     (λ n. refl) (λ n. refl) (λ n. refl) (λ n. refl) (λ n. refl) (λ n. refl) (λ n. refl) (λ e n. refl) (λ h. refl)
 
 belongs-text : (i : Item) → sameKind (itemBelongs i) textKind ≡ makesText i
@@ -76,7 +71,7 @@ kind-is is =
       any-map (sameKind dateKind) itemMakes is,
       any-map (sameKind numberKind) itemMakes is,
       any-same (λ (i : Item). sameKind generalKind (itemMakes i)) isGeneral makes-general is,
-      any-same (λ (i : Item). sameKind numberKind (itemMakes i)) isPlace makes-number is,
+      any-same (λ (i : Item). sameKind numberKind (itemMakes i)) isPlace makes-place is,
     )
 
 kind-word : (t g d n : Bool) → cond t 3 (cond g 1 (cond d 4 (cond n 2 0))) ≡ kindWord (kindBy t g d n)
