@@ -15,31 +15,18 @@ use Rattle.lists.proofs.Bools.{by-cases, cond-both}
 use Rattle.figures.specs.Digits.{digitUnit}
 use Rattle.figures.proofs.Filling.{lt-or-le}
 use Rattle.formats.specs.Tokens.{hashPlace}
-use Rattle.formats.specs.Text.{Context, idleUnits, figureUnits, extraUnits, pointUnits}
+use Rattle.formats.specs.Text.{Context, idleUnits, figureUnits, extraUnits, atFirstInteger, pointUnits}
 use Rattle.writing.specs.Put.{Put, Rest}
 use Rattle.writing.proofs.Laws.{rest-start, rest-put, rest-done}
 use Rattle.figure_text.specs.declared.Figures.{Figures}
 use Rattle.figure_text.specs.Shown.{FiguresAre, idle, separated, unitsBefore}
 use Rattle.figure_text.proofs.Digits.{nothing-shows, figure-idle, figure-digit, figures-used}
 
--- the digit at q is that of the first integer place
-abbrev due : ℕ → ℕ → Bool
-due q integers = ltb 0 integers && eqb (suc q) (15 + integers)
-
-before-decimal : (q i : ℕ) → q < 15 → due q i ≡ false
-before-decimal q i h =
-    by-cases (ltb 0 i)
-    (λ t. let p : 0 < i = ltb-true 0 i t in rw (t, ne-eqb (suc q) (15 + i) (λ e. omega arith)))
+before-decimal : (c : Context) (q : ℕ) → q < 15 → unitsBefore c q ≡ []
+before-decimal c q h =
+    by-cases (ltb 0 (c .integerPlaces))
+    (λ t. let p : 0 < c .integerPlaces = ltb-true 0 (c .integerPlaces) t in rw (t, ne-eqb (suc q) (15 + c .integerPlaces) (λ e. omega arith)))
     (λ t. rw t)
-
-before-other : (q i : ℕ) → (q - 14 ≡ i → ⊥) → due q i ≡ false
-before-other q i d =
-    by-cases (ltb 0 i)
-    (λ t. rw (t, ne-eqb (suc q) (15 + i) (λ e. d (omega arith))))
-    (λ t. rw t)
-
-before-not : (c : Context) (q : ℕ) → due q (c .integerPlaces) ≡ false → unitsBefore c q ≡ []
-before-not c q e = rw e
 
 module _ {digits : List ℕ} {f : Figures} {c : Context} (are : FiguresAre digits f c) where
   abbrev extra : ℕ → ℕ → List ℕ
@@ -103,19 +90,22 @@ module _ {digits : List ℕ} {f : Figures} {c : Context} (are : FiguresAre digit
   pub before-unused : (q : ℕ) → q < 40 → f .used ≤ q + 1 → unitsBefore c q ≡ []
   before-unused q h u =
       ⊎-elim
-      (λ (low : q < 15). before-not c q (before-decimal q (c .integerPlaces) low))
+      (λ (low : q < 15). before-decimal c q low)
       (λ (low : 15 ≤ q).
       let e : 39 - q ≡ 40 - suc q = omega arith in
       let none : extra (suc q) (39 - q) ≡ [] =
       ap (extra (suc q)) e ∙ extra-used (suc q) (omega arith) (omega arith) ∙ extra-end (suc q) (f .used) (omega arith) in
-      cond-both (λ (us : List ℕ). us ≡ []) (due q (c .integerPlaces)) none refl)
+      cond-both (λ (us : List ℕ). us ≡ []) (atFirstInteger c q) none refl)
       (lt-or-le q 15)
 
   pub before-decimals : (q : ℕ) → q < 15 → unitsBefore c q ≡ []
-  before-decimals q h = before-not c q (before-decimal q (c .integerPlaces) h)
+  before-decimals q h = before-decimal c q h
 
   pub before-others : (q : ℕ) → (q - 14 ≡ f .integers → ⊥) → unitsBefore c q ≡ []
-  before-others q d = before-not c q (before-other q (c .integerPlaces) (λ e. d (e ∙ sym (are .integers))))
+  before-others q d =
+      by-cases (ltb 0 (c .integerPlaces))
+      (λ t. rw (t, ne-eqb (suc q) (15 + c .integerPlaces) (λ e. d (omega (arith, are .integers)))))
+      (λ t. rw t)
 
   -- before the first integer place the digits from the next higher place on
   pub before-first : (q : ℕ) → 15 ≤ q → q - 14 ≡ f .integers → unitsBefore c q ≡ extra (q + 1) (40 - (q + 1))

@@ -3,12 +3,12 @@
 use mathlib.Core.Path.{_≡_}
 use mathlib.Core.Bool.{Bool, cond, _&&_}
 use mathlib.Core.List.{List, []}
-use Prim.Native.Nat.{ℕ, suc, _+_, _-_, _^_, _<_}
+use Prim.Native.Nat.{ℕ, _^_, _<_}
 use lib.Dec.{leb, ltb, eqb}
 use Rattle.figures.specs.Digits.{figures}
 use Rattle.figures.specs.Places.{placesUsed, lowestPlace}
 use Rattle.formats.specs.Tokens.{Place, zeroPlace, hashPlace, spacePlace}
-use Rattle.formats.specs.Text.{Context, endsGroup, withSeparator, extraUnits}
+use Rattle.formats.specs.Text.{Context, endsGroup, withSeparator, unitsBeyond, atFirstInteger}
 use Rattle.figure_text.specs.declared.Figures.{Figures}
 
 -- the digits, and the figures beside them, are those of a number
@@ -50,5 +50,4 @@ separated grouped q us = cond (grouped && endsGroup q) (withSeparator us) us
 
 -- the digits beyond the places that go in before the digit at q
 abbrev pub unitsBefore : Context → ℕ → List ℕ
-unitsBefore c q =
-    cond (ltb 0 (c .integerPlaces) && eqb (suc q) (15 + c .integerPlaces)) (extraUnits (c .figures) (c .grouped) (suc q) (39 - q)) []
+unitsBefore c q = cond (atFirstInteger c q) (unitsBeyond c q) []
