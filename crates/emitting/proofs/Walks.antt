@@ -11,10 +11,11 @@ use Rattle.lists.specs.Lists.{any, count}
 use Rattle.lists.proofs.Bools.{by-cases}
 use Rattle.lists.proofs.Counts.{count-append, any-count, none-count}
 use Rattle.formats.specs.Tokens as token
-use Rattle.formats.specs.Tokens.{Token}
+use Rattle.formats.specs.Tokens.{Token, Letter}
 use Rattle.formats.specs.Items.{Item, literal, fill, part, dateKind, sameKind, isFill, noRun, meansMinutes, runOf, nearer, settledItem, settledFrom}
 use Rattle.formats.specs.Kinds.{formOf, isFillToken, isZero, isSecondsToken, leadingZeros, partZeros, piecesFrom, pieceItems, plainItems, dateItems, bodyKind, bodyItems, runItem, tokenItems, lastFill}
 use Rattle.formats.specs.Text.{digitAfter}
+use Rattle.formats.proofs.Each.{by-token, by-letter}
 use Rattle.formats.proofs.FormedPieces.{zero-case, zeros-follow, zeros-point}
 use Rattle.marks.specs.Marks.{markRows, markToken}
 use Rattle.tables.specs.Words.{entriesWords}
@@ -53,28 +54,11 @@ body-emitted false ts e = rw (← e) (plain-emitted false ts)
 -- the fills among a token's items
 pub token-fills : (date : Bool) (t : Token) → count isFill (tokenItems date t) ≡ cond (isFillToken t) 1 0
 unfolding tokenItems count runItem
-token-fills date (token.literal us) = literals-fill us
-token-fills date (token.bare u) = refl
-token-fills date (token.blank u) = refl
-token-fills date (token.fill u) = refl
-token-fills date (token.place p) = refl
-token-fills true token.point = refl
-token-fills false token.point = refl
-token-fills true token.comma = refl
-token-fills false token.comma = refl
-token-fills date token.percent = refl
-token-fills date token.at = refl
-token-fills date token.semicolon = refl
-token-fills date token.general = refl
-token-fills date (token.half h) = refl
-token-fills date (token.run token.letterY n) = refl
-token-fills date (token.run token.letterM n) = refl
-token-fills date (token.run token.letterD n) = refl
-token-fills date (token.run token.letterH n) = refl
-token-fills date (token.run token.letterS n) = refl
-token-fills date (token.elapsed e n) = refl
-token-fills date (token.colour n) = refl
-token-fills date (token.condition w) = refl
+token-fills date =
+    by-token (λ (t : Token). count isFill (tokenItems date t) ≡ cond (isFillToken t) 1 0)
+    literals-fill (λ u. refl) (λ u. refl) (λ u. refl) (λ p. refl)
+    (by-cases date (λ e. rw e) (λ e. rw e)) (by-cases date (λ e. rw e) (λ e. rw e)) refl refl refl refl (λ h. refl)
+    (λ l n. by-letter (λ (k : Letter). count isFill (runItem k n ∷ []) ≡ 0) refl refl refl refl refl l) (λ e n. refl) (λ n. refl) (λ w. refl)
 
 -- the fills among the items are those among the tokens: what a part of a second takes with it are zeros
 pub fills-emitted : (date b : Bool) (k : ℕ) (ts : List Token) → k ≤ leadingZeros ts → count isFill (emittedFrom date b k ts) ≡ count isFillToken ts
