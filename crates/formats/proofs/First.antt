@@ -16,7 +16,7 @@ use Rattle.answers.specs.declared.Answer.{Answer}
 use Rattle.answers.specs.declared.Answer.the-variants as answer
 use Rattle.answers.specs.Number.{numberOf}
 use Rattle.lists.specs.Lists.{any, All, firstFailing}
-use Rattle.lists.proofs.Bools.{by-cases, cond-both, or-false}
+use Rattle.lists.proofs.Bools.{no, by-cases, cond-both, or-false}
 use Rattle.lists.proofs.First.{first-exactly}
 use Rattle.formats.specs.Tokens as token
 use Rattle.formats.specs.Tokens.{Token, semicolon, broken, Placed, Lexed, good, bad, onto, lexFrom, lex}
@@ -27,6 +27,7 @@ use Rattle.formats.specs.Limits.{withinLimits}
 use Rattle.formats.specs.Accept.{placedOf, semicolons, partsIn, sectionsIn, Verdict, fine, refused, orElse, lengthVerdict, tokenVerdict, countVerdict, sectionVerdict, kindVerdict, whereVerdict, limitVerdict, verdict}
 use Rattle.formats.specs.Given.{tests, FineBelow, RefusedBy, WrongLength, FirstBroken, StandsIn, SemicolonPlaces, FourthSemicolon, FirstSection}
 use Rattle.formats.proofs.Lexing.{LexesTo, ends, breaks, reads, lexes, lexes-at, lex-front, lex-front-broken, at-start, step-inside}
+use Rattle.formats.proofs.Each.{by-token}
 
 -- what cannot be
 not-refused : {P : Type 0} {a : Answer} {k : ℕ} → fine ≡ refused a k → P
@@ -369,22 +370,9 @@ any-stands m (x ∷ xs) e = by-cases (eqb m x)
     (λ t. let r = any-stands m xs (rw t at e) in record { index = suc (r .index); within = omega arith; same = r .same })
 
 is-semicolon : (t : Token) → isSemicolon t ≡ true → t ≡ semicolon
-is-semicolon (token.literal us) e = absurd (true≢false (sym e))
-is-semicolon (token.bare u) e = absurd (true≢false (sym e))
-is-semicolon (token.blank u) e = absurd (true≢false (sym e))
-is-semicolon (token.fill u) e = absurd (true≢false (sym e))
-is-semicolon (token.place p) e = absurd (true≢false (sym e))
-is-semicolon token.point e = absurd (true≢false (sym e))
-is-semicolon token.comma e = absurd (true≢false (sym e))
-is-semicolon token.percent e = absurd (true≢false (sym e))
-is-semicolon token.at e = absurd (true≢false (sym e))
-is-semicolon token.semicolon e = refl
-is-semicolon token.general e = absurd (true≢false (sym e))
-is-semicolon (token.half h) e = absurd (true≢false (sym e))
-is-semicolon (token.run l n) e = absurd (true≢false (sym e))
-is-semicolon (token.elapsed x n) e = absurd (true≢false (sym e))
-is-semicolon (token.colour n) e = absurd (true≢false (sym e))
-is-semicolon (token.condition w) e = absurd (true≢false (sym e))
+is-semicolon =
+    by-token (λ (t : Token). isSemicolon t ≡ true → t ≡ semicolon) (λ us. no) (λ u. no) (λ u. no) (λ u. no) (λ p. no) no no no no (λ e. refl) no
+    (λ h. no) (λ l n. no) (λ x n. no) (λ n. no) (λ w. no)
 
 module _ (code : List ℕ) where
   semicolons-ascend : (k : ℕ) (l : Lexed) → LexesTo code k l → AscendFrom k (semicolons (placedOf l))

@@ -36,6 +36,7 @@ use Rattle.formats.proofs.FigureItems.{itemPieces, pieces-joined, figur
 use Rattle.formats.proofs.GeneralFigures.{general-read}
 use Rattle.formats.proofs.Chosen.{chosen-passes}
 use Rattle.formats.proofs.Accepted.{accepted-sections, accepted-formed}
+use Rattle.formats.proofs.Each.{by-item}
 
 -- no exact scaled number is divided by 0
 scaled-pos : (m s p t : ℕ) → 0 < (scaled m s p t) .below
@@ -141,25 +142,19 @@ module _ (ss : List Section) (i : ℕ) (s : Section) (why : Reason) (x : Number)
             (λ z. unsigned (unfold showsNought in rw (shows, eq-eqb (standingRounded x) 0 z, or-true)));
       }
 
+  dated : {P : Type 0} → T (sameKind dateKind (kindOf s)) → P
+  dated a = absurd (no-date (kindOf s) takes a)
+
   piece : (q : ℕ) (j : Item) → T (itemAllowed (kindOf s) j) → PieceOf x added j (itemUnits (numberContext s x) q j)
   unfolding itemAllowed itemBelongs itemUnits pointUnits units numberContext showsGeneral
-  piece q (literal u) a = ofLiteral u
-  piece q (blank u) a = ofBlank u
-  piece q (fill u) a = ofFill u
-  piece q percent a = ofPercent
-  piece q (place p) a = ofPlace p (placeUnits (numberContext s x) p q) (place-plain (numberContext s x) p q)
-  piece q point a = ofPoint _ (beyond-plain (numberContext s x) (eqb (integerPlaces (s .items)) 0) 14)
-  piece q general a = ofGeneral _ (general-figures (rw (← (eqb-true 1 (kindIndex (kindOf s)) (T-true _ a))) refl))
-  piece q at a = ofAt _ (general-figures (rw (← (eqb-true 0 (kindIndex (kindOf s)) (T-true _ a))) refl))
-  piece q (year n) a = absurd (no-date (kindOf s) takes a)
-  piece q (month n) a = absurd (no-date (kindOf s) takes a)
-  piece q (day n) a = absurd (no-date (kindOf s) takes a)
-  piece q (hour n) a = absurd (no-date (kindOf s) takes a)
-  piece q (minute n) a = absurd (no-date (kindOf s) takes a)
-  piece q (second n) a = absurd (no-date (kindOf s) takes a)
-  piece q (part n) a = absurd (no-date (kindOf s) takes a)
-  piece q (elapsed e n) a = absurd (no-date (kindOf s) takes a)
-  piece q (half h) a = absurd (no-date (kindOf s) takes a)
+  piece q =
+      by-item (λ (j : Item). T (itemAllowed (kindOf s) j) → PieceOf x added j (itemUnits (numberContext s x) q j))
+      (λ u a. ofLiteral u) (λ u a. ofBlank u) (λ u a. ofFill u)
+      (λ p a. ofPlace p (placeUnits (numberContext s x) p q) (place-plain (numberContext s x) p q))
+      (λ a. ofPoint _ (beyond-plain (numberContext s x) (eqb (integerPlaces (s .items)) 0) 14)) (λ a. ofPercent)
+      (λ a. ofGeneral _ (general-figures (rw (← (eqb-true 1 (kindIndex (kindOf s)) (T-true _ a))) refl)))
+      (λ a. ofAt _ (general-figures (rw (← (eqb-true 0 (kindIndex (kindOf s)) (T-true _ a))) refl)))
+      (λ n. dated) (λ n. dated) (λ n. dated) (λ n. dated) (λ n. dated) (λ n. dated) (λ n. dated) (λ e n. dated) (λ h. dated)
 
   each-piece : (q : ℕ) (is : List Item) → T (every (itemAllowed (kindOf s)) is) → PiecesOf x added is (itemPieces (numberContext s x) q is)
   unfolding itemPieces
