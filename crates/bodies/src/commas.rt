@@ -19,13 +19,13 @@ pub struct Commas {
 }
 
 // The commas of the tokens passed, with whether the point and a place are among these. The use of those held depends on what follows.
-pub struct Scan {
-    pub point: bool,
-    pub place: bool,
-    pub held: u16,
-    pub misplaced: u16,
-    pub grouping: u16,
-    pub dividing: u16,
+struct Scan {
+    point: bool,
+    place: bool,
+    held: u16,
+    misplaced: u16,
+    grouping: u16,
+    dividing: u16,
 }
 
 // A comma is misplaced before the first place; behind it its use depends on what follows.

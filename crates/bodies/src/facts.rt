@@ -43,15 +43,15 @@ pub struct Facts {
 
 // What the tokens passed have said; the rank is that of their kind. The token just before is a place (`behind`), or a solidus
 // behind a place (`divided`).
-pub struct Seen {
-    pub rank: u16,
-    pub plain: bool,
-    pub solidus: bool,
-    pub fills: u16,
-    pub places: u16,
-    pub point: bool,
-    pub behind: bool,
-    pub divided: bool,
+struct Seen {
+    rank: u16,
+    plain: bool,
+    solidus: bool,
+    fills: u16,
+    places: u16,
+    point: bool,
+    behind: bool,
+    divided: bool,
 }
 
 // The rank of the kind that a token of the form makes of its body.

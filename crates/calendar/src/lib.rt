@@ -13,9 +13,9 @@ ghost use Rattle.calendar.specs.Tables.{firstDays};
 ghost use Rattle.calendar.specs.Made.{madeYearDay, madeMonthDay, madeDate, madeClock};
 
 // A year, as 1900 + years, and a day of it, the first being 1.
-pub struct YearDay {
-    pub years: u32,
-    pub day: u32,
+struct YearDay {
+    years: u32,
+    day: u32,
 }
 
 // A year, as 1900 + years, and the number of its first day.
@@ -25,9 +25,9 @@ struct YearStart {
 }
 
 // A month, January being 1, and a day of it.
-pub struct MonthDay {
-    pub month: u32,
-    pub day: u32,
+struct MonthDay {
+    month: u32,
+    day: u32,
 }
 
 // Weekday 1 is Sunday, 0 Saturday.
@@ -81,7 +81,7 @@ fn year_within(day: u32) -> YearStart
 }
 
 // The year of a day number: from 1901 on the years repeat every 146,097 days, and the table has the first such cycle.
-pub fn year_day_of(d: Day) -> YearDay
+fn year_day_of(d: Day) -> YearDay
     ensures { λ r. ⌜ r ≡ madeYearDay (yearDayOf (d .0)) ⌝ }
 {
     let day = d.0;

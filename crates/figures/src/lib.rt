@@ -257,7 +257,7 @@ pub fn width_of(n: u64) -> u32
 }
 
 // To how many decimals General rounds m / 10^scale.
-pub fn general_decimals(m: u64, scale: u32) -> u32
+fn general_decimals(m: u64, scale: u32) -> u32
     ensures { λ r. ⌜ r ≡ generalDecimals (powered m 0 scale) ⌝ }
 {
     let n = width_of(whole(m, scale));
