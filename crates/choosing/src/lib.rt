@@ -12,7 +12,6 @@ ghost use Rattle.formats.specs.Choice.{lessThan, zeroExact, counted, fallback, 
 ghost use Rattle.formats.specs.Minus.{firstHasCondition, exceptionA};
 ghost use Rattle.tables.specs.Decode.{comparisonAt, twoWords, decode};
 ghost use Rattle.tables.specs.Rules.{passes};
-use figures::power;
 use tables::heads;
 use tables::kinds;
 
@@ -41,6 +40,33 @@ pub enum Found {
 pub enum TextFound {
     At(u16),
     Itself,
+}
+
+const POWERS: [u64; 16] = [
+    1,
+    10,
+    100,
+    1000,
+    10000,
+    100000,
+    1000000,
+    10000000,
+    100000000,
+    1000000000,
+    10000000000,
+    100000000000,
+    1000000000000,
+    10000000000000,
+    100000000000000,
+    1000000000000000,
+];
+
+// 10 to the k.
+fn power(k: u32) -> u64
+    requires { ⌜ k ≤ 15 ⌝ }
+    ensures { λ r. ⌜ r ≡ 10 ^ k ⌝ }
+{
+    POWERS[k as usize]
 }
 
 // By the whole parts, and by the rests where these are the same.
