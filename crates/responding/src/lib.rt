@@ -9,8 +9,9 @@ use requests::bytes::narrow;
 use requests::bytes::put_bytes;
 use requests::read_request;
 use values::Ask;
+use values::integers::least;
 ghost use mathlib.Core.Path.{_≡_};
-ghost use Prim.Native.Nat.{_≤_, min};
+ghost use Prim.Native.Nat.{_≤_};
 ghost use lib.ListN.{length, take};
 ghost use Rattle.lists.specs.Lists.{overlay};
 ghost use Rattle.tables.specs.Calls.{written};
@@ -87,12 +88,6 @@ fn output_room() -> [u16; 4203]
     [0; 4203]
 }
 
-fn at_most(n: usize, limit: usize) -> usize
-    ensures { λ r. ⌜ r ≡ min n limit ⌝ }
-{
-    if n < limit { n } else { limit }
-}
-
 // Writes what the input is answered, where the room takes it; 4,203 bytes always do. Of a longer input the first 6,148 bytes are
 // read: the rest changes no answer.
 pub fn respond_bytes(input: &[u8], out: &mut [u8]) -> Responded
@@ -100,7 +95,7 @@ pub fn respond_bytes(input: &[u8], out: &mut [u8]) -> Responded
     ensures out { λ r. ⌜ now (out .exit) ≡ written (responseOf (now (input .entry))) (now (out .entry)) ⌝ }
     ensures short { λ r. ⌜ length (responseOf (now (input .entry))) ≤ 4203 ⌝ }
 {
-    let n = at_most(input.len(), 6148);
+    let n = least(input.len(), 6148);
     let mut wide = input_room();
     put_bytes(&mut wide, 0, &input[..n]);
     let mut lines = output_room();
@@ -127,7 +122,7 @@ fn respond_front(input: &[u8], got: usize, out: &mut [u8]) -> usize
     ensures size { λ r. ⌜ r ≡ length (responseOf (take got (now (input .entry)))) ⌝ }
     ensures out { λ r. ⌜ now (out .exit) ≡ overlay (responseOf (take got (now (input .entry)))) (now (out .entry)) ⌝ }
 {
-    let n = at_most(got, input.len());
+    let n = least(got, input.len());
     let r = respond_bytes(&input[..n], out);
     r.length
 }

@@ -10,8 +10,8 @@ use borrow.Author.Needs.{needs}
 use Rattle.responding.proofs.respond_bytes.Statement.{statement}
 use Rattle.responding.proofs.respond_bytes.Tie as tie
 
-at-most-requires : tie.Need-at-most-requires
-at-most-requires c κs = search needs
+least-requires : tie.Need-least-requires
+least-requires c κs = search needs
 
 input-room-requires : tie.Need-input-room-requires
 input-room-requires c κs = search needs
@@ -49,7 +49,7 @@ returns c =
     let i = p .before .before .before in
     let m = i .before in
     let a = m .before .before .before .args in
-    left-out (now (a .input)) _ _ _ refl (i .input-room .ensures) (m .at-most .ensures) (p .put-bytes .ensures) (o .output-room .ensures) (r .respond .ensures) (now (a .out)) (omega arith)
+    left-out (now (a .input)) _ _ _ refl (i .input-room .ensures) (m .least .ensures) (p .put-bytes .ensures) (o .output-room .ensures) (r .respond .ensures) (now (a .out)) (omega arith)
 
 array-share-prefix-lines : tie.Need-array-share-prefix-lines
 array-share-prefix-lines c = search needs
@@ -76,13 +76,13 @@ returns-2 c =
     let i = p .before .before .before in
     let m = i .before in
     let a = m .before .before .before .args in
-    put-whole (now (a .input)) _ _ _ refl (i .input-room .ensures) (m .at-most .ensures) (p .put-bytes .ensures) (o .output-room .ensures) (r .respond .ensures) (now (a .out)) (omega arith) (w .narrow .ensures)
+    put-whole (now (a .input)) _ _ _ refl (i .input-room .ensures) (m .least .ensures) (p .put-bytes .ensures) (o .output-room .ensures) (r .respond .ensures) (now (a .out)) (omega arith) (w .narrow .ensures)
 
 pub respond-bytes-spec : {M : Type 1} → statement M
 respond-bytes-spec =
     tie.close
     (tie.spec
-    at-most-requires
+    least-requires
     input-room-requires
     slice-aggregate-put-bytes
     slice-aggregate-put-bytes-2

@@ -8,8 +8,8 @@ use borrow.Author.Needs.{needs}
 use Rattle.responding.proofs.respond_front.Statement.{statement}
 use Rattle.responding.proofs.respond_front.Tie as tie
 
-at-most-requires : tie.Need-at-most-requires
-at-most-requires c κs = search needs
+least-requires : tie.Need-least-requires
+least-requires c κs = search needs
 
 slice-aggregate-respond-bytes : tie.Need-slice-aggregate-respond-bytes
 slice-aggregate-respond-bytes c = simp length-take (omega arith)
@@ -26,9 +26,9 @@ returns c =
     let m = w .before .before .before in
     let b = m .before .before .before in
     let r = w .respond-bytes .ensures in
-    front-answered (now (b .args .input)) (now (b .args .out)) (b .args .got) (m .at-most .ensures) (b .pre) (r .0) (r .1 .0) (r .1 .1)
+    front-answered (now (b .args .input)) (now (b .args .out)) (b .args .got) (m .least .ensures) (b .pre) (r .0) (r .1 .0) (r .1 .1)
 
 pub respond-front-spec : {M : Type 1} → statement M
 respond-front-spec =
     tie.close
-    (tie.spec at-most-requires slice-aggregate-respond-bytes respond-bytes-requires same-length returns)
+    (tie.spec least-requires slice-aggregate-respond-bytes respond-bytes-requires same-length returns)
