@@ -1,4 +1,4 @@
--- "The answer list": the number of each answer, and what a refusal returns.
+-- "The answer list" (R7, R10): the number of each answer, and what a refusal returns.
 -- Assumes nothing.
 use Prim.Native.Nat.{ℕ}
 use Rattle.answers.specs.declared.Answer.{Answer}
@@ -23,7 +23,7 @@ numberOf answer.General = 12
 numberOf answer.TextRoom = 13
 numberOf answer.Line = 14
 
--- "On a refusal every returned number but the answer and the place is 0."
+-- "On a refusal every returned number but the answer and the place is 0." (R7)
 abbrev pub refusedPrepared : Answer → ℕ → Prepared
 refusedPrepared a at = record { answer = a; place = at; words = 0 }
 

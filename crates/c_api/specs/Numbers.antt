@@ -1,4 +1,4 @@
--- What the calls for C return: what the Rattle calls return, with the answer as its number in the answer list.
+-- What the calls for C return (R115): what the Rattle calls return, with the answer as its number in the answer list.
 -- Assumes nothing.
 use Prim.Native.Nat.{ℕ}
 use lib.IntN.{ℤ}

@@ -1,4 +1,4 @@
--- "Times are cut, never rounded": the clock of a millisecond of the day, and the whole units since day 0.
+-- "Times are cut, never rounded" (R86 to R88): the clock of a millisecond of the day, and the whole units since day 0.
 -- Assumes nothing.
 use Prim.Native.Nat.{ℕ, _+_, _*_, _/_, _%_}
 use mathlib.Core.Bool.{Bool, cond}
@@ -19,7 +19,7 @@ clockOf ms =
       thousandth = ms % 1000;
     }
 
--- "a 12-hour clock (12, 1 to 11)"
+-- "a 12-hour clock (12, 1 to 11)" (R87)
 unfoldable pub twelveHour : ℕ → ℕ
 twelveHour h = cond (eqb (h % 12) 0) 12 (h % 12)
 
@@ -30,7 +30,7 @@ afternoon h = leb 12 h
 unfoldable pub sinceDayZero : ℕ → ℕ → ℕ
 sinceDayZero day ms = day * 86400000 + ms
 
--- "Elapsed tokens count all whole units since day 0"
+-- "Elapsed tokens count all whole units since day 0" (R88)
 unfoldable pub elapsedHours : ℕ → ℕ
 elapsedHours total = total / 3600000
 

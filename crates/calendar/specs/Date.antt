@@ -1,4 +1,4 @@
--- "Days": the date of a day number, and its weekday.
+-- "Days" (R82, R83): the date of a day number, and its weekday.
 -- Assumes nothing.
 use Prim.Native.Nat.{ℕ, suc, _+_, _-_, _%_}
 use mathlib.Core.Bool.{cond}
@@ -31,6 +31,6 @@ pub record Date : Type 0 where
 abbrev pub dateIn : YearDay → MonthDay → ℕ → Date
 dateIn y m w = record { year = 1900 + y .years; month = m .month; dayOfMonth = m .dayOfMonth; weekday = w }
 
--- "Weekday is day mod 7, 1 for Sunday, 0 for Saturday."
+-- "Weekday is day mod 7, 1 for Sunday, 0 for Saturday." (R83)
 unfoldable pub dateOf : ℕ → Date
 dateOf day = let y = yearDayOf day in dateIn y (monthDayFrom 1 (monthDays (y .years)) (y .dayOfYear)) (day % 7)

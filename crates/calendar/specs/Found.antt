@@ -1,4 +1,4 @@
--- What a day's year and month are, said by bounds and sums, whatever way they are found.
+-- What a day's year and month are (R82), said by bounds and sums, whatever way they are found.
 -- Assumes nothing.
 use mathlib.Core.Path.{_≡_}
 use mathlib.Core.List.{List, [], _∷_}

@@ -1,4 +1,4 @@
--- "Names are the English ones."
+-- "Names are the English ones." (R84, R85)
 -- Assumes nothing.
 use Prim.Native.Nat.{ℕ, pred}
 use Prim.Native.Char.{code}
@@ -27,10 +27,10 @@ monthName m = units (getD monthNames (pred m) "")
 unfoldable pub weekdayName : ℕ → List ℕ
 weekdayName w = units (getD weekdayNames w "")
 
--- a short name is the first three letters
+-- a short name is the first three letters (R84)
 unfoldable pub shortName : List ℕ → List ℕ
 shortName name = take 3 name
 
--- "mmmmm is the month's first letter"
+-- "mmmmm is the month's first letter" (R85)
 unfoldable pub firstLetter : List ℕ → List ℕ
 firstLetter name = take 1 name

@@ -1,10 +1,10 @@
--- "Days": the years of the day numbers.
+-- "Days" (R80 to R82): the years of the day numbers.
 -- Assumes nothing.
 use Prim.Native.Nat.{ℕ, zero, suc, _+_, _-_, _%_}
 use mathlib.Core.Bool.{Bool, cond, not, _&&_, _||_}
 use lib.Dec.{leb, eqb}
 
--- a leap year by the Gregorian rule
+-- a leap year by the Gregorian rule (R80)
 unfoldable pub gregorianLeap : ℕ → Bool
 gregorianLeap y = eqb (y % 400) 0 || (eqb (y % 4) 0 && not (eqb (y % 100) 0))
 
@@ -33,6 +33,6 @@ yearDayFrom (suc most) k n =
     let later = yearDayFrom most (suc k) (n - yearDays k) in
     cond (leb n (yearDays k)) (record { years = k; dayOfYear = n }) later
 
--- the year of a day number; day 0 too stands in 1900, as its day 0
+-- the year of a day number; day 0 too stands in 1900, as its day 0 (R82)
 unfoldable pub yearDayOf : ℕ → YearDay
 yearDayOf day = yearDayFrom day 0 day

@@ -1,4 +1,4 @@
--- What rounding to the nearest means, apart from the formula that does it.
+-- What rounding to the nearest means (R68, R75), apart from the formula that does it.
 -- Assumes nothing.
 use mathlib.Core.Path.{_≡_}
 use Prim.Native.Nat.{ℕ, _+_, _-_, _*_, _%_, _^_, _≤_, _<_}

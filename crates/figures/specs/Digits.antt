@@ -1,4 +1,4 @@
--- The digits of a number, and a number written in digits.
+-- The digits of a number (R69), and a number written in digits (R77, R85, R88).
 -- Assumes nothing.
 use Prim.Native.Nat.{ℕ, zero, suc, _+_, _/_, _%_, _^_, max}
 use mathlib.Core.Bool.{cond}

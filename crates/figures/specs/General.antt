@@ -1,4 +1,4 @@
--- "General: n integer digits (at least 1); round to 10 - n decimals, or none from n = 10 on; drop trailing zeros [..]."
+-- "General" (R76, R77, R79): "n integer digits (at least 1); round to 10 - n decimals, or none from n = 10 on; drop trailing zeros [..]."
 -- Assumes nothing.
 use Prim.Native.Nat.{ℕ, _-_, _/_, _^_}
 use mathlib.Core.Bool.{Bool, cond, _&&_}
@@ -8,14 +8,14 @@ use Rattle.lists.specs.Lists.{isEmpty}
 use Rattle.figures.specs.Digits.{digitUnits, width, numeral}
 use Rattle.figures.specs.Rounding.{Magnitude, nearest, rounded}
 
--- "round to 10 - n decimals, or none from n = 10 on"
+-- "round to 10 - n decimals, or none from n = 10 on" (R76)
 unfoldable pub generalDecimals : Magnitude → ℕ
 generalDecimals x = 10 - width (x .above / x .below)
 
 unfoldable pub generalRounded : Magnitude → ℕ
 generalRounded x = rounded x (generalDecimals x)
 
--- "General, rounded to a whole number, reaches 10^11"
+-- "General, rounded to a whole number, reaches 10^11" (R79)
 unfoldable pub generalTooWide : Magnitude → Bool
 generalTooWide x = leb (10 ^ 11) (nearest (x .above) (x .below))
 
@@ -29,6 +29,6 @@ unfoldable pub pointed : List ℕ → List ℕ
 pointed [] = []
 pointed (u ∷ us) = 46 ∷ u ∷ us
 
--- a count of 10^-15, as General shows it
+-- a count of 10^-15, as General shows it (R77)
 unfoldable pub generalUnits : ℕ → List ℕ
 generalUnits n = numeral 1 (n / 10 ^ 15) ++ pointed (withoutEndZeros (digitUnits 15 n))

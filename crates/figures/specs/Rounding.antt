@@ -1,4 +1,4 @@
--- "Figures": the exact scaled number and the rounded number.
+-- "Figures" (R67, R68): the exact scaled number and the rounded number.
 -- Assumes nothing.
 use Prim.Native.Nat.{ℕ, _+_, _-_, _*_, _/_, _^_}
 

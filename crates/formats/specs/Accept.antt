@@ -1,4 +1,4 @@
--- "The answer list", 1 to 6: whether a code is accepted, and as which sections.
+-- "The answer list", 1 to 6 (R10 to R13), sections (R28) and their parts (R111): whether a code is accepted, and as which sections.
 -- Assumes nothing.
 use Prim.Native.Nat.{ℕ, zero, suc, _-_}
 use mathlib.Core.Bool.{cond, _||_}
@@ -33,7 +33,7 @@ unfoldable pub joined : Token → List (List Token) → List (List Token)
 joined t [] = (t ∷ []) ∷ []
 joined t (s ∷ ss) = (t ∷ s) ∷ ss
 
--- the tokens of each section
+-- the tokens of each section (R28)
 unfoldable pub split : List Token → List (List Token)
 split [] = [] ∷ []
 split (t ∷ ts) = let r = split ts in cond (isSemicolon t) ([] ∷ r) (joined t r)
@@ -84,7 +84,7 @@ whereVerdict ss = sectionVerdict answer.Standing (firstFailing (standsAt (length
 unfoldable pub limitVerdict : List Parts → Verdict
 limitVerdict ps = sectionVerdict answer.Limit (firstFailing (λ (i : ℕ) (p : Parts). withinLimits p) 0 ps)
 
--- "Preparing tests 1 to 7 in that order": each over the whole code before the next
+-- "Preparing tests 1 to 7 in that order" (R11): each over the whole code before the next
 unfoldable pub verdict : List ℕ → Verdict
 verdict code =
     orElse (lengthVerdict code)
@@ -93,7 +93,7 @@ verdict code =
     (orElse (kindVerdict (partsIn code))
     (orElse (whereVerdict (sectionsIn code)) (limitVerdict (partsIn code))))))
 
--- "A code is accepted when none of 1 to 6 is given."
+-- "A code is accepted when none of 1 to 6 is given." (R13)
 pub data Accepted : Type 0 where
   sections : List Section → Accepted
   refusal : Answer → ℕ → Accepted
@@ -121,7 +121,7 @@ spanFrom start end zero (k ∷ ks) = record { start = start; size = k - start }
 spanFrom start end (suc n) (k ∷ ks) = spanFrom (suc k) end n ks
 
 -- "A caller may ask for section n of a code and gets that part of the code it lent, without semicolons; for a code refused by
--- 1 to 6 or a missing section it gets the empty part at the start."
+-- 1 to 6 or a missing section it gets the empty part at the start." (R111)
 unfoldable pub spanBy : Verdict → ℕ → List ℕ → Span
 spanBy fine n code = spanFrom 0 (length code) n (semicolons (placedOf (lex code)))
 spanBy (refused a k) n code = emptyStart

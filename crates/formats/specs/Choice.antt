@@ -1,4 +1,4 @@
--- "Which section": the section that a value goes to, with the reason.
+-- "Which section" (R54 to R60): the section that a value goes to, with the reason.
 -- Assumes nothing.
 use Prim.Native.Nat.{ℕ, zero, suc, _*_, _^_}
 use mathlib.Core.Bool.{Bool, true, false, cond, not, _&&_, _||_}
@@ -30,7 +30,7 @@ numberExact x =
       size = record { above = natAbs (x .coefficient); below = 10 ^ (x .scale) };
     }
 
--- "an instant as day + ms / 86,400,000"
+-- "an instant as day + ms / 86,400,000" (R55)
 unfoldable pub instantExact : Day → Millisecond → Exact
 instantExact d m = record { negative = false; size = record { above = sinceDayZero (d .0) (m .0); below = 86400000 } }
 
@@ -50,7 +50,7 @@ lessThan x y =
     cond (x .negative) (cond (y .negative) (smaller (y .size) (x .size)) true)
     (cond (y .negative) false (smaller (x .size) (y .size)))
 
--- "it is compared exactly"
+-- "it is compared exactly" (R55, R56)
 unfoldable pub compared : Comparison → Exact → Exact → Bool
 compared equal x y = not (lessThan x y) && not (lessThan y x)
 compared less x y = lessThan x y
@@ -59,7 +59,7 @@ compared atMost x y = not (lessThan y x)
 compared atLeast x y = not (lessThan x y)
 compared unequal x y = lessThan x y || lessThan y x
 
--- "N counts the sections that are neither text nor fourth."
+-- "N counts the sections that are neither text nor fourth." (R54)
 unfoldable pub countedFrom : ℕ → List Section → ℕ
 countedFrom i [] = 0
 countedFrom i (s ∷ ss) = let r = countedFrom (suc i) ss in cond (isText s || eqb i 3) r (suc r)
@@ -71,7 +71,7 @@ counted ss = countedFrom 0 ss
 pub data Reason : Type 0 where
   ownCondition onlySection notBelowZero aboveZero belowZero theRest asGeneral : Reason
 
--- "N=1, all values. N=2, first: at least 0; second: the rest. N=3, first: above 0; second: below 0; third: the rest."
+-- "N=1, all values. N=2, first: at least 0; second: the rest. N=3, first: above 0; second: below 0; third: the rest." (R57)
 unfoldable pub fallback : ℕ → ℕ → Reason
 fallback n i =
     cond (eqb n 1) onlySection
@@ -99,14 +99,14 @@ pub data Choice : Type 0 where
   nothing : Choice
   chosen : ℕ → Section → Reason → Choice
 
--- "First that holds wins", of the sections from the i-th on that are neither text nor fourth
+-- "First that holds wins" (R58), of the sections from the i-th on that are neither text nor fourth
 unfoldable pub chooseFrom : ℕ → ℕ → List Section → Exact → Choice
 chooseFrom n i [] x = nothing
 chooseFrom n i (s ∷ ss) x =
     let r = chooseFrom n (suc i) ss x in
     cond (not (isText s || eqb i 3) && reasonHolds (reasonFor n i s) s x) (chosen i s (reasonFor n i s)) r
 
--- "N=0": the first section
+-- "N=0" (R59): the first section
 unfoldable pub chooseFirst : List Section → Choice
 chooseFirst [] = nothing
 chooseFirst (s ∷ ss) = chosen 0 s asGeneral
@@ -115,7 +115,7 @@ chooseFirst (s ∷ ss) = chosen 0 s asGeneral
 unfoldable pub choose : List Section → Exact → Choice
 choose ss x = let n = counted ss in cond (eqb n 0) (chooseFirst ss) (chooseFrom n 0 ss x)
 
--- "Text goes to the fourth section, else to a text section"
+-- "Text goes to the fourth section, else to a text section" (R60)
 pub data TextChoice : Type 0 where
   itself : TextChoice
   textIn : ℕ → Section → TextChoice

@@ -1,4 +1,5 @@
--- "A number's decimal figures": how units of a text are read back as a number, and what is promised of the units that a number is shown as.
+-- "A number's decimal figures" (R75): how units of a text are read back as a number, and what is promised of the units that a number is
+-- shown as.
 -- Assumes nothing.
 use mathlib.Core.Path.{_≡_}
 use Prim.Native.Nat.{ℕ, _+_, _*_, _^_}

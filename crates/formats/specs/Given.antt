@@ -1,4 +1,4 @@
--- "given exactly when": what each of the answers 1 to 6 says of a code, with its place.
+-- "given exactly when" (R10 to R12): what each of the answers 1 to 6 says of a code, with its place.
 -- Assumes nothing.
 use Prim.Native.Nat.{ℕ, _≤_, _<_}
 use mathlib.Core.Path.{_≡_}

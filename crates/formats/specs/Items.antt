@@ -1,4 +1,4 @@
--- A section as it is understood: what a code's section and a table's section both stand for.
+-- A section as it is understood (R30 to R33, R41, R42, R45): what a code's section and a table's section both stand for.
 -- Assumes nothing.
 use Prim.Native.Nat.{ℕ, zero, suc, _+_}
 use mathlib.Core.Bool.{Bool, true, false, cond, not, _&&_, _||_}
@@ -23,7 +23,7 @@ pub record Condition : Type 0 where
   pub negative : Bool
   pub millionths : ℕ
 
--- a section; no colour is 0; it divides by 1,000 as often as `thousands` says; its kind is the one that its items give
+-- a section (R45); no colour is 0; it divides by 1,000 as often as `thousands` says; its kind is the one that its items give
 pub record Section : Type 0 where
   pub colour : ℕ
   pub condition : Option Condition
@@ -46,7 +46,7 @@ abbrev pub sameKind : Kind → Kind → Bool
 sameKind j k = eqb (kindIndex j) (kindIndex k)
 
 -- the kind of a body from what its parts make of it, `literalKind` where a part makes nothing of it: "with an `@` [..]
--- text; with `General`, General; with a date token, date-time; with a place, number; with literals [..] only or empty, literal"
+-- text; with `General`, General; with a date token, date-time; with a place, number; with literals [..] only or empty, literal" (R30)
 unfoldable pub kindFrom : List Kind → Kind
 kindFrom ks =
     cond (any (sameKind textKind) ks) textKind
@@ -100,7 +100,7 @@ itemBelongs (part n) = dateKind
 itemBelongs (elapsed e n) = dateKind
 itemBelongs (half h) = dateKind
 
--- "A body holds only what is named here for its kind, with literals, blanks and fills anywhere."
+-- "A body holds only what is named here for its kind, with literals, blanks and fills anywhere." (R31, R32)
 unfoldable pub itemAllowed : Kind → Item → Bool
 itemAllowed k i = sameKind (itemBelongs i) literalKind || sameKind (itemBelongs i) k
 
@@ -189,7 +189,7 @@ noPlain is (part n) = true
 noPlain is (half h) = true
 
 -- the rules for items: what their kind may hold; "General (once"; "at most one point"; "At most one elapsed token, and not
--- beside its plain equivalent"
+-- beside its plain equivalent" (R31 to R33, R41)
 unfoldable pub itemsFit : List Item → Bool
 itemsFit is =
     every (itemAllowed (itemsKind is)) is
@@ -198,7 +198,7 @@ itemsFit is =
     && leb (count isElapsed is) 1
     && every (noPlain is) is
 
--- the integer places stand before the point, the decimal places behind it
+-- the integer places stand before the point, the decimal places behind it (R33)
 unfoldable pub integerPlaces : List Item → ℕ
 integerPlaces [] = 0
 integerPlaces (i ∷ is) = let r = integerPlaces is in cond (isPoint i) 0 (cond (isPlace i) (suc r) r)
@@ -246,7 +246,7 @@ unfoldable pub firstRun : List Item → Run
 firstRun [] = noRun
 firstRun (i ∷ is) = nearer (runOf i) (firstRun is)
 
--- "m and mm mean minutes when the nearest earlier date or time run or elapsed token is hours, else the month."
+-- "m and mm mean minutes when the nearest earlier date or time run or elapsed token is hours, else the month." (R42)
 unfoldable pub meansMinutes : Run → Run → Bool
 meansMinutes hourRun later = true
 meansMinutes secondRun later = false

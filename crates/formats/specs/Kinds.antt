@@ -1,4 +1,4 @@
--- "Kinds of section": a section's tokens as a section, and whether they fit a kind.
+-- "Kinds of section" (R29 to R45): a section's tokens as a section, and whether they fit a kind.
 -- Assumes nothing.
 use Prim.Native.Nat.{ℕ, zero, suc, _+_, _-_, _*_, _^_, min}
 use mathlib.Core.Bool.{Bool, true, false, cond, not, _&&_, _||_}
@@ -52,7 +52,7 @@ isColour t = eqb (formOf t) 14
 abbrev pub isCondition : Token → Bool
 isCondition t = eqb (formOf t) 15
 
--- "At most one colour, then at most one condition, then the body."
+-- "At most one colour, then at most one condition, then the body." (R29)
 pub record Parts : Type 0 where
   pub colour : ℕ
   pub condition : Option Written
@@ -104,7 +104,7 @@ unfoldable pub partsOf : List Token → Parts
 partsOf [] = afterColour 0 []
 partsOf (t ∷ ts) = cond (isColour t) (afterColour (colourIn t) ts) (afterColour 0 (t ∷ ts))
 
--- what a token makes of its body; a half-day mark is no date token
+-- what a token makes of its body (R30); a half-day mark is no date token
 unfoldable pub tokenMakes : Token → Kind
 tokenMakes (token.literal us) = literalKind
 tokenMakes (token.bare u) = literalKind
@@ -127,7 +127,7 @@ unfoldable pub bodyKind : List Token → Kind
 bodyKind ts = kindFrom (map tokenMakes ts)
 
 -- Number: "A comma with integer places on both sides of it asks for grouping. Commas between the last integer place and the
--- point or end, or after the last place of all, each divide by 1,000. Any other comma is 4."
+-- point or end, or after the last place of all, each divide by 1,000. Any other comma is 4." (R34 to R36)
 pub data CommaUse : Type 0 where
   groups divides misplaced : CommaUse
 
@@ -173,11 +173,11 @@ usesFrom before (t ∷ ts) = let r = usesFrom (before ++ (t ∷ [])) ts in cond 
 unfoldable pub commaUses : List Token → List CommaUse
 commaUses ts = usesFrom [] ts
 
--- "Date-time: comma is a literal."
+-- "Date-time: comma is a literal." (R36, R40)
 unfoldable pub commasFit : List Token → Bool
 commasFit ts = sameKind (bodyKind ts) dateKind || not (any isMisplaced (commaUses ts))
 
--- "A `/` directly between two places is 4; any other is a literal."
+-- "A `/` directly between two places is 4; any other is a literal." (R38)
 unfoldable pub isSolidus : Token → Bool
 isSolidus (token.bare u) = eqb u 47
 isSolidus (token.literal us) = false
@@ -211,7 +211,7 @@ unfoldable pub solidusFits : List Token → Bool
 solidusFits ts = solidusFrom false ts
 
 -- "A point right after s, ss or an elapsed s, followed by one to three zeros, is a part of a second and shows its point. Other
--- points are literals; other places are 4." A piece is a token, or such a point with its zeros.
+-- points are literals; other places are 4." (R39, R40) A piece is a token, or such a point with its zeros.
 pub data Piece : Type 0 where
   whole : Token → Piece
   secondPart : ℕ → Piece
@@ -323,11 +323,11 @@ unfoldable pub dateItems : List Piece → List Item
 dateItems [] = []
 dateItems (p ∷ ps) = pieceItems p ++ dateItems ps
 
--- a body's items as they stand in it
+-- a body's items as they stand in it (R43)
 unfoldable pub bodyItems : List Token → List Item
 bodyItems ts = cond (sameKind (bodyKind ts) dateKind) (dateItems (piecesFrom false 0 ts)) (plainItems ts)
 
--- "only the last [fill] in a section is kept"
+-- "only the last [fill] in a section is kept" (R44)
 unfoldable pub lastFill : List Item → List Item
 lastFill [] = []
 lastFill (i ∷ is) = let r = lastFill is in cond (isFill i && any isFill is) r (i ∷ r)
@@ -345,7 +345,7 @@ conditionOf (some w) =
       millionths = millionthsOf w;
     })
 
--- the section that its parts stand for
+-- the section that its parts stand for (R45)
 unfoldable pub sectionOf : Parts → Section
 sectionOf p =
     let number = sameKind (bodyKind (p .body)) numberKind in
@@ -357,7 +357,7 @@ sectionOf p =
       items = settled (lastFill (bodyItems (p .body)));
     }
 
--- the body has no colour and no condition
+-- the body has no colour and no condition (R29)
 unfoldable pub noBracket : Token → Bool
 noBracket t = not (isColour t) && not (isCondition t)
 

@@ -1,4 +1,4 @@
--- "Limits (6)": "20 integer places, 15 decimal places, 5 percents, 5 dividing commas, condition numbers of 9 digits before and
+-- "Limits (6)" (R51 to R53): "20 integer places, 15 decimal places, 5 percents, 5 dividing commas, condition numbers of 9 digits before and
 -- 6 after the point, elapsed runs of 9."
 -- Assumes nothing.
 use Prim.Native.Nat.{ℕ}
@@ -31,7 +31,7 @@ elapsedShort (second n) = true
 elapsedShort (part n) = true
 elapsedShort (half h) = true
 
--- the limits on a section, whether a code or a table gives it
+-- the limits on a section, whether a code or a table gives it (R51, R53)
 unfoldable pub sectionWithin : Section → Bool
 sectionWithin s =
     leb (integerPlaces (s .items)) 20
@@ -40,7 +40,7 @@ sectionWithin s =
     && leb (s .thousands) 5
     && every elapsedShort (s .items)
 
--- the limits on a condition's digits, as written
+-- the limits on a condition's digits, as written (R52)
 unfoldable pub writtenWithin : Option Written → Bool
 writtenWithin none = true
 writtenWithin (some w) = leb (length (w .whole)) 9 && leb (length (w .decimals)) 6

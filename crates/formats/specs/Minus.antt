@@ -1,4 +1,4 @@
--- "Added minus (house)": whether a minus stands in front, or what held it back.
+-- "Added minus (house)" (R63 to R65): whether a minus stands in front, or what held it back.
 -- Assumes nothing.
 use Prim.Native.Nat.{ℕ}
 use mathlib.Core.Bool.{Bool, true, false, cond, not, _&&_, _||_}
@@ -26,12 +26,12 @@ unfoldable pub firstHasCondition : List Section → Bool
 firstHasCondition [] = false
 firstHasCondition (s ∷ ss) = hasCondition s
 
--- "(a) the second section taken without its own condition where N=3, or N=2 and the first has none"
+-- "(a) the second section taken without its own condition where N=3, or N=2 and the first has none" (R64)
 unfoldable pub exceptionA : ℕ → ℕ → Bool → Bool → Bool
 exceptionA n i own firstHas = eqb i 1 && not own && (eqb n 3 || (eqb n 2 && not firstHas))
 
 -- "in front of everything, when the value is below 0 and the section has an item, except (a) [..]; (b) it shows places or
--- General and these round to zero"
+-- General and these round to zero" (R63)
 unfoldable pub signFor : Exact → Section → Bool → Bool → Sign
 signFor x s a b =
     cond (not (lessThan x zeroExact)) notNegative

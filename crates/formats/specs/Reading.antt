@@ -1,3 +1,4 @@
+-- The reading (R108, R109); what is left of choice and minus (R59, R61, R62, R65, R66); which figures are shown (R67, R68, R78, R79).
 -- "A reading of an accepted code, or of a table that passes, takes a value and the text room's length. It gives the first of
 -- showing's refusals after 8 that applies, or 0 with text, colour and section."
 -- Assumes nothing.
@@ -36,7 +37,7 @@ unfoldable pub within : ℕ → List ℕ → ℕ → ℕ → Reading
 within room text colour section = cond (leb (length text) room) (shown text colour section) (refused answer.TextRoom)
 
 -- 11: "Number sections and General refuse instants; date-time refuses numbers (11). Literal sections take both." A text
--- section is chosen only where N = 0: "a number appears as General wherever `@` stands; an instant is 11".
+-- section is chosen only where N = 0: "a number appears as General wherever `@` stands; an instant is 11". (R59, R62)
 unfoldable pub takesNumber : Kind → Bool
 takesNumber literalKind = true
 takesNumber generalKind = true
@@ -55,7 +56,7 @@ takesInstant dateKind = true
 unfoldable pub showsGeneral : Kind → Bool
 showsGeneral k = sameKind k generalKind || sameKind k textKind
 
--- the rounded number of a number section: the exact scaled number to its decimals
+-- the rounded number of a number section: the exact scaled number to its decimals (R67, R68)
 unfoldable pub sectionRounded : Section → Number → ℕ
 sectionRounded s x =
     rounded (scaled (natAbs (x .coefficient)) (x .scale) (count isPercent (s .items)) (s .thousands)) (decimalPlaces (s .items))
@@ -92,7 +93,7 @@ instantContext s d m =
       elapsed = sinceDayZero (d .0) (m .0);
     }
 
--- what they show of a text: "General there stands for the text"
+-- what they show of a text: "General there stands for the text" (R61)
 unfoldable pub textContext : List ℕ → Context
 textContext text =
     record {
@@ -106,7 +107,7 @@ textContext text =
       elapsed = 0;
     }
 
--- "it shows places or General and these round to zero"
+-- "it shows places or General and these round to zero" (R65)
 unfoldable pub showsNought : Section → Number → Bool
 showsNought s x =
     sameKind (kindOf s) numberKind && eqb (sectionRounded s x) 0
@@ -120,7 +121,7 @@ numberSign ss i s why x =
 unfoldable pub numberUnits : List Section → ℕ → Section → Reason → Number → List ℕ
 numberUnits ss i s why x = signUnits (numberSign ss i s why x) ++ sectionUnits (numberContext s x) (s .items)
 
--- 10, 11, 12, 13 of a number
+-- 10, 11, 12, 13 of a number (R62, R79)
 unfoldable pub readNumber : List Section → Number → ℕ → Choice → Reading
 readNumber ss x room nothing = refused answer.NoSection
 readNumber ss x room (chosen i s why) =
@@ -128,7 +129,7 @@ readNumber ss x room (chosen i s why) =
     (cond (showsGeneral (kindOf s) && generalTooWide ((numberExact x) .size)) (refused answer.General)
     (within room (numberUnits ss i s why x) (s .colour) i))
 
--- 10, 11, 13 of an instant, which is never below 0
+-- 10, 11, 13 of an instant, which is never below 0 (R62, R66)
 unfoldable pub readInstant : Day → Millisecond → ℕ → Choice → Reading
 readInstant d m room nothing = refused answer.NoSection
 readInstant d m room (chosen i s why) =
@@ -145,7 +146,7 @@ readValue ss (value.Number x) text room = readNumber ss x room (choose ss (numbe
 readValue ss (value.Instant d m) text room = readInstant d m room (choose ss (instantExact d m))
 readValue ss value.Text text room = readText text room (chooseText ss)
 
--- the reading of sections; 9: "the value is out of range"
+-- the reading of sections; 9: "the value is out of range" (R108)
 unfoldable pub reading : List Section → Ask → List ℕ → ℕ → Reading
 reading ss ask text room = cond (inRange (ask .value) text) (readValue ss (ask .value) text room) (refused answer.Range)
 

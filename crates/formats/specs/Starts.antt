@@ -1,4 +1,4 @@
--- "Read left to right": the places of a code at which a token starts, as the first-ness of a refusal is stated by them.
+-- "Read left to right" (R14): the places of a code at which a token starts, as the first-ness of a refusal is stated by them.
 -- Assumes nothing.
 use Prim.Native.Nat.{ℕ, suc, _+_}
 use mathlib.Core.Path.{_≡_}

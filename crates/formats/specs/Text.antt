@@ -1,4 +1,4 @@
--- "Figures" and "Days": the text of each item, and of a section.
+-- "Figures" (R69 to R74) and "Days" (R85 to R88): the text of each item, and of a section.
 -- Assumes nothing.
 use Prim.Native.Nat.{ℕ, zero, suc, _+_, _-_, _/_, _%_, _^_}
 use mathlib.Core.Bool.{Bool, true, false, cond, _&&_}
@@ -22,7 +22,7 @@ pub record Context : Type 0 where
   pub twelve : Bool
   pub elapsed : ℕ
 
--- "The rounded number is forty digits by value, 25 before the point and 15 after." It is a count of 10^-15, and each of its digits is
+-- "The rounded number is forty digits by value, 25 before the point and 15 after." (R69) It is a count of 10^-15, and each of its digits is
 -- told by its power of ten and 15, from the first down.
 abbrev pub firstDigit : ℕ
 firstDigit = 39
@@ -33,11 +33,11 @@ lastInteger = 15
 abbrev pub firstDecimal : ℕ
 firstDecimal = 14
 
--- "An insignificant integer zero has no nonzero integer digit before it, an insignificant decimal zero no nonzero digit after it."
+-- "An insignificant integer zero has no nonzero integer digit before it, an insignificant decimal zero no nonzero digit after it." (R71)
 unfoldable pub insignificant : ℕ → ℕ → Bool
 insignificant n q = cond (leb lastInteger q) (eqb (n / 10 ^ q) 0) (eqb (n % 10 ^ suc q) 0)
 
--- "An insignificant zero shows 0 under `0`, nothing under `#`, a space under `?`."
+-- "An insignificant zero shows 0 under `0`, nothing under `#`, a space under `?`." (R72)
 unfoldable pub idleUnits : Place → List ℕ
 idleUnits zeroPlace = 48 ∷ []
 idleUnits hashPlace = []
@@ -47,7 +47,7 @@ idleUnits spacePlace = 32 ∷ []
 unfoldable pub endsGroup : ℕ → Bool
 endsGroup q = ltb lastInteger q && eqb ((q - lastInteger) % 3) 0
 
--- "the digit or 0 [..] is followed by a comma, such a space by a space"
+-- "the digit or 0 [..] is followed by a comma, such a space by a space" (R73)
 unfoldable pub withSeparator : List ℕ → List ℕ
 withSeparator [] = []
 withSeparator (u ∷ us) = u ∷ cond (eqb u 32) 32 44 ∷ us
@@ -71,29 +71,29 @@ unitsBeyond c q = extraUnits (c .figures) (c .grouped) (suc q) (firstDigit - q)
 abbrev pub atFirstInteger : Context → ℕ → Bool
 atFirstInteger c q = ltb 0 (c .integerPlaces) && eqb (suc q) (lastInteger + c .integerPlaces)
 
--- "Integer digits beyond the places go in at the first integer place, or before the point if there is none."
+-- "Integer digits beyond the places go in at the first integer place, or before the point if there is none." (R70)
 unfoldable pub placeUnits : Context → Place → ℕ → List ℕ
 placeUnits c p q = cond (atFirstInteger c q) (unitsBeyond c q) [] ++ figureUnits (c .figures) (c .grouped) p q
 
--- "The point always shows."
+-- "The point always shows." (R74)
 unfoldable pub pointUnits : Context → List ℕ
 pointUnits c = cond (eqb (c .integerPlaces) 0) (unitsBeyond c firstDecimal) [] ++ (46 ∷ [])
 
 unfoldable pub yearUnits : ℕ → ℕ → List ℕ
 yearUnits n y = cond (eqb n 2) (numeral 2 (y % 100)) (numeral 4 y)
 
--- a month or a day: one or two digits, the short name, the name, and for months the first letter
+-- a month or a day: one or two digits, the short name, the name, and for months the first letter (R85)
 unfoldable pub namedUnits : ℕ → ℕ → List ℕ → List ℕ
 namedUnits n number name =
     cond (leb n 2) (numeral n number)
     (cond (eqb n 3) (shortName name)
     (cond (eqb n 4) name (firstLetter name)))
 
--- "A half-day mark sets a 12-hour clock"
+-- "A half-day mark sets a 12-hour clock" (R87)
 unfoldable pub hourShown : Bool → ℕ → ℕ
 hourShown twelve h = cond twelve (twelveHour h) h
 
--- "a part of a second and shows its point": times are cut
+-- "a part of a second and shows its point" (R86): times are cut
 unfoldable pub partUnits : ℕ → ℕ → List ℕ
 partUnits n thousandth = 46 ∷ digitUnits n (thousandth / 10 ^ (3 - n))
 
@@ -108,7 +108,7 @@ halfUnits short false = units "A"
 halfUnits long true = units "PM"
 halfUnits long false = units "AM"
 
--- an item's text; q tells the digit of a place
+-- an item's text (R74); q tells the digit of a place
 unfoldable pub itemUnits : Context → ℕ → Item → List ℕ
 itemUnits c q (literal u) = u ∷ []
 itemUnits c q (blank u) = 32 ∷ []

@@ -1,4 +1,4 @@
--- "Tokens": the tokens of a code, read from its units.
+-- "Tokens" (R14 to R27): the tokens of a code, read from its units.
 -- Assumes nothing.
 use Prim.Native.Nat.{ℕ, zero, suc, _+_, _-_, _*_}
 use Prim.Native.Char.{Char, code}
@@ -72,18 +72,18 @@ startsWith (w ∷ ws) (u ∷ us) = let r = startsWith ws us in cond (eqb w u) r 
 unfoldable pub same : List ℕ → List ℕ → Bool
 same us vs = eqb (length us) (length vs) && startsWith us vs
 
--- "Quotes around one or more units without a quote"
+-- "Quotes around one or more units without a quote" (R17)
 unfoldable pub quoted : List ℕ → Step
 quoted us =
     let n = before 34 us in
     cond (eqb n 0 || eqb n (length us)) broken (read (literal (take n us)) (suc n))
 
--- "backslash and one unit", "`_x`", "`*x`": a mark and the unit behind it, which may be any
+-- "backslash and one unit", "`_x`", "`*x`" (R18, R19): a mark and the unit behind it, which may be any
 unfoldable pub marked : (ℕ → Token) → List ℕ → Step
 marked f [] = broken
 marked f (u ∷ us) = read (f u) 1
 
--- `General`, `AM/PM`, `A/P`, longest first
+-- `General`, `AM/PM`, `A/P`, longest first (R22)
 unfoldable pub generalWord : List ℕ → Step
 generalWord us = cond (startsWith (units "General") us) (read general 6) broken
 
@@ -92,7 +92,7 @@ halfDayWord us =
     cond (startsWith (units "AM/PM") us) (read (half long) 4)
     (cond (startsWith (units "A/P") us) (read (half short) 2) broken)
 
--- "Runs: y of 2 or 4, m of 1 to 5, d of 1 to 4, h of 1 or 2, s of 1 or 2."
+-- "Runs: y of 2 or 4, m of 1 to 5, d of 1 to 4, h of 1 or 2, s of 1 or 2." (R23)
 unfoldable pub runAllowed : Letter → ℕ → Bool
 runAllowed letterY n = eqb n 2 || eqb n 4
 runAllowed letterM n = leb 1 n && leb n 5
@@ -100,7 +100,7 @@ runAllowed letterD n = leb 1 n && leb n 4
 runAllowed letterH n = leb 1 n && leb n 2
 runAllowed letterS n = leb 1 n && leb n 2
 
--- "A whole run of another length is broken": the letter u and as many u as follow
+-- "A whole run of another length is broken" (R23): the letter u and as many u as follow
 unfoldable pub runStep : Letter → ℕ → List ℕ → Step
 runStep l u us = let n = leading (eqb u) us in cond (runAllowed l (suc n)) (read (run l (suc n)) n) broken
 
@@ -116,7 +116,7 @@ unfoldable pub numberFrom : ℕ → List ℕ → ℕ
 numberFrom v [] = v
 numberFrom v (d ∷ ds) = numberFrom (10 * v + d) ds
 
--- "Named colours are 1 Black, 2 White, .."
+-- "Named colours are 1 Black, 2 White, .." (R25)
 unfoldable pub colourNames : List String
 colourNames = "Black" ∷ "White" ∷ "Red" ∷ "Green" ∷ "Blue" ∷ "Yellow" ∷ "Magenta" ∷ "Cyan" ∷ []
 
@@ -124,7 +124,7 @@ unfoldable pub namedFrom : ℕ → List String → List ℕ → Option Token
 namedFrom n [] us = none
 namedFrom n (name ∷ names) us = let r = namedFrom (suc n) names us in cond (same (units name) us) (some (colour n)) r
 
--- "`Color1` to `Color56` with no leading zero"
+-- "`Color1` to `Color56` with no leading zero" (R25)
 unfoldable pub noLeadingZero : List ℕ → Bool
 noLeadingZero [] = false
 noLeadingZero (u ∷ us) = not (eqb u 48)
@@ -137,11 +137,11 @@ colourDigits us =
 unfoldable pub numbered : List ℕ → Option Token
 numbered us = cond (startsWith (units "Color") us) (colourDigits (drop 5 us)) none
 
--- "an elapsed run of h, m or s"
+-- "an elapsed run of h, m or s" (R26)
 unfoldable pub elapsedInside : ℕ → Elapsed → List ℕ → Option Token
 elapsedInside u e us = cond (not (isEmpty us) && every (eqb u) us) (some (elapsed e (length us))) none
 
--- "a condition: one of `= < > <= >= <>`, an optional minus, digits, optionally a point and digits"
+-- "a condition: one of `= < > <= >= <>`, an optional minus, digits, optionally a point and digits" (R27)
 unfoldable pub decimalsOf : Comparison → Bool → List ℕ → List ℕ → Option Token
 decimalsOf c negative whole [] =
     some (condition (record { comparison = c; negative = negative; whole = map digitOf whole; decimals = [] }))
@@ -171,7 +171,7 @@ unfoldable pub firstForm : Option Token → Option Token → Option Token
 firstForm none o = o
 firstForm (some t) o = some t
 
--- what a bracket's inside stands for
+-- what a bracket's inside stands for (R24)
 unfoldable pub insideOf : List ℕ → Option Token
 insideOf us =
     firstForm (namedFrom 1 colourNames us)
@@ -184,7 +184,7 @@ unfoldable pub closed : ℕ → Option Token → Step
 closed n none = broken
 closed n (some t) = read t (suc n)
 
--- the n units up to the first closing bracket
+-- the n units up to the first closing bracket (R24)
 unfoldable pub bracketed : List ℕ → Step
 bracketed us = let n = before 93 us in cond (eqb n (length us)) broken (closed n (insideOf (take n us)))
 
@@ -201,7 +201,7 @@ pub record FirstRow : Type 0 where
 abbrev pub row : Char → First → FirstRow
 row c f = record { unit = code c; first = f }
 
--- a row for each unit that starts a token; the literals without quotes stand apart
+-- a row for each unit that starts a token (R16, R21); the literals without quotes stand apart
 unfoldable pub firstRows : List FirstRow
 firstRows =
     row "\"" quote ∷ row "\\" backslash ∷ row "_" underscore ∷ row "*" asterisk ∷ row "[" openBracket
@@ -214,7 +214,7 @@ unfoldable pub firstIn : List FirstRow → ℕ → First
 firstIn [] u = other
 firstIn (r ∷ rs) u = let f = firstIn rs u in cond (eqb (r .unit) u) (r .first) f
 
--- "Literals without quotes", and space
+-- "Literals without quotes", and space (R20)
 unfoldable pub bareLiterals : List ℕ
 bareLiterals = units "$-+/():!^&'~{}<>= "
 
@@ -252,7 +252,7 @@ unfoldable pub afterStep : ℕ → Step → (ℕ → Lexed) → Lexed
 afterStep k (read t more) rest = onto (record { token = t; start = k }) (rest more)
 afterStep k broken rest = bad k
 
--- "Read left to right": the first of the units stands at place k, and `skip` of them belong to a token that was read
+-- "Read left to right" (R14): the first of the units stands at place k, and `skip` of them belong to a token that was read
 unfoldable pub lexFrom : ℕ → ℕ → List ℕ → Lexed
 lexFrom k skip [] = good []
 lexFrom k (suc skip) (u ∷ us) = lexFrom (suc k) skip us

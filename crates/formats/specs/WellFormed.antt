@@ -1,4 +1,5 @@
--- What holds of the sections that a code is accepted as, and of those that a table which passes stands for.
+-- What holds of the sections that a code is accepted as, and of those that a table which passes stands for: the table rules that speak
+-- of sections (R96 to R100, R102, R103, R106).
 -- Assumes nothing.
 use Prim.Native.Nat.{ℕ, zero, suc, _+_, _^_}
 use mathlib.Core.Bool.{Bool, true, false, cond, not, _&&_, _||_}
@@ -12,7 +13,7 @@ use Rattle.formats.specs.Items.{Item, literal, blank, fill, place, point
 use Rattle.formats.specs.Where.{implies, standsAt}
 use Rattle.formats.specs.Limits.{sectionWithin}
 
--- "A unit may be any number to 65,535."
+-- "A unit may be any number to 65,535." (R1)
 abbrev pub isUnit : ℕ → Bool
 isUnit u = ltb u 65536
 
@@ -41,7 +42,7 @@ unfoldable pub conditionInRange : Option Condition → Bool
 conditionInRange none = true
 conditionInRange (some c) = ltb (c .millionths) (10 ^ 15) && implies (c .negative) (ltb 0 (c .millionths))
 
--- "at most one fill a section"
+-- "at most one fill a section" (R99)
 unfoldable pub oneFill : List Item → Bool
 oneFill is = leb (count isFill is) 1
 
@@ -65,7 +66,7 @@ isSeconds (minute n) = false
 isSeconds (part n) = false
 isSeconds (half h) = false
 
--- a part of a second stands directly behind seconds; behindSeconds: the item just before is seconds
+-- a part of a second stands directly behind seconds (R99); behindSeconds: the item just before is seconds
 unfoldable pub partsFrom : Bool → List Item → Bool
 partsFrom behindSeconds [] = true
 partsFrom behindSeconds (i ∷ is) = let r = partsFrom (isSeconds i) is in implies (isPart i) behindSeconds && r
@@ -73,7 +74,7 @@ partsFrom behindSeconds (i ∷ is) = let r = partsFrom (isSeconds i) is in impli
 unfoldable pub partsFollow : List Item → Bool
 partsFollow is = partsFrom false is
 
--- every m run of 1 or 2 is a month or minutes as the rule for m says: the rule changes no item's sort
+-- every m run of 1 or 2 is a month or minutes as the rule for m says (R103): the rule changes no item's sort
 unfoldable pub settledTest : Run → List Item → Bool
 settledTest earlier [] = true
 settledTest earlier (i ∷ is) =
@@ -83,7 +84,7 @@ settledTest earlier (i ∷ is) =
 unfoldable pub isSettled : List Item → Bool
 isSettled is = settledTest noRun is
 
--- "grouping only with two integer places"
+-- "grouping only with two integer places" (R102)
 unfoldable pub groupingFits : Section → Bool
 groupingFits s = implies (s .grouped) (leb 2 (integerPlaces (s .items)))
 

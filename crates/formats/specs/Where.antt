@@ -1,4 +1,4 @@
--- "Where": which section may stand where, else 5.
+-- "Where" (R46 to R50): which section may stand where, else 5.
 -- Assumes nothing.
 use Prim.Native.Nat.{ℕ, suc}
 use mathlib.Core.Bool.{Bool, cond, not, _&&_, _||_}

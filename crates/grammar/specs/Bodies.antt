@@ -1,4 +1,5 @@
--- Level 2, tokens to bodies: the rules NFGeneral, NFNumber, NFDateTime and NFText of 004, over the tokens that `Units` spells.
+-- The published grammar (R116). Level 2, tokens to bodies (R31 to R42, R51, R53): the rules NFGeneral, NFNumber, NFDateTime and NFText of
+-- 004, over the tokens that `Units` spells.
 -- Assumes nothing.
 use Prim.Native.Nat.{ℕ, suc, _≤_}
 use Prim.Native.Char.{code}

@@ -1,4 +1,5 @@
--- Level 2, bodies to codes: the rules NFAny, NFAnyNoText, NFAnyNoCond, NFAnyNoTextNoCond and All of 004, and what derives a code.
+-- The published grammar (R116). Level 2, bodies to codes (R28, R29, R46 to R50, R52): the rules NFAny, NFAnyNoText, NFAnyNoCond,
+-- NFAnyNoTextNoCond and All of 004, and what derives a code.
 -- Assumes nothing.
 use Prim.Native.Nat.{ℕ, _≤_}
 use mathlib.Core.Bool.{Bool, true, false}

@@ -1,4 +1,5 @@
--- Level 1, units to tokens: the lexical rules of 004, from NFPartYear to INTL-AMPM, and how a code's units spell its tokens.
+-- The published grammar (R116). Level 1, units to tokens (R14 to R27): the lexical rules of 004, from NFPartYear to INTL-AMPM, and how a
+-- code's units spell its tokens.
 -- Assumes nothing.
 use Prim.Native.Nat.{ℕ, _+_, _*_, _≤_}
 use Prim.Native.Char.{code}

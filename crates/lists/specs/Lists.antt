@@ -1,4 +1,4 @@
--- Tests and counts over a list, and what a call leaves in a lent run.
+-- Tests and counts over a list, and what a call leaves in a lent run (R8).
 -- Assumes nothing.
 use Prim.Native.Nat.{ℕ, zero, suc, _+_}
 use mathlib.Core.Bool.{Bool, true, false, cond}
@@ -36,7 +36,7 @@ module _ {A : Type 0} where
   All P [] = Unit {0}
   All P (x ∷ xs) = P x × All P xs
 
-  -- what a call leaves in a lent run: the new units in front, the old contents behind
+  -- what a call leaves in a lent run: the new units in front, the old contents behind (R8)
   unfoldable pub overlay : List A → List A → List A
   overlay new old = new ++ drop (length new) old
 

@@ -1,4 +1,4 @@
--- A constant table holds a rule's values, one after the other.
+-- A constant table holds a rule's values, one after the other: digits (R69), first days of years (R81).
 -- Assumes nothing.
 use Prim.Native.Nat.{ℕ, zero, suc}
 use mathlib.Core.List.{List, [], _∷_}

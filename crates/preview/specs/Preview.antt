@@ -1,4 +1,4 @@
--- Demand 3 for callers: what previewing returns and leaves is read off the code itself.
+-- Demand 3 for callers (R114): what previewing returns and leaves is read off the code itself.
 -- Assumes nothing.
 use Prim.Native.Nat.{ℕ}
 use mathlib.Core.List.{List}

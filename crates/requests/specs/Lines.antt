@@ -1,4 +1,4 @@
--- "three ASCII lines, `code=`, `kind=`, `value=` in that order, each at most 2,048 bytes before its line feed"
+-- "three ASCII lines, `code=`, `kind=`, `value=` in that order, each at most 2,048 bytes before its line feed" (R117, R118)
 -- Assumes nothing.
 use Prim.Native.Nat.{ℕ, suc}
 use mathlib.Core.Bool.{Bool, cond, _&&_}

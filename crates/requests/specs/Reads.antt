@@ -1,4 +1,4 @@
--- What reading a request returns: parts of the input, and the value.
+-- What reading a request returns (R117 to R122): parts of the input, and the value.
 -- Assumes nothing.
 use Prim.Native.Nat.{ℕ, _+_, _-_, _≤_, _<_}
 use mathlib.Core.Path.{_≡_}

@@ -1,4 +1,4 @@
--- The program's input: a code, a value with its kind, and nothing more; or the first malformed line, answered 14.
+-- The program's input (R117, R119, R122): a code, a value with its kind, and nothing more; or the first malformed line, answered 14.
 -- Assumes nothing.
 use Prim.Native.Nat.{ℕ}
 use mathlib.Core.Bool.{cond}

@@ -1,3 +1,4 @@
+-- Kinds and values as they are written (R119 to R122).
 -- "kind is number, instant or text; instant as `day/ms`; a number as an optional minus, digits, and optionally a point and
 -- digits, whose count is the scale". "A well-formed value too large is 9": that is the answer of its reading, since it is out of
 -- range. A number that is written larger than any range is read as a limit that is out of range too.

@@ -1,4 +1,4 @@
--- What the program answers: "It tests 14 first and lends 557 table words and 4,096 text units", and it writes four lines. The
+-- What the program answers (R122, R123): "It tests 14 first and lends 557 table words and 4,096 text units", and it writes four lines. The
 -- answer is read off the code itself.
 -- Assumes nothing.
 use Prim.Native.Nat.{ℕ}

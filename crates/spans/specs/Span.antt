@@ -1,4 +1,4 @@
--- Where a section stands between the semicolons of a code.
+-- Where a section stands between the semicolons of a code (R111).
 -- Assumes nothing.
 use Prim.Native.Nat.{ℕ, zero, suc, _+_, _*_, _≤_}
 use mathlib.Core.Path.{_≡_}

@@ -1,4 +1,4 @@
--- What preparing and showing return, and what they leave in the memory lent to them.
+-- What preparing and showing return, and what they leave in the memory lent to them (R6 to R8, R107, R110).
 -- Assumes nothing.
 use Prim.Native.Nat.{ℕ}
 use mathlib.Core.Bool.{Bool, cond}
@@ -18,7 +18,7 @@ use Rattle.tables.specs.Encode.{encode}
 use Rattle.tables.specs.Decode.{decode}
 use Rattle.tables.specs.Rules.{passes}
 
--- "The table made from a code": of a refused code no word
+-- "The table made from a code" (R107): of a refused code no word
 unfoldable pub wordsOf : Accepted → List ℕ
 wordsOf (sections ss) = encode ss
 wordsOf (refusal a k) = []
@@ -26,7 +26,7 @@ wordsOf (refusal a k) = []
 unfoldable pub tableOf : List ℕ → List ℕ
 tableOf code = wordsOf (accept code)
 
--- preparing in a table room of `size` words; 7: "the table needs more words than lent"
+-- preparing in a table room of `size` words; 7: "the table needs more words than lent" (R107)
 unfoldable pub preparedAs : Accepted → ℕ → Prepared
 preparedAs (refusal a k) size = refusedPrepared a k
 preparedAs (sections ss) size =
@@ -36,14 +36,14 @@ preparedAs (sections ss) size =
 unfoldable pub prepared : List ℕ → ℕ → Prepared
 prepared code size = preparedAs (accept code) size
 
--- what fits stands in front, what does not is not written: "Memory past the reported length keeps its contents."
+-- what fits stands in front, what does not is not written: "Memory past the reported length keeps its contents." (R8)
 unfoldable pub written : List ℕ → List ℕ → List ℕ
 written new old = cond (leb (length new) (length old)) (overlay new old) old
 
 unfoldable pub tableAfter : List ℕ → List ℕ → List ℕ
 tableAfter code old = written (tableOf code) old
 
--- the reading through a table; 8: "the table breaks a table rule"
+-- the reading through a table; 8: "the table breaks a table rule" (R110)
 unfoldable pub tableReading : List ℕ → Ask → List ℕ → ℕ → Reading
 tableReading table ask text room = cond (passes table) (reading (decode table) ask text room) (refused answer.Table)
 

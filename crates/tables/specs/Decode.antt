@@ -1,4 +1,4 @@
--- The sections that a table's words stand for.
+-- The sections that a table's words stand for (R90 to R94, R105, R106).
 -- Assumes nothing.
 use Prim.Native.Nat.{ℕ, _+_, _-_, _*_, _/_, _%_, _^_}
 use mathlib.Core.Bool.{Bool, cond}

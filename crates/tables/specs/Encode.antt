@@ -1,4 +1,4 @@
--- The table made from sections.
+-- The table made from sections (R89 to R94, R101).
 -- Assumes nothing.
 use Prim.Native.Nat.{ℕ, zero, suc, _+_, _-_, _*_, _/_, _%_, _^_}
 use mathlib.Core.Bool.{Bool, true, false, cond}
@@ -14,7 +14,7 @@ use Rattle.formats.specs.Minus.{firstHasCondition, exceptionA}
 use Rattle.formats.specs.Text.{digitAfter}
 use Rattle.tables.specs.Words.{Head, Entry, Row, tableWords}
 
--- "kind (0 literal, 1 General, 2 number, 3 text, 4 date-time)"
+-- "kind (0 literal, 1 General, 2 number, 3 text, 4 date-time)" (R90)
 unfoldable pub kindWord : Kind → ℕ
 kindWord literalKind = 0
 kindWord generalKind = 1
@@ -22,7 +22,7 @@ kindWord numberKind = 2
 kindWord textKind = 3
 kindWord dateKind = 4
 
--- "operator (0 none [..]; then 1 to 6 in the order above)": `= < > <= >= <>`
+-- "operator (0 none [..]; then 1 to 6 in the order above)": `= < > <= >= <>` (R90)
 unfoldable pub comparisonWord : Comparison → ℕ
 comparisonWord equal = 1
 comparisonWord less = 2
@@ -58,11 +58,11 @@ lowWord n = n % 65536
 unfoldable pub highWord : ℕ → ℕ
 highWord n = n / 65536
 
--- "shift (number: 15 + 2 percents - 3 commas; else 0)"
+-- "shift (number: 15 + 2 percents - 3 commas; else 0)" (R91)
 unfoldable pub shiftWord : Section → ℕ
 shiftWord s = cond (sameKind (kindOf s) numberKind) (15 + 2 * count isPercent (s .items) - 3 * s .thousands) 0
 
--- "flags (1 grouping, 2 no minus by (a), 4 twelve-hour)"
+-- "flags (1 grouping, 2 no minus by (a), 4 twelve-hour)" (R92)
 unfoldable pub flagsWord : Bool → Bool → Bool → ℕ
 flagsWord grouping noMinus twelve = bit grouping + 2 * bit noMinus + 4 * bit twelve
 
@@ -113,7 +113,7 @@ unfoldable pub halfWord : HalfDay → ℕ
 halfWord short = 1
 halfWord long = 2
 
--- an item's two words; q is the power of its digit and 15
+-- an item's two words (R94); q is the power of its digit and 15
 unfoldable pub entryOf : ℕ → Item → Entry
 entryOf q (literal u) = entry 1 u
 entryOf q (blank u) = entry 2 u
@@ -137,7 +137,7 @@ unfoldable pub entriesFrom : ℕ → List Item → List Entry
 entriesFrom q [] = []
 entriesFrom q (i ∷ is) = entryOf q i ∷ entriesFrom (digitAfter q i) is
 
--- "the last integer place having 0 and the first decimal place -1"
+-- "the last integer place having 0 and the first decimal place -1" (R101)
 unfoldable pub entriesOf : List Item → List Entry
 entriesOf is = entriesFrom (14 + integerPlaces is) is
 

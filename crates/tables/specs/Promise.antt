@@ -1,4 +1,4 @@
--- Demand 3 between definitions: what the table made from a code is to that code.
+-- Demand 3 between definitions (R106, R112): what the table made from a code is to that code.
 -- Assumes nothing.
 use Prim.Native.Nat.{ℕ, _≤_}
 use mathlib.Core.Path.{_≡_}

@@ -1,4 +1,4 @@
--- "Table rules": a test for each clause of their sentence.
+-- "Table rules" (R95 to R104, R113): a test for each clause of their sentence.
 -- Assumes nothing.
 use Prim.Native.Nat.{ℕ, zero, suc, _+_, _-_, _*_}
 use mathlib.Core.Bool.{Bool, true, cond, not, _&&_, _||_}
@@ -18,7 +18,7 @@ use Rattle.tables.specs.Words.{Head, Entry, Row, rowsIn, exactWords}
 use Rattle.tables.specs.Encode.{kindWord, flagsWord, noMinus, hasHalf, decimalsWord}
 use Rattle.tables.specs.Decode.{wholeAt, millionthsAt, itemAt, itemsAt, groupedAt, thousandsAt, sectionAt, decode}
 
--- "every word in its range"
+-- "every word in its range" (R97)
 unfoldable pub headInRange : Head → Bool
 headInRange h =
     leb (h .kind) 4
@@ -32,7 +32,7 @@ headInRange h =
     && leb (h .decimals) 15
     && leb (h .items) 254
 
--- a literal's, blank's or fill's unit may be any; powers are -15 to 19; runs have the lengths that their tokens may have
+-- a literal's, blank's or fill's unit may be any; powers are -15 to 19; runs have the lengths that their tokens may have (R97)
 unfoldable pub entryInRange : Entry → Bool
 entryInRange e =
     let t = e .tag in
@@ -51,13 +51,13 @@ entryInRange e =
 unfoldable pub rowInRange : Row → Bool
 rowInRange r = headInRange (r .head) && every entryInRange (r .entries)
 
--- "(0 none, condition words 0 [..]), negative 0/1 (0 at zero)"
+-- "(0 none, condition words 0 [..]), negative 0/1 (0 at zero)" (R98)
 unfoldable pub conditionFits : Head → Bool
 conditionFits h =
     implies (eqb (h .operator) 0) (eqb (h .negative) 0 && eqb (wholeAt h) 0 && eqb (millionthsAt h) 0)
     && implies (eqb (wholeAt h) 0 && eqb (millionthsAt h) 0) (eqb (h .negative) 0)
 
--- "powers run down by one": q is the power and 15 that the next place must have
+-- "powers run down by one" (R101): q is the power and 15 that the next place must have
 unfoldable pub powersFrom : ℕ → List Entry → Bool
 powersFrom q [] = true
 powersFrom q (e ∷ es) =
@@ -68,7 +68,7 @@ powersFrom q (e ∷ es) =
 unfoldable pub powersRunDown : List Entry → Bool
 powersRunDown es = powersFrom (14 + integerPlaces (itemsAt es)) es
 
--- "the shift, beside the percents, must tell 0 to 5 dividing commas"
+-- "the shift, beside the percents, must tell 0 to 5 dividing commas" (R104)
 unfoldable pub shiftTells : ℕ → ℕ → Bool
 shiftTells shift percents =
     let t = thousandsAt shift percents in
@@ -79,7 +79,7 @@ shiftFits r =
     let s = sectionAt r in
     cond (sameKind (kindOf s) numberKind) (shiftTells (r .head .shift) (count isPercent (s .items))) (eqb (r .head .shift) 0)
 
--- the other derived words of section i of N
+-- the other derived words of section i of N (R104)
 unfoldable pub kindFits : Row → Bool
 kindFits r = eqb (r .head .kind) (kindWord (kindOf (sectionAt r)))
 
@@ -113,7 +113,7 @@ rowFits r =
     && decimalsFit r
 
 -- "Table rules: exactly those words and no more; at most 254 items in all; every word in its range; items, kinds, where
--- sections may stand, places and limits as above, [..]; every derived word is what its rule gives"
+-- sections may stand, places and limits as above, [..]; every derived word is what its rule gives" (R95 to R104)
 unfoldable pub passes : List ℕ → Bool
 passes ws =
     let rs = rowsIn ws in

@@ -1,4 +1,4 @@
--- "The table": its words, as they stand in it.
+-- "The table" (R89, R90, R94, R95): its words, as they stand in it.
 -- Assumes nothing.
 use Prim.Native.Nat.{ℕ, zero, suc, _+_, _*_, _/_}
 use mathlib.Core.Bool.{Bool, _&&_}
@@ -7,7 +7,7 @@ use lib.ListN.{length, getD, drop}
 use lib.Dec.{leb, eqb}
 use Rattle.values.specs.Ranges.{between}
 
--- "12 words a section"
+-- "12 words a section" (R90)
 pub record Head : Type 0 where
   pub kind : ℕ
   pub colour : ℕ
@@ -22,7 +22,7 @@ pub record Head : Type 0 where
   pub decimals : ℕ
   pub items : ℕ
 
--- "two words an item"
+-- "two words an item" (R94)
 pub record Entry : Type 0 where
   pub tag : ℕ
   pub argument : ℕ
@@ -50,7 +50,7 @@ unfoldable pub bodiesWords : List Row → List ℕ → List ℕ
 bodiesWords [] ws = ws
 bodiesWords (r ∷ rs) ws = entriesWords (r .entries) (bodiesWords rs ws)
 
--- "Word 0: sections [..]. Then 12 words a section [..]. Then two words an item, section by section"
+-- "Word 0: sections [..]. Then 12 words a section [..]. Then two words an item, section by section" (R89)
 unfoldable pub tableWords : List Row → List ℕ
 tableWords rs = length rs ∷ headsWords rs (bodiesWords rs [])
 
@@ -98,6 +98,6 @@ unfoldable pub itemsSaid : List Head → ℕ
 itemsSaid [] = 0
 itemsSaid (h ∷ hs) = h .items + itemsSaid hs
 
--- "Word 0: sections, 1 to 4", "exactly those words and no more"
+-- "Word 0: sections, 1 to 4", "exactly those words and no more" (R95)
 unfoldable pub exactWords : List ℕ → Bool
 exactWords ws = between 1 4 (getD ws 0 0) && eqb (length ws) (1 + 12 * getD ws 0 0 + 2 * itemsSaid (headsIn ws))

@@ -1,4 +1,4 @@
--- "Values and memory": the ranges of day numbers, milliseconds of the day, numbers and texts.
+-- "Values and memory" (R2 to R5): the ranges of day numbers, milliseconds of the day, numbers and texts.
 -- Assumes nothing.
 use Prim.Native.Nat.{ℕ, _^_}
 use mathlib.Core.Bool.{Bool, cond, _&&_}
@@ -16,7 +16,7 @@ use Rattle.values.specs.declared.Number.{Number}
 use Rattle.values.specs.declared.Value.{Value}
 use Rattle.values.specs.declared.Value.the-variants as value
 
--- "a day number 0 to 2,958,465 and a millisecond 0 to 86,399,999"
+-- "a day number 0 to 2,958,465 and a millisecond 0 to 86,399,999" (R3)
 abbrev pub dayLeast : ℕ
 dayLeast = 0
 
@@ -32,7 +32,7 @@ millisecondGreatest = 86399999
 abbrev pub between : ℕ → ℕ → ℕ → Bool
 between least greatest n = leb least n && leb n greatest
 
--- what the makers answer
+-- what the makers answer (R4)
 abbrev pub dayOf : ℕ → DayMade
 dayOf n = cond (between dayLeast dayGreatest n) (day.Made (record { 0 = n })) day.OutOfRange
 
@@ -52,14 +52,14 @@ millisecondAnswer millisecond.OutOfRange = 9
 abbrev pub rangeAnswer : ℕ → ℕ → ℕ → ℕ
 rangeAnswer least greatest n = cond (between least greatest n) 0 9
 
--- "a signed coefficient of at most fifteen digits and a scale 0 to 15"
+-- "a signed coefficient of at most fifteen digits and a scale 0 to 15" (R2)
 abbrev pub numberInRange : Number → Bool
 numberInRange x = ltb (natAbs (x .coefficient)) (10 ^ 15) && leb (x .scale) 15
 
 abbrev pub instantInRange : Day → Millisecond → Bool
 instantInRange d m = between dayLeast dayGreatest (d .0) && between millisecondLeast millisecondGreatest (m .0)
 
--- "A text has 0 to 1,024 units."
+-- "A text has 0 to 1,024 units." (R5)
 abbrev pub textInRange : List ℕ → Bool
 textInRange text = leb (length text) 1024
 
