@@ -1,4 +1,4 @@
-/* What a call costs: see README.md beside this file. The argument is where the plot goes. */
+/* What a call costs: see README.md beside this file. The argument is where the data of the plot goes. */
 #include <inttypes.h>
 #include <stdio.h>
 #include <stdlib.h>
@@ -7,7 +7,6 @@
 #include "measure.h"
 #include "numfmt.h"
 #include "plain.h"
-#include "plot.h"
 #include "values.h"
 
 /*
@@ -383,34 +382,28 @@ static void print_growth(const char *of, const double *counts, const job *ample,
     printf("\n");
 }
 
-static plot_line line_of(const char *name, const char *look, const double *x, const job *grown, double *y,
-                         size_t count)
+/* A row for each count: the best in the ample room and in the short one. Two empty lines end the block, as gnuplot asks. */
+static void write_growth(FILE *file, const double *counts, const job *ample, const job *narrow, size_t count)
 {
-    plot_line line = {name, look, x, y, count};
     size_t at;
 
     for (at = 0; at < count; at++)
-        y[at] = grown[at].best;
-    return line;
+        fprintf(file, "%.0f %.1f %.1f\n", counts[at], ample[at].best, narrow[at].best);
+    fprintf(file, "\n\n");
 }
 
-static int write_plot(const char *path)
+static int write_data(const char *path)
 {
-    static const char blue[] = "stroke=\"#1b6ca8\"", blue_dashes[] = "stroke=\"#1b6ca8\" stroke-dasharray=\"5 4\"";
-    static const char red[] = "stroke=\"#b5452c\"", red_dashes[] = "stroke=\"#b5452c\" stroke-dasharray=\"5 4\"";
-    double y[4][LITERALS + PLACES], by_section[2][SECTIONS];
-    plot_line items[4], of_sections[2];
-    plot_panel left = {"By items", "items in the section", "nanoseconds a call", items, 4};
-    plot_panel right = {"By sections", "sections of 0.00 (the fourth: @)", "nanoseconds a call", of_sections, 2};
+    FILE *file = fopen(path, "w");
+    int whole;
 
-    items[0] = line_of("literals", blue, literal_counts, jobs + BY_LITERALS, y[0], LITERALS);
-    items[1] = line_of("literals, short room", blue_dashes, literal_counts, jobs + BY_LITERALS_SHORT, y[1], LITERALS);
-    items[2] = line_of("places", red, place_counts, jobs + BY_PLACES, y[2], PLACES);
-    items[3] = line_of("places, short room", red_dashes, place_counts, jobs + BY_PLACES_SHORT, y[3], PLACES);
-    of_sections[0] = line_of("ample room", blue, section_counts, jobs + BY_SECTIONS, by_section[0], SECTIONS);
-    of_sections[1] =
-        line_of("short room", blue_dashes, section_counts, jobs + BY_SECTIONS_SHORT, by_section[1], SECTIONS);
-    return plot_write(path, &left, &right);
+    if (file == NULL)
+        return 0;
+    write_growth(file, literal_counts, jobs + BY_LITERALS, jobs + BY_LITERALS_SHORT, LITERALS);
+    write_growth(file, place_counts, jobs + BY_PLACES, jobs + BY_PLACES_SHORT, PLACES);
+    write_growth(file, section_counts, jobs + BY_SECTIONS, jobs + BY_SECTIONS_SHORT, SECTIONS);
+    whole = !ferror(file);
+    return fclose(file) == 0 && whole;
 }
 
 /* Times all jobs on values of a sort, where the library and the hand-written formatters agree on them. */
@@ -424,7 +417,7 @@ static void measure_on(number_sort sort)
 int main(int count, char **arguments)
 {
     if (count != 2) {
-        fprintf(stderr, "usage: bench PLOT.svg\n");
+        fprintf(stderr, "usage: bench GROWTH.dat\n");
         return 2;
     }
     prepare_codes();
@@ -438,7 +431,7 @@ int main(int count, char **arguments)
     print_growth("literal items", literal_counts, jobs + BY_LITERALS, jobs + BY_LITERALS_SHORT, LITERALS);
     print_growth("places", place_counts, jobs + BY_PLACES, jobs + BY_PLACES_SHORT, PLACES);
     print_growth("sections", section_counts, jobs + BY_SECTIONS, jobs + BY_SECTIONS_SHORT, SECTIONS);
-    if (!write_plot(arguments[1])) {
+    if (!write_data(arguments[1])) {
         perror(arguments[1]);
         return 1;
     }
