@@ -1,72 +1,16 @@
-//! Safe wrappers over the library's C interface.
+//! The linked library behind the comparison's calls.
+
+use numfmt::calls;
 
 use crate::calls::{Calls, Part, Prepared, Shown};
 use crate::oracle::Value;
 
-#[repr(C)]
-struct CPrepared {
-    answer: u16,
-    place: u32,
-    words: u32,
-}
-
-#[repr(C)]
-struct CShown {
-    answer: u16,
-    length: u32,
-    colour: u16,
-    section: u16,
-}
-
-#[repr(C)]
-struct CPart {
-    start: u32,
-    length: u32,
-}
-
-extern "C" {
-    fn numfmt_prepare(
-        code: *const u16,
-        code_len: usize,
-        table: *mut u16,
-        table_len: usize,
-    ) -> CPrepared;
-    fn numfmt_section(code: *const u16, code_len: usize, n: u32) -> CPart;
-    fn numfmt_show_number(
-        table: *const u16,
-        table_len: usize,
-        coefficient: i64,
-        scale: u32,
-        room: *mut u16,
-        room_len: usize,
-    ) -> CShown;
-    fn numfmt_show_instant(
-        table: *const u16,
-        table_len: usize,
-        day: u32,
-        millisecond: u32,
-        room: *mut u16,
-        room_len: usize,
-    ) -> CShown;
-    fn numfmt_show_text(
-        table: *const u16,
-        table_len: usize,
-        text: *const u16,
-        text_len: usize,
-        room: *mut u16,
-        room_len: usize,
-    ) -> CShown;
-}
-
 /// The linked library.
 pub struct Linked;
 
-// Safety of every call below: each pointer comes with the length of the slice it was taken from, the
-// slices outlive the call, and a slice lent for writing is borrowed by nothing else.
 impl Calls for Linked {
     fn prepare(&self, code: &[u16], table: &mut [u16]) -> Prepared {
-        let (room, room_len) = (table.as_mut_ptr(), table.len());
-        let given = unsafe { numfmt_prepare(code.as_ptr(), code.len(), room, room_len) };
+        let given = calls::prepare(code, table);
         Prepared {
             answer: given.answer,
             place: given.place,
@@ -75,7 +19,7 @@ impl Calls for Linked {
     }
 
     fn section(&self, code: &[u16], n: u32) -> Part {
-        let given = unsafe { numfmt_section(code.as_ptr(), code.len(), n) };
+        let given = calls::section(code, n);
         Part {
             start: given.start,
             length: given.length,
@@ -83,18 +27,12 @@ impl Calls for Linked {
     }
 
     fn show(&self, table: &[u16], value: &Value, room: &mut [u16]) -> Shown {
-        let (words, count) = (table.as_ptr(), table.len());
-        let (out, out_len) = (room.as_mut_ptr(), room.len());
         let given = match value {
-            Value::Number { coefficient, scale } => unsafe {
-                numfmt_show_number(words, count, *coefficient, *scale, out, out_len)
-            },
-            Value::Instant { day, ms } => unsafe {
-                numfmt_show_instant(words, count, *day, *ms, out, out_len)
-            },
-            Value::Text(text) => unsafe {
-                numfmt_show_text(words, count, text.as_ptr(), text.len(), out, out_len)
-            },
+            Value::Number { coefficient, scale } => {
+                calls::show_number(table, *coefficient, *scale, room)
+            }
+            Value::Instant { day, ms } => calls::show_instant(table, *day, *ms, room),
+            Value::Text(text) => calls::show_text(table, text, room),
         };
         Shown {
             answer: given.answer,

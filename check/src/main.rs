@@ -4,7 +4,7 @@ mod calls;
 mod case;
 mod expected;
 mod generate;
-#[cfg(library)]
+#[cfg(feature = "library")]
 mod library;
 mod oracle;
 mod random;
@@ -46,12 +46,12 @@ fn with_options(words: &[&str], run: impl Fn(&run::Options) -> ExitCode) -> Exit
     }
 }
 
-#[cfg(library)]
+#[cfg(feature = "library")]
 fn run_library(options: &run::Options) -> ExitCode {
     run::run(&library::Linked, options)
 }
 
-#[cfg(not(library))]
+#[cfg(not(feature = "library"))]
 fn run_library(_: &run::Options) -> ExitCode {
-    misused("built without the library: its archive libc_api.a was not found (see README.md)")
+    misused("built without the library (see README.md)")
 }

@@ -1,0 +1,126 @@
+//! The calls of include/numfmt.h on lent slices, with the numbers that they return. Nothing is allocated.
+//!
+//! A slice keeps every duty that the header lays on a caller: its pointer is valid for its length, aligned and never null
+//! (that of an empty slice is dangling, which the header allows), and a slice lent for writing overlaps no other. All else is
+//! checked by the library: any units may be lent as a code, a table or a text.
+//!
+//! ```
+//! use numfmt::{calls, TABLE_WORDS};
+//!
+//! let code: Vec<u16> = "#,##0".encode_utf16().collect();
+//! let (mut table, mut room) = ([0; TABLE_WORDS], [0; 8]);
+//! let prepared = calls::prepare(&code, &mut table);
+//! assert_eq!((prepared.answer, prepared.place), (0, 0));
+//!
+//! let table = &table[..prepared.words as usize];
+//! let shown = calls::show_number(table, 12000, 0, &mut room);
+//! assert_eq!(String::from_utf16_lossy(&room[..shown.length as usize]), "12,000");
+//!
+//! // A room that is too short is refused, and keeps its contents.
+//! let mut short = [7; 5];
+//! assert_eq!(calls::show_number(table, 12000, 0, &mut short).answer, 13);
+//! assert_eq!(short, [7; 5]);
+//! ```
+
+/// What preparing returns. On a refusal `words` is 0; `place` is 0 but for answers 2 to 6.
+#[repr(C)]
+#[derive(Clone, Copy, Debug, PartialEq, Eq)]
+pub struct Prepared {
+    pub answer: u16,
+    pub place: u32,
+    pub words: u32,
+}
+
+/// What showing returns. On a refusal every number but the answer is 0.
+#[repr(C)]
+#[derive(Clone, Copy, Debug, PartialEq, Eq)]
+pub struct Shown {
+    pub answer: u16,
+    pub length: u32,
+    pub colour: u16,
+    pub section: u16,
+}
+
+/// A part of a code: `length` units from unit `start` on.
+#[repr(C)]
+#[derive(Clone, Copy, Debug, PartialEq, Eq)]
+pub struct Part {
+    pub start: u32,
+    pub length: u32,
+}
+
+unsafe extern "C" {
+    fn numfmt_prepare(
+        code: *const u16,
+        code_len: usize,
+        table: *mut u16,
+        table_len: usize,
+    ) -> Prepared;
+    fn numfmt_section(code: *const u16, code_len: usize, n: u32) -> Part;
+    fn numfmt_show_number(
+        table: *const u16,
+        table_len: usize,
+        coefficient: i64,
+        scale: u32,
+        room: *mut u16,
+        room_len: usize,
+    ) -> Shown;
+    fn numfmt_show_instant(
+        table: *const u16,
+        table_len: usize,
+        day: u32,
+        millisecond: u32,
+        room: *mut u16,
+        room_len: usize,
+    ) -> Shown;
+    fn numfmt_show_text(
+        table: *const u16,
+        table_len: usize,
+        text: *const u16,
+        text_len: usize,
+        room: *mut u16,
+        room_len: usize,
+    ) -> Shown;
+}
+
+/// Writes the table of a code in front of the table room. A room of [`TABLE_WORDS`](crate::TABLE_WORDS) holds every table.
+pub fn prepare(code: &[u16], table: &mut [u16]) -> Prepared {
+    // SAFETY: each pointer is a slice's, with its length; the slice that is written overlaps no other.
+    unsafe { numfmt_prepare(code.as_ptr(), code.len(), table.as_mut_ptr(), table.len()) }
+}
+
+/// Where section n of a code stands, without semicolons; `0, 0` for a missing section and for a refused code.
+pub fn section(code: &[u16], n: u32) -> Part {
+    // SAFETY: the pointer is a slice's, with its length; nothing is written.
+    unsafe { numfmt_section(code.as_ptr(), code.len(), n) }
+}
+
+/// Shows the number coefficient / 10^scale.
+pub fn show_number(table: &[u16], coefficient: i64, scale: u32, room: &mut [u16]) -> Shown {
+    let (room, units) = (room.as_mut_ptr(), room.len());
+    // SAFETY: each pointer is a slice's, with its length; the slice that is written overlaps no other.
+    unsafe { numfmt_show_number(table.as_ptr(), table.len(), coefficient, scale, room, units) }
+}
+
+/// Shows an instant: a day number (day 1 is 1 January 1900) and a millisecond of the day.
+pub fn show_instant(table: &[u16], day: u32, millisecond: u32, room: &mut [u16]) -> Shown {
+    let (room, units) = (room.as_mut_ptr(), room.len());
+    // SAFETY: each pointer is a slice's, with its length; the slice that is written overlaps no other.
+    unsafe { numfmt_show_instant(table.as_ptr(), table.len(), day, millisecond, room, units) }
+}
+
+/// Shows a text.
+pub fn show_text(table: &[u16], text: &[u16], room: &mut [u16]) -> Shown {
+    let (room, units) = (room.as_mut_ptr(), room.len());
+    // SAFETY: each pointer is a slice's, with its length; the slice that is written overlaps no other.
+    unsafe {
+        numfmt_show_text(
+            table.as_ptr(),
+            table.len(),
+            text.as_ptr(),
+            text.len(),
+            room,
+            units,
+        )
+    }
+}

@@ -1,0 +1,29 @@
+//! Prepares a SpreadsheetML number format code into a table, and shows a value through the table. The work is done by a
+//! library in Rattle whose promises are proved; this crate links its archive `libc_api.a` (`rt staticlib c_api` makes it)
+//! and keeps for its callers the duties that include/numfmt.h lays on them.
+//!
+//! ```
+//! use numfmt::Table;
+//!
+//! let table = Table::prepare("#,##0\" salmon\"")?;
+//! assert_eq!(table.show_number(12408, 0)?.text, "12,408 salmon");
+//! assert_eq!(table.show_number(-3, 1)?.text, "0 salmon");
+//! # Ok::<(), numfmt::Refusal>(())
+//! ```
+//!
+//! [`Table`] owns its words and takes and gives strings. [`calls`] are the C calls themselves on lent slices of units.
+//! A table is only read by showing, so that many threads may show by one.
+
+mod answer;
+pub mod calls;
+mod table;
+
+pub use answer::{Answer, Refusal};
+pub use table::{section, Shown, Table, Value};
+
+/// Words of table room that hold the table of every accepted code.
+pub const TABLE_WORDS: usize = 557;
+/// Most units of a code.
+pub const CODE_MOST: usize = 254;
+/// Most units of a text value.
+pub const TEXT_MOST: usize = 1024;

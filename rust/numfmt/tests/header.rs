@@ -1,0 +1,47 @@
+//! The crate's numbers are those of include/numfmt.h.
+
+use std::collections::HashMap;
+
+use numfmt::{Answer, CODE_MOST, TABLE_WORDS, TEXT_MOST};
+
+/// The header's macros that stand for a number, without `NUMFMT_`.
+fn macros() -> HashMap<String, usize> {
+    let header = concat!(env!("CARGO_MANIFEST_DIR"), "/../../include/numfmt.h");
+    let header = std::fs::read_to_string(header).expect("the header can be read");
+    let numbered = |line: &str| {
+        let mut words = line.strip_prefix("#define NUMFMT_")?.split_whitespace();
+        Some((words.next()?.to_string(), words.next()?.parse().ok()?))
+    };
+    header.lines().filter_map(numbered).collect()
+}
+
+/// `CodeLength` as the header has it: `CODE_LENGTH`.
+fn header_name(answer: Answer) -> String {
+    let mut name = String::new();
+    for letter in format!("{answer:?}").chars() {
+        if letter.is_uppercase() && !name.is_empty() {
+            name.push('_');
+        }
+        name.push(letter.to_ascii_uppercase());
+    }
+    name
+}
+
+#[test]
+fn sizes_are_those_of_the_header() {
+    let macros = macros();
+    assert_eq!(macros["TABLE_WORDS"], TABLE_WORDS);
+    assert_eq!(macros["CODE_MOST"], CODE_MOST);
+    assert_eq!(macros["TEXT_MOST"], TEXT_MOST);
+}
+
+#[test]
+fn answers_are_those_of_the_header() {
+    let macros = macros();
+    for (number, answer) in Answer::ALL.into_iter().enumerate() {
+        let name = header_name(answer);
+        let defined = macros.get(&format!("ANSWER_{name}")).or(macros.get(&name));
+        assert_eq!(defined, Some(&number), "{name}");
+        assert_eq!(usize::from(answer.number()), number, "{name}");
+    }
+}
