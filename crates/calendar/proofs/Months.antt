@@ -1,25 +1,31 @@
 -- The months: their lengths make up the year, and the month that is found is the right one.
 -- Assumes nothing.
-use mathlib.Core.Path.{_≡_, refl, sym, ap, subst}
+use mathlib.Core.Path.{_≡_, refl, sym, ap, subst, _∙_}
 use mathlib.Core.Bool.{Bool, true, false, cond}
 use mathlib.Core.List.{List, [], _∷_}
-use Prim.Native.Nat.{ℕ, suc, pred, _+_, _-_, _≤_, _<_}
-use native.Mathlib.Numerals.{add-one}
+use Prim.Native.Nat.{ℕ, zero, suc, pred, _+_, _-_, _*_, _/_, _≤_, _<_}
 use native.Mathlib.Omega.{arith}
-use borrow.Author.Tests.{leb-true, leb-false, le-leb, lt-leb}
+use borrow.Author.Tests.{leb-true, leb-false, lt-leb}
 use lib.Dec.{leb}
-use lib.ListN.{length, getD, take, drop}
-use lib.Seq.{drop-cons}
+use lib.ListN.{length, getD, take}
+use Rattle.lists.specs.Tables.{values}
 use Rattle.lists.proofs.Bools.{cond-case}
+use Rattle.lists.proofs.Tables.{value-at}
 use Rattle.calendar.specs.Year.{leap, yearDays}
 use Rattle.calendar.specs.Date.{monthDays, MonthDay, monthDayFrom}
 use Rattle.calendar.specs.Found.{sum, MonthFound}
+use Rattle.calendar.specs.Moved.{movedBy}
+use Rattle.calendar.proofs.Years.{yearDays-most}
+
+-- the months of a year of either length
+abbrev monthsOf : Bool → List ℕ
+monthsOf b = 31 ∷ cond b 29 28 ∷ 31 ∷ 30 ∷ 31 ∷ 30 ∷ 31 ∷ 31 ∷ 30 ∷ 31 ∷ 30 ∷ 31 ∷ []
 
 pub months-sum : (k : ℕ) → sum (monthDays k) ≡ yearDays k
 unfolding sum monthDays yearDays
 months-sum k = both (leap k)
   where
-    both : (b : Bool) → sum (31 ∷ cond b 29 28 ∷ 31 ∷ 30 ∷ 31 ∷ 30 ∷ 31 ∷ 31 ∷ 30 ∷ 31 ∷ 30 ∷ 31 ∷ []) ≡ cond b 366 365
+    both : (b : Bool) → sum (monthsOf b) ≡ cond b 366 365
     both true = refl
     both false = refl
 
@@ -84,30 +90,64 @@ month-found k n h =
       counted = subst (λ (i : ℕ). sum (take i (monthDays k)) + d .dayOfMonth ≡ n) e (c .counted);
     }
 
-pub month-length : (k i : ℕ) (b : Bool) → leap k ≡ b →
-    getD (31 ∷ cond b 29 28 ∷ 31 ∷ 30 ∷ 31 ∷ 30 ∷ 31 ∷ 31 ∷ 30 ∷ 31 ∷ 30 ∷ 31 ∷ []) i 0 ≡ getD (monthDays k) i 0
-unfolding monthDays
-month-length k i b e =
-    ap (λ (x : Bool). getD (31 ∷ cond x 29 28 ∷ 31 ∷ 30 ∷ 31 ∷ 30 ∷ 31 ∷ 31 ∷ 30 ∷ 31 ∷ 30 ∷ 31 ∷ []) i 0) (sym e)
+-- past the last month there is a thirteenth
+month-past : (m n : ℕ) (ls : List ℕ) → sum ls < n → monthDayFrom m ls n ≡ record { month = m + length ls; dayOfMonth = n - sum ls }
+unfolding sum monthDayFrom
+month-past m n [] h =
+    let e : m + 0 ≡ m = omega arith in
+    let f : n - 0 ≡ n = omega arith in
+    rw (e, f)
+month-past m n (l ∷ ls) h =
+    let e : m + suc (length ls) ≡ suc m + length ls = omega arith in
+    let f : n - (l + sum ls) ≡ n - l - sum ls = omega arith in
+    rw (lt-leb n l (omega arith), e, f) (month-past (suc m) (n - l) ls (omega arith))
 
--- the search for a month in the code's terms, i being the month's place and l its length: it is this one, a later one, or none
-pub month-is : (k i l n : ℕ) → i < 12 → l ≡ getD (monthDays k) i 0 → n ≤ l →
-    monthDayFrom (suc i) (drop i (monthDays k)) n ≡ record { month = i + 1; dayOfMonth = n }
-unfolding monthDayFrom
-month-is k i l n h e a =
-    rw (add-one i, drop-cons (monthDays k) i 0 (omega (arith, months-length k)), le-leb n (getD (monthDays k) i 0) (omega arith))
+pub month-behind : (k n : ℕ) (b : Bool) → b ≡ leap k → 366 < n →
+    monthDayFrom 1 (monthDays k) n ≡ record { month = 13; dayOfMonth = n - cond b 366 365 }
+unfolding yearDays
+month-behind k n b e h =
+    let s : sum (monthDays k) ≡ cond b 366 365 = rw e (months-sum k) in
+    let l : length (monthDays k) ≡ 12 = months-length k in
+    month-past 1 n (monthDays k) (omega (arith, months-sum k, yearDays-most k))
+    ∙ (λ j. record { month = 1 + l j; dayOfMonth = n - s j })
 
-pub month-later : (k i l n : ℕ) → i < 12 → l ≡ getD (monthDays k) i 0 → l < n →
-    monthDayFrom (suc i) (drop i (monthDays k)) n ≡ monthDayFrom (suc (i + 1)) (drop (i + 1) (monthDays k)) (n - l)
-unfolding monthDayFrom
-month-later k i l n h e a =
-    rw (
-      add-one i,
-      drop-cons (monthDays k) i 0 (omega (arith, months-length k)),
-      lt-leb n (getD (monthDays k) i 0) (omega arith),
-      e,
-    )
-
-pub month-none : (k i n : ℕ) → i ≡ 12 → monthDayFrom (suc i) (drop i (monthDays k)) n ≡ record { month = 13; dayOfMonth = n }
+pub month-nought : (k n : ℕ) → n ≡ 0 → monthDayFrom 1 (monthDays k) n ≡ record { month = 1; dayOfMonth = 0 }
 unfolding monthDays monthDayFrom
-month-none k i n e = rw e
+month-nought k n e = rw e
+
+-- the month and the day of it by arithmetic
+monthAt : Bool → ℕ → ℕ
+monthAt b n = (12 * movedBy b n + 361) / 367
+
+dayAt : Bool → ℕ → ℕ
+dayAt b n = movedBy b n - (367 * monthAt b n - 362) / 12
+
+abbrev found : Bool → ℕ → MonthDay
+found b n = monthDayFrom 1 (monthsOf b) n
+
+-- the definition and the arithmetic, computed for each day of a year of either length
+months-computed : (b : Bool) → values (λ (n : ℕ). found b (suc n) .month) 0 366 ≡ values (λ (n : ℕ). monthAt b (suc n)) 0 366
+unfolding monthDayFrom movedBy monthAt
+months-computed true = refl
+months-computed false = refl
+
+days-computed : (b : Bool) → values (λ (n : ℕ). found b (suc n) .dayOfMonth) 0 366 ≡ values (λ (n : ℕ). dayAt b (suc n)) 0 366
+unfolding monthDayFrom movedBy monthAt dayAt
+days-computed true = refl
+days-computed false = refl
+
+same-values : (f g : ℕ → ℕ) (n i : ℕ) → values f 0 n ≡ values g 0 n → i < n → f i ≡ g i
+same-values f g n i e h = sym (value-at f n i h) ∙ ap (λ (x : List ℕ). getD x i 0) e ∙ value-at g n i h
+
+month-computed : (b : Bool) (n : ℕ) → n < 366 → found b (suc n) ≡ record { month = monthAt b (suc n); dayOfMonth = dayAt b (suc n) }
+month-computed b n h =
+    let m = same-values (λ (i : ℕ). found b (suc i) .month) (λ (i : ℕ). monthAt b (suc i)) 366 n (months-computed b) h in
+    let d = same-values (λ (i : ℕ). found b (suc i) .dayOfMonth) (λ (i : ℕ). dayAt b (suc i)) 366 n (days-computed b) h in
+    λ j. record { month = m j; dayOfMonth = d j }
+
+-- day being the n-th day of the year moved
+pub month-of-moved : (k n day : ℕ) (b : Bool) → b ≡ leap k → 1 ≤ n → n ≤ 366 → day ≡ movedBy b n →
+    monthDayFrom 1 (monthDays k) n ≡ record { month = (12 * day + 361) / 367; dayOfMonth = day - (367 * ((12 * day + 361) / 367) - 362) / 12 }
+unfolding monthDays monthAt dayAt
+month-of-moved k zero day b e l h f = absurd (omega arith)
+month-of-moved k (suc n) day b e l h f = rw (← e, f) (month-computed b n (omega arith))

@@ -3,5 +3,6 @@ pub mod Date
 pub mod Clock
 pub mod Names
 pub mod Found
+pub mod Moved
 pub mod Made
 pub mod Tables

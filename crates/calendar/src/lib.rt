@@ -5,11 +5,11 @@ use values::Day;
 use values::Millisecond;
 ghost use mathlib.Core.Path.{_≡_};
 ghost use Prim.Native.Nat.{ℕ, suc, _+_, _^_, _≤_, _<_};
-ghost use lib.ListN.{getD};
 ghost use Rattle.calendar.specs.Year.{leap, firstDay, yearDayOf};
 ghost use Rattle.calendar.specs.Date.{monthDays, monthDayFrom, dateOf};
 ghost use Rattle.calendar.specs.Clock.{clockOf, twelveHour, afternoon, sinceDayZero, elapsedHours, elapsedMinutes, elapsedSeconds};
 ghost use Rattle.calendar.specs.Tables.{firstDays};
+ghost use Rattle.calendar.specs.Moved.{movedBy};
 ghost use Rattle.calendar.specs.Made.{madeYearDay, madeMonthDay, madeDate, madeClock};
 
 // A year, as 1900 + years, and a day of it, the first being 1.
@@ -106,48 +106,66 @@ fn is_leap(years: u32) -> bool
         return true;
     }
     let y = 1900 + years;
-    if y % 400 == 0 {
+    if y % 4 != 0 {
+        return false;
+    }
+    if y % 100 != 0 {
         return true;
     }
-    if y % 4 == 0 {
-        return y % 100 != 0;
-    }
-    false
+    y % 400 == 0
 }
 
-// The days of the month at a place, January being 0, of any year of this length.
-fn month_days(long: bool, i: usize) -> u32
-    requires { ⌜ i < 12 ⌝ }
-    ensures { λ r. ⌜ ((k : ℕ) → long ≡ leap k → r ≡ getD (monthDays k) i 0) ⌝ }
+// A day of a year in a year whose February has 30 days, so that months of 31 and 30 days take turns but at July and August.
+fn moved(long: bool, n: u32) -> u32
+    requires { ⌜ n ≤ 366 ⌝ }
+    ensures { λ r. ⌜ (r ≡ movedBy long n) × (n ≤ r) × (r ≤ n + 2) ⌝ }
 {
     if long {
-        return tables::LEAP_MONTHS[i];
+        if n <= 60 {
+            return n;
+        }
+        return n + 1;
     }
-    tables::COMMON_MONTHS[i]
+    if n <= 59 {
+        return n;
+    }
+    n + 2
 }
 
-// The month of the n-th day of the year 1900 + years, and the day of it.
+// The days behind December stand in a month 13.
+fn behind_december(long: bool, n: u32) -> MonthDay
+    requires { ⌜ 366 < n ⌝ }
+    ensures { λ r. ⌜ ((k : ℕ) → long ≡ leap k → r ≡ madeMonthDay (monthDayFrom 1 (monthDays k) n)) ⌝ }
+{
+    if long {
+        return MonthDay {
+            month: 13,
+            day: n - 366,
+        };
+    }
+    MonthDay {
+        month: 13,
+        day: n - 365,
+    }
+}
+
+// The month of the n-th day of the year 1900 + years, and the day of it: twelve months have 367 days once February has 30.
 fn month_day_of(years: u32, n: u32) -> MonthDay
     requires { ⌜ 1900 + years < 2 ^ 32 ⌝ }
     ensures { λ r. ⌜ r ≡ madeMonthDay (monthDayFrom 1 (monthDays years) n) ⌝ }
 {
-    let long = is_leap(years);
-    let mut rest = n;
-    let mut i: usize = 0;
-    while i < 12 {
-        let days = month_days(long, i);
-        if rest <= days {
-            return MonthDay {
-                month: i as u32 + 1,
-                day: rest,
-            };
-        }
-        rest -= days;
-        i += 1;
+    if n == 0 {
+        return MonthDay { month: 1, day: 0 };
     }
+    let long = is_leap(years);
+    if 366 < n {
+        return behind_december(long, n);
+    }
+    let day = moved(long, n);
+    let month = (12 * day + 361) / 367;
     MonthDay {
-        month: 13,
-        day: rest,
+        month: month,
+        day: day - (367 * month - 362) / 12,
     }
 }
 

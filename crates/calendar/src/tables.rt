@@ -1,4 +1,4 @@
-// The constant tables: each entry is what its rule in specs/ gives.
+// The constant table: each entry is what its rule in specs/ gives.
 
 // "The first day number of each year 1900 to 2300".
 pub const FIRST_DAYS: [u32; 401] = [
@@ -404,7 +404,3 @@ pub const FIRST_DAYS: [u32; 401] = [
     145734,
     146099,
 ];
-
-pub const LEAP_MONTHS: [u32; 12] = [31, 29, 31, 30, 31, 30, 31, 31, 30, 31, 30, 31];
-
-pub const COMMON_MONTHS: [u32; 12] = [31, 28, 31, 30, 31, 30, 31, 31, 30, 31, 30, 31];
