@@ -2,17 +2,18 @@
 -- Assumes nothing.
 use Prim.Native.Nat.{ℕ, _+_, _*_, _≤_, _<_}
 use native.Mathlib.Omega.{arith}
-use mathlib.Core.Path.{_≡_, refl, _∙_}
-use mathlib.Core.Bool.{Bool, true, false, not, _&&_}
+use mathlib.Core.Path.{_≡_, refl, sym, _∙_}
+use mathlib.Core.Bool.{Bool, true, false, not, _&&_, true≢false}
 use mathlib.Core.List.{List, [], _∷_, _++_}
 use lib.ListN.{length}
-use lib.Dec.{T, leb, leb→le}
+use lib.Dec.{leb, leb→le}
 use borrow.Author.Tests.{le-leb, lt-leb}
 use Rattle.answers.specs.declared.Answer.{Answer}
 use Rattle.answers.specs.declared.Answer.the-variants as answer
 use Rattle.answers.specs.declared.Shown.{Shown}
 use Rattle.answers.specs.Number.{refusedShown}
 use Rattle.lists.specs.Lists.{overlay}
+use Rattle.lists.proofs.Bools.{true-T}
 use Rattle.formats.specs.Reading.{refused, within}
 use Rattle.tables.specs.Calls.{shownAs, textAs}
 use Rattle.writing.specs.Put.{Put}
@@ -34,9 +35,9 @@ unfolding shownAs textAs overlay
 shows-refused old a = record { result = refl; room = refl }
 
 -- a room that surely takes a text: no text is lent, and it has 82 units for each two words and one for a minus
-sure : (lent : Bool) (words size : ℕ) → T (not lent && leb (41 * words + 1) size) → (lent ≡ false) × (41 * words + 1 ≤ size)
-sure true words size t = absurd t
-sure false words size t = (refl, leb→le (41 * words + 1) size t)
+pub sure : (lent : Bool) (words size : ℕ) → (not lent && leb (41 * words + 1) size) ≡ true → (lent ≡ false) × (41 * words + 1 ≤ size)
+sure true words size e = absurd (true≢false (sym e))
+sure false words size e = (refl, leb→le (41 * words + 1) size (true-T e))
 
 -- no room: a list of no length
 pub none : (l : List ℕ) → length l ≡ 0 → l ≡ []
@@ -58,14 +59,6 @@ module _ (old text : List ℕ) (colour i : ℕ) where
       let e : n ≡ length text = omega (arith, p .next) in
       let l : length text ≤ length old = omega arith in
       rw (le-leb (length text) (length old) l) (record { result = rw e; room = q .room ∙ sets-overlay old text l })
-
-  pub shows-sure : (lent : Bool) (words : ℕ) {n : ℕ} {out : List ℕ} → (lent ≡ false → n ≤ 41 * words + 1)
-      → T (not lent && leb (41 * words + 1) (length old)) → Put old 0 text n out
-      → Shows (within (length old) text colour i) old (record { answer = answer.Done; length = n; colour = colour; section = i }) out
-  shows-sure lent words {n} h t p =
-      let e = sure lent words (length old) t in
-      let fits : n ≤ length old = omega (arith, e .1, h (e .0)) in
-      shows-all p fits p
 
 -- no minus is no text
 pub unsigned : {old out : List ℕ} {r : Shown} (text : List ℕ) (colour i : ℕ) → Shows (within (length old) text colour i) old r out

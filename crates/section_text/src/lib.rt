@@ -1,9 +1,9 @@
 // The text of a section's items, shown whole in a lent room or not at all.
 ghost use mathlib.Core.Path.{_≡_};
-ghost use mathlib.Core.Bool.{true, false, not, _&&_};
+ghost use mathlib.Core.Bool.{true, false};
 ghost use mathlib.Core.List.{List, _++_};
 ghost use Prim.Native.Nat.{ℕ, _+_, _*_, _≤_, _<_, _^_};
-ghost use lib.Dec.{T, leb};
+ghost use lib.Dec.{T};
 ghost use lib.ListN.{length, getD};
 ghost use Rattle.answers.specs.Number.{refusedShown};
 ghost use Rattle.formats.specs.Items.{Kind, dateKind, kindOf, integerPlaces};
@@ -170,7 +170,7 @@ pub fn refuse(answer: Answer) -> Shown
 // Whether a room of this size surely takes the text of so many item words: 82 units an item, and a minus.
 fn is_roomy(size: usize, words: usize, lent: bool) -> bool
     requires { ⌜ words ≤ 508 ⌝ }
-    ensures { λ r. ⌜ r ≡ (not lent && leb (41 * words + 1) size) ⌝ }
+    ensures { λ r. ⌜ (r ≡ true → (lent ≡ false) × (41 * words + 1 ≤ size)) ⌝ }
 {
     !lent & (41 * words + 1 <= size)
 }
@@ -187,7 +187,7 @@ fn show_sure(
     section: u16,
 ) -> Shown
     requires { ⌜ (s .figures .used ≤ 40) × (s .lent ≡ true → length (now text) ≤ 1024) × (length (now items) ≤ 508)
-        × Ready (now items) (now digits) s (now text) × T (not (s .lent) && leb (41 * length (now items) + 1) (length (now room))) ⌝ }
+        × Ready (now items) (now digits) s (now text) × (s .lent ≡ false) × (41 * length (now items) + 1 ≤ length (now room)) ⌝ }
     ensures { λ r. ⌜ ((c : Context) (k : Kind) (q : ℕ) → SubjectIs k (now (digits .entry)) s (now (text .entry)) c → EntriesFit k q (entriesIn (now (items .entry)))
         → Shows (within (length (now (room .entry))) (signText minus ++ itemsUnits c q (itemsAt (entriesIn (now (items .entry))))) colour section)
         (now (room .entry)) r (now (room .exit))) ⌝ }
