@@ -5,7 +5,7 @@ use Prim.Native.Nat.{ℕ, zero, suc, _+_, _≤_, _<_}
 use native.Mathlib.Omega.{arith}
 use native.Mathlib.Nat.{zero-add}
 use mathlib.Core.Path.{_≡_, refl, sym, ap, _∙_}
-use mathlib.Core.Bool.{Bool, true, _||_, true≢false}
+use mathlib.Core.Bool.{Bool, true, false, cond, _||_, true≢false}
 use mathlib.Core.Logic.{_⊎_, inl, inr, _↔_}
 use mathlib.Core.List.{List, [], _∷_}
 use mathlib.Core.Option.{Option, none, some}
@@ -16,7 +16,7 @@ use Rattle.answers.specs.declared.Answer.{Answer}
 use Rattle.answers.specs.declared.Answer.the-variants as answer
 use Rattle.answers.specs.Number.{numberOf}
 use Rattle.lists.specs.Lists.{any, All, firstFailing}
-use Rattle.lists.proofs.Bools.{no, by-cases, cond-both, or-false}
+use Rattle.lists.proofs.Bools.{no, by-cases}
 use Rattle.lists.proofs.First.{first-exactly}
 use Rattle.formats.specs.Tokens as token
 use Rattle.formats.specs.Tokens.{Token, semicolon, broken, Placed, Lexed, good, bad, onto, lexFrom, lex}
@@ -71,9 +71,14 @@ first-of (refused b j ∷ vs) n s a k e =
     let same : b ≡ a = cc in
     record { index = 0; number = rw (← same) (omega (arith, s .0)); refuses = e; before = λ i h. absurd (omega arith) }
 
+-- a test that refuses by an answer or not at all
+says-if : (b : Bool) (a : Answer) (k : ℕ) → Says (numberOf a) (cond b (refused a k) fine)
+says-if true a k = refl
+says-if false a k = tt
+
 length-says : (code : List ℕ) → Says 1 (lengthVerdict code)
 unfolding lengthVerdict
-length-says code = cond-both (Says 1) (eqb (length code) 0 || ltb 254 (length code)) refl tt
+length-says code = says-if (eqb (length code) 0 || ltb _ (length code)) answer.CodeLength 0
 
 token-says : (l : Lexed) → Says 2 (tokenVerdict l)
 unfolding tokenVerdict
@@ -82,7 +87,7 @@ token-says (bad k) = refl
 
 count-says : (places : List ℕ) → Says 3 (countVerdict places)
 unfolding countVerdict
-count-says places = cond-both (Says 3) (ltb 3 (length places)) refl tt
+count-says places = says-if (ltb _ (length places)) answer.SectionCount _
 
 section-says : (a : Answer) (o : Option ℕ) → Says (numberOf a) (sectionVerdict a o)
 unfolding sectionVerdict
@@ -175,14 +180,17 @@ fine-verdict code f =
 
 -- ---- 1: the length
 
+fine-between : (n most : ℕ) → cond (eqb n 0 || ltb most n) (refused answer.CodeLength 0) fine ≡ fine → (1 ≤ n) × (n ≤ most)
+fine-between n most e =
+    by-cases (eqb n 0)
+    (λ t. not-refused (sym (rw t at e)))
+    (λ t. by-cases (ltb most n)
+    (λ u. not-refused (sym (rw (t, u) at e)))
+    (λ u. let least = eqb-false n 0 t in (omega arith, ltb-false most n u)))
+
 pub length-bounds : (code : List ℕ) → lengthVerdict code ≡ fine → (1 ≤ length code) × (length code ≤ 254)
 unfolding lengthVerdict
-length-bounds code e = by-cases (eqb (length code) 0 || ltb 254 (length code))
-    (λ t. not-refused (sym (rw t at e)))
-    (λ t. let (p, q) = or-false (eqb (length code) 0) (ltb 254 (length code)) t in
-    let some-unit = eqb-false (length code) 0 p in
-    let few = ltb-false 254 (length code) q in
-    (omega arith, omega arith))
+length-bounds code e = let (least, most) = fine-between (length code) _ e in (least, omega arith)
 
 bounds-length : (code : List ℕ) → 1 ≤ length code → length code ≤ 254 → lengthVerdict code ≡ fine
 unfolding lengthVerdict
