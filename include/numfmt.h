@@ -98,6 +98,13 @@ numfmt_prepared numfmt_prepare(const uint16_t *code, size_t code_len,
 numfmt_part numfmt_section(const uint16_t *code, size_t code_len, uint32_t n);
 
 /*
+ * Tests the words of a table, as every call that shows does first: 0 when they
+ * pass the table rules, else 8. For tables that were kept outside, in a file
+ * say. Writes nothing.
+ */
+uint16_t numfmt_check(const uint16_t *table, size_t table_len);
+
+/*
  * Shows the number coefficient / 10^scale: at most fifteen digits, scale 0 to
  * 15. Refuses with 8 to 13.
  */

@@ -1,7 +1,9 @@
 -- What the calls for C return (R115): what the Rattle calls return, with the answer as its number in the answer list.
 -- Assumes nothing.
 use Prim.Native.Nat.{ℕ}
+use mathlib.Core.Bool.{Bool, cond}
 use lib.IntN.{ℤ}
+use Rattle.answers.specs.declared.Answer.the-variants as answer
 use Rattle.answers.specs.declared.Prepared.{Prepared}
 use Rattle.answers.specs.declared.Shown.{Shown}
 use Rattle.answers.specs.Number.{numberOf}
@@ -21,6 +23,10 @@ preparedNumbers p = record { answer = numberOf (p .answer); place = p .place; wo
 
 abbrev pub partNumbers : Span → PartNumbers
 partNumbers s = record { start = s .start; length = s .size }
+
+-- of words that pass the table rules, or do not; 8: "the table breaks a table rule"
+abbrev pub checkNumber : Bool → ℕ
+checkNumber passed = cond passed (numberOf answer.Done) (numberOf answer.Table)
 
 abbrev pub shownNumbers : Shown → ShownNumbers
 shownNumbers s = record { answer = numberOf (s .answer); length = s .length; colour = s .colour; section = s .section }

@@ -4,10 +4,13 @@ ghost use mathlib.Core.Path.{_≡_};
 ghost use lib.ListN.{length};
 ghost use mathlib.Core.List.{[]};
 ghost use Rattle.formats.specs.Accept.{sectionSpan};
+ghost use Rattle.tables.specs.Rules.{passes};
 ghost use Rattle.tables.specs.Calls.{prepared, tableAfter, showing, roomAfter};
-ghost use Rattle.c_api.specs.Numbers.{preparedNumbers, partNumbers, shownNumbers, numberAsk, instantAsk, textAsk};
+ghost use Rattle.c_api.specs.Numbers.{preparedNumbers, partNumbers, checkNumber, shownNumbers, numberAsk, instantAsk, textAsk};
+use answers::Answer;
 use answers::Shown;
 use answers::number;
+use checking::check;
 use showing::show;
 use spans::section_span;
 use values::Ask;
@@ -63,6 +66,18 @@ pub extern "C" fn numfmt_section(code: &[u16], n: u32) -> PartNumbers
     PartNumbers {
         start: s.start as u32,
         length: s.size as u32,
+    }
+}
+
+// Whether the words are a table: what the calls that show test first.
+#[no_mangle]
+pub extern "C" fn numfmt_check(table: &[u16]) -> u16
+    ensures { λ r. ⌜ r ≡ checkNumber (passes (now (table .entry))) ⌝ }
+{
+    if check(table) {
+        number(Answer::Done)
+    } else {
+        number(Answer::Table)
     }
 }
 

@@ -2,6 +2,7 @@
 use c_api::PartNumbers;
 use c_api::PreparedNumbers;
 use c_api::ShownNumbers;
+use c_api::numfmt_check;
 use c_api::numfmt_prepare;
 use c_api::numfmt_section;
 use c_api::numfmt_show_instant;
@@ -14,6 +15,10 @@ fn prepare(code: &[u16], table: &mut [u16]) -> PreparedNumbers {
 
 fn section(code: &[u16], n: u32) -> PartNumbers {
     numfmt_section(code, n)
+}
+
+fn check(table: &[u16]) -> u16 {
+    numfmt_check(table)
 }
 
 fn show_number(table: &[u16], coefficient: i64, scale: u32, room: &mut [u16]) -> ShownNumbers {
