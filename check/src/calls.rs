@@ -26,6 +26,7 @@ pub struct Part {
 pub trait Calls {
     fn prepare(&self, code: &[u16], table: &mut [u16]) -> Prepared;
     fn section(&self, code: &[u16], n: u32) -> Part;
+    fn check(&self, table: &[u16]) -> u16;
     fn show(&self, table: &[u16], value: &Value, room: &mut [u16]) -> Shown;
 }
 
@@ -47,6 +48,14 @@ impl Calls for Oracle {
     fn section(&self, code: &[u16], n: u32) -> Part {
         let (start, length) = oracle::section(code, n);
         Part { start, length }
+    }
+
+    fn check(&self, table: &[u16]) -> u16 {
+        if oracle::check_table(table) {
+            answer::DONE
+        } else {
+            answer::TABLE
+        }
     }
 
     fn show(&self, table: &[u16], value: &Value, room: &mut [u16]) -> Shown {

@@ -1,6 +1,6 @@
 //! One comparison: what is asked, what the oracle gives for it, and whether the library agrees.
 
-use crate::calls::{refused, Calls, Part, Prepared, Shown};
+use crate::calls::{refused, Calls, Oracle, Part, Prepared, Shown};
 use crate::oracle::{self, answer, Reading, Value, PROGRAM_TABLE_WORDS};
 
 /// Units in front of and behind a lent room, which nothing may touch.
@@ -170,6 +170,12 @@ fn section(calls: &dyn Calls, counts: &mut Counts, code: &[u16], n: u32) -> Resu
     Ok(())
 }
 
+fn check(calls: &dyn Calls, table: &[u16]) -> Result<(), String> {
+    let (found, expected) = (calls.check(table), Oracle.check(table));
+    same(&headline("checking", (found, expected)), &found, &expected)
+}
+
+/// Every table that is shown through is checked as well.
 fn show(
     calls: &dyn Calls,
     counts: &mut Counts,
@@ -187,6 +193,7 @@ fn show(
     };
     let answers = (found.answer, wanted.answer);
     same(&headline("showing", answers), &found, &wanted)?;
+    check(calls, &lent.0)?;
     text.holds(units)?;
     same("the table lent", &lent.0.as_slice(), &table)?;
     same("the value lent", &&lent.1, &value)?;

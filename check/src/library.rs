@@ -26,6 +26,10 @@ impl Calls for Linked {
         }
     }
 
+    fn check(&self, table: &[u16]) -> u16 {
+        calls::check(table)
+    }
+
     fn show(&self, table: &[u16], value: &Value, room: &mut [u16]) -> Shown {
         let given = match value {
             Value::Number { coefficient, scale } => {

@@ -26,6 +26,7 @@ enum Fault {
     TableTail,
     Place,
     Part,
+    Check,
     Colour,
     PastRoom,
 }
@@ -51,6 +52,14 @@ impl Calls for Double {
             given.length -= 1;
         }
         given
+    }
+
+    fn check(&self, table: &[u16]) -> u16 {
+        let given = Oracle.check(table);
+        match self.0 {
+            Fault::Check if given == answer::TABLE && table.len() > 20 => answer::DONE,
+            _ => given,
+        }
     }
 
     fn show(&self, table: &[u16], value: &Value, room: &mut [u16]) -> Shown {
@@ -89,6 +98,7 @@ fn every_fault_is_found() {
     assert!(found(&Double(Fault::TableTail)));
     assert!(found(&Double(Fault::Place)));
     assert!(found(&Double(Fault::Part)));
+    assert!(found(&Double(Fault::Check)));
     assert!(found(&Double(Fault::Colour)));
     assert!(found(&Double(Fault::PastRoom)));
 }

@@ -57,6 +57,7 @@ unsafe extern "C" {
         table_len: usize,
     ) -> Prepared;
     fn numfmt_section(code: *const u16, code_len: usize, n: u32) -> Part;
+    fn numfmt_check(table: *const u16, table_len: usize) -> u16;
     fn numfmt_show_number(
         table: *const u16,
         table_len: usize,
@@ -93,6 +94,12 @@ pub fn prepare(code: &[u16], table: &mut [u16]) -> Prepared {
 pub fn section(code: &[u16], n: u32) -> Part {
     // SAFETY: the pointer is a slice's, with its length; nothing is written.
     unsafe { numfmt_section(code.as_ptr(), code.len(), n) }
+}
+
+/// Whether the words are a table: 0, or 8 where they break a table rule.
+pub fn check(table: &[u16]) -> u16 {
+    // SAFETY: the pointer is a slice's, with its length; nothing is written.
+    unsafe { numfmt_check(table.as_ptr(), table.len()) }
 }
 
 /// Shows the number coefficient / 10^scale.

@@ -68,14 +68,8 @@ impl Table {
     /// # Ok::<(), numfmt::Refusal>(())
     /// ```
     pub fn from_words(words: &[u16]) -> Result<Table, Refusal> {
-        // Showing tests the table before all else, so that no other answer is given for one that breaks a rule.
-        match calls::show_text(words, &[], &mut []).answer {
-            answer if answer == Answer::Table.number() => Err(Refusal {
-                answer: Answer::Table,
-                place: 0,
-            }),
-            _ => Ok(Table(words.to_vec())),
-        }
+        Refusal::told(calls::check(words), 0)?;
+        Ok(Table(words.to_vec()))
     }
 
     pub fn words(&self) -> &[u16] {
