@@ -10,6 +10,7 @@ pub record Clock : Type 0 where
   pub second : ℕ
   pub thousandth : ℕ
 
+-- the millisecond of the day cut to whole units (R86)
 unfoldable pub clockOf : ℕ → Clock
 clockOf ms =
     record {
@@ -23,6 +24,7 @@ clockOf ms =
 unfoldable pub twelveHour : ℕ → ℕ
 twelveHour h = cond (eqb (h % 12) 0) 12 (h % 12)
 
+-- from noon on (R87)
 unfoldable pub afternoon : ℕ → Bool
 afternoon h = leb 12 h
 

@@ -332,7 +332,7 @@ unfoldable pub lastFill : List Item → List Item
 lastFill [] = []
 lastFill (i ∷ is) = let r = lastFill is in cond (isFill i && any isFill is) r (i ∷ r)
 
--- the number of a condition in millionths, "0 at zero" for its sign
+-- the number of a condition in millionths, "0 at zero" for its sign (R45); more than six decimals are refused by 6
 unfoldable pub millionthsOf : Written → ℕ
 millionthsOf w = numberFrom 0 (w .whole) * 10 ^ 6 + numberFrom 0 (w .decimals) * 10 ^ (6 - length (w .decimals))
 

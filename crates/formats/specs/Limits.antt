@@ -45,5 +45,6 @@ unfoldable pub writtenWithin : Option Written → Bool
 writtenWithin none = true
 writtenWithin (some w) = leb (length (w .whole)) 9 && leb (length (w .decimals)) 6
 
+-- a section of a code passes no limit, else 6
 unfoldable pub withinLimits : Parts → Bool
 withinLimits p = writtenWithin (p .condition) && sectionWithin (sectionOf p)

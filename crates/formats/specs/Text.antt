@@ -79,6 +79,7 @@ placeUnits c p q = cond (atFirstInteger c q) (unitsBeyond c q) [] ++ figureUnits
 unfoldable pub pointUnits : Context → List ℕ
 pointUnits c = cond (eqb (c .integerPlaces) 0) (unitsBeyond c firstDecimal) [] ++ (46 ∷ [])
 
+-- a year: its last two digits, or all of it (R85)
 unfoldable pub yearUnits : ℕ → ℕ → List ℕ
 yearUnits n y = cond (eqb n 2) (numeral 2 (y % 100)) (numeral 4 y)
 
@@ -97,11 +98,13 @@ hourShown twelve h = cond twelve (twelveHour h) h
 unfoldable pub partUnits : ℕ → ℕ → List ℕ
 partUnits n thousandth = 46 ∷ digitUnits n (thousandth / 10 ^ (3 - n))
 
+-- "Elapsed tokens count all whole units since day 0" (R88)
 unfoldable pub elapsedCount : Elapsed → ℕ → ℕ
 elapsedCount hours total = elapsedHours total
 elapsedCount minutes total = elapsedMinutes total
 elapsedCount seconds total = elapsedSeconds total
 
+-- a half-day mark, before noon or from noon on (R87)
 unfoldable pub halfUnits : HalfDay → Bool → List ℕ
 halfUnits short true = units "P"
 halfUnits short false = units "A"

@@ -113,6 +113,7 @@ itemsInAll (s ∷ ss) = length (s .items) + itemsInAll ss
 unfoldable pub allStand : List Section → Bool
 allStand ss = not (isSome (firstFailing (standsAt (length ss)) 0 ss))
 
+-- one to four sections, "at most 254 items in all", each formed, each where it may stand (R95, R96, R100)
 unfoldable pub wellFormed : List Section → Bool
 wellFormed ss =
     between 1 4 (length ss)

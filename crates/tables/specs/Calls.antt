@@ -40,6 +40,7 @@ prepared code size = preparedAs (accept code) size
 unfoldable pub written : List ℕ → List ℕ → List ℕ
 written new old = cond (leb (length new) (length old)) (overlay new old) old
 
+-- what preparing leaves in the table room (R107)
 unfoldable pub tableAfter : List ℕ → List ℕ → List ℕ
 tableAfter code old = written (tableOf code) old
 
@@ -61,5 +62,6 @@ textAs (shown text colour section) = text
 unfoldable pub showing : List ℕ → Ask → List ℕ → ℕ → Shown
 showing table ask text size = shownAs (tableReading table ask text size)
 
+-- what showing leaves in the text room (R110)
 unfoldable pub roomAfter : List ℕ → Ask → List ℕ → List ℕ → List ℕ
 roomAfter table ask text old = overlay (textAs (tableReading table ask text (length old))) old

@@ -65,6 +65,7 @@ itemAt e =
 unfoldable pub itemsAt : List Entry → List Item
 itemsAt es = map itemAt es
 
+-- flag 1 is set (R92)
 unfoldable pub groupedAt : ℕ → Bool
 groupedAt flags = eqb (flags % 2) 1
 

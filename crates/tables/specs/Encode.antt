@@ -39,10 +39,12 @@ unfoldable pub bit : Bool → ℕ
 bit true = 1
 bit false = 0
 
+-- "negative 0/1 (0 at zero)" (R90)
 unfoldable pub negativeWord : Option Condition → ℕ
 negativeWord none = 0
 negativeWord (some c) = bit (c .negative)
 
+-- "condition's whole part [..], millionths" (R90)
 unfoldable pub wholePart : Option Condition → ℕ
 wholePart none = 0
 wholePart (some c) = c .millionths / 10 ^ 6
@@ -73,6 +75,7 @@ noMinus n i firstHas s = exceptionA n i (hasCondition s) firstHas
 unfoldable pub hasHalf : List Item → Bool
 hasHalf is = any isHalf is
 
+-- "decimal places" of a number section, else 0 (R93)
 unfoldable pub decimalsWord : Section → ℕ
 decimalsWord s = cond (sameKind (kindOf s) numberKind) (decimalPlaces (s .items)) 0
 
