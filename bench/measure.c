@@ -2,8 +2,6 @@
 
 #include "measure.h"
 
-#include <stdio.h>
-#include <stdlib.h>
 #include <time.h>
 
 /* All results go here, so that the compiler may leave out no call. */
@@ -25,29 +23,16 @@ static double time_of(const job *one)
     return (now() - start) / CALLS;
 }
 
-static int ascending(const void *left, const void *right)
+void measure(job *jobs, size_t count, unsigned rounds)
 {
-    double a = *(const double *)left, b = *(const double *)right;
+    unsigned round;
+    size_t which;
 
-    return (a > b) - (a < b);
-}
+    for (round = 0; round < rounds; round++)
+        for (which = 0; which < count; which++) {
+            double time = time_of(&jobs[which]);
 
-void measure(job *jobs, size_t count)
-{
-    double *times = malloc(count * ROUNDS * sizeof *times);
-    size_t round, which;
-
-    if (times == NULL) {
-        perror("malloc");
-        exit(1);
-    }
-    for (round = 0; round < ROUNDS; round++)
-        for (which = 0; which < count; which++)
-            times[which * ROUNDS + round] = time_of(&jobs[which]);
-    for (which = 0; which < count; which++) {
-        qsort(times + which * ROUNDS, ROUNDS, sizeof *times, ascending);
-        jobs[which].best = times[which * ROUNDS];
-        jobs[which].median = times[which * ROUNDS + ROUNDS / 2];
-    }
-    free(times);
+            if (round == 0 || time < jobs[which].best)
+                jobs[which].best = time;
+        }
 }

@@ -1,4 +1,4 @@
-/* Times jobs in turn, so that a busy moment of the machine falls on all alike. */
+/* Times jobs in turn. */
 #ifndef MEASURE_H
 #define MEASURE_H
 
@@ -6,22 +6,25 @@
 #include <stdint.h>
 
 #include "plain.h"
+#include "walker.h"
 
 /* Each batch of a job makes this many calls. */
-enum { CALLS = 1000, ROUNDS = 400 };
+enum { CALLS = 1000 };
 
-/* One thing to time: what a batch calls, with what, and what came out. */
+/* One thing to measure: what a batch calls, with what, and what came out. */
 typedef struct job {
     uint64_t (*batch)(const struct job *); /* gives a sum over all results, to be kept */
     const uint16_t *units;                 /* a table or a code */
     size_t count;
     size_t room_len;
-    plain_number *number;
-    plain_instant *instant;
-    double best, median; /* nanoseconds a call */
+    show_number *number;
+    show_instant *instant;
+    plain_number *plain_number;
+    plain_instant *plain_instant;
+    double best; /* nanoseconds a call */
 } job;
 
-/* Runs every job once a round and fills in its best and its median. */
-void measure(job *jobs, size_t count);
+/* Runs every job once a round, so that a busy moment of the machine falls on all alike, and fills in its best. */
+void measure(job *jobs, size_t count, unsigned rounds);
 
 #endif

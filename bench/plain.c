@@ -3,6 +3,9 @@
 #include <stdbool.h>
 #include <string.h>
 
+#include "calendar.h"
+#include "powers.h"
+
 enum { MOST = 48, RED = 3 };
 
 /* A text under way. It grows from its end to its front, as digits come. */
@@ -10,25 +13,6 @@ typedef struct {
     uint16_t units[MOST];
     size_t first;
 } backward;
-
-static const uint64_t power_of_ten[] = {
-    1u,
-    10u,
-    100u,
-    1000u,
-    10000u,
-    100000u,
-    1000000u,
-    10000000u,
-    100000000u,
-    1000000000u,
-    10000000000u,
-    100000000000u,
-    1000000000000u,
-    10000000000000u,
-    100000000000000u,
-    1000000000000000u,
-};
 
 static void put(backward *text, char unit)
 {
@@ -159,43 +143,6 @@ plain_text plain_general(int64_t coefficient, uint32_t scale, uint16_t *room, si
     if (coefficient < 0 && !nought)
         put(&text, '-');
     return keep(&text, 0, room, room_len);
-}
-
-typedef struct {
-    uint32_t year, month, day;
-} date;
-
-/*
- * Counts from 1 March of year 0, so that the leap day is the last of its year:
- * the month then follows from the day of the year by one division.
- */
-static date gregorian(uint32_t since_march)
-{
-    uint32_t era = since_march / 146097;
-    uint32_t day_of_era = since_march % 146097;
-    uint32_t year_of_era =
-        (day_of_era - day_of_era / 1460 + day_of_era / 36524 - day_of_era / 146096) / 365;
-    uint32_t day_of_year = day_of_era - (365 * year_of_era + year_of_era / 4 - year_of_era / 100);
-    uint32_t month = (5 * day_of_year + 2) / 153;
-    date found;
-
-    found.day = day_of_year - (153 * month + 2) / 5 + 1;
-    found.month = month < 10 ? month + 3 : month - 9;
-    found.year = era * 400 + year_of_era + (month < 10 ? 0 : 1);
-    return found;
-}
-
-/* Day 0 is 0 January 1900, and day 60 is a 29 February that never was. */
-static date date_of(uint32_t day)
-{
-    static const date nought = {1900, 1, 0};
-    static const date never = {1900, 2, 29};
-
-    if (day == 0)
-        return nought;
-    if (day == 60)
-        return never;
-    return gregorian(day < 60 ? day + 693900 : day + 693899);
 }
 
 plain_text plain_date(uint32_t day, uint32_t millisecond, uint16_t *room, size_t room_len)

@@ -2,39 +2,25 @@
 
 #include <stddef.h>
 
+#include "powers.h"
+#include "random.h"
+
 int64_t coefficients[CALLS];
 uint32_t scales[CALLS];
 double doubles[CALLS];
 uint32_t days[CALLS], milliseconds[CALLS];
 
-static uint64_t random_bits(void)
-{
-    static uint64_t state = 88172645463325252u;
-
-    state ^= state << 13;
-    state ^= state >> 7;
-    state ^= state << 17;
-    return state;
-}
-
-static int64_t ten_to(uint32_t power)
-{
-    int64_t result = 1;
-
-    while (power-- > 0)
-        result *= 10;
-    return result;
-}
+static uint64_t state = 88172645463325252u;
 
 /* Mixed numbers have up to ten digits, at most four of them behind the point; amounts up to eight, two of them. */
 static void make_number(size_t at, number_sort sort)
 {
-    int64_t most = ten_to(sort == AMOUNTS ? 8 : 4 + (uint32_t)(random_bits() % 7));
-    int64_t magnitude = (int64_t)(random_bits() % (uint64_t)most);
+    int64_t most = (int64_t)power_of_ten[sort == AMOUNTS ? 8 : 4 + random_bits(&state) % 7];
+    int64_t magnitude = (int64_t)(random_bits(&state) % (uint64_t)most);
 
-    coefficients[at] = random_bits() % 2 ? -magnitude : magnitude;
-    scales[at] = sort == AMOUNTS ? 2 : (uint32_t)(random_bits() % 5);
-    doubles[at] = (double)coefficients[at] / (double)ten_to(scales[at]);
+    coefficients[at] = random_bits(&state) % 2 ? -magnitude : magnitude;
+    scales[at] = sort == AMOUNTS ? 2 : (uint32_t)(random_bits(&state) % 5);
+    doubles[at] = (double)coefficients[at] / (double)power_of_ten[scales[at]];
 }
 
 /*
@@ -45,11 +31,11 @@ static void make_number(size_t at, number_sort sort)
 static void make_instant(size_t at)
 {
     uint64_t stretch = at * 617 % CALLS;
-    uint64_t near = 18264 + 36 * stretch + random_bits() % 36;
-    uint64_t any = 2958 * stretch + random_bits() % 2958;
+    uint64_t near = 18264 + 36 * stretch + random_bits(&state) % 36;
+    uint64_t any = 2958 * stretch + random_bits(&state) % 2958;
 
     days[at] = (uint32_t)(at % 2 ? near : any);
-    milliseconds[at] = (uint32_t)(random_bits() % 86400000);
+    milliseconds[at] = (uint32_t)(random_bits(&state) % 86400000);
 }
 
 void make_values(number_sort sort)

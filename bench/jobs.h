@@ -1,0 +1,60 @@
+/* The codes of the benchmark, and every job of a run: all of them in one, so that all ratios are of the same minutes. */
+#ifndef JOBS_H
+#define JOBS_H
+
+#include "measure.h"
+
+/*
+ * Rooms, in units. The library writes at once where the room surely takes the
+ * text, and measures the text first where it may not. A room of AMPLE takes the
+ * longest text that any section shows for a number.
+ */
+enum { ROOM = 4096, SHORT_ROOM = 64, AMPLE = 82 * NUMFMT_CODE_MOST + 1 };
+
+enum { SPECIMENS = 6, LITERALS = 7, PLACES = 8, SECTIONS = 4 };
+
+/* A code's units and its table. */
+typedef struct {
+    uint16_t code[NUMFMT_CODE_MOST];
+    size_t code_len;
+    uint16_t table[NUMFMT_TABLE_WORDS];
+    size_t words;
+} prepared;
+
+/* A code with the hand-written formatter for it; a number's or an instant's. */
+typedef struct {
+    const char *code;
+    plain_number *number;
+    plain_instant *instant;
+    prepared made;
+} specimen;
+
+extern specimen specimens[SPECIMENS];
+extern const double literal_counts[LITERALS], place_counts[PLACES], section_counts[SECTIONS];
+
+/* Each name is where its jobs begin. Those before COUNTED are timed on both sorts of numbers. */
+enum {
+    PRINT,
+    LIBRARY,
+    LIBRARY_SHORT = LIBRARY + SPECIMENS,
+    WALKER = LIBRARY_SHORT + SPECIMENS,
+    WALKER_SHORT = WALKER + SPECIMENS,
+    PLAIN = WALKER_SHORT + SPECIMENS,
+    PREPARE = PLAIN + SPECIMENS,
+    PREPARE_LONGEST = PREPARE + SPECIMENS,
+    COUNTED,
+    BY_LITERALS = COUNTED,
+    BY_LITERALS_SHORT = BY_LITERALS + LITERALS,
+    BY_PLACES = BY_LITERALS_SHORT + LITERALS,
+    BY_PLACES_SHORT = BY_PLACES + PLACES,
+    BY_SECTIONS = BY_PLACES_SHORT + PLACES,
+    BY_SECTIONS_SHORT = BY_SECTIONS + SECTIONS,
+    JOBS = BY_SECTIONS_SHORT + SECTIONS
+};
+
+extern job jobs[JOBS];
+
+/* Prepares the codes and fills in the jobs; ends the program where a code is refused. */
+void make_jobs(void);
+
+#endif
