@@ -11,21 +11,28 @@ enum { RANDOM_TABLES = 100000, RANDOM_SEED = 1 };
 
 /* Tables */
 
+/* Nanoseconds, and instructions where they were counted. */
 static void print_cell(const job *of)
 {
-    printf(" %.0f |", of->best);
+    printf(" %.0f", of->best);
+    if (of->instructions > 0)
+        printf(" / %.0f", of->instructions);
+    printf(" |");
 }
 
 static void print_ratio(const job *of, const job *to)
 {
-    printf(" %.2f |", of->best / to->best);
+    printf(" %.2f", of->best / to->best);
+    if (to->instructions > 0)
+        printf(" / %.2f", of->instructions / to->instructions);
+    printf(" |");
 }
 
 static void print_showing(const char *numbers)
 {
     size_t at;
 
-    printf("Showing %s, a call: nanoseconds\n\n", numbers);
+    printf("Showing %s, a call: nanoseconds / instructions\n\n", numbers);
     printf("| code | library | walker | library/walker | plain C | library, room of %d | walker, room of %d | library/walker |\n",
            SHORT_ROOM, SHORT_ROOM);
     printf("|---|---|---|---|---|---|---|---|\n");
@@ -62,7 +69,7 @@ static void print_preparing(void)
     char code[40];
     size_t at;
 
-    printf("Preparing, a call: nanoseconds\n\n");
+    printf("Preparing, a call: nanoseconds / instructions\n\n");
     printf("| code | units | a call | nanoseconds a unit | in shows |\n|---|---|---|---|---|\n");
     for (at = 0; at < SPECIMENS; at++) {
         snprintf(code, sizeof code, "`%s`", specimens[at].code);
@@ -105,9 +112,9 @@ static void print_growths(FILE *data)
 
 /* Modes */
 
-static FILE *opened(const char *path)
+static FILE *opened(const char *path, const char *mode)
 {
-    FILE *file = fopen(path, "w");
+    FILE *file = fopen(path, mode);
 
     if (file == NULL) {
         perror(path);
@@ -116,40 +123,67 @@ static FILE *opened(const char *path)
     return file;
 }
 
-static void measure_on(number_sort sort, size_t count, unsigned rounds)
+/* One line for each job, of a batch's instructions; an empty file where none were counted. */
+static void read_counts(FILE *counts)
+{
+    size_t at;
+    double batch;
+
+    for (at = 0; at < COUNTED; at++)
+        jobs[at].instructions = fscanf(counts, "%lf", &batch) == 1 ? batch / CALLS : 0;
+}
+
+static void measure_on(number_sort sort, size_t count, unsigned rounds, FILE *counts)
 {
     make_values(sort);
     compare_specimens();
+    read_counts(counts);
     measure(jobs, count, rounds);
 }
 
-static void print_tables(const char *data_path, unsigned rounds)
+static void print_tables(const char *counts_path, const char *data_path, unsigned rounds)
 {
-    FILE *data = opened(data_path);
+    FILE *counts = opened(counts_path, "r"), *data = opened(data_path, "w");
 
     compare_random(RANDOM_TABLES, RANDOM_SEED);
     printf("\n");
-    measure_on(AMOUNTS, COUNTED, rounds);
+    measure_on(AMOUNTS, COUNTED, rounds, counts);
     print_showing("amounts");
-    measure_on(MIXED, JOBS, rounds);
+    measure_on(MIXED, JOBS, rounds, counts);
     print_showing("mixed numbers");
     print_preparing();
     print_growths(data);
+    fclose(counts);
     if (fclose(data) != 0) {
         perror(data_path);
         exit(1);
     }
 }
 
+/* What is run under a tool that counts: the jobs in the order in which read_counts takes them. */
+static void run_for_counts(number_sort sort)
+{
+    size_t which;
+
+    make_values(sort);
+    for (which = 0; which < COUNTED; which++) {
+        run_batch(&jobs[which]);
+        job_done();
+    }
+}
+
 int main(int count, char **arguments)
 {
     make_jobs();
-    if (count == 4 && strcmp(arguments[1], "tables") == 0)
-        print_tables(arguments[2], (unsigned)strtoul(arguments[3], NULL, 10));
+    if (count == 5 && strcmp(arguments[1], "tables") == 0)
+        print_tables(arguments[2], arguments[3], (unsigned)strtoul(arguments[4], NULL, 10));
     else if (count == 4 && strcmp(arguments[1], "compare") == 0)
         compare_random(strtoull(arguments[2], NULL, 10), strtoull(arguments[3], NULL, 10));
-    else {
-        fprintf(stderr, "usage: bench tables DATA ROUNDS | bench compare TABLES SEED\n");
+    else if (count == 2 && strcmp(arguments[1], "once") == 0) {
+        run_for_counts(AMOUNTS);
+        run_for_counts(MIXED);
+    } else {
+        fprintf(stderr, "usage: bench tables COUNTS DATA ROUNDS | bench compare TABLES SEED | bench once\n");
         return 2;
     }
     return 0;

@@ -32,7 +32,7 @@ typedef struct {
 extern specimen specimens[SPECIMENS];
 extern const double literal_counts[LITERALS], place_counts[PLACES], section_counts[SECTIONS];
 
-/* Each name is where its jobs begin. Those before COUNTED are timed on both sorts of numbers. */
+/* Each name is where its jobs begin. Those before COUNTED are counted by instructions too. */
 enum {
     PRINT,
     LIBRARY,

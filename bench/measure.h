@@ -1,4 +1,4 @@
-/* Times jobs in turn. */
+/* Measures jobs: by time, or one batch of each for a tool that counts instructions. */
 #ifndef MEASURE_H
 #define MEASURE_H
 
@@ -21,10 +21,17 @@ typedef struct job {
     show_instant *instant;
     plain_number *plain_number;
     plain_instant *plain_instant;
-    double best; /* nanoseconds a call */
+    double best;         /* nanoseconds a call */
+    double instructions; /* a call; 0 where they were not counted */
 } job;
 
 /* Runs every job once a round, so that a busy moment of the machine falls on all alike, and fills in its best. */
 void measure(job *jobs, size_t count, unsigned rounds);
+
+/* Runs a job's batch once. */
+void run_batch(const job *one);
+
+/* To be called behind a job: where a tool that counts instructions writes what it has, and begins anew. */
+void job_done(void);
 
 #endif
