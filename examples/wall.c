@@ -155,10 +155,10 @@ static int put_row(const row *asked)
     numfmt_prepared made = numfmt_prepare(code, to_units(asked->code, code), table, NUMFMT_TABLE_WORDS);
     numfmt_shown shown;
 
-    if (made.answer != NUMFMT_DONE)
+    if (made.answer != NUMFMT_ANSWER_DONE)
         return refused(asked, made.answer, made.place);
     shown = show(asked, table, made.words, room);
-    if (shown.answer != NUMFMT_DONE)
+    if (shown.answer != NUMFMT_ANSWER_DONE)
         return refused(asked, shown.answer, 0);
     printf("%-18s \033[%dm", asked->label, terminal_colour(shown.colour));
     put_units(room, shown.length);

@@ -4,13 +4,18 @@
  *
  * Codes, tables, texts and rooms are lent runs of 16-bit units (UTF-16; a unit
  * may be any number). No call keeps a pointer, allocates or needs a start or an
- * end: calls on different memory may run side by side.
+ * end. Any number of threads may call at once, and lend the same code, table or
+ * text, where each has a table room or text room of its own.
  *
  * What a caller owes, and nothing checks:
  *   - each pointer is valid for the length beside it, aligned for a uint16_t;
- *   - no pointer is null, not even with length 0;
+ *   - no pointer is null, not even with length 0. An empty vector's data() may
+ *     be null: lend a unit of your own with length 0 instead,
+ *         static const uint16_t none = 0;
+ *         numfmt_show_text(table, words, &none, 0, room, room_len);
  *   - memory that a call may write (the table of numfmt_prepare, the room of
- *     the others) overlaps nothing else lent in the same call.
+ *     the others) overlaps nothing else lent in the same call;
+ *   - NUMFMT_STACK_BYTES of stack are free.
  * All else is checked by the call: any units at all may be lent as a code, a
  * table or a text, and any number may be given as a value.
  *
@@ -29,6 +34,10 @@
 extern "C" {
 #endif
 
+/* The version of this header and its archive: 10000 * major + 100 * minor + patch. */
+#define NUMFMT_VERSION 100
+#define NUMFMT_VERSION_TEXT "0.1.0"
+
 /* Words of table room that hold the table of every accepted code. */
 #define NUMFMT_TABLE_WORDS 557
 /* Most units of a code. */
@@ -37,23 +46,66 @@ extern "C" {
 #define NUMFMT_TEXT_MOST 1024
 
 /*
+ * Most units that a call shows through any table: a room of so many is never
+ * refused with 13. A section has at most 254 items. An item shows of a number
+ * at most General's 11 units, and one minus goes before them all; of an instant
+ * a name of 9, and one of them a count of 12; of a text the text, or 1 unit.
+ */
+#define NUMFMT_SHOWN_NUMBER_MOST 2795
+#define NUMFMT_SHOWN_INSTANT_MOST 2289
+#define NUMFMT_SHOWN_TEXT_MOST 260096
+/* The same for a text of `units` units. */
+#define NUMFMT_SHOWN_TEXT_OF(units) (254 * ((units) > 1 ? (units) : 1))
+
+/*
+ * Stack that is enough for each call, whatever is lent: none of them recurses.
+ * Measured on x86-64: some 3,700 bytes for numfmt_prepare, 3,500 for
+ * numfmt_section, 2,500 for the calls that show and 200 for numfmt_check, and
+ * 2,400 more where the loader first looks up the C library's memset.
+ */
+#define NUMFMT_STACK_BYTES 8192
+
+/*
  * The answers. Preparing tests 1 to 7 in that order, showing 8 to 13; the first
  * that applies is given. Sections and units are counted from 0.
  */
-#define NUMFMT_DONE 0
-#define NUMFMT_CODE_LENGTH 1   /* the code has 0 units, or more than 254 */
-#define NUMFMT_TOKEN 2         /* a unit starts no token, or its token is broken; place: the unit */
-#define NUMFMT_SECTION_COUNT 3 /* more than four sections; place: the fourth semicolon's unit */
-#define NUMFMT_KIND 4          /* a section fits no kind; place: the section */
-#define NUMFMT_STANDING 5      /* a section stands where it may not; place: the section */
-#define NUMFMT_LIMIT 6         /* a count limit is passed; place: the section */
-#define NUMFMT_TABLE_ROOM 7    /* the table needs more words than lent */
-#define NUMFMT_TABLE 8         /* the words lent as a table break a table rule */
-#define NUMFMT_RANGE 9         /* the value is out of range */
-#define NUMFMT_NO_SECTION 10   /* no section takes the number or instant */
-#define NUMFMT_SORT 11         /* the section chosen can't show that sort of value */
-#define NUMFMT_GENERAL 12      /* General, rounded to a whole number, reaches 10^11 */
-#define NUMFMT_TEXT_ROOM 13    /* the text is longer than the room */
+#define NUMFMT_ANSWER_DONE 0
+#define NUMFMT_ANSWER_CODE_LENGTH 1   /* the code has 0 units, or more than 254 */
+#define NUMFMT_ANSWER_TOKEN 2         /* a unit starts no token, or its token is broken; place: the unit */
+#define NUMFMT_ANSWER_SECTION_COUNT 3 /* more than four sections; place: the fourth semicolon's unit */
+#define NUMFMT_ANSWER_KIND 4          /* a section fits no kind; place: the section */
+#define NUMFMT_ANSWER_STANDING 5      /* a section stands where it may not; place: the section */
+#define NUMFMT_ANSWER_LIMIT 6         /* a count limit is passed; place: the section */
+#define NUMFMT_ANSWER_TABLE_ROOM 7    /* the table needs more words than lent */
+#define NUMFMT_ANSWER_TABLE 8         /* the words lent as a table break a table rule */
+#define NUMFMT_ANSWER_RANGE 9         /* the value is out of range */
+#define NUMFMT_ANSWER_NO_SECTION 10   /* no section takes the number or instant */
+#define NUMFMT_ANSWER_SORT 11         /* the section chosen can't show that sort of value */
+#define NUMFMT_ANSWER_GENERAL 12      /* General, rounded to a whole number, reaches 10^11 */
+#define NUMFMT_ANSWER_TEXT_ROOM 13    /* the text is longer than the room */
+
+/* An answer in words, for people. */
+static inline const char *numfmt_answer_text(uint16_t answer)
+{
+    static const char *const texts[] = {
+        "Done.",
+        "The code is empty or longer than 254 signs.",
+        "A sign means nothing here, or a quote, bracket or run of letters is broken.",
+        "The code has more than four sections.",
+        "The parts of this section do not go together.",
+        "This section may not stand here.",
+        "This section has too many places, percents, commas, digits or letters.",
+        "The memory lent for the table is too short.",
+        "The table is damaged or was not prepared from a code.",
+        "The value is out of range.",
+        "No section takes this value.",
+        "The section that takes this value cannot show its kind.",
+        "The number is too large for General.",
+        "The text is too long for the room."
+    };
+
+    return answer < sizeof texts / sizeof texts[0] ? texts[answer] : "No call gives this answer.";
+}
 
 /* What preparing returns. The place is 0 but for answers 2 to 6. */
 typedef struct {
@@ -98,9 +150,9 @@ numfmt_prepared numfmt_prepare(const uint16_t *code, size_t code_len,
 numfmt_part numfmt_section(const uint16_t *code, size_t code_len, uint32_t n);
 
 /*
- * Tests the words of a table, as every call that shows does first: 0 when they
- * pass the table rules, else 8. For tables that were kept outside, in a file
- * say. Writes nothing.
+ * Tests the words of a table, as every call that shows does first: the answer
+ * is 0 when they pass the table rules, else 8. For tables that come from a file,
+ * so that a damaged one is told when it is loaded. Writes nothing.
  */
 uint16_t numfmt_check(const uint16_t *table, size_t table_len);
 
