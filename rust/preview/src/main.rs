@@ -1,0 +1,69 @@
+//! Shows values through number format codes, for people. arguments.rs has the usage.
+
+mod arguments;
+mod colours;
+mod columns;
+mod list;
+mod marks;
+mod page;
+mod plain;
+mod value;
+
+use std::ffi::OsStr;
+use std::io::{self, BufWriter, IsTerminal, Write};
+use std::process::ExitCode;
+
+use arguments::{Asked, HELP, USAGE};
+
+const REFUSED: u8 = 1;
+const MISUSED: u8 = 2;
+const UNWRITTEN: u8 = 3;
+
+fn main() -> ExitCode {
+    let asked = match arguments::read(std::env::args_os().skip(1)) {
+        Ok(asked) => asked,
+        Err(message) => return fail(MISUSED, &format!("{message}\n{USAGE}")),
+    };
+    let list = match &asked {
+        Asked::List(path) => match std::fs::read(path) {
+            Ok(bytes) => bytes,
+            Err(error) => {
+                return fail(
+                    MISUSED,
+                    &format!("can't read {}: {error}\n", path.display()),
+                )
+            }
+        },
+        _ => Vec::new(),
+    };
+    let mut out = BufWriter::new(io::stdout().lock());
+    let written = write(&asked, &list, &mut out).and_then(|refused| out.flush().map(|()| refused));
+    match written {
+        Ok(refused) => ExitCode::from(if refused { REFUSED } else { 0 }),
+        Err(error) => fail(UNWRITTEN, &format!("can't write: {error}\n")),
+    }
+}
+
+/// Writes what was asked for, and tells whether something was refused.
+fn write(asked: &Asked, list: &[u8], out: &mut impl Write) -> io::Result<bool> {
+    let coloured = coloured(
+        io::stdout().is_terminal(),
+        std::env::var_os("NO_COLOR").as_deref(),
+    );
+    match asked {
+        Asked::Help => write!(out, "{USAGE}{HELP}").map(|()| false),
+        Asked::Plain(request) => plain::write(request, out),
+        Asked::Page(request) => page::write(request, coloured, out),
+        Asked::List(_) => list::write(list, coloured, out),
+    }
+}
+
+fn coloured(terminal: bool, no_color: Option<&OsStr>) -> bool {
+    terminal && no_color.is_none_or(OsStr::is_empty)
+}
+
+/// A standard error that can't be written either changes nothing.
+fn fail(status: u8, message: &str) -> ExitCode {
+    let _ = write!(io::stderr(), "preview: {message}");
+    ExitCode::from(status)
+}
