@@ -1,7 +1,6 @@
 //! What the command line, or a line of a list, asks for.
 
 use std::ffi::OsString;
-use std::path::PathBuf;
 
 use crate::value::Kind;
 
@@ -40,16 +39,15 @@ Exit status: 0 all is shown; 1 something was refused; 2 the command was not unde
 written; 4 the program could not be built.
 "#;
 
-#[derive(Debug, PartialEq, Eq)]
 pub enum Asked {
     Help,
     Page(Request),
     Plain(Request),
-    List(PathBuf),
+    /// The contents of a list.
+    List(Vec<u8>),
 }
 
 /// Values to show through a code.
-#[derive(Debug, PartialEq, Eq)]
 pub struct Request {
     pub code: String,
     pub kind: Option<Kind>,
@@ -58,52 +56,66 @@ pub struct Request {
 
 impl Request {
     /// A code, perhaps a kind, and values. A lone word of a kind is no value: the value was forgotten.
-    pub fn from_words(words: Vec<String>) -> Result<Request, String> {
-        let mut words = words.into_iter();
-        let code = words.next().ok_or("a code is missing")?;
-        let mut values: Vec<String> = words.collect();
-        let kind = values.first().and_then(|word| Kind::named(word));
-        if kind.is_some() {
-            values.remove(0);
-        }
+    pub fn from_words(words: &[&str]) -> Result<Request, &'static str> {
+        let [code, rest @ ..] = words else {
+            return Err("a code is missing");
+        };
+        let kind = rest.first().and_then(|word| Kind::named(word));
+        let values = if kind.is_some() { &rest[1..] } else { rest };
         if values.is_empty() {
-            return Err("a value is missing behind the code".to_string());
+            return Err("a value is missing behind the code");
         }
-        Ok(Request { code, kind, values })
+        Ok(Request {
+            code: code.to_string(),
+            kind,
+            values: values.iter().map(|value| value.to_string()).collect(),
+        })
     }
 }
 
+/// What the arguments ask for, or why they can't be understood.
 pub fn read(arguments: impl Iterator<Item = OsString>) -> Result<Asked, String> {
-    let mut words = Vec::new();
-    for (number, argument) in (1..).zip(arguments) {
-        words.push((argument.into_string()).map_err(|_| format!("argument {number} is no UTF-8"))?);
-    }
-    let first = words.first().cloned().unwrap_or_default();
-    match first.as_str() {
-        "--help" => Ok(Asked::Help),
-        "--file" => list(&words[1..]),
-        "--plain" => Request::from_words(without_option(words, 1)?).map(Asked::Plain),
-        _ => Request::from_words(without_option(words, 0)?).map(Asked::Page),
+    let words = words(arguments)?;
+    let words: Vec<&str> = words.iter().map(String::as_str).collect();
+    match words.as_slice() {
+        ["--help"] => Ok(Asked::Help),
+        ["--file", path] => list(path),
+        ["--file", ..] => Err(misuse("--file takes the name of a list, and nothing else")),
+        ["--plain", rest @ ..] => request(rest).map(Asked::Plain),
+        rest => request(rest).map(Asked::Page),
     }
 }
 
-fn list(words: &[String]) -> Result<Asked, String> {
-    match words {
-        [path] => Ok(Asked::List(PathBuf::from(path))),
-        _ => Err("--file takes the name of a list, and nothing else".to_string()),
-    }
+fn words(arguments: impl Iterator<Item = OsString>) -> Result<Vec<String>, String> {
+    let word = |(number, argument): (usize, OsString)| {
+        argument
+            .into_string()
+            .map_err(|_| misuse(&format!("argument {number} is no UTF-8")))
+    };
+    (1..).zip(arguments).map(word).collect()
 }
 
-/// The words behind the first `read` ones, less a `--`. No other option may stand there.
-fn without_option(mut words: Vec<String>, read: usize) -> Result<Vec<String>, String> {
-    words.drain(..read);
-    let first = words.first().cloned().unwrap_or_default();
-    match first.strip_prefix("--") {
-        Some("") => words.drain(..1).for_each(drop),
-        Some(name) if name.starts_with(|letter: char| letter.is_ascii_alphabetic()) => {
-            return Err(format!("{first} can't stand here"));
+fn list(path: &str) -> Result<Asked, String> {
+    let contents = std::fs::read(path).map_err(|error| format!("can't read {path}: {error}\n"))?;
+    Ok(Asked::List(contents))
+}
+
+fn request(words: &[&str]) -> Result<Request, String> {
+    let words = match words {
+        ["--", rest @ ..] => rest,
+        [option, ..] if is_option(option) => {
+            return Err(misuse(&format!("{option} can't stand here")))
         }
-        _ => {}
-    }
-    Ok(words)
+        _ => words,
+    };
+    Request::from_words(words).map_err(misuse)
+}
+
+fn is_option(word: &str) -> bool {
+    word.strip_prefix("--")
+        .is_some_and(|name| name.starts_with(|sign: char| sign.is_ascii_alphabetic()))
+}
+
+fn misuse(what: &str) -> String {
+    format!("{what}\n{USAGE}")
 }

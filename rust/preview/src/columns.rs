@@ -21,7 +21,7 @@ pub fn width(text: &str) -> usize {
 
 /// Two for the scripts and pictures that terminals draw wide, none for marks on the character before: by blocks, which is near
 /// enough for codes.
-pub fn columns(character: char) -> usize {
+fn columns(character: char) -> usize {
     match u32::from(character) {
         0x0300..=0x036f | 0x200b..=0x200f | 0x20d0..=0x20ff | 0xfe00..=0xfe0f => 0,
         0x1100..=0x115f | 0x2e80..=0xa4cf | 0xac00..=0xd7a3 | 0xf900..=0xfaff | 0xfe30..=0xfe6f => {

@@ -4,17 +4,17 @@ use std::io::{self, Write};
 
 use crate::arguments::Request;
 use crate::columns::visible;
-use crate::page;
+use crate::page::Page;
 
 const BYTE_ORDER_MARK: &[u8] = b"\xef\xbb\xbf";
 
 /// Reports every line with its number, and then how many were shown, refused and empty. Tells whether one was refused.
-pub fn write(list: &[u8], coloured: bool, out: &mut impl Write) -> io::Result<bool> {
+pub fn write(list: &[u8], page: &mut Page<impl Write>) -> io::Result<bool> {
     let (mut shown, mut refused, mut empty) = (0, 0, 0);
     for (number, line) in (1..).zip(lines(list)) {
         if line.is_empty() {
             empty += 1;
-        } else if write_line(&format!("line {number}: "), line, coloured, out)? {
+        } else if write_line(&format!("line {number}: "), line, page)? {
             refused += 1;
         } else {
             shown += 1;
@@ -23,7 +23,7 @@ pub fn write(list: &[u8], coloured: bool, out: &mut impl Write) -> io::Result<bo
     let all = shown + refused + empty;
     let lines = if all == 1 { "line" } else { "lines" };
     writeln!(
-        out,
+        page.out,
         "{all} {lines}: {shown} shown, {refused} refused, {empty} empty"
     )?;
     Ok(refused > 0)
@@ -38,12 +38,12 @@ fn lines(list: &[u8]) -> impl Iterator<Item = &[u8]> {
     })
 }
 
-fn write_line(lead: &str, line: &[u8], coloured: bool, out: &mut impl Write) -> io::Result<bool> {
+fn write_line(lead: &str, line: &[u8], page: &mut Page<impl Write>) -> io::Result<bool> {
     match request(line) {
-        Ok(request) => page::write_line(lead, &request, coloured, out),
+        Ok(request) => page.write_line(lead, &request),
         Err(reason) => {
             let line = visible(&String::from_utf8_lossy(line));
-            writeln!(out, "{lead}{line}\n  refused: {reason}")?;
+            writeln!(page.out, "{lead}{line}\n  refused: {reason}")?;
             Ok(true)
         }
     }
@@ -51,7 +51,7 @@ fn write_line(lead: &str, line: &[u8], coloured: bool, out: &mut impl Write) -> 
 
 fn request(line: &[u8]) -> Result<Request, &'static str> {
     let line = std::str::from_utf8(line).map_err(|_| "The line is no UTF-8.")?;
-    let words = line.split('\t').map(str::to_string).collect();
-    Request::from_words(words)
+    let words: Vec<&str> = line.split('\t').collect();
+    Request::from_words(&words)
         .map_err(|_| "The line has no value. A line is a code, a tab and a value.")
 }

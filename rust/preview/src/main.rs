@@ -14,6 +14,7 @@ use std::io::{self, BufWriter, IsTerminal, Write};
 use std::process::ExitCode;
 
 use arguments::{Asked, HELP, USAGE};
+use page::Page;
 
 const REFUSED: u8 = 1;
 const MISUSED: u8 = 2;
@@ -22,22 +23,10 @@ const UNWRITTEN: u8 = 3;
 fn main() -> ExitCode {
     let asked = match arguments::read(std::env::args_os().skip(1)) {
         Ok(asked) => asked,
-        Err(message) => return fail(MISUSED, &format!("{message}\n{USAGE}")),
-    };
-    let list = match &asked {
-        Asked::List(path) => match std::fs::read(path) {
-            Ok(bytes) => bytes,
-            Err(error) => {
-                return fail(
-                    MISUSED,
-                    &format!("can't read {}: {error}\n", path.display()),
-                )
-            }
-        },
-        _ => Vec::new(),
+        Err(message) => return fail(MISUSED, &message),
     };
     let mut out = BufWriter::new(io::stdout().lock());
-    let written = write(&asked, &list, &mut out).and_then(|refused| out.flush().map(|()| refused));
+    let written = write(&asked, &mut out).and_then(|refused| out.flush().map(|()| refused));
     match written {
         Ok(refused) => ExitCode::from(if refused { REFUSED } else { 0 }),
         Err(error) => fail(UNWRITTEN, &format!("can't write: {error}\n")),
@@ -45,16 +34,17 @@ fn main() -> ExitCode {
 }
 
 /// Writes what was asked for, and tells whether something was refused.
-fn write(asked: &Asked, list: &[u8], out: &mut impl Write) -> io::Result<bool> {
-    let coloured = coloured(
-        io::stdout().is_terminal(),
-        std::env::var_os("NO_COLOR").as_deref(),
-    );
+fn write(asked: &Asked, out: &mut impl Write) -> io::Result<bool> {
+    let no_color = std::env::var_os("NO_COLOR");
+    let mut page = Page {
+        coloured: coloured(io::stdout().is_terminal(), no_color.as_deref()),
+        out,
+    };
     match asked {
-        Asked::Help => write!(out, "{USAGE}{HELP}").map(|()| false),
-        Asked::Plain(request) => plain::write(request, out),
-        Asked::Page(request) => page::write(request, coloured, out),
-        Asked::List(_) => list::write(list, coloured, out),
+        Asked::Help => write!(page.out, "{USAGE}{HELP}").map(|()| false),
+        Asked::Plain(request) => plain::write(request, page.out),
+        Asked::Page(request) => page.write(request),
+        Asked::List(list) => list::write(list, &mut page),
     }
 }
 

@@ -8,77 +8,78 @@ use crate::arguments::Request;
 use crate::colours;
 use crate::columns::{visible, width};
 use crate::marks::mark;
-use crate::value;
+use crate::value::{self, Kind};
 
 /// The section that is told for a text which no section shows.
 const NO_SECTION: u16 = 4;
 
-/// Writes a row for each value, or why the code is refused. Tells whether something was refused.
-pub fn write(request: &Request, coloured: bool, out: &mut impl Write) -> io::Result<bool> {
-    match Table::prepare(&request.code) {
-        Ok(table) => write_rows("", &table, request, coloured, out),
-        Err(refusal) => {
-            if let Some(mark) = mark(&request.code, &refusal) {
-                writeln!(out, "{}\n{mark}", visible(&request.code))?;
-            }
-            writeln!(out, "refused: {refusal}")?;
-            Ok(true)
-        }
-    }
+/// Where rows go. What writes tells whether something was refused.
+pub struct Page<W> {
+    pub out: W,
+    pub coloured: bool,
 }
 
-/// The same for a line of a list, which begins with `lead` and its code.
-pub fn write_line(
-    lead: &str,
-    request: &Request,
-    coloured: bool,
-    out: &mut impl Write,
-) -> io::Result<bool> {
-    writeln!(out, "{lead}{}", visible(&request.code))?;
-    match Table::prepare(&request.code) {
-        Ok(table) => write_rows("  ", &table, request, coloured, out),
-        Err(refusal) => {
-            if let Some(mark) = mark(&request.code, &refusal) {
-                writeln!(out, "{}{mark}", " ".repeat(width(lead)))?;
+impl<W: Write> Page<W> {
+    /// A row for each value, or why the code is refused.
+    pub fn write(&mut self, request: &Request) -> io::Result<bool> {
+        let table = Table::prepare(&request.code);
+        if let Err(refusal) = &table {
+            if mark(&request.code, refusal).is_some() {
+                writeln!(self.out, "{}", visible(&request.code))?;
             }
-            writeln!(out, "  refused: {refusal}")?;
-            Ok(true)
         }
+        self.write_below("", "", request, table)
     }
-}
 
-fn write_rows(
-    margin: &str,
-    table: &Table,
-    request: &Request,
-    coloured: bool,
-    out: &mut impl Write,
-) -> io::Result<bool> {
-    let labels: Vec<String> = request.values.iter().map(|value| visible(value)).collect();
-    let widest = labels.iter().map(|label| width(label)).max().unwrap_or(0);
-    let mut refused = false;
-    for (written, label) in request.values.iter().zip(&labels) {
-        let row = match show(table, request, written) {
-            Ok(shown) => shown_row(&shown, coloured),
-            Err(reason) => {
-                refused = true;
-                format!("refused: {reason}")
-            }
+    /// The same for a line of a list, which begins with `lead` and its code.
+    pub fn write_line(&mut self, lead: &str, request: &Request) -> io::Result<bool> {
+        writeln!(self.out, "{lead}{}", visible(&request.code))?;
+        self.write_below(lead, "  ", request, Table::prepare(&request.code))
+    }
+
+    /// What stands below the code, which stands behind `lead`.
+    fn write_below(
+        &mut self,
+        lead: &str,
+        margin: &str,
+        request: &Request,
+        table: Result<Table, Refusal>,
+    ) -> io::Result<bool> {
+        let refusal = match table {
+            Ok(table) => return self.write_rows(margin, &table, request),
+            Err(refusal) => refusal,
         };
-        let gap = " ".repeat(widest - width(label) + 2);
-        writeln!(out, "{margin}{label}{gap}{row}")?;
+        if let Some(mark) = mark(&request.code, &refusal) {
+            writeln!(self.out, "{}{mark}", " ".repeat(width(lead)))?;
+        }
+        writeln!(self.out, "{margin}refused: {refusal}")?;
+        Ok(true)
     }
-    Ok(refused)
+
+    fn write_rows(&mut self, margin: &str, table: &Table, request: &Request) -> io::Result<bool> {
+        let labels: Vec<String> = request.values.iter().map(|value| visible(value)).collect();
+        let widest = labels.iter().map(|label| width(label)).max().unwrap_or(0);
+        let mut refused = false;
+        for (written, label) in request.values.iter().zip(&labels) {
+            let shown = show(table, request.kind, written);
+            refused |= shown.is_err();
+            let row = shown.map_or_else(
+                |reason| format!("refused: {reason}"),
+                |shown| row(&shown, self.coloured),
+            );
+            let gap = " ".repeat(widest - width(label) + 2);
+            writeln!(self.out, "{margin}{label}{gap}{row}")?;
+        }
+        Ok(refused)
+    }
 }
 
-fn show(table: &Table, request: &Request, written: &str) -> Result<Shown, String> {
-    let value = value::read(request.kind, written).map_err(|misread| misread.text().to_string())?;
-    table
-        .show(&value)
-        .map_err(|refusal: Refusal| refusal.to_string())
+fn show(table: &Table, kind: Option<Kind>, written: &str) -> Result<Shown, String> {
+    let value = value::read(kind, written).map_err(|misread| misread.text().to_string())?;
+    table.show(&value).map_err(|refusal| refusal.to_string())
 }
 
-fn shown_row(shown: &Shown, coloured: bool) -> String {
+fn row(shown: &Shown, coloured: bool) -> String {
     let text = visible(&shown.text);
     let painted = if coloured {
         colours::painted(shown.colour, &text)
