@@ -90,16 +90,26 @@ pub fn prepare(code: &[u16], table: &mut [u16]) -> Prepared {
     unsafe { numfmt_prepare(code.as_ptr(), code.len(), table.as_mut_ptr(), table.len()) }
 }
 
+/// Answer 0 for words that keep the table rules, 8 for others.
+///
+/// ```
+/// use numfmt::calls;
+///
+/// let mut words = [1, 2, 0, 0, 0, 0, 0, 0, 0, 15, 0, 0, 1, 4, 16];
+/// assert_eq!(calls::check(&words), 0);
+/// assert_eq!(calls::check(&words[..14]), 8);
+/// words[14] = 17;
+/// assert_eq!(calls::check(&words), 8);
+/// ```
+pub fn check(table: &[u16]) -> u16 {
+    // SAFETY: the pointer is a slice's, with its length; nothing is written.
+    unsafe { numfmt_check(table.as_ptr(), table.len()) }
+}
+
 /// Where section n of a code stands, without semicolons; `0, 0` for a missing section and for a refused code.
 pub fn section(code: &[u16], n: u32) -> Part {
     // SAFETY: the pointer is a slice's, with its length; nothing is written.
     unsafe { numfmt_section(code.as_ptr(), code.len(), n) }
-}
-
-/// Whether the words are a table: 0, or 8 where they break a table rule.
-pub fn check(table: &[u16]) -> u16 {
-    // SAFETY: the pointer is a slice's, with its length; nothing is written.
-    unsafe { numfmt_check(table.as_ptr(), table.len()) }
 }
 
 /// Shows the number coefficient / 10^scale.
