@@ -32,7 +32,7 @@ static void print_showing(const char *numbers)
 {
     size_t at;
 
-    printf("Showing %s, a call: nanoseconds / instructions\n\n", numbers);
+    printf("### Showing %s\n\nA call: nanoseconds / instructions\n\n", numbers);
     printf("| code | library | walker | library/walker | plain C | library, room of %d | walker, room of %d | library/walker |\n",
            SHORT_ROOM, SHORT_ROOM);
     printf("|---|---|---|---|---|---|---|---|\n");
@@ -69,7 +69,7 @@ static void print_preparing(void)
     char code[40];
     size_t at;
 
-    printf("Preparing, a call: nanoseconds / instructions\n\n");
+    printf("### Preparing\n\nA call: nanoseconds / instructions\n\n");
     printf("| code | units | a call | nanoseconds a unit | in shows |\n|---|---|---|---|---|\n");
     for (at = 0; at < SPECIMENS; at++) {
         snprintf(code, sizeof code, "`%s`", specimens[at].code);
@@ -104,7 +104,7 @@ static void print_growth(FILE *data, const char *of, const double *counts, const
 
 static void print_growths(FILE *data)
 {
-    printf("How showing grows, a call: nanoseconds\n\n");
+    printf("### Growth\n\nA call: nanoseconds\n\n");
     print_growth(data, "literal items", literal_counts, jobs + BY_LITERALS, jobs + BY_LITERALS_SHORT, LITERALS);
     print_growth(data, "places", place_counts, jobs + BY_PLACES, jobs + BY_PLACES_SHORT, PLACES);
     print_growth(data, "sections", section_counts, jobs + BY_SECTIONS, jobs + BY_SECTIONS_SHORT, SECTIONS);
