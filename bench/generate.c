@@ -106,11 +106,19 @@ static void add_item(random_table *to, uint16_t *head, unsigned tag, int argumen
     head[ITEMS]++;
 }
 
+/* The ends of the range, and units that would be tokens in a code. */
+static int random_unit(uint64_t *state)
+{
+    static const uint16_t units[] = {0, 65535, ',', '.', '%', '/', '0', '@'};
+
+    return random_chance(state, 50) ? units[random_below(state, COUNT(units))] : (int)random_below(state, 65536);
+}
+
 static void add_mark(uint64_t *state, random_table *to, uint16_t *head)
 {
     if (random_chance(state, 15))
-        add_item(to, head, (unsigned)random_between(state, LITERAL, random_chance(state, 20) ? FILL : BLANK),
-                 (int)(random_bits(state) & 0xffff));
+        add_item(to, head, (unsigned)random_between(state, LITERAL, random_chance(state, 40) ? FILL : BLANK),
+                 random_unit(state));
 }
 
 static void build_number(uint64_t *state, random_table *to, uint16_t *head)
@@ -143,7 +151,7 @@ static int random_length(uint64_t *state, int most)
 static void build_date(uint64_t *state, random_table *to, uint16_t *head)
 {
     static const int most[] = {4, 5, 4, 2, 2, 2, 3, 9, 9, 9, 2};
-    int items = random_between(state, 1, 6);
+    int items = random_between(state, 1, 4);
 
     for (; items > 0; items--) {
         unsigned tag = (unsigned)random_between(state, YEAR, HALF_DAY);

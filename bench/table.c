@@ -2,12 +2,24 @@
 
 #define BIT(tag) (1u << (tag))
 
-/* The least and the greatest second word of the items that a date section may have; the others have none. */
+/* The second words of the items that a date section may have: the least, and how many there are. The other items have none. */
 static const struct {
-    uint16_t least, most;
+    uint32_t least, count;
 } date_arguments[HALF_DAY + 1] = {
-    {1, 0},     {0, 65535}, {0, 65535}, {0, 65535}, {1, 0}, {1, 0}, {1, 0}, {1, 0}, {1, 0}, {1, 0}, {1, 0},
-    {2, 4},     {1, 5},     {1, 4},     {1, 2},     {1, 2}, {1, 2}, {1, 3}, {1, 9}, {1, 9}, {1, 9}, {1, 2},
+    [LITERAL] = {0, 65536},
+    [BLANK] = {0, 65536},
+    [FILL] = {0, 65536},
+    [YEAR] = {2, 3},
+    [MONTH] = {1, 5},
+    [DAY] = {1, 4},
+    [HOUR] = {1, 2},
+    [MINUTE] = {1, 2},
+    [SECOND] = {1, 2},
+    [PART] = {1, 3},
+    [ELAPSED_HOURS] = {1, 9},
+    [ELAPSED_MINUTES] = {1, 9},
+    [ELAPSED_SECONDS] = {1, 9},
+    [HALF_DAY] = {1, 2},
 };
 
 enum {
@@ -110,7 +122,7 @@ static bool number_fits(const uint16_t *head, const uint16_t *item, const uint16
 /* Whether an item may stand behind the run and the item before it, which are bits, as `seen` is. */
 static bool date_item_fits(unsigned tag, unsigned argument, unsigned seen, unsigned run, unsigned before)
 {
-    if (tag > HALF_DAY || argument < date_arguments[tag].least || argument > date_arguments[tag].most)
+    if (tag > HALF_DAY || argument - date_arguments[tag].least >= date_arguments[tag].count)
         return false;
     switch (tag) {
     case FILL:
