@@ -19,7 +19,7 @@ pub mod calls;
 mod table;
 
 pub use answer::{Answer, Refusal};
-pub use table::{section, Shown, Table, Value};
+pub use table::{byte_of_unit, section, Shown, Table, Value};
 
 /// Words of table room that hold the table of every accepted code.
 pub const TABLE_WORDS: usize = 557;

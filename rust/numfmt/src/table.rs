@@ -146,8 +146,15 @@ pub fn section(code: &str, n: u32) -> &str {
     &code[start..end]
 }
 
-/// Where the character begins that unit `unit` of a text belongs to; the text's end where there is none.
-fn byte_of_unit(text: &str, unit: usize) -> usize {
+/// The byte of a text at which the character begins that unit `unit` of its UTF-16 belongs to, as for the place of a refused
+/// unit; the text's length where there is no such unit.
+///
+/// ```
+/// let code = "\"£\"0 °C";
+/// let refusal = numfmt::Table::prepare(code).unwrap_err();
+/// assert!(code[numfmt::byte_of_unit(code, refusal.place as usize)..].starts_with('°'));
+/// ```
+pub fn byte_of_unit(text: &str, unit: usize) -> usize {
     let mut passed = 0;
     for (byte, character) in text.char_indices() {
         passed += character.len_utf16();

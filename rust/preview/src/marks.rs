@@ -2,39 +2,23 @@
 
 use std::ops::Range;
 
-use numfmt::{Answer, Refusal};
+use numfmt::{byte_of_unit, Answer, Refusal};
 
 use crate::columns::{visible, width};
 
 /// Spaces and then a caret under the unit that is at fault, or a line under the section; none where the whole code is.
 pub fn mark(code: &str, refusal: &Refusal) -> Option<String> {
     let place = refusal.place as usize;
-    let (part, sign) = match refusal.answer {
-        Answer::Token | Answer::SectionCount => (character_of_unit(code, place)?, "^"),
+    let columns = |part: &str| width(&visible(part));
+    let (start, sign) = match refusal.answer {
+        Answer::Token | Answer::SectionCount => (byte_of_unit(code, place), "^".to_string()),
         Answer::Kind | Answer::Standing | Answer::Limit => {
-            (sections(code).get(place)?.clone(), "~")
+            let section = sections(code).get(place)?.clone();
+            (section.start, "~".repeat(columns(&code[section])))
         }
         _ => return None,
     };
-    let columns = |part: &str| width(&visible(part));
-    let length = if sign == "^" {
-        1
-    } else {
-        columns(&code[part.clone()]).max(1)
-    };
-    Some(" ".repeat(columns(&code[..part.start])) + &sign.repeat(length))
-}
-
-/// The bytes of the character that unit `unit` of a code belongs to.
-fn character_of_unit(code: &str, unit: usize) -> Option<Range<usize>> {
-    let mut passed = 0;
-    for (start, character) in code.char_indices() {
-        passed += character.len_utf16();
-        if passed > unit {
-            return Some(start..start + character.len_utf8());
-        }
-    }
-    None
+    Some(" ".repeat(columns(&code[..start])) + &sign)
 }
 
 /// The sections of a code whose tokens are whole, as bytes. The library tells none of a code that it refuses; a section at fault
