@@ -1,13 +1,13 @@
 -- Laws of the classes: the step of a unit's class is the unit's step, and units from 128 on start nothing.
 -- Assumes nothing.
-use Prim.Native.Nat.{ℕ, suc, _+_, _-_, _≤_, _<_}
+use Prim.Native.Nat.{ℕ, suc, _+_, _≤_, _<_}
 use mathlib.Core.Path.{_≡_, refl, sym, subst, _∙_}
 use mathlib.Core.Bool.{false, cond}
-use mathlib.Core.List.{List, [], _∷_}
+use mathlib.Core.List.{List, [], _∷_, map}
 use native.Mathlib.Omega.{arith}
 use native.Mathlib.Numerals.{add-one}
 use borrow.Author.Tests.{ne-eqb, le-leb, lt-leb, eqb-true}
-use lib.ListN.{drop}
+use lib.ListN.{length, drop}
 use lib.Dec.{T, leb, ltb, eqb, ltb→lt}
 use Rattle.lists.specs.Lists.{every, any}
 use Rattle.lists.proofs.Bools.{by-cases, every-head, every-tail}
@@ -17,7 +17,7 @@ use Rattle.lexing.specs.declared.Step.{Step as FoundStep}
 use Rattle.lexing.specs.declared.Step.the-variants.{Read, Broken}
 use Rattle.marks.specs.Marks.{markToken, markRows}
 use Rattle.lexing.specs.Marks.{stepBehind, stepMeant}
-use Rattle.lexing.specs.Classes.{letterAt, classNumbers, classIn, classOf, classStep}
+use Rattle.lexing.specs.Classes.{letterAt, classNumbers, bareClass, classIn, classOf, classStep}
 
 -- ---- the classes by ranges
 module _ (k u : ℕ) (us : List ℕ) where
@@ -55,7 +55,7 @@ Rows (r ∷ rs) [] us = ⊥
 Rows (r ∷ rs) (k ∷ ks) us = (stepBy (r .first) (r .unit) us ≡ classStep k (r .unit) us) × Rows rs ks us
 
 class-rows : (rs : List FirstRow) (ks : List ℕ) (u : ℕ) (us : List ℕ) → Rows rs ks us → classStep (classIn rs ks u) u us ≡ stepBy (firstIn rs u) u us
-unfolding classIn firstIn classStep stepBy
+unfolding classIn bareClass firstIn classStep stepBy
 class-rows [] [] u us t = by-cases (any (eqb u) bareLiterals) (λ e. rw e) (λ e. rw e)
 class-rows [] (k ∷ ks) u us t = absurd t
 class-rows (r ∷ rs) [] u us t = absurd t
@@ -82,7 +82,7 @@ none-high (l ∷ ls) u t h =
     rw (ne-eqb u l (omega arith)) (none-high ls u (every-tail (λ (x : ℕ). ltb x 128) l ls t) h)
 
 rows-high : (rs : List FirstRow) (ks : List ℕ) (u : ℕ) → T (every (λ (r : FirstRow). ltb (r .unit) 128) rs) → any (eqb u) bareLiterals ≡ false → 128 ≤ u → 21 ≡ classIn rs ks u
-unfolding classIn
+unfolding classIn bareClass
 rows-high [] ks u t e h = rw e
 rows-high (r ∷ rs) [] u t e h = refl
 rows-high (r ∷ rs) (k ∷ ks) u t e h =
@@ -93,15 +93,38 @@ pub class-high : (u : ℕ) → 128 ≤ u → 21 ≡ classOf u
 unfolding classOf firstRows bareLiterals units every
 class-high u h = rows-high firstRows classNumbers u tt (none-high bareLiterals u tt h) h
 
--- ---- the letter of a class
-abbrev pub letterOf : ℕ → ℕ
-letterOf u = classOf u + 97
+-- ---- units that are none of a list's: what the arms of a `match` leave for the last one
+abbrev pub Apart : Type 0 → ℕ → List ℕ → Type 0
+Apart P u [] = P
+Apart P u (k ∷ ks) = Apart (P × (u ≡ k → ⊥)) u ks
 
-pub letter-least : {x : ℕ} (u : ℕ) → x ≡ letterOf u → 97 ≤ x
-letter-least u e = omega arith
+known : (P : Type 0) (u : ℕ) (ks : List ℕ) → Apart P u ks → P
+known P u [] a = a
+known P u (k ∷ ks) a = known (P × (u ≡ k → ⊥)) u ks a .0
 
-pub letter-class : {x : ℕ} (u : ℕ) → x ≡ letterOf u → x - 97 ≡ classOf u
-letter-class u e = omega arith
+none-of : (P : Type 0) (u : ℕ) (ks : List ℕ) → Apart P u ks → any (eqb u) ks ≡ false
+unfolding any
+none-of P u [] a = refl
+none-of P u (k ∷ ks) a = rw (ne-eqb u k (known (P × (u ≡ k → ⊥)) u ks a .1)) (none-of (P × (u ≡ k → ⊥)) u ks a)
+
+pub bare-none : (u : ℕ) → Apart (Unit {0}) u bareLiterals → 21 ≡ bareClass u
+unfolding bareClass
+bare-none u a = rw (none-of (Unit {0}) u bareLiterals a)
+
+abbrev pub rowUnits : List FirstRow → List ℕ
+rowUnits rs = map (λ (r : FirstRow). r .unit) rs
+
+rows-none : (P : Type 0) (rs : List FirstRow) (ks : List ℕ) (u : ℕ) → length rs ≤ length ks → Apart P u (rowUnits rs) → bareClass u ≡ classIn rs ks u
+unfolding classIn
+rows-none P [] ks u l a = refl
+rows-none P (r ∷ rs) [] u l a = absurd (omega arith)
+rows-none P (r ∷ rs) (k ∷ ks) u l a =
+    let n = known (P × (u ≡ r .unit → ⊥)) u (rowUnits rs) a .1 in
+    rw (ne-eqb (r .unit) u (λ e. n (sym e))) (rows-none (P × (u ≡ r .unit → ⊥)) rs ks u (omega arith) a)
+
+pub class-bare : (u : ℕ) → Apart (Unit {0}) u (rowUnits firstRows) → bareClass u ≡ classOf u
+unfolding classOf firstRows classNumbers
+class-bare u a = rows-none (Unit {0}) firstRows classNumbers u (omega arith) a
 
 -- ---- the step at a place
 pub next-step : (code : List ℕ) (at u : ℕ) (s : FoundStep) → stepBehind (drop (at + 1) code) s ≡ stepAt u (drop (at + 1) code) → stepMeant code at s ≡ stepAt u (drop (suc at) code)

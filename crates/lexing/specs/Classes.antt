@@ -18,9 +18,13 @@ letterAt form = getD (letterY ∷ letterM ∷ letterD ∷ letterH ∷ []) (form 
 unfoldable pub classNumbers : List ℕ
 classNumbers = 0 ∷ 14 ∷ 2 ∷ 3 ∷ 20 ∷ 12 ∷ 13 ∷ 15 ∷ 16 ∷ 17 ∷ 18 ∷ 19 ∷ 4 ∷ 5 ∷ 6 ∷ 7 ∷ 8 ∷ 9 ∷ 10 ∷ 11 ∷ []
 
--- the class of a unit: that of its row, else 1 for a literal without quotes, else 21
+-- the class of a unit without a row: 1 for a literal without quotes, else 21
+unfoldable pub bareClass : ℕ → ℕ
+bareClass u = cond (any (eqb u) bareLiterals) 1 21
+
+-- the class of a unit: that of its row
 unfoldable pub classIn : List FirstRow → List ℕ → ℕ → ℕ
-classIn [] ks u = cond (any (eqb u) bareLiterals) 1 21
+classIn [] ks u = bareClass u
 classIn (r ∷ rs) [] u = 21
 classIn (r ∷ rs) (k ∷ ks) u = let f = classIn rs ks u in cond (eqb (r .unit) u) k f
 

@@ -1,39 +1,47 @@
--- `lexing::classes::class_of` meets its contract. The table is the list of the classes' letters: antt computes the list, and `value-at` carries it to each unit.
+-- `lexing::classes::class_of` meets its contract.
 -- Assumes nothing.
-use Prim.Native.Nat.{ℕ}
-use lib.Dec.{leb, leb→le}
-use mir.Facts.{fits-le, fits-lit}
+use native.Mathlib.Omega.{arith}
+use mathlib.Core.Path.{_∙_}
 use borrow.Author.Needs.{needs}
-use Rattle.lists.specs.Lists.{every, any}
-use Rattle.lists.specs.Tables.{values}
-use Rattle.lists.proofs.Tables.{value-at, each-passes}
-use Rattle.calendar.specs.Names.{units}
-use Rattle.formats.specs.Tokens.{firstRows, bareLiterals}
+use Rattle.formats.specs.Tokens.{firstRows}
 use Rattle.lexing.specs.Classes.{classNumbers, classIn, classOf}
-use Rattle.lexing.proofs.Classing.{letterOf, letter-least, letter-class, class-high}
+use Rattle.lexing.proofs.Classing.{class-high, class-bare}
 use Rattle.lexing.proofs.classes.class_of.Statement.{statement}
 use Rattle.lexing.proofs.classes.class_of.Tie as tie
 
-array-read-result : tie.Need-array-read-result
-array-read-result c = search needs
+high : tie.Need-returns
+high c = class-high (c .before .args .u) (omega (arith, c .if1 .taken))
 
-cast-result : tie.Need-cast-result
-unfolding every classOf classIn classNumbers firstRows bareLiterals units any
-cast-result c = fits-le (leb→le _ 118 (each-passes (λ (l : ℕ). leb l 118) (values letterOf 0 128) (c .before .args .u) 0 tt tt)) (fits-lit tt)
-
-cast-result-2 : tie.Need-cast-result-2
-cast-result-2 c = search needs
-
-sub-result : tie.Need-sub-result
-unfolding classOf classIn classNumbers firstRows bareLiterals units any
-sub-result c = letter-least (c .before .args .u) (value-at letterOf 128 (c .before .args .u) (c .if1 .taken))
-
-returns : tie.Need-returns
-unfolding classOf classIn classNumbers firstRows bareLiterals units any
-returns c = letter-class (c .before .args .u) (value-at letterOf 128 (c .before .args .u) (c .if1 .taken))
-
-returns-2 : tie.Need-returns-2
-returns-2 c = class-high (c .before .args .u) (c .if1 .left)
+last : tie.Need-returns-22
+unfolding firstRows
+last c = c .bare-class .ensures ∙ class-bare (c .before .before .before .args .u) (c .before .match .rest)
 
 pub class-of-spec : {M : Type 1} → statement M
-class-of-spec = tie.close (tie.spec array-read-result cast-result cast-result-2 sub-result returns returns-2)
+unfolding classOf classIn classNumbers firstRows
+class-of-spec =
+    tie.close
+    (tie.spec
+    high
+    (λ c. search needs)
+    (λ c κs. search needs)
+    (λ c. rw (c .match .keys1))
+    (λ c. rw (c .match .keys2))
+    (λ c. rw (c .match .keys3))
+    (λ c. rw (c .match .keys4))
+    (λ c. rw (c .match .keys5))
+    (λ c. rw (c .match .keys6))
+    (λ c. rw (c .match .keys7))
+    (λ c. rw (c .match .keys8))
+    (λ c. rw (c .match .keys9))
+    (λ c. rw (c .match .keys10))
+    (λ c. rw (c .match .keys11))
+    (λ c. rw (c .match .keys12))
+    (λ c. rw (c .match .keys13))
+    (λ c. rw (c .match .keys14))
+    (λ c. rw (c .match .keys15))
+    (λ c. rw (c .match .keys16))
+    (λ c. rw (c .match .keys17))
+    (λ c. rw (c .match .keys18))
+    (λ c. rw (c .match .keys19))
+    (λ c. rw (c .match .keys20))
+    last)
