@@ -58,79 +58,34 @@ fn reference(code: &str, kind: &str, value: &str) -> String {
         .spawn()
         .expect("target/bin/show, which `rt check show` makes");
     let input = format!("code={code}\nkind={kind}\nvalue={value}\n");
-    let stdin = show.stdin.take().expect("its input");
-    // It need not read more than it has to.
-    let _ = { stdin }.write_all(input.as_bytes());
+    let mut stdin = show.stdin.take().expect("its input");
+    // It reads no more than it has to, so that the rest of a long input may find no reader.
+    let _ = stdin.write_all(input.as_bytes());
+    drop(stdin);
     String::from_utf8(show.wait_with_output().expect("its output").stdout).expect("ASCII")
+}
+
+const CODES: &str = "0||@|\"a\nb\"0|0\nkind=number\nvalue=3\n|0\t|\x01|[>5]0;@|@@@@@|#,##0.00";
+
+const VALUES: &str = "3||-|-0|-0.3|.5|5.|+5|1,000|1e5| 5|5 |3\n|a\nb|00000000000000000007|999999999999999|1000000000000000|\
+    -99999999999999999999|0.000000000000001|0.0000000000000001|1/2|1/|/2|-1/0|1/2/3|2958465/86399999|2958466/0|0/86400000|\
+    4294967296/0|2024-10-14|\x7f\x1b";
+
+/// The parts of a list, and runs of a sign of these lengths.
+fn parts_and_runs(list: &str, sign: &str, lengths: &[usize]) -> Vec<String> {
+    let runs = lengths.iter().map(|length| sign.repeat(*length));
+    list.split('|').map(str::to_string).chain(runs).collect()
 }
 
 #[test]
 fn odd_requests_get_what_show_writes() {
-    let long = |length: usize| "x".repeat(length);
-    let codes = [
-        "0",
-        "",
-        "@",
-        "\"a\nb\"0",
-        "0\nkind=number\nvalue=3\n",
-        "0\t",
-        "\x01",
-        "[>5]0;@",
-        "@@@@@",
-        "#,##0.00",
-    ];
-    let codes: Vec<String> = codes
-        .map(str::to_string)
-        .into_iter()
-        .chain([254, 255, 2043, 2044].map(|n| "0".repeat(n)))
-        .collect();
-    let values = [
-        "3",
-        "",
-        "-",
-        "-0",
-        "-0.3",
-        ".5",
-        "5.",
-        "+5",
-        "1,000",
-        "1e5",
-        " 5",
-        "5 ",
-        "3\n",
-        "a\nb",
-        "00000000000000000007",
-        "999999999999999",
-        "1000000000000000",
-        "-99999999999999999999",
-        "0.000000000000001",
-        "0.0000000000000001",
-        "1/2",
-        "1/",
-        "/2",
-        "-1/0",
-        "1/2/3",
-        "2958465/86399999",
-        "2958466/0",
-        "0/86400000",
-        "4294967296/0",
-        "2024-10-14",
-        "\x7f\x1b",
-    ];
-    let values: Vec<String> = values
-        .map(str::to_string)
-        .into_iter()
-        .chain([820, 1024, 1025, 2042, 2043].map(long))
-        .collect();
-    for code in &codes {
+    let values = parts_and_runs(VALUES, "x", &[820, 1024, 1025, 2042, 2043]);
+    for code in &parts_and_runs(CODES, "0", &[254, 255, 2043, 2044]) {
         for kind in ["number", "instant", "text"] {
             for value in &values {
                 let (_, out, _) = run(&["--plain", code, kind, value]);
-                assert_eq!(
-                    out,
-                    reference(code, kind, value),
-                    "{code:?} {kind} {value:?}"
-                );
+                let told = reference(code, kind, value);
+                assert_eq!(out, told, "{code:?} {kind} {value:?}");
             }
         }
     }
