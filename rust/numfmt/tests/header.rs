@@ -4,15 +4,18 @@ use std::collections::HashMap;
 
 use numfmt::{Answer, CODE_MOST, TABLE_WORDS, TEXT_MOST};
 
+fn header() -> String {
+    let header = concat!(env!("CARGO_MANIFEST_DIR"), "/../../include/numfmt.h");
+    std::fs::read_to_string(header).expect("the header can be read")
+}
+
 /// The header's macros that stand for a number, without `NUMFMT_`.
 fn macros() -> HashMap<String, usize> {
-    let header = concat!(env!("CARGO_MANIFEST_DIR"), "/../../include/numfmt.h");
-    let header = std::fs::read_to_string(header).expect("the header can be read");
     let numbered = |line: &str| {
         let mut words = line.strip_prefix("#define NUMFMT_")?.split_whitespace();
         Some((words.next()?.to_string(), words.next()?.parse().ok()?))
     };
-    header.lines().filter_map(numbered).collect()
+    header().lines().filter_map(numbered).collect()
 }
 
 /// `CodeLength` as the header has it: `CODE_LENGTH`.
@@ -40,8 +43,25 @@ fn answers_are_those_of_the_header() {
     let macros = macros();
     for (number, answer) in Answer::ALL.into_iter().enumerate() {
         let name = header_name(answer);
-        let defined = macros.get(&format!("ANSWER_{name}")).or(macros.get(&name));
-        assert_eq!(defined, Some(&number), "{name}");
+        assert_eq!(
+            macros.get(&format!("ANSWER_{name}")),
+            Some(&number),
+            "{name}"
+        );
         assert_eq!(usize::from(answer.number()), number, "{name}");
     }
+}
+
+/// The lines of the header that are one string each are the sentences, in the answers' order.
+#[test]
+fn sentences_are_those_of_the_header() {
+    let header = header();
+    let string = |line| {
+        str::strip_suffix(
+            str::trim(line).trim_end_matches(',').strip_prefix('"')?,
+            '"',
+        )
+    };
+    let sentences: Vec<&str> = header.lines().filter_map(string).collect();
+    assert_eq!(sentences, Answer::ALL.map(Answer::text));
 }

@@ -65,6 +65,36 @@ mod tests {
         assert_eq!(painted(56, "x"), "\x1b[38;2;51;51;51mx\x1b[0m");
     }
 
+    /// Numbers and colours of the page's table, whose cells are a number and, behind a name or not, six hexadecimal digits.
+    fn page_palette() -> Vec<(usize, u32)> {
+        let page = concat!(env!("CARGO_MANIFEST_DIR"), "/../../docs/CURATORS.md");
+        let page = std::fs::read_to_string(page).expect("the page can be read");
+        let rows = page
+            .lines()
+            .skip_while(|line| *line != "### The 56 colours");
+        let rows = rows.skip_while(|line| !line.starts_with("|---")).skip(1);
+        let mut palette = Vec::new();
+        for row in rows.take_while(|line| line.starts_with('|')) {
+            let mut number = 0;
+            for cell in row.split('|').map(str::trim) {
+                match cell.len() {
+                    6 if cell.bytes().all(|sign| sign.is_ascii_hexdigit()) => {
+                        palette.push((number, u32::from_str_radix(cell, 16).expect("digits")));
+                    }
+                    _ => number = cell.parse().unwrap_or(number),
+                }
+            }
+        }
+        palette.sort();
+        palette
+    }
+
+    #[test]
+    fn the_palette_is_that_of_the_page() {
+        let own: Vec<(usize, u32)> = (1..).zip(PALETTE).collect();
+        assert_eq!(page_palette(), own);
+    }
+
     #[test]
     fn colours_are_told_by_name_or_number() {
         assert_eq!(name(0), None);
