@@ -6,7 +6,7 @@ use mathlib.Core.Bool.{Bool, true, false, cond, not, _&&_, _||_}
 use mathlib.Core.List.{List, [], _∷_, map}
 use native.Mathlib.Omega.{arith}
 use lib.Dec.{eqb}
-use borrow.Author.Tests.{le-leb, lt-leb, le-ltb, ne-eqb}
+use borrow.Author.Tests.{le-leb, lt-leb, ne-eqb}
 use lib.ListN.{length, getD}
 use Rattle.lists.specs.Lists.{every, any, count}
 use Rattle.formats.specs.Tokens.{Token}
@@ -15,7 +15,7 @@ use Rattle.formats.specs.Kinds.{isPlace, isPoint, isFillToken, integerPlaceToke
 use Rattle.marks.specs.Marks.{markRows, markToken, conditionOf, tokensIn}
 use Rattle.bodies.specs.declared.facts.Facts.{Facts}
 use Rattle.bodies.specs.declared.facts.Seen.{Seen}
-use Rattle.bodies.specs.Forms.{one, placeForm}
+use Rattle.bodies.specs.Forms.{one, placeForm, dateForms}
 use Rattle.bodies.specs.Bodies.{factsOf, seen, seeForm}
 use Rattle.marks.proofs.ByForm.{upFrom, by-form}
 use Rattle.marks.proofs.Words.{passed, Passed, passed-start, passed-end, passed-step}
@@ -39,11 +39,16 @@ abbrev seenFacts : Seen → Facts
 seenFacts s =
     record { date = eqb (s .rank) 2; number = eqb (s .rank) 1; plain = s .plain; solidus = s .solidus; fills = s .fills; places = s .places }
 
+no-date : (n : ℕ) → 22 < n → any (eqb n) dateForms ≡ false
+unfolding any dateForms
+no-date n h =
+    rw (ne-eqb n 15 (omega arith), ne-eqb n 16 (omega arith), ne-eqb n 17 (omega arith), ne-eqb n 18 (omega arith), ne-eqb n 19 (omega arith), ne-eqb n 20 (omega arith), ne-eqb n 21 (omega arith), ne-eqb n 22 (omega arith))
+
 -- what a token says, by its form and argument
 see-form : (s : Seen) (f a : ℕ) (us : List ℕ) → see s (markToken f a us) ≡ seeForm s f a
-unfolding markRows upFrom conditionOf tokenMakes isSolidus noBracket
+unfolding markRows upFrom conditionOf tokenMakes isSolidus noBracket any dateForms
 see-form s f a us = by-form (see s) (λ (n : ℕ). seeForm s n a) a us refl
-    (λ n h. rw (ne-eqb n 10 (omega arith), ne-eqb n 12 (omega arith), ne-eqb n 7 (omega arith), ne-eqb n 3 (omega arith), ne-eqb n 1 (omega arith), lt-leb n 22 (omega arith), lt-leb n 6 (omega arith), le-leb 15 n (omega arith), le-leb 4 n (omega arith), ne-eqb n 23 (omega arith), le-ltb n 24 (omega arith))) f
+    (λ n h. rw (ne-eqb n 10 (omega arith), ne-eqb n 12 (omega arith), ne-eqb n 7 (omega arith), ne-eqb n 3 (omega arith), ne-eqb n 1 (omega arith), lt-leb n 6 (omega arith), le-leb 4 n (omega arith), ne-eqb n 23 (omega arith), ne-eqb n 24 (omega arith), no-date n (omega arith))) f
 
 -- ---- the kind
 -- a list of kinds by those that it holds

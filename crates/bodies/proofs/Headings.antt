@@ -7,13 +7,13 @@ use mathlib.Core.List.{List, [], _∷_}
 use native.Mathlib.Omega.{arith}
 use native.Mathlib.Nat.{add-zero}
 use native.Mathlib.Numerals.{add-one}
-use borrow.Author.Tests.{eq-eqb, ne-eqb, lt-leb}
+use borrow.Author.Tests.{eq-eqb, ne-eqb}
 use lib.ListN.{length, drop, getD}
 use Rattle.formats.specs.Kinds.{afterColour, partsOf}
 use Rattle.marks.specs.Marks.{tokenAt, tokensIn}
 use Rattle.bodies.specs.declared.sections.Heading.{Heading}
 use Rattle.bodies.specs.Sections.{bareHeading, headingParts, AfterColour, HeadingOf}
-use Rattle.marks.proofs.ByForm.{colour-form, condition-form, colour-argument, condition-24}
+use Rattle.marks.proofs.ByForm.{colour-form, condition-form, colour-argument}
 use Rattle.marks.proofs.Words.{tokens-first, tokens-end, tokens-drop}
 
 module _ (ws : List ℕ) (colour passed : ℕ) (inside : 3 * passed ≤ length ws) where
@@ -36,22 +36,22 @@ module _ (ws : List ℕ) (colour passed : ℕ) (inside : 3 * passed ≤ length w
   unfolding afterColour headingParts
   heading-end h = bare (λ code. rw (at-end code h))
 
-  pub heading-bare : 3 * passed + 2 < length ws → getD ws (3 * passed) 0 < 24 → (r : Heading) → r ≡ bareHeading colour passed → AfterColour ws colour passed r
+  pub heading-bare : 3 * passed + 2 < length ws → (getD ws (3 * passed) 0 ≡ 24 → ⊥) → (r : Heading) → r ≡ bareHeading colour passed → AfterColour ws colour passed r
   unfolding afterColour headingParts tokenAt
   heading-bare h l =
-      bare (λ code. rw (at-token code h, condition-form (getD ws (3 * passed) 0) (getD ws (3 * passed + 1) 0) (drop (suc (getD ws (3 * passed + 2) 0)) code), lt-leb 24 (getD ws (3 * passed) 0) l))
+      bare (λ code. rw (at-token code h, condition-form (getD ws (3 * passed) 0) (getD ws (3 * passed + 1) 0) (drop (suc (getD ws (3 * passed + 2) 0)) code), ne-eqb (getD ws (3 * passed) 0) 24 l))
 
   -- the words of the token behind those passed
   words : (k : ℕ) → k ≤ 3 → 3 * (passed + 1) - (3 - k) ≡ 3 * passed + k
   words k h = omega arith
 
-  pub heading-condition : 3 * passed + 2 < length ws → 24 ≤ getD ws (3 * passed) 0
+  pub heading-condition : 3 * passed + 2 < length ws → getD ws (3 * passed) 0 ≡ 24
       → AfterColour ws colour passed (record { colour = colour; condition = true; argument = getD ws (3 * passed + 1) 0; start = getD ws (3 * passed + 2) 0; tokens = passed + 1 })
   unfolding afterColour headingParts tokenAt
   heading-condition h l =
       record {
         same = λ code. let us = drop (suc (getD ws (3 * passed + 2) 0)) code in let a = getD ws (3 * passed + 1) 0 in
-            rw (at-token code h, condition-24 (getD ws (3 * passed) 0) a us l, condition-form 24 a us, add-one passed);
+            rw (at-token code h, l, condition-form 24 a us, add-one passed);
         few = omega arith;
         inside = omega arith;
         read = λ t. (omega arith, rw (words 0 (omega arith)) (rw (add-zero (3 * passed)) l), rw (words 1 (omega arith)), rw (words 2 (omega arith)));

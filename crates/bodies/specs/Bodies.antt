@@ -3,7 +3,7 @@
 use Prim.Native.Nat.{ℕ, _+_, _-_}
 use mathlib.Core.Bool.{Bool, not, _&&_, _||_}
 use mathlib.Core.List.{List}
-use lib.Dec.{ltb, eqb}
+use lib.Dec.{eqb}
 use Rattle.lists.specs.Lists.{every, count}
 use Rattle.formats.specs.Tokens.{Token}
 use Rattle.formats.specs.Items.{dateKind, numberKind, sameKind}
@@ -39,4 +39,4 @@ seen s rank isPlace isPoint isFill isSolidus plain =
 
 -- one token more, by its form and argument
 abbrev pub seeForm : Seen → ℕ → ℕ → Seen
-seeForm s f a = seen s (rankForm f) (placeForm f) (eqb f 7) (eqb f 3) (eqb f 1 && eqb a 47) (not (eqb f 23) && ltb f 24)
+seeForm s f a = seen s (rankForm f) (placeForm f) (eqb f 7) (eqb f 3) (eqb f 1 && eqb a 47) (not (eqb f 23) && not (eqb f 24))

@@ -44,7 +44,7 @@ pub record SectionEnd (ws : List ℕ) (r : ℕ) : Type 0 where
 abbrev pub ConditionRead : List ℕ → Heading → Type 0
 ConditionRead ws r =
     r .condition ≡ true
-    → (1 ≤ r .tokens) × (24 ≤ getD ws (3 * r .tokens - 3) 0)
+    → (1 ≤ r .tokens) × (getD ws (3 * r .tokens - 3) 0 ≡ 24)
     × (r .argument ≡ getD ws (3 * r .tokens - 2) 0) × (r .start ≡ getD ws (3 * r .tokens - 1) 0)
 
 -- r is the heading of a section of which so many tokens and their colour are passed

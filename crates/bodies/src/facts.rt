@@ -3,10 +3,17 @@ use marks::forms::AT;
 use marks::forms::BARE;
 use marks::forms::COLOUR;
 use marks::forms::CONDITION;
+use marks::forms::DAYS;
+use marks::forms::ELAPSED_HOURS;
+use marks::forms::ELAPSED_MINUTES;
 use marks::forms::ELAPSED_SECONDS;
 use marks::forms::FILL;
 use marks::forms::GENERAL;
+use marks::forms::HASH_PLACE;
+use marks::forms::HOURS;
+use marks::forms::MONTHS;
 use marks::forms::POINT;
+use marks::forms::SECONDS;
 use marks::forms::SPACE_PLACE;
 use marks::forms::YEARS;
 use marks::forms::ZERO_PLACE;
@@ -58,19 +65,22 @@ struct Seen {
 fn rank_of(form: u16) -> u16
     ensures { λ r. ⌜ r ≡ rankForm form ⌝ }
 {
-    if form == AT {
-        return TEXT_RANK;
+    match form {
+        AT => TEXT_RANK,
+        GENERAL => GENERAL_RANK,
+        ZERO_PLACE => NUMBER_RANK,
+        HASH_PLACE => NUMBER_RANK,
+        SPACE_PLACE => NUMBER_RANK,
+        YEARS => DATE_RANK,
+        MONTHS => DATE_RANK,
+        DAYS => DATE_RANK,
+        HOURS => DATE_RANK,
+        SECONDS => DATE_RANK,
+        ELAPSED_HOURS => DATE_RANK,
+        ELAPSED_MINUTES => DATE_RANK,
+        ELAPSED_SECONDS => DATE_RANK,
+        _ => 0,
     }
-    if form == GENERAL {
-        return GENERAL_RANK;
-    }
-    if is_between(YEARS, ELAPSED_SECONDS, form) {
-        return DATE_RANK;
-    }
-    if is_between(ZERO_PLACE, SPACE_PLACE, form) {
-        return NUMBER_RANK;
-    }
-    0
 }
 
 fn higher(a: u16, b: u16) -> u16
@@ -96,7 +106,7 @@ fn see(s: Seen, form: u16, argument: u16) -> Seen
     let point = s.point | (form == POINT);
     Seen {
         rank: higher(s.rank, rank_of(form)),
-        plain: s.plain & ((form != COLOUR) & (form < CONDITION)),
+        plain: s.plain & ((form != COLOUR) & (form != CONDITION)),
         solidus: s.solidus & !(s.divided & place),
         fills: counted(s.fills, form == FILL),
         places: counted(s.places, place & !point),

@@ -56,7 +56,7 @@ fn after_colour(tokens: &[u16], colour: u16, passed: usize) -> Heading
     if tokens.len() <= at + 2 {
         return bare_heading(colour, passed);
     }
-    if tokens[at] < CONDITION {
+    if tokens[at] != CONDITION {
         return bare_heading(colour, passed);
     }
     Heading {

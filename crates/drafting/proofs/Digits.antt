@@ -18,7 +18,6 @@ use Rattle.formats.proofs.TokenRanges.{tokenPasses, writtenInRange, conditionDi
 use Rattle.marks.specs.Marks.{writtenOr, writtenIn, conditionOf, markRows, markToken, tokenAt, tokensIn}
 use Rattle.bodies.specs.declared.sections.Heading.{Heading}
 use Rattle.bodies.specs.Sections.{HeadingOf}
-use Rattle.marks.proofs.ByForm.{condition-24}
 use Rattle.marks.proofs.Words.{tokens-first, tokens-drop, tokens-take}
 use Rattle.drafting.specs.Draft.{writesDigit, hasDigit}
 
@@ -69,7 +68,7 @@ heading-digit code ws h head t e =
     let i : 3 * h .tokens - 3 ≡ 3 * k = omega (arith, r .0) in
     let j : 3 * h .tokens - 2 ≡ 3 * k + 1 = omega (arith, r .0) in
     let m : 3 * h .tokens - 1 ≡ 3 * k + 2 = omega (arith, r .0) in
-    let form : 24 ≤ getD ws (3 * k) 0 = rw i at (r .1) in
+    let form : getD ws (3 * k) 0 ≡ 24 = rw i at (r .1) in
     let a : h .argument ≡ getD ws (3 * k + 1) 0 = rw j at (r .2) in
     let b : h .start ≡ getD ws (3 * k + 2) 0 = rw m at (r .3) in
     let us : List ℕ = drop (suc (h .start)) code in
@@ -77,4 +76,4 @@ heading-digit code ws h head t e =
     let here : T (every hasDigit (markToken (getD ws (3 * k) 0) (h .argument) us ∷ tokensIn code (drop (3 * k + 3) ws)))
     = rw (a, b) (rw first at (digits-drop code ws k t)) in
     let token = every-head hasDigit (markToken (getD ws (3 * k) 0) (h .argument) us) (tokensIn code (drop (3 * k + 3) ws)) here in
-    digit-some (take (h .argument) us) (rw (condition-24 (getD ws (3 * k) 0) (h .argument) us form) at token)
+    digit-some (take (h .argument) us) (rw form at token)

@@ -61,13 +61,13 @@ leavesToken date e q t = (meansMinutes (runAfter e (tokenItems date t)) noRun, d
 abbrev leavesForm : Bool → ℕ → ℕ → Bool × ℕ
 leavesForm hours q f = (formHours f hours, formDigit f q)
 
-rows-leave : (date : Bool) (e : Run) (q a : ℕ) (us : List ℕ) → map (leavesToken date e q) (markRows a us) ≡ map (leavesForm (meansMinutes e noRun) q) (upFrom 0 24)
-unfolding markRows upFrom formHours formDigit tokenItems runItem runAfter digitsAfter runOf runOfElapsed nearer meansMinutes digitAfter
+rows-leave : (date : Bool) (e : Run) (q a : ℕ) (us : List ℕ) → map (leavesToken date e q) (markRows a us) ≡ map (leavesForm (meansMinutes e noRun) q) (upFrom 0 25)
+unfolding markRows conditionOf upFrom formHours formDigit tokenItems runItem runAfter digitsAfter runOf runOfElapsed nearer meansMinutes digitAfter
 rows-leave true e q a us = rw (literals-run e (take a us), literals-digit q (take a us))
 rows-leave false e q a us = rw (literals-run e (take a us), literals-digit q (take a us))
 
 pub behind : (date : Bool) (e : Run) (q a : ℕ) (us : List ℕ) (f : ℕ) → leavesToken date e q (markToken f a us) ≡ leavesForm (meansMinutes e noRun) q f
-unfolding formHours formDigit tokenItems conditionOf runAfter digitsAfter
+unfolding formHours formDigit tokenItems runAfter digitsAfter
 behind date e q a us = by-form (leavesToken date e q) (leavesForm (meansMinutes e noRun) q) a us (rows-leave date e q a us)
     (λ n h. rw (lt-leb n 22 (omega arith), le-leb 15 n (omega arith), lt-leb n 6 (omega arith), le-leb 4 n (omega arith)))
 
@@ -75,15 +75,15 @@ behind date e q a us = by-form (leavesToken date e q) (leavesForm (meansMinutes 
 abbrev wordsForm : Bool → Bool → ℕ → ℕ → List ℕ → ℕ → List ℕ
 wordsForm date hours q a us f = cond (eqb f 0) (literalWords (take a us)) (formWords date hours q a f)
 
-rows-words : (date hours : Bool) (q a : ℕ) (us : List ℕ) → map (tokenWords date hours q) (markRows a us) ≡ map (wordsForm date hours q a us) (upFrom 0 24)
-unfolding markRows upFrom tokenWords itemsWords tokenItems runItem entriesWords entriesFrom entryOf placeTag elapsedTag halfWord settledFrom settledItem monthOrMinute meansMinutes runIf firstRun nearer runOf runOfElapsed digitAfter
+rows-words : (date hours : Bool) (q a : ℕ) (us : List ℕ) → map (tokenWords date hours q) (markRows a us) ≡ map (wordsForm date hours q a us) (upFrom 0 25)
+unfolding markRows conditionOf upFrom tokenWords itemsWords tokenItems runItem entriesWords entriesFrom entryOf placeTag elapsedTag halfWord settledFrom settledItem monthOrMinute meansMinutes runIf firstRun nearer runOf runOfElapsed digitAfter
 rows-words true true q a us = by-cases (leb a 2) (λ e. rw (literals-words hourRun q (take a us), e)) (λ e. rw (literals-words hourRun q (take a us), e))
 rows-words true false q a us = rw (literals-words noRun q (take a us))
 rows-words false true q a us = by-cases (leb a 2) (λ e. rw (literals-words hourRun q (take a us), e)) (λ e. rw (literals-words hourRun q (take a us), e))
 rows-words false false q a us = rw (literals-words noRun q (take a us))
 
 pub words-form : (date hours : Bool) (q a : ℕ) (us : List ℕ) (f : ℕ) → tokenWords date hours q (markToken f a us) ≡ wordsForm date hours q a us f
-unfolding tokenWords itemsWords tokenItems entriesWords entriesFrom settledFrom conditionOf
+unfolding tokenWords itemsWords tokenItems entriesWords entriesFrom settledFrom
 words-form date hours q a us = by-form (tokenWords date hours q) (wordsForm date hours q a us) a us (rows-words date hours q a us)
     (λ f h. simp (ne-eqb f 0 (omega arith), ne-eqb f 1 (omega arith), ne-eqb f 2 (omega arith), ne-eqb f 3 (omega arith), ne-eqb f 4 (omega arith), ne-eqb f 5 (omega arith), ne-eqb f 6 (omega arith), ne-eqb f 7 (omega arith), ne-eqb f 8 (omega arith), ne-eqb f 9 (omega arith), ne-eqb f 10 (omega arith), ne-eqb f 12 (omega arith), ne-eqb f 13 (omega arith), ne-eqb f 14 (omega arith), ne-eqb f 15 (omega arith), ne-eqb f 16 (omega arith), ne-eqb f 17 (omega arith), ne-eqb f 18 (omega arith), ne-eqb f 19 (omega arith), ne-eqb f 20 (omega arith), ne-eqb f 21 (omega arith), ne-eqb f 22 (omega arith)))
 

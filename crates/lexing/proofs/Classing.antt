@@ -10,6 +10,7 @@ use borrow.Author.Tests.{ne-eqb, le-leb, lt-leb, eqb-true}
 use lib.ListN.{length, drop}
 use lib.Dec.{T, leb, ltb, eqb, ltb→lt}
 use Rattle.lists.specs.Lists.{every, any}
+use Rattle.lists.proofs.Apart.{Apart, known, none-of}
 use Rattle.lists.proofs.Bools.{by-cases, every-head, every-tail}
 use Rattle.calendar.specs.Names.{units}
 use Rattle.formats.specs.Tokens.{Step, broken, marked, runStep, bracketed, FirstRow, firstRows, firstIn, bareLiterals, stepBy, stepAt}
@@ -93,20 +94,7 @@ pub class-high : (u : ℕ) → 128 ≤ u → 21 ≡ classOf u
 unfolding classOf firstRows bareLiterals units every
 class-high u h = rows-high firstRows classNumbers u tt (none-high bareLiterals u tt h) h
 
--- ---- units that are none of a list's: what the arms of a `match` leave for the last one
-abbrev pub Apart : Type 0 → ℕ → List ℕ → Type 0
-Apart P u [] = P
-Apart P u (k ∷ ks) = Apart (P × (u ≡ k → ⊥)) u ks
-
-known : (P : Type 0) (u : ℕ) (ks : List ℕ) → Apart P u ks → P
-known P u [] a = a
-known P u (k ∷ ks) a = known (P × (u ≡ k → ⊥)) u ks a .0
-
-none-of : (P : Type 0) (u : ℕ) (ks : List ℕ) → Apart P u ks → any (eqb u) ks ≡ false
-unfolding any
-none-of P u [] a = refl
-none-of P u (k ∷ ks) a = rw (ne-eqb u k (known (P × (u ≡ k → ⊥)) u ks a .1)) (none-of (P × (u ≡ k → ⊥)) u ks a)
-
+-- ---- units without a row
 pub bare-none : (u : ℕ) → Apart (Unit {0}) u bareLiterals → 21 ≡ bareClass u
 unfolding bareClass
 bare-none u a = rw (none-of (Unit {0}) u bareLiterals a)

@@ -2,38 +2,20 @@
 -- Assumes nothing.
 use Prim.Native.Nat.{ℕ, zero, suc, _+_, _-_, _*_, _≤_, _<_}
 use mathlib.Core.Path.{_≡_, refl, sym, ap, _∙_}
-use mathlib.Core.Bool.{true, false}
-use mathlib.Core.List.{List, [], _∷_, _++_}
+use mathlib.Core.List.{List, [], _∷_}
 use native.Mathlib.Omega.{arith}
 use borrow.Author.Tests.{eq-eqb, ne-eqb}
-use lib.Dec.{eqb, eqb·zero-suc, eqb·suc-zero, eqb·suc-suc}
-use lib.ListN.{length, take, drop, getD, replicate, drop-of-length-le, List·getD-map}
+use lib.Dec.{eqb}
+use lib.ListN.{length, take, drop, getD, drop-of-length-le}
 use lib.Seq.{drop-cons, getD-take, length-take-le}
 use Rattle.lists.proofs.Bools.{by-cases}
 use Rattle.formats.specs.Tokens.{lex}
-use Rattle.formats.specs.Kinds.{isSemicolon}
 use Rattle.formats.specs.Accept.{placedOf, semicolons}
 use Rattle.lexing.specs.declared.buffer.Filled.the-variants.{All}
-use Rattle.marks.specs.Marks.{conditionOf, markToken, markRows, tokenAt, placedIn}
+use Rattle.marks.specs.Marks.{tokenAt, placedIn}
+use Rattle.marks.proofs.ByForm.{semicolon-form}
 use Rattle.lexing.specs.Buffer.{lexMeant, semicolonsIn}
 use Rattle.lexing.proofs.Filling.{placed-all}
-
--- ---- the form of a semicolon
-all-false : (m k : ℕ) → getD (replicate m false) k false ≡ false
-all-false zero k = refl
-all-false (suc m) zero = refl
-all-false (suc m) (suc k) = all-false m k
-
--- a row of tests of which the one at n holds
-one-true : (n m k : ℕ) → getD (replicate n false ++ true ∷ replicate m false) k false ≡ eqb k n
-one-true zero m zero = refl
-one-true zero m (suc k) = all-false m k ∙ sym (eqb·suc-zero k)
-one-true (suc n) m zero = sym (eqb·zero-suc n)
-one-true (suc n) m (suc k) = one-true n m k ∙ sym (eqb·suc-suc k n)
-
-pub mark-semicolon : (f a : ℕ) (us : List ℕ) → isSemicolon (markToken f a us) ≡ eqb f 11
-unfolding markToken markRows conditionOf
-mark-semicolon f a us = sym (List·getD-map isSemicolon (markRows a us) f (conditionOf (take a us))) ∙ one-true 11 12 f
 
 pub semicolons-in : (code words : List ℕ) → semicolons (placedIn code words) ≡ semicolonsIn words
 unfolding semicolons placedIn semicolonsIn tokenAt
@@ -42,8 +24,8 @@ semicolons-in code (f ∷ []) = refl
 semicolons-in code (f ∷ a ∷ []) = refl
 semicolons-in code (f ∷ a ∷ s ∷ ws) =
     by-cases (eqb f 11)
-    (λ e. rw (mark-semicolon f a (drop (suc s) code), e) (ap (λ (ks : List ℕ). s ∷ ks) (semicolons-in code ws)))
-    (λ e. rw (mark-semicolon f a (drop (suc s) code), e) (semicolons-in code ws))
+    (λ e. rw (semicolon-form f a (drop (suc s) code), e) (ap (λ (ks : List ℕ). s ∷ ks) (semicolons-in code ws)))
+    (λ e. rw (semicolon-form f a (drop (suc s) code), e) (semicolons-in code ws))
 
 -- the semicolons of a code, from a buffer that holds all its tokens
 pub semicolons-all : (code words : List ℕ) (n : ℕ) → lexMeant code words (All n) ≡ lex code → semicolonsIn (take (3 * n) words) ≡ semicolons (placedOf (lex code))

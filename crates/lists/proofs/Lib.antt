@@ -1,3 +1,4 @@
+pub mod Apart
 pub mod Bools
 pub mod Counts
 pub mod First

@@ -8,9 +8,9 @@ use native.Mathlib.Omega.{arith}
 use native.Mathlib.Nat.{le-of-suc-le-suc}
 use borrow.Author.Tests.{ne-eqb, le-leb, lt-leb, ltb-true, ltb-false}
 use lib.Dec.{leb, ltb, eqb}
-use lib.ListN.{take, getD, List·getD-map, List·getD-eq-default, length-map}
+use lib.ListN.{getD, List·getD-map, List·getD-eq-default, length-map}
 use Rattle.lists.proofs.Bools.{by-cases}
-use Rattle.formats.specs.Tokens.{Token}
+use Rattle.formats.specs.Tokens.{Token, literal}
 use Rattle.formats.specs.Items.{isSecondsElapsed}
 use Rattle.formats.specs.Kinds.{isPlace, isPoint, isSemicolon, isColour, isCondition, isFillToken, colourIn, isSecondsLetter, isSecondsToken, isZeroIn, isZero}
 use Rattle.marks.specs.Marks.{markRows, markToken, conditionOf}
@@ -27,25 +27,17 @@ module _ {B : Type 0} (h : ℕ → B) where
   at-up k (suc n) zero d l = ap h (omega arith)
   at-up k (suc n) (suc f) d l = at-up (suc k) n f d (le-of-suc-le-suc l) ∙ ap h (omega arith)
 
--- what g says of a token is what h says of its form and argument: a computed test of the forms below 24, and one of a condition
+-- what g says of a token is what h says of its form and argument: a computed test of the forms, and one of the literal without units
 module _ {B : Type 0} (g : Token → B) (h : ℕ → B) (a : ℕ) (us : List ℕ) where
-  pub by-form : map g (markRows a us) ≡ map h (upFrom 0 24) → ((f : ℕ) → 24 ≤ f → g (conditionOf (take a us)) ≡ h f)
+  pub by-form : map g (markRows a us) ≡ map h (upFrom 0 25) → ((f : ℕ) → 25 ≤ f → g (literal []) ≡ h f)
       → (f : ℕ) → g (markToken f a us) ≡ h f
   unfolding markToken upFrom
   by-form e last f =
-      let d = conditionOf (take a us) in
+      let d = literal [] in
       sym (List·getD-map g (markRows a us) f d) ∙ ap (λ (bs : List B). getD bs f (g d)) e
-      ∙ by-cases (ltb f 24)
-      (λ t. at-up h 0 24 f (g d) (ltb-true f 24 t) ∙ ap h (omega arith))
-      (λ t. let p = ltb-false f 24 t in List·getD-eq-default (map h (upFrom 0 24)) (g d) {n = f} (rw (length-map (upFrom 0 24) h) p) ∙ last f p)
-
--- a condition stands for every form from 24 on
-pub from-24 : (f a : ℕ) (us : List ℕ) → 24 ≤ f → markToken f a us ≡ conditionOf (take a us)
-unfolding markToken markRows
-from-24 f a us h = List·getD-eq-default (markRows a us) (conditionOf (take a us)) h
-
-pub condition-24 : (f a : ℕ) (us : List ℕ) → 24 ≤ f → markToken f a us ≡ markToken 24 a us
-condition-24 f a us h = from-24 f a us h ∙ sym (from-24 24 a us (omega arith))
+      ∙ by-cases (ltb f 25)
+      (λ t. at-up h 0 25 f (g d) (ltb-true f 25 t) ∙ ap h (omega arith))
+      (λ t. let p = ltb-false f 25 t in List·getD-eq-default (map h (upFrom 0 25)) (g d) {n = f} (rw (length-map (upFrom 0 25) h) p) ∙ last f p)
 
 module _ (f a : ℕ) (us : List ℕ) where
   pub fill-form : isFillToken (markToken f a us) ≡ eqb f 3
@@ -76,9 +68,9 @@ module _ (f a : ℕ) (us : List ℕ) where
   unfolding markRows upFrom conditionOf
   colour-form = by-form isColour (λ (n : ℕ). eqb n 23) a us refl (λ n h. sym (ne-eqb n 23 (omega arith))) f
 
-  pub condition-form : isCondition (markToken f a us) ≡ leb 24 f
+  pub condition-form : isCondition (markToken f a us) ≡ eqb f 24
   unfolding markRows upFrom conditionOf
-  condition-form = by-form isCondition (λ (n : ℕ). leb 24 n) a us refl (λ n h. sym (le-leb 24 n h)) f
+  condition-form = by-form isCondition (λ (n : ℕ). eqb n 24) a us refl (λ n h. sym (ne-eqb n 24 (omega arith))) f
 
   pub colour-argument : f ≡ 23 → colourIn (markToken f a us) ≡ a
   unfolding markToken markRows colourIn

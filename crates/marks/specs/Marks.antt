@@ -29,11 +29,11 @@ markRows a us =
     ∷ place zeroPlace ∷ place hashPlace ∷ place spacePlace ∷ point ∷ comma ∷ percent ∷ at ∷ semicolon
     ∷ general ∷ half short ∷ half long
     ∷ run letterY a ∷ run letterM a ∷ run letterD a ∷ run letterH a ∷ run letterS a
-    ∷ elapsed hours a ∷ elapsed minutes a ∷ elapsed seconds a ∷ colour a ∷ []
+    ∷ elapsed hours a ∷ elapsed minutes a ∷ elapsed seconds a ∷ colour a ∷ conditionOf (take a us) ∷ []
 
--- the token of a form: its row, and a condition for 24 and every other number
+-- the token of a form: its row, and a literal without units for a number that is no form
 unfoldable pub markToken : ℕ → ℕ → List ℕ → Token
-markToken form a us = getD (markRows a us) form (conditionOf (take a us))
+markToken form a us = getD (markRows a us) form (literal [])
 
 -- the same of a code, where the token's first unit stands at the place start
 unfoldable pub tokenAt : List ℕ → ℕ → ℕ → ℕ → Token

@@ -1,32 +1,31 @@
 -- `bodies::facts::rank_of` meets its contract.
 -- Assumes nothing.
-use borrow.Author.Needs.{needs}
-use Rattle.bodies.proofs.Tests.{rank-text, rank-general, rank-date, rank-place, rank-none}
+use Rattle.lists.specs.Lists.{any}
+use Rattle.bodies.specs.Forms.{dateForms}
+use Rattle.bodies.proofs.Tests.{rank-none}
 use Rattle.bodies.proofs.facts.rank_of.Statement.{statement}
 use Rattle.bodies.proofs.facts.rank_of.Tie as tie
 
-returns : tie.Need-returns
-returns c = search (needs, rank-text)
-
-returns-2 : tie.Need-returns-2
-returns-2 c = search (needs, rank-general)
-
-is-between-requires : tie.Need-is-between-requires
-is-between-requires c κs = search needs
-
-returns-3 : tie.Need-returns-3
-returns-3 c = search (needs, rank-date)
-
-is-between-requires-2 : tie.Need-is-between-requires-2
-is-between-requires-2 c κs = search needs
-
-returns-4 : tie.Need-returns-4
-returns-4 c = search (needs, rank-place)
-
-returns-5 : tie.Need-returns-5
-returns-5 c = search (needs, rank-none)
+last : tie.Need-returns-14
+unfolding dateForms
+last c = rank-none (c .before .args .form) (c .match .rest)
 
 pub rank-of-spec : {M : Type 1} → statement M
+unfolding any dateForms
 rank-of-spec =
     tie.close
-    (tie.spec returns returns-2 is-between-requires returns-3 is-between-requires-2 returns-4 returns-5)
+    (tie.spec
+    (λ c. rw (c .match .keys1))
+    (λ c. rw (c .match .keys2))
+    (λ c. rw (c .match .keys3))
+    (λ c. rw (c .match .keys4))
+    (λ c. rw (c .match .keys5))
+    (λ c. rw (c .match .keys6))
+    (λ c. rw (c .match .keys7))
+    (λ c. rw (c .match .keys8))
+    (λ c. rw (c .match .keys9))
+    (λ c. rw (c .match .keys10))
+    (λ c. rw (c .match .keys11))
+    (λ c. rw (c .match .keys12))
+    (λ c. rw (c .match .keys13))
+    last)
