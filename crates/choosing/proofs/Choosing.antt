@@ -15,14 +15,15 @@ use Rattle.lists.proofs.Bools.{by-cases}
 use Rattle.formats.specs.Items.{Section}
 use Rattle.formats.specs.Where.{hasCondition, isText}
 use Rattle.formats.specs.Choice.{Exact, zeroExact, smaller, lessThan, countedFrom, counted, fallback, reasonFor, conditionHolds, reasonHolds, nothing, chosen, chooseFrom, chooseFirst, choose, TextChoice, itself, textIn, fourthFrom, textFrom, chooseText}
-use Rattle.formats.specs.Minus.{isOwn, firstHasCondition}
+use Rattle.formats.specs.Minus.{isOwn}
 use Rattle.tables.specs.Decode.{decode}
 use Rattle.tables.specs.Rules.{passes}
 use Rattle.choosing.specs.declared.Sought.{Sought}
 use Rattle.choosing.specs.declared.Found.the-variants as found
 use Rattle.choosing.specs.declared.TextFound.the-variants as text
-use Rattle.choosing.specs.Seeking.{partsOfOne, exactOf, foundOf, textFoundOf, noSection, sectionIn, isCounted, takes}
-use Rattle.choosing.proofs.Places.{sections-length, Long, long}
+use Rattle.table_words.specs.Sections.{noSection, sectionIn}
+use Rattle.table_words.proofs.Heads.{sections-length, Long, long}
+use Rattle.choosing.specs.Seeking.{partsOfOne, exactOf, foundOf, textFoundOf, isCounted, takes}
 
 -- a number is below 0 where its sign says so
 pub below-zero : (x : Exact) → lessThan x zeroExact ≡ x .negative
@@ -169,14 +170,13 @@ choose-counted : (ws : List ℕ) (n : ℕ) (x : Exact) → n ≡ counted (decode
 unfolding choose
 choose-counted ws n x e apart = rw (← e, ne-eqb n 0 apart)
 
-pub walking-found : (ws : List ℕ) (n : ℕ) (x : Exact) (i : ℕ) (own : Bool) → Walking ws n x i → i < getD ws 0 0
-    → n ≡ counted (decode ws) → (n ≡ 0 → ⊥) → takes n i (sectionIn ws i) x ≡ true → own ≡ hasCondition (sectionIn ws i)
-    → found.At i own ≡ foundOf (choose (decode ws) x)
+pub walking-found : (ws : List ℕ) (n : ℕ) (x : Exact) (i : ℕ) → Walking ws n x i → i < getD ws 0 0
+    → n ≡ counted (decode ws) → (n ≡ 0 → ⊥) → takes n i (sectionIn ws i) x ≡ true → found.At i ≡ foundOf (choose (decode ws) x)
 unfolding foundOf
-walking-found ws n x i own w h e apart t o =
+walking-found ws n x i w h e apart t =
     let step : chooseFrom n i (drop i (decode ws)) x ≡ chosen i (sectionIn ws i) (reasonFor n i (sectionIn ws i)) =
     rw (front ws i h, from-front n i (sectionIn ws i) (drop (i + 1) (decode ws)) x, t) in
-    rw (choose-counted ws n x e apart, ← (w .same), step, o, reason-own n i (sectionIn ws i))
+    rw (choose-counted ws n x e apart, ← (w .same), step)
 
 pub walking-end : (ws : List ℕ) (n : ℕ) (x : Exact) (i : ℕ) → Walking ws n x i → getD ws 0 0 ≤ i
     → n ≡ counted (decode ws) → (n ≡ 0 → ⊥) → found.Nothing ≡ foundOf (choose (decode ws) x)
@@ -187,7 +187,7 @@ walking-end ws n x i w h e apart =
 
 -- where no section counts, the first is taken
 pub choose-first : (ws : List ℕ) (n : ℕ) (x : Exact) → T (passes ws) → n ≡ counted (decode ws) → n ≡ 0
-    → found.At 0 false ≡ foundOf (choose (decode ws) x)
+    → found.At 0 ≡ foundOf (choose (decode ws) x)
 unfolding choose chooseFirst foundOf
 choose-first ws n x t e z =
     let l : Long ws = long ws t in
@@ -258,11 +258,3 @@ unfolding textFoundOf textFrom
 text-walking-end ws i t apart w h =
     let step : textFrom i (drop i (decode ws)) ≡ itself = rw (behind ws i h) in
     rw (text-few ws t apart, ← (w .same), step)
-
--- the first section's condition
-pub first-has : (ws : List ℕ) → T (passes ws) → firstHasCondition (decode ws) ≡ hasCondition (sectionIn ws 0)
-unfolding firstHasCondition
-first-has ws t =
-    let l : Long ws = long ws t in
-    let a : drop 0 (decode ws) ≡ sectionIn ws 0 ∷ drop 1 (decode ws) = front ws 0 (omega arith) in
-    rw a

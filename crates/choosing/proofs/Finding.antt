@@ -2,21 +2,24 @@
 -- Assumes nothing.
 use Prim.Native.Nat.{ℕ, suc, _+_, _-_, _≤_, _<_}
 use native.Mathlib.Omega.{arith}
-use mathlib.Core.Path.{_≡_, refl, ap, subst, _∙_}
-use mathlib.Core.Bool.{Bool, true, false, cond, not, _&&_, _||_}
+use mathlib.Core.Path.{_≡_, refl, sym, ap, subst, _∙_}
+use mathlib.Core.Bool.{Bool, true, false, cond, not, _&&_, _||_, and-false}
 use mathlib.Core.List.{List, [], _∷_}
 use lib.ListN.{length, getD}
 use lib.Dec.{eqb}
-use Rattle.lists.proofs.Bools.{cond-both, cond-case}
+use borrow.Author.Tests.{eqb-true}
+use Rattle.lists.proofs.Bools.{by-cases, cond-both, cond-case}
 use Rattle.formats.specs.Items.{Section}
-use Rattle.formats.specs.Where.{isText}
+use Rattle.formats.specs.Where.{hasCondition, isText}
 use Rattle.formats.specs.Choice.{Exact, counted, Reason, asGeneral, reasonFor, reasonHolds, Choice, nothing, chosen, chooseFrom, chooseFirst, choose, TextChoice, itself, textIn, fourthFrom, textFrom, chooseText}
-use Rattle.formats.specs.Minus.{isOwn}
+use Rattle.formats.specs.Minus.{isOwn, exceptionA}
 use Rattle.tables.specs.Decode.{decode}
 use Rattle.choosing.specs.declared.Found.the-variants as found
 use Rattle.choosing.specs.declared.TextFound.the-variants as text
-use Rattle.choosing.specs.Seeking.{foundOf, textFoundOf, noSection, sectionIn}
-use Rattle.choosing.proofs.Places.{sections-length}
+use Rattle.table_words.specs.Sections.{noSection, sectionIn}
+use Rattle.table_words.proofs.Heads.{sections-length}
+use Rattle.choosing.specs.Seeking.{foundOf, textFoundOf}
+use Rattle.choosing.proofs.Choosing.{reason-own}
 
 -- section s lies at place j of the sections from place i on
 pub record Lies (i : ℕ) (ss : List Section) (d : Section) (j : ℕ) (s : Section) : Type 0 where
@@ -83,6 +86,17 @@ pub chosen-placed : (ss : List Section) (d : Section) (x : Exact) (i : ℕ) (s :
     → Placement ss d i s why
 chosen-placed ss d x i s why e = subst (Placements ss d) e (choice-placed ss d x)
 
+-- a section that has a condition is taken by that alone: exception (a) may be told by whether it has one
+pub chosen-exception : (ss : List Section) (x : Exact) (i : ℕ) (s : Section) (why : Reason) (firstHas : Bool) → choose ss x ≡ chosen i s why
+    → exceptionA (counted ss) i (hasCondition s) firstHas ≡ exceptionA (counted ss) i (isOwn why) firstHas
+unfolding exceptionA
+chosen-exception ss x i s why firstHas e =
+    let n : ℕ = counted ss in
+    let p : Placement ss s i s why = chosen-placed ss s x i s why e in
+    by-cases (eqb n 0)
+    (λ z. rw (eqb-true n 0 z) (and-false (eqb i 1 && not (hasCondition s)) ∙ sym (and-false (eqb i 1 && not (isOwn why)))))
+    (λ z. ap (λ (own : Bool). exceptionA n i own firstHas) (sym (rw z at (ap isOwn (p .reason)) ∙ reason-own n i s)))
+
 -- the section of a text
 abbrev TextLies : ℕ → List Section → Section → TextChoice → Type 0
 TextLies i ss d itself = Unit {0}
@@ -125,19 +139,18 @@ found-nothing ws x e = go (choose (decode ws) x) e
     go nothing e = refl
     go (chosen i s why) e = let z : _≡_ {A = ℕ} 0 1 = cc in absurd (omega arith)
 
-pub found-at : {P : Type 0} (ws : List ℕ) (x : Exact) (i : ℕ) (own : Bool) → found.At i own ≡ foundOf (choose (decode ws) x)
-    → ((why : Reason) → choose (decode ws) x ≡ chosen i (sectionIn ws i) why → own ≡ isOwn why → i < getD ws 0 0 → P) → P
+pub found-at : {P : Type 0} (ws : List ℕ) (x : Exact) (i : ℕ) → found.At i ≡ foundOf (choose (decode ws) x)
+    → ((why : Reason) → choose (decode ws) x ≡ chosen i (sectionIn ws i) why → i < getD ws 0 0 → P) → P
 unfolding foundOf sectionIn
-found-at {P} ws x i own e f = go (choose (decode ws) x) refl e
+found-at {P} ws x i e f = go (choose (decode ws) x) refl e
   where
-    go : (c : Choice) → choose (decode ws) x ≡ c → found.At i own ≡ foundOf c → P
+    go : (c : Choice) → choose (decode ws) x ≡ c → found.At i ≡ foundOf c → P
     go nothing h e = let z : _≡_ {A = ℕ} 0 1 = cc in absurd (omega arith)
     go (chosen j s why) h e =
         let p : Placement (decode ws) noSection j s why = chosen-placed (decode ws) noSection x j s why h in
         let a : i ≡ j = cc in
-        let b : own ≡ isOwn why = cc in
         let m : length (decode ws) ≡ getD ws 0 0 = sections-length ws in
-        f why (rw a (h ∙ ap (λ (t : Section). chosen j t why) (p .there))) b (omega (arith, p .within))
+        f why (rw a (h ∙ ap (λ (t : Section). chosen j t why) (p .there))) (omega (arith, p .within))
 
 -- what the answers for a text say
 pub text-itself : (ws : List ℕ) → text.Itself ≡ textFoundOf (chooseText (decode ws)) → chooseText (decode ws) ≡ itself

@@ -2,6 +2,4 @@ pub mod Asking
 pub mod Choosing
 pub mod Comparing
 pub mod Conditions
-pub mod Excepting
 pub mod Finding
-pub mod Places

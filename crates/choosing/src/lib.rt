@@ -1,19 +1,22 @@
 // The section of a table that a number, an instant or a text goes to, read off the table's words.
 ghost use mathlib.Core.Path.{_≡_};
-ghost use Prim.Native.Nat.{_+_, _^_, _≤_, _<_};
+ghost use Prim.Native.Nat.{_^_, _≤_, _<_};
 ghost use mathlib.Core.Bool.{true};
 ghost use lib.Dec.{T};
 ghost use lib.ListN.{getD};
 ghost use Rattle.choosing.specs.Comparing.{orderOf, partsOrder, fraction, millionthsSize, reversed, signedOrder, isLess, isGreater, isEqual, holdsFor};
-ghost use Rattle.choosing.specs.Seeking.{exactOf, foundOf, textFoundOf, sectionIn, wordIn, isCounted, takes};
+ghost use Rattle.table_words.specs.Sections.{sectionIn};
+ghost use Rattle.choosing.specs.Seeking.{exactOf, foundOf, textFoundOf, isCounted, takes};
 ghost use Rattle.formats.specs.Items.{Section};
-ghost use Rattle.formats.specs.Where.{hasCondition, isText};
+ghost use Rattle.formats.specs.Where.{hasCondition};
 ghost use Rattle.formats.specs.Choice.{lessThan, zeroExact, counted, fallback, conditionHolds, reasonHolds, choose, chooseText};
-ghost use Rattle.formats.specs.Minus.{firstHasCondition, exceptionA};
-ghost use Rattle.tables.specs.Decode.{comparisonAt, twoWords, decode};
+ghost use Rattle.tables.specs.Decode.{comparisonAt, decode};
 ghost use Rattle.tables.specs.Rules.{passes};
-use tables::heads;
-use tables::kinds;
+use table_words::has_condition;
+use table_words::head_of;
+use table_words::is_text;
+use table_words::number;
+use table_words::section_count;
 
 // How one number stands to another.
 enum Order {
@@ -30,9 +33,9 @@ pub struct Sought {
     pub scale: u32,
 }
 
-// The place of a section, and whether its own condition took the value.
+// The place of the section that a number or an instant goes to.
 pub enum Found {
-    At(u16, bool),
+    At(u16),
     Nothing,
 }
 
@@ -210,61 +213,16 @@ fn holds(operator: u16, order: Order) -> bool
     }
 }
 
-// How many sections there are.
-pub fn section_count(table: &[u16]) -> usize
-    requires { ⌜ T (passes (now table)) ⌝ }
-    ensures { λ r. ⌜ r ≡ getD (now (table .entry)) 0 0 ⌝ }
-{
-    table[0] as usize
-}
-
-// Word k of the head of section i.
-pub fn word(table: &[u16], i: usize, k: usize) -> u16
-    requires { ⌜ T (passes (now table)) × (i < getD (now table) 0 0) × (k < 12) ⌝ }
-    ensures { λ r. ⌜ r ≡ wordIn (now (table .entry)) i k ⌝ }
-{
-    table[1 + heads::WORDS * i + k]
-}
-
-// The number in words k and k + 1 of the head of section i.
-fn number_in(table: &[u16], i: usize, k: usize) -> u32
-    requires { ⌜ T (passes (now table)) × (i < getD (now table) 0 0) × (k < 11) ⌝ }
-    ensures { λ r. ⌜ r ≡ twoWords (wordIn (now (table .entry)) i k) (wordIn (now (table .entry)) i (k + 1)) ⌝ }
-{
-    let low = word(table, i, k);
-    let high = word(table, i, k + 1);
-    low as u32 + 65536 * high as u32
-}
-
-// Whether section i is a text section.
-fn is_text(table: &[u16], i: usize) -> bool
-    requires { ⌜ T (passes (now table)) × (i < getD (now table) 0 0) ⌝ }
-    ensures { λ r. ⌜ r ≡ isText (sectionIn (now (table .entry)) i) ⌝ }
-{
-    word(table, i, heads::KIND) == kinds::TEXT
-}
-
-// Whether section i has a condition.
-fn has_condition(table: &[u16], i: usize) -> bool
-    requires { ⌜ T (passes (now table)) × (i < getD (now table) 0 0) ⌝ }
-    ensures { λ r. ⌜ r ≡ hasCondition (sectionIn (now (table .entry)) i) ⌝ }
-{
-    word(table, i, heads::OPERATOR) != 0
-}
-
 // Whether the condition of section i, which has one, holds.
 fn condition_holds(table: &[u16], i: usize, v: Sought) -> bool
     requires { ⌜ T (passes (now table)) × (i < getD (now table) 0 0) × (hasCondition (sectionIn (now table) i) ≡ true) × (v .scale ≤ 15) ⌝ }
     ensures { λ r. ⌜ r ≡ conditionHolds (sectionIn (now (table .entry)) i .condition) (exactOf v) ⌝ }
 {
-    let whole = number_in(table, i, heads::WHOLE_LOW);
-    let millionths = number_in(table, i, heads::MILLIONTHS_LOW);
+    let h = head_of(table, i);
+    let whole = number(h.whole_low, h.whole_high);
+    let millionths = number(h.millionths_low, h.millionths_high);
     let order = compare(v, whole, millionths);
-    let negative = word(table, i, heads::NEGATIVE) == 1;
-    holds(
-        word(table, i, heads::OPERATOR),
-        signed(v.negative, negative, order),
-    )
+    holds(h.operator, signed(v.negative, h.negative == 1, order))
 }
 
 // Whether the number is above 0.
@@ -343,20 +301,20 @@ fn counted(table: &[u16]) -> u16
     count
 }
 
-// The section of a number or an instant, and whether by its own condition.
+// The section of a number or an instant.
 pub fn choose(table: &[u16], v: Sought) -> Found
     requires { ⌜ T (passes (now table)) × (v .scale ≤ 15) ⌝ }
     ensures { λ r. ⌜ r ≡ foundOf (choose (decode (now (table .entry))) (exactOf v)) ⌝ }
 {
     let counted = counted(table);
     if counted == 0 {
-        return Found::At(0, false);
+        return Found::At(0);
     }
     let n = section_count(table);
     let mut i: usize = 0;
     while i < n {
         if takes(table, counted, i, v) {
-            return Found::At(i as u16, has_condition(table, i));
+            return Found::At(i as u16);
         }
         i += 1;
     }
@@ -380,26 +338,4 @@ pub fn choose_text(table: &[u16]) -> TextFound
         i += 1;
     }
     TextFound::Itself
-}
-
-// Exception (a) of the added minus, for section i, taken by its own condition or without.
-pub fn no_minus(table: &[u16], i: u16, own: bool) -> bool
-    requires { ⌜ T (passes (now table)) ⌝ }
-    ensures { λ r. ⌜ r ≡ exceptionA (counted (decode (now (table .entry)))) i own (firstHasCondition (decode (now (table .entry)))) ⌝ }
-{
-    if i != 1 {
-        return false;
-    }
-    if own {
-        return false;
-    }
-    let counted = counted(table);
-    if counted == 3 {
-        return true;
-    }
-    if counted == 2 {
-        let first = has_condition(table, 0);
-        return !first;
-    }
-    false
 }

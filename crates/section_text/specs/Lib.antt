@@ -1,4 +1,3 @@
 pub mod Subject
 pub mod Walk
 pub mod Show
-pub mod Place

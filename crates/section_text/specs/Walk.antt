@@ -34,3 +34,13 @@ pub record DatedReady (words : List ℕ) (m : Moment) : Type 0 where
   pub power : ℕ
   pub moment : MomentIs m context
   pub fit : EntriesFit dateKind power (entriesIn words)
+
+-- there is a context that the subject is of in a section of kind k
+pub record Known (k : Kind) (digits : List ℕ) (s : Subject) (text : List ℕ) : Type 0 where
+  pub context : Context
+  pub is : SubjectIs k digits s text context
+
+-- there is a context that the moment is of
+pub record DatedKnown (m : Moment) : Type 0 where
+  pub context : Context
+  pub is : MomentIs m context

@@ -13,19 +13,19 @@ ghost use Rattle.tables.specs.Words.{entriesIn};
 ghost use Rattle.tables.specs.Encode.{entry};
 ghost use Rattle.tables.specs.Decode.{itemAt, itemsAt};
 ghost use Rattle.tables.specs.Rules.{entryInRange, passes};
-ghost use Rattle.choosing.specs.Seeking.{sectionIn};
+ghost use Rattle.table_words.specs.Sections.{sectionIn};
 ghost use Rattle.writing.specs.Put.{Put};
 ghost use Rattle.date_text.specs.Moment.{MomentIs};
 ghost use Rattle.figure_text.specs.Shown.{FiguresAre, placeOfTag};
 ghost use Rattle.section_text.specs.Subject.{StandsFor, SubjectIs, EntryFits, ItemPut};
-ghost use Rattle.section_text.specs.Walk.{EntriesFit, Ready, DatedReady};
+ghost use Rattle.section_text.specs.Walk.{EntriesFit, Ready, DatedReady, Known, DatedKnown};
 ghost use Rattle.section_text.specs.Show.{signText, sectionReading, Shows};
-ghost use Rattle.section_text.specs.Place.{bodyStart, Known, DatedKnown};
 use answers::Answer;
 use answers::Shown;
 use date_text::Moment;
 use figure_text::Figures;
-use tables::heads;
+use table_words::head_of;
+use table_words::items_of;
 use tables::tags;
 
 // What a section's items are shown from, a date-time section's apart: a number's figures, in a number section those that its
@@ -235,20 +235,6 @@ fn show_items(
     }
 }
 
-// Where the item words of section i begin.
-pub fn items_start(table: &[u16], i: usize) -> usize
-    requires { ⌜ T (passes (now table)) × (i < getD (now table) 0 0) ⌝ }
-    ensures { λ r. ⌜ r ≡ bodyStart (now (table .entry)) i ⌝ }
-{
-    let mut start = 1 + heads::WORDS * choosing::section_count(table);
-    let mut k: usize = 0;
-    while k < i {
-        start += 2 * choosing::word(table, k, heads::ITEMS) as usize;
-        k += 1;
-    }
-    start
-}
-
 // Puts the text of a date-time section's item. (Its walker is one of its own: in the other it would slow down numbers.)
 fn put_dated_item(room: &mut [u16], at: usize, tag: u16, word: u16, m: Moment) -> usize
     requires { ⌜ (at < 2 ^ 61) × T (entryInRange (entry tag word)) ⌝ }
@@ -320,10 +306,9 @@ pub fn show_dated_section(room: &mut [u16], table: &[u16], i: u16, m: Moment) ->
     ensures { λ r. ⌜ ((c : Context) → MomentIs m c → c .integerPlaces ≡ integerPlaces (sectionIn (now (table .entry)) i .items)
         → Shows (sectionReading (length (now (room .entry))) (sectionIn (now (table .entry)) i) i false c) (now (room .entry)) r (now (room .exit))) ⌝ }
 {
-    let colour = choosing::word(table, i as usize, heads::COLOUR);
-    let start = items_start(table, i as usize);
-    let end = start + 2 * choosing::word(table, i as usize, heads::ITEMS) as usize;
-    show_dated_items(room, &table[start..end], m, colour, i)
+    let h = head_of(table, i as usize);
+    let items = items_of(table, i as usize);
+    show_dated_items(room, items, m, h.colour, i)
 }
 
 // Shows section i, which is no date-time section.
@@ -342,8 +327,7 @@ pub fn show_section(
         → c .integerPlaces ≡ integerPlaces (sectionIn (now (table .entry)) i .items)
         → Shows (sectionReading (length (now (room .entry))) (sectionIn (now (table .entry)) i) i minus c) (now (room .entry)) r (now (room .exit))) ⌝ }
 {
-    let colour = choosing::word(table, i as usize, heads::COLOUR);
-    let start = items_start(table, i as usize);
-    let end = start + 2 * choosing::word(table, i as usize, heads::ITEMS) as usize;
-    show_items(room, minus, &table[start..end], digits, s, text, colour, i)
+    let h = head_of(table, i as usize);
+    let items = items_of(table, i as usize);
+    show_items(room, minus, items, digits, s, text, h.colour, i)
 }

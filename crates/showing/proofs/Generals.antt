@@ -35,7 +35,7 @@ use Rattle.figure_text.proofs.Digits.{figures-are}
 use Rattle.section_text.specs.declared.Subject.{Subject}
 use Rattle.section_text.specs.Subject.{GeneralOf, StandsFor, SubjectIs}
 use Rattle.showing.specs.General.{contextWith, contextOf, generalNumber}
-use Rattle.section_text.specs.Place.{Known}
+use Rattle.section_text.specs.Walk.{Known}
 use Rattle.section_text.specs.Show.{Shows}
 use Rattle.section_text.proofs.Fitting.{shows-refused}
 

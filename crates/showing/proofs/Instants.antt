@@ -4,10 +4,8 @@ use Prim.Native.Nat.{ℕ, _+_, _*_, _<_}
 use mathlib.Core.Path.{_≡_, refl, sym, ap, subst, _∙_}
 use mathlib.Core.Bool.{Bool, true, false, true≢false}
 use mathlib.Core.List.{List, [], _∷_}
-use lib.Dec.{T, ltb}
+use lib.Dec.{T}
 use lib.ListN.{length, getD}
-use native.Mathlib.Omega.{arith}
-use borrow.Author.Tests.{lt-ltb, le-ltb}
 use Rattle.answers.specs.declared.Answer.the-variants as answer
 use Rattle.answers.specs.declared.Shown.{Shown}
 use Rattle.values.specs.declared.Day.{Day}
@@ -19,24 +17,23 @@ use Rattle.answers.specs.Number.{refusedShown}
 use Rattle.calendar.specs.Clock.{sinceDayZero}
 use Rattle.formats.specs.Choice.{Exact, instantExact, Reason, Choice, chosen, choose}
 use Rattle.formats.specs.Reading.{takesInstant, instantContext, readInstant}
-use Rattle.tables.specs.Encode.{bit, flagsWord, hasHalf, headOf}
-use Rattle.tables.specs.Decode.{itemsAt, decode}
+use Rattle.tables.specs.Encode.{hasHalf}
+use Rattle.tables.specs.Decode.{decode}
 use Rattle.tables.specs.Rules.{passes}
 use Rattle.formats.proofs.Each.{by-item, by-kind}
-use Rattle.tables.proofs.MadeHeads.{bit-most}
 use Rattle.date_text.specs.declared.Moment.{Moment}
 use Rattle.date_text.specs.Moment.{momentOf, MomentIs}
 use Rattle.date_text.proofs.Moments.{moment-instant}
 use Rattle.choosing.specs.declared.Sought.{Sought}
 use Rattle.choosing.specs.declared.Found.the-variants as found
-use Rattle.choosing.specs.Seeking.{exactOf, instantSought, foundOf, sectionIn, wordIn}
+use Rattle.table_words.specs.Sections.{sectionIn}
+use Rattle.table_words.proofs.Bodies.{section-allowed}
+use Rattle.choosing.specs.Seeking.{exactOf, instantSought, foundOf}
 use Rattle.choosing.proofs.Asking.{instant-exact}
 use Rattle.choosing.proofs.Finding.{found-nothing, found-at}
-use Rattle.choosing.proofs.Places.{words-by-place}
-use Rattle.section_text.specs.Place.{DatedKnown}
+use Rattle.section_text.specs.Walk.{DatedKnown}
 use Rattle.section_text.specs.Show.{signText, sectionReading, Shows}
 use Rattle.section_text.proofs.Fitting.{shows-refused}
-use Rattle.section_text.proofs.Bodies.{section-fits}
 
 -- a section that is no number section has no integer place
 no-places : (k : Kind) (is : List Item) → T (every (itemAllowed k) is) → sameKind numberKind k ≡ false → 0 ≡ integerPlaces is
@@ -51,26 +48,13 @@ no-places k (i ∷ is) t e =
 pub section-places : (ws : List ℕ) (i : ℕ) → T (passes ws) → i < getD ws 0 0 → sameKind numberKind (kindOf (sectionIn ws i)) ≡ false
     → 0 ≡ integerPlaces (sectionIn ws i .items)
 section-places ws i t h e =
-    let f = section-fits ws i t h in
-    no-places (kindOf (sectionIn ws i)) (itemsAt _) (f .fit .allowed) e ∙ ap integerPlaces (sym (f .items))
+    no-places (kindOf (sectionIn ws i)) (sectionIn ws i .items) (section-allowed ws i t h) e
 
 instant-other : (k : Kind) → takesInstant k ≡ true → sameKind numberKind k ≡ false
 unfolding takesInstant
 instant-other =
     by-kind (λ k. takesInstant k ≡ true → sameKind numberKind k ≡ false) (λ e. refl) (λ e. refl) (λ e. refl)
     (λ e. absurd (true≢false (sym e))) (λ e. refl)
-
--- the twelve-hour flag
-flag-told : (g n h : Bool) → ltb 3 (flagsWord g n h) ≡ h
-unfolding flagsWord bit
-flag-told g n true = lt-ltb 3 (bit g + 2 * bit n + 4 * 1) (omega arith)
-flag-told g n false = le-ltb 3 (bit g + 2 * bit n + 4 * 0) (omega (arith, bit-most g, bit-most n))
-
-pub twelve-told : (ws : List ℕ) (i w : ℕ) → T (passes ws) → i < getD ws 0 0 → w ≡ wordIn ws i 9 → ltb 3 w ≡ hasHalf (sectionIn ws i .items)
-unfolding headOf
-twelve-told ws i w t h e =
-    let f = words-by-place ws i t h .flags in
-    ap (ltb 3) (e ∙ f) ∙ flag-told _ _ (hasHalf (sectionIn ws i .items))
 
 pub date-takes : (k : Kind) → k ≡ dateKind → takesInstant k ≡ true
 unfolding takesInstant
@@ -116,15 +100,15 @@ module _ (ws : List ℕ) (d : Day) (m : Millisecond) (v : Sought) (ev : v ≡ in
   unfolding readInstant
   instant-nothing old e = rw (instant-choice, found-nothing ws (exactOf v) e) (shows-refused old answer.NoSection)
 
-  pub instant-found : {old out : List ℕ} {r : Shown} (i : ℕ) (own : Bool) → found.At i own ≡ foundOf (choose (decode ws) (exactOf v))
+  pub instant-found : {old out : List ℕ} {r : Shown} (i : ℕ) → found.At i ≡ foundOf (choose (decode ws) (exactOf v))
       → ((why : Reason) → Shows (readInstant d m (length old) (chosen i (sectionIn ws i) why)) old r out)
       → Shows (readInstant d m (length old) (choose (decode ws) (instantExact d m))) old r out
-  instant-found {old} {out} {r} i own e f =
-      found-at ws (exactOf v) i own e (λ why h o l.
+  instant-found {old} {out} {r} i e f =
+      found-at ws (exactOf v) i e (λ why h l.
       subst (λ (x : Choice). Shows (readInstant d m (length old) x) old r out) (sym (instant-choice ∙ h)) (f why))
 
-pub found-within : (ws : List ℕ) (x : Exact) (i : ℕ) (own : Bool) → found.At i own ≡ foundOf (choose (decode ws) x) → i < getD ws 0 0
-found-within ws x i own e = found-at ws x i own e (λ why h o l. l)
+pub found-within : (ws : List ℕ) (x : Exact) (i : ℕ) → found.At i ≡ foundOf (choose (decode ws) x) → i < getD ws 0 0
+found-within ws x i e = found-at ws x i e (λ why h l. l)
 
 pub sought-instant : (d : Day) (m : Millisecond)
     → record { negative = false; instant = true; above = d .0 * 86400000 + m .0; scale = 0 } ≡ instantSought d m

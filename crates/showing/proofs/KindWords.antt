@@ -1,22 +1,21 @@
 -- What a section's kind word says of a number in it.
 -- Assumes nothing.
-use Prim.Native.Nat.{ℕ, zero, suc, _<_}
+use Prim.Native.Nat.{ℕ, zero, suc}
 use mathlib.Core.Path.{_≡_, refl, sym, ap, _∙_}
 use mathlib.Core.Bool.{false}
 use mathlib.Core.List.{List}
 use lib.Dec.{T}
-use lib.ListN.{length, getD}
+use lib.ListN.{length}
 use Rattle.answers.specs.declared.Answer.the-variants as answer
 use Rattle.answers.specs.Number.{refusedShown}
 use Rattle.values.specs.declared.Number.{Number}
 use Rattle.formats.specs.Items.{Section, Kind, textKind, generalKind, dateKind, numberKind, literalKind, kindOf}
 use Rattle.formats.specs.Choice.{Reason, chosen}
 use Rattle.formats.specs.Reading.{takesNumber, takesInstant, showsGeneral, readNumber}
+use Rattle.tables.specs.Words.{Head}
 use Rattle.tables.specs.Encode.{kindWord, headOf}
-use Rattle.tables.specs.Rules.{passes}
 use Rattle.formats.proofs.Each.{by-kind}
-use Rattle.choosing.specs.Seeking.{sectionIn, wordIn}
-use Rattle.choosing.proofs.Places.{words-by-place}
+use Rattle.table_words.specs.Sections.{sectionIn, headIn}
 use Rattle.section_text.specs.Show.{Shows}
 use Rattle.section_text.proofs.Fitting.{shows-refused}
 
@@ -44,19 +43,19 @@ sort-word =
     by-kind (λ k. (kindWord k ≡ 4 → ⊥) → (kindWord k ≡ 0 → ⊥) → takesInstant k ≡ false)
     (λ d l. refl) (λ d l. refl) (λ d l. absurd (d refl)) (λ d l. refl) (λ d l. absurd (l refl))
 
-module _ (ws : List ℕ) (i w : ℕ) (t : T (passes ws)) (h : i < getD ws 0 0) (e : w ≡ wordIn ws i 0) where
-  kind-word : w ≡ kindWord (kindOf (sectionIn ws i))
+module _ (ws : List ℕ) (i : ℕ) {h : Head} (e : h ≡ headIn ws i) where
+  kind-word : h .kind ≡ kindWord (kindOf (sectionIn ws i))
   unfolding headOf
-  kind-word = e ∙ words-by-place ws i t h .kind
+  kind-word = ap (λ (x : Head). x .kind) e
 
-  pub kind-with : (n : ℕ) → w ≡ n → kindOf (sectionIn ws i) ≡ kindWith n
+  pub kind-with : (n : ℕ) → h .kind ≡ n → kindOf (sectionIn ws i) ≡ kindWith n
   kind-with n f = sym (kind-back (kindOf (sectionIn ws i))) ∙ ap kindWith (sym kind-word ∙ f)
 
-  pub told-general : (w ≡ 0 → ⊥) → (w ≡ 2 → ⊥) → (w ≡ 4 → ⊥) → T (showsGeneral (kindOf (sectionIn ws i)))
+  pub told-general : (h .kind ≡ 0 → ⊥) → (h .kind ≡ 2 → ⊥) → (h .kind ≡ 4 → ⊥) → T (showsGeneral (kindOf (sectionIn ws i)))
   told-general l n d =
       general-word (kindOf (sectionIn ws i)) (λ f. l (kind-word ∙ f)) (λ f. n (kind-word ∙ f)) (λ f. d (kind-word ∙ f))
 
-  pub told-sort : (w ≡ 4 → ⊥) → (w ≡ 0 → ⊥) → takesInstant (kindOf (sectionIn ws i)) ≡ false
+  pub told-sort : (h .kind ≡ 4 → ⊥) → (h .kind ≡ 0 → ⊥) → takesInstant (kindOf (sectionIn ws i)) ≡ false
   told-sort d l = sort-word (kindOf (sectionIn ws i)) (λ f. d (kind-word ∙ f)) (λ f. l (kind-word ∙ f))
 
 pub date-refused : (old : List ℕ) (ss : List Section) (z : Section) (i : ℕ) (why : Reason) (x : Number)

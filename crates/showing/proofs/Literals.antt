@@ -13,7 +13,7 @@ use Rattle.formats.specs.Text.{Context}
 use Rattle.formats.specs.Reading.{textContext, takesNumber, showsGeneral, showsNought, numberUnits, within, readNumber}
 use Rattle.section_text.specs.declared.Subject.{Subject}
 use Rattle.section_text.specs.Subject.{SubjectIs}
-use Rattle.section_text.specs.Place.{Known}
+use Rattle.section_text.specs.Walk.{Known}
 use Rattle.section_text.specs.Show.{Shows}
 
 -- nothing is asked of the subject

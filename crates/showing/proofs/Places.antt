@@ -17,12 +17,10 @@ use Rattle.formats.specs.Text.{digitAfter}
 use Rattle.tables.specs.Words.{Entry, entriesAt, entriesIn}
 use Rattle.tables.specs.Encode.{entry}
 use Rattle.tables.specs.Decode.{itemAt, itemsAt}
-use Rattle.tables.specs.Rules.{entryInRange, powersFrom, passes}
+use Rattle.tables.specs.Rules.{entryInRange, powersFrom}
 use Rattle.tables.proofs.Words.{entriesLeft, entries-front}
 use Rattle.tables.proofs.BackEntries.{span-at, tag-known}
-use Rattle.choosing.specs.Seeking.{sectionIn, wordIn}
-use Rattle.section_text.specs.Place.{bodyStart}
-use Rattle.section_text.proofs.Bodies.{Fits, partOf, part-fits}
+use Rattle.table_words.specs.Sections.{ItemsOf}
 use Rattle.showing.specs.Number.{firstArgument}
 
 -- a place by its tag
@@ -62,9 +60,10 @@ first-is n (e ∷ es) r t z =
     (λ h. rw (k ∙ h)
     (first-is n es (every-tail entryInRange e es r) (powers-behind (14 + n) e es h t) (λ y. z (places-behind (itemAt e) (itemsAt es) h y))))
 
-places-told : (s : Section) (es : List Entry) → Fits s es → firstArgument es ≡ 15 + integerPlaces (s .items)
-places-told s es f =
-    first-is (integerPlaces (s .items)) es (f .fit .inRange) (f .fit .powers) (λ y. ap integerPlaces (f .items) ∙ y)
+-- a section's integer places, from the words of its items
+pub argument-is : {s : Section} {words : List ℕ} {r : ℕ} → ItemsOf s words → r ≡ firstArgument (entriesIn words) → r ≡ 15 + integerPlaces (s .items)
+argument-is {s} {words} o e =
+    e ∙ first-is (integerPlaces (s .items)) (entriesIn words) (o .inRange) (o .powers) (λ y. ap integerPlaces (o .items) ∙ y)
 
 -- ---- the loop over the item words, before item k
 front : (words : List ℕ) (n k : ℕ) → k < n → firstArgument (entriesLeft words n k)
@@ -92,9 +91,3 @@ module _ {words : List ℕ} {n k : ℕ} (s : Seeking words n k) where
   pub seeking-end : n ≤ k → 15 ≡ firstArgument (entriesIn words)
   unfolding firstArgument entriesAt
   seeking-end h = let none : n - k ≡ 0 = omega arith in sym (s .same ∙ rw none)
-
--- section i's integer places, from the words that are its items
-module _ (ws : List ℕ) (i : ℕ) {start w r : ℕ} (t : T (passes ws)) (h : i < getD ws 0 0) (es : start ≡ bodyStart ws i) (ew : w ≡ wordIn ws i 11)
-    (er : r ≡ firstArgument (entriesIn (partOf ws start w))) where
-  pub argument-is : r ≡ 15 + integerPlaces (sectionIn ws i .items)
-  argument-is = er ∙ places-told (sectionIn ws i) (entriesIn (partOf ws start w)) (part-fits ws i t h es ew)

@@ -6,18 +6,14 @@ use native.Mathlib.Omega.{arith}
 use mathlib.Core.Path.{_≡_, refl, sym, subst, _∙_}
 use mathlib.Core.Bool.{Bool, true, false, not, _||_, true≢false}
 use mathlib.Core.List.{List, [], _∷_}
-use mathlib.Core.Option.{Option, none, some}
 use lib.Dec.{T, eqb}
 use lib.ListN.{length, getD}
 use Rattle.answers.specs.declared.Answer.the-variants as answer
 use Rattle.answers.specs.declared.Shown.{Shown}
 use Rattle.answers.specs.Number.{refusedShown}
-use Rattle.lists.specs.Lists.{isSome}
 use Rattle.lists.proofs.Bools.{and-left, and-right, implied, true-T, by-cases, cond-case}
-use Rattle.lists.proofs.First.{pass-all}
 use Rattle.formats.specs.Items.{Kind, textKind, generalKind, dateKind, numberKind, literalKind, sameKind, kindOf, Section, integerPlaces}
 use Rattle.formats.specs.Where.{implies, isText, standsAt}
-use Rattle.formats.specs.WellFormed.{allStand}
 use Rattle.formats.specs.Choice.{TextChoice, itself, textIn, fourthFrom, textFrom, chooseText}
 use Rattle.formats.specs.Reading.{textContext, within, readText}
 use Rattle.tables.specs.Decode.{decode}
@@ -26,13 +22,13 @@ use Rattle.writing.specs.Put.{Put}
 use Rattle.writing.proofs.Laws.{put-out}
 use Rattle.figure_text.specs.declared.Figures.{Figures}
 use Rattle.choosing.specs.declared.TextFound.the-variants as found
-use Rattle.choosing.specs.Seeking.{noSection, textFoundOf, sectionIn}
-use Rattle.tables.proofs.Promise.{passing}
-use Rattle.choosing.proofs.Places.{sections-length}
+use Rattle.table_words.specs.Sections.{sectionIn}
+use Rattle.table_words.proofs.Heads.{section-stands}
+use Rattle.choosing.specs.Seeking.{textFoundOf}
 use Rattle.choosing.proofs.Finding.{text-itself, text-at}
 use Rattle.section_text.specs.declared.Subject.{Subject}
 use Rattle.section_text.specs.Subject.{StandsFor, SubjectIs}
-use Rattle.section_text.specs.Place.{Known}
+use Rattle.section_text.specs.Walk.{Known}
 use Rattle.section_text.specs.Show.{signText, sectionReading, Shows}
 use Rattle.section_text.proofs.Fitting.{shows-none, shows-all}
 use Rattle.showing.proofs.Instants.{section-places}
@@ -76,16 +72,6 @@ unfolding standsAt
 fourth-plain n i s t e =
     let a : T (implies (eqb i 3) (Plain (kindOf s))) = search (and-left, and-right) in
     implied (eqb i 3) (Plain (kindOf s)) a (true-T e)
-
-is-none : (o : Option ℕ) → T (not (isSome o)) → o ≡ none
-unfolding isSome
-is-none none t = refl
-is-none (some x) t = absurd t
-
-section-stands : (ws : List ℕ) (i : ℕ) → T (passes ws) → i < getD ws 0 0 → standsAt (length (decode ws)) i (sectionIn ws i) ≡ true
-unfolding allStand sectionIn
-section-stands ws i t h =
-    pass-all (standsAt (length (decode ws))) noSection (decode ws) (is-none _ (passing ws t .stand)) i (rw (sections-length ws) h)
 
 -- the text that is lent is what a text's context stands for
 stands : (b : Bool) (digits : List ℕ) (f : Figures) (text : List ℕ) → b ≡ true → StandsFor b digits f text (textContext text .standing)

@@ -23,18 +23,18 @@ use Rattle.figures.specs.declared.Taken.the-variants as taken
 use Rattle.figures.specs.Sign.{signedOf, takenOf}
 use Rattle.figures.proofs.Sign.{in-says, range-says}
 use Rattle.formats.specs.Items.{Section}
-use Rattle.formats.specs.Choice.{numberExact, instantExact, Reason, Choice, chosen, choose, chooseText}
-use Rattle.formats.specs.Minus.{isOwn}
+use Rattle.formats.specs.Choice.{numberExact, instantExact, Choice, choose, chooseText}
 use Rattle.formats.specs.Reading.{Reading, refused, readNumber, readInstant, readText, readValue, reading}
 use Rattle.tables.specs.Decode.{decode}
 use Rattle.tables.specs.Rules.{passes}
 use Rattle.tables.specs.Calls.{tableReading, showing, roomAfter}
 use Rattle.choosing.specs.declared.Sought.{Sought}
 use Rattle.choosing.specs.declared.Found.the-variants as found
-use Rattle.choosing.specs.Seeking.{partsOfOne, exactOf, foundOf, sectionIn}
+use Rattle.choosing.specs.Seeking.{partsOfOne, exactOf, foundOf}
 use Rattle.choosing.proofs.Finding.{found-nothing, found-at}
 use Rattle.section_text.specs.Show.{Shows}
 use Rattle.section_text.proofs.Fitting.{shows-refused}
+use Rattle.showing.specs.Number.{ShowsNumber}
 use Rattle.showing.specs.Sought.{signedSought}
 
 pub sought-scale : {s : Sought} (v : Signed) → s ≡ signedSought v → v .scale ≤ 15 → s .scale ≤ 15
@@ -54,13 +54,11 @@ module _ (ws : List ℕ) {s : Sought} (v : Signed) (es : s ≡ signedSought v) (
   unfolding readNumber
   number-nothing old h = rw (number-choice, found-nothing ws (exactOf s) h) (shows-refused old answer.NoSection)
 
-  pub number-found : {old out : List ℕ} {r : Shown} (i : ℕ) (own : Bool) → found.At i own ≡ foundOf (choose (decode ws) (exactOf s))
-      → ((y : Number) (why : Reason) → v ≡ signedOf y → own ≡ isOwn why
-      → Shows (readNumber (decode ws) y (length old) (chosen i (sectionIn ws i) why)) old r out)
+  pub number-found : {old out : List ℕ} {r : Shown} (i : ℕ) → found.At i ≡ foundOf (choose (decode ws) (exactOf s)) → ShowsNumber ws i v old r out
       → Shows (readNumber (decode ws) x (length old) (choose (decode ws) (numberExact x))) old r out
-  number-found {old} {out} {r} i own h f =
-      found-at ws (exactOf s) i own h (λ why g o l.
-      subst (λ (c : Choice). Shows (readNumber (decode ws) x (length old) c) old r out) (sym (number-choice ∙ g)) (f x why e o))
+  number-found {old} {out} {r} i h f =
+      found-at ws (exactOf s) i h (λ why g l.
+      subst (λ (c : Choice). Shows (readNumber (decode ws) x (length old) c) old r out) (sym (number-choice ∙ g)) (f x why e (number-choice ∙ g)))
 
 -- a value in its range is read, another is refused
 pub in-range : {old out : List ℕ} {r : Shown} {b : Bool} {z : Reading} → b ≡ true → Shows z old r out

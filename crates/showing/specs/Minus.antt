@@ -4,16 +4,19 @@ use mathlib.Core.Bool.{Bool, false, cond, not}
 use mathlib.Core.List.{List}
 use Prim.Native.Nat.{ℕ}
 use lib.Dec.{eqb}
+use lib.ListN.{length}
+use Rattle.formats.specs.Where.{hasCondition}
 use Rattle.formats.specs.Choice.{counted}
 use Rattle.formats.specs.Minus.{exceptionA, firstHasCondition}
 use Rattle.tables.specs.Decode.{decode}
-use Rattle.choosing.specs.Seeking.{wordIn}
+use Rattle.table_words.specs.Sections.{sectionIn}
 
 -- the added minus of a number: below 0, in a section that has an item, where no exception holds it back
 unfoldable pub minusTold : Bool → Bool → Bool → Bool → Bool
 minusTold negative empty excepted nought = cond negative (cond empty false (cond excepted false (not nought))) false
 
--- in a table's section i: whether it has an item is told by its count of items, and exception (a) by N and the conditions
-abbrev pub minusIn : List ℕ → ℕ → Bool → Bool → Bool → Bool
-minusIn ws i own negative nought =
-    minusTold negative (eqb (wordIn ws i 11) 0) (exceptionA (counted (decode ws)) i own (firstHasCondition (decode ws))) nought
+-- in a table's section i
+abbrev pub minusIn : List ℕ → ℕ → Bool → Bool → Bool
+minusIn ws i negative nought =
+    minusTold negative (eqb (length (sectionIn ws i .items)) 0)
+    (exceptionA (counted (decode ws)) i (hasCondition (sectionIn ws i)) (firstHasCondition (decode ws))) nought

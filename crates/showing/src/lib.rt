@@ -9,7 +9,6 @@ ghost use Rattle.formats.specs.Choice.{numberExact, instantExact, Reason, chose
 ghost use Rattle.formats.specs.Reading.{refused, within, readInstant, readText, showsGeneral, readNumber, reading};
 ghost use Rattle.figures.specs.Digits.{figures};
 ghost use Rattle.figures.specs.Sign.{signedOf};
-ghost use Rattle.formats.specs.Minus.{isOwn};
 ghost use Rattle.values.specs.declared.Number.{Number};
 ghost use Rattle.values.specs.Ranges.{numberInRange, instantInRange, textInRange};
 ghost use Rattle.answers.specs.declared.Answer.the-variants as answer;
@@ -17,10 +16,11 @@ ghost use Rattle.tables.specs.Words.{entriesIn};
 ghost use Rattle.tables.specs.Decode.{decode};
 ghost use Rattle.tables.specs.Rules.{passes};
 ghost use Rattle.tables.specs.Calls.{showing, roomAfter};
-ghost use Rattle.choosing.specs.Seeking.{instantSought, sectionIn};
+ghost use Rattle.table_words.specs.Sections.{sectionIn};
+ghost use Rattle.choosing.specs.Seeking.{instantSought};
 ghost use Rattle.section_text.specs.Show.{Shows};
 ghost use Rattle.showing.specs.Minus.{minusTold, minusIn};
-ghost use Rattle.showing.specs.Number.{sectionNumber, firstArgument};
+ghost use Rattle.showing.specs.Number.{sectionNumber, firstArgument, ShowsNumber};
 ghost use Rattle.showing.specs.Sought.{signedSought};
 use answers::Answer;
 use answers::Shown;
@@ -35,8 +35,11 @@ use section_text::Subject;
 use section_text::refuse;
 use section_text::show_dated_section;
 use section_text::show_section;
-use tables::flags;
-use tables::heads;
+use table_words::head_of;
+use table_words::is_grouped;
+use table_words::is_twelve_hour;
+use table_words::items_of;
+use table_words::no_minus;
 use tables::kinds;
 use tables::tags;
 use values::Ask;
@@ -70,10 +73,10 @@ fn show_instant_in(
     ensures { λ r. ⌜ ((why : Reason) → Shows (readInstant d m (length (now (room .entry))) (chosen i (sectionIn (now (table .entry)) i) why))
         (now (room .entry)) r (now (room .exit))) ⌝ }
 {
-    let kind = choosing::word(table, i as usize, heads::KIND);
+    let h = head_of(table, i as usize);
+    let kind = h.kind;
     if kind == kinds::DATE_TIME {
-        let flags = choosing::word(table, i as usize, heads::FLAGS);
-        let moment = date_text::moment_of(flags::TWELVE_HOUR <= flags, d, m);
+        let moment = date_text::moment_of(is_twelve_hour(table, i as usize), d, m);
         return show_dated_section(room, table, i, moment);
     }
     if kind == kinds::LITERAL {
@@ -107,7 +110,7 @@ fn show_instant(room: &mut [u16], table: &[u16], d: Day, m: Millisecond, text: &
 {
     match choosing::choose(table, instant_sought(d, m)) {
         Found::Nothing => refuse(Answer::NoSection),
-        Found::At(i, _) => show_instant_in(room, table, i, d, m, text),
+        Found::At(i) => show_instant_in(room, table, i, d, m, text),
     }
 }
 
@@ -164,29 +167,19 @@ fn has_minus(negative: bool, items: u16, excepted: bool, nought: bool) -> bool
 }
 
 // The added minus of a number in section i; `nought`: the figures that it shows are nought.
-fn added_minus(table: &[u16], i: u16, own: bool, negative: bool, nought: bool) -> bool
+fn added_minus(table: &[u16], i: u16, negative: bool, nought: bool) -> bool
     requires { ⌜ T (passes (now table)) × (i < getD (now table) 0 0) ⌝ }
-    ensures { λ r. ⌜ r ≡ minusIn (now (table .entry)) i own negative nought ⌝ }
+    ensures { λ r. ⌜ r ≡ minusIn (now (table .entry)) i negative nought ⌝ }
 {
-    let items = choosing::word(table, i as usize, heads::ITEMS);
-    let excepted = choosing::no_minus(table, i, own);
-    has_minus(negative, items, excepted, nought)
+    let h = head_of(table, i as usize);
+    has_minus(negative, h.items, no_minus(table, i as usize), nought)
 }
 
 // Shows a number in section i, which shows General.
-fn show_general(
-    room: &mut [u16],
-    table: &[u16],
-    i: u16,
-    own: bool,
-    v: Signed,
-    text: &[u16],
-) -> Shown
+fn show_general(room: &mut [u16], table: &[u16], i: u16, v: Signed, text: &[u16]) -> Shown
     requires { ⌜ T (passes (now table)) × (i < getD (now table) 0 0) × (v .magnitude < 10 ^ 15) × (v .scale ≤ 15)
         × T (showsGeneral (kindOf (sectionIn (now table) i))) ⌝ }
-    ensures { λ r. ⌜ ((x : Number) (why : Reason) → v ≡ signedOf x → own ≡ isOwn why
-        → Shows (readNumber (decode (now (table .entry))) x (length (now (room .entry))) (chosen i (sectionIn (now (table .entry)) i) why))
-        (now (room .entry)) r (now (room .exit))) ⌝ }
+    ensures { λ r. ⌜ ShowsNumber (now (table .entry)) i v (now (room .entry)) r (now (room .exit)) ⌝ }
 {
     if figures::general_too_wide(v.magnitude, v.scale) {
         return refuse(Answer::General);
@@ -196,26 +189,17 @@ fn show_general(
         figures: figures_of(digits, 0, false),
         lent: false,
     };
-    let minus = added_minus(table, i, own, v.negative, s.figures.used == 0);
+    let minus = added_minus(table, i, v.negative, s.figures.used == 0);
     show_section(room, table, i, minus, &digits, s, text)
 }
 
 // Shows a number in section i, which is a literal section.
-fn show_literal(
-    room: &mut [u16],
-    table: &[u16],
-    i: u16,
-    own: bool,
-    v: Signed,
-    text: &[u16],
-) -> Shown
+fn show_literal(room: &mut [u16], table: &[u16], i: u16, v: Signed, text: &[u16]) -> Shown
     requires { ⌜ T (passes (now table)) × (i < getD (now table) 0 0) × (kindOf (sectionIn (now table) i) ≡ literalKind) ⌝ }
-    ensures { λ r. ⌜ ((x : Number) (why : Reason) → v ≡ signedOf x → own ≡ isOwn why
-        → Shows (readNumber (decode (now (table .entry))) x (length (now (room .entry))) (chosen i (sectionIn (now (table .entry)) i) why))
-        (now (room .entry)) r (now (room .exit))) ⌝ }
+    ensures { λ r. ⌜ ShowsNumber (now (table .entry)) i v (now (room .entry)) r (now (room .exit)) ⌝ }
 {
     let digits = [0; 40];
-    let minus = added_minus(table, i, own, v.negative, false);
+    let minus = added_minus(table, i, v.negative, false);
     let s = Subject {
         figures: no_figures(),
         lent: false,
@@ -245,9 +229,7 @@ fn integer_places(table: &[u16], i: usize) -> u32
     requires { ⌜ T (passes (now table)) × (i < getD (now table) 0 0) ⌝ }
     ensures { λ r. ⌜ r ≡ integerPlaces (sectionIn (now (table .entry)) i .items) ⌝ }
 {
-    let start = section_text::items_start(table, i);
-    let end = start + 2 * choosing::word(table, i, heads::ITEMS) as usize;
-    first_argument(&table[start..end]) as u32 - 15
+    first_argument(items_of(table, i)) as u32 - 15
 }
 
 // By how much a is above b; 0 where it is not.
@@ -263,59 +245,42 @@ fn number_digits(table: &[u16], i: usize, v: Signed) -> [u8; 40]
         × (kindOf (sectionIn (now table) i) ≡ numberKind) ⌝ }
     ensures { λ r. ⌜ r ≡ figures (sectionNumber (sectionIn (now (table .entry)) i) (v .magnitude) (v .scale)) ⌝ }
 {
-    let shift = choosing::word(table, i, heads::SHIFT) as u32;
-    let decimals = choosing::word(table, i, heads::DECIMALS) as u32;
+    let h = head_of(table, i);
+    let shift = h.shift as u32;
+    let decimals = h.decimals as u32;
     let up = excess(shift, 15);
     let down = v.scale + excess(15, shift);
     figures::round([0; 40], v.magnitude, up, down, decimals)
 }
 
 // Shows a number in section i, which is a number section.
-fn show_figures(
-    room: &mut [u16],
-    table: &[u16],
-    i: u16,
-    own: bool,
-    v: Signed,
-    text: &[u16],
-) -> Shown
+fn show_figures(room: &mut [u16], table: &[u16], i: u16, v: Signed, text: &[u16]) -> Shown
     requires { ⌜ T (passes (now table)) × (i < getD (now table) 0 0) × (v .magnitude < 10 ^ 15) × (v .scale ≤ 15)
         × (kindOf (sectionIn (now table) i) ≡ numberKind) ⌝ }
-    ensures { λ r. ⌜ ((x : Number) (why : Reason) → v ≡ signedOf x → own ≡ isOwn why
-        → Shows (readNumber (decode (now (table .entry))) x (length (now (room .entry))) (chosen i (sectionIn (now (table .entry)) i) why))
-        (now (room .entry)) r (now (room .exit))) ⌝ }
+    ensures { λ r. ⌜ ShowsNumber (now (table .entry)) i v (now (room .entry)) r (now (room .exit)) ⌝ }
 {
     let digits = number_digits(table, i as usize, v);
     let integers = integer_places(table, i as usize);
-    let flags = choosing::word(table, i as usize, heads::FLAGS);
     let s = Subject {
-        figures: figures_of(digits, integers, flags % 2 == flags::GROUPING),
+        figures: figures_of(digits, integers, is_grouped(table, i as usize)),
         lent: false,
     };
-    let minus = added_minus(table, i, own, v.negative, s.figures.used == 0);
+    let minus = added_minus(table, i, v.negative, s.figures.used == 0);
     show_section(room, table, i, minus, &digits, s, text)
 }
 
 // Shows a number in section i, by the section's kind.
-fn show_number_in(
-    room: &mut [u16],
-    table: &[u16],
-    i: u16,
-    own: bool,
-    v: Signed,
-    text: &[u16],
-) -> Shown
+fn show_number_in(room: &mut [u16], table: &[u16], i: u16, v: Signed, text: &[u16]) -> Shown
     requires { ⌜ T (passes (now table)) × (i < getD (now table) 0 0) × (v .magnitude < 10 ^ 15) × (v .scale ≤ 15) ⌝ }
-    ensures { λ r. ⌜ ((x : Number) (why : Reason) → v ≡ signedOf x → own ≡ isOwn why
-        → Shows (readNumber (decode (now (table .entry))) x (length (now (room .entry))) (chosen i (sectionIn (now (table .entry)) i) why))
-        (now (room .entry)) r (now (room .exit))) ⌝ }
+    ensures { λ r. ⌜ ShowsNumber (now (table .entry)) i v (now (room .entry)) r (now (room .exit)) ⌝ }
 {
-    let kind = choosing::word(table, i as usize, heads::KIND);
+    let h = head_of(table, i as usize);
+    let kind = h.kind;
     match kind {
-        kinds::LITERAL => show_literal(room, table, i, own, v, text),
-        kinds::NUMBER => show_figures(room, table, i, own, v, text),
+        kinds::LITERAL => show_literal(room, table, i, v, text),
+        kinds::NUMBER => show_figures(room, table, i, v, text),
         kinds::DATE_TIME => refuse(Answer::Sort),
-        _ => show_general(room, table, i, own, v, text),
+        _ => show_general(room, table, i, v, text),
     }
 }
 
@@ -340,7 +305,7 @@ fn show_number_in_range(room: &mut [u16], table: &[u16], v: Signed, text: &[u16]
 {
     match choosing::choose(table, number_sought(v)) {
         Found::Nothing => refuse(Answer::NoSection),
-        Found::At(i, own) => show_number_in(room, table, i, own, v, text),
+        Found::At(i) => show_number_in(room, table, i, v, text),
     }
 }
 

@@ -15,6 +15,7 @@ use Rattle.tables.specs.Decode.{sectionAt}
 use Rattle.tables.specs.Rules.{powersRunDown, passes}
 use Rattle.tables.proofs.Words.{rows-length, entries-part, Exactly, exactly}
 use Rattle.tables.proofs.Ranges.{head-ranges}
+use Rattle.tables.proofs.MadeHeads.{Within, within-limits}
 use Rattle.tables.proofs.Back.{RowFacts, row-facts}
 use Rattle.tables.proofs.Promise.{passing}
 use Rattle.table_words.specs.Sections.{sectionIn, itemsStart, ItemsOf}
@@ -69,12 +70,24 @@ row-entries ws i h =
     rows-entries (headsIn ws) (drop s ws) i _ (rw (rows-length ws) h)
     ∙ ap (entriesAt (rowIn ws i .head .items)) (drop-drop (2 * b) s ws ∙ ap (λ (k : ℕ). drop k ws) (sym (start-is ws i (omega arith))))
 
--- ---- the words from `start` on, as many as the head of section i says, as the code takes them
-module _ (ws : List ℕ) (i : ℕ) {start : ℕ} {h : Head} (t : T (passes ws)) (l : i < getD ws 0 0) (es : start ≡ itemsStart ws i)
-    (eh : h ≡ headAt (drop (1 + 12 * i) ws)) where
+-- ---- what the table rules say of section i: a section of its kind may hold its items, and they are within the limits
+items-allowed : (s : Section) → T (itemsFit (s .items)) → T (every (itemAllowed (kindOf s)) (s .items))
+unfolding itemsFit kindOf
+items-allowed s f = search (and-left)
+
+module _ (ws : List ℕ) (i : ℕ) (t : T (passes ws)) (l : i < getD ws 0 0) where
   facts : RowFacts (rowIn ws i)
   facts = row-facts (rowIn ws i) (row-fits ws i t l)
 
+  pub section-allowed : T (every (itemAllowed (kindOf (sectionIn ws i))) (sectionIn ws i .items))
+  section-allowed = rw (section-row ws i l) (items-allowed (sectionAt (rowIn ws i)) (facts .items))
+
+  pub section-limits : Within (sectionIn ws i)
+  section-limits = rw (section-row ws i l) (within-limits (sectionAt (rowIn ws i)) (facts .within))
+
+-- ---- the words from `start` on, as many as the head of section i says, as the code takes them
+module _ (ws : List ℕ) (i : ℕ) {start : ℕ} {h : Head} (t : T (passes ws)) (l : i < getD ws 0 0) (es : start ≡ itemsStart ws i)
+    (eh : h ≡ headAt (drop (1 + 12 * i) ws)) where
   count : h .items ≡ rowIn ws i .head .items
   count = ap (λ (x : Head). x .items) eh ∙ items-row ws i l
 
@@ -95,10 +108,6 @@ module _ (ws : List ℕ) (i : ℕ) {start : ℕ} {h : Head} (t : T (passes ws)) 
       rw e (entries-part (rowIn ws i .head .items) (drop start ws) (omega (arith, part-within, count)))
       ∙ ap (λ (k : ℕ). entriesAt (rowIn ws i .head .items) (drop k ws)) es ∙ sym (row-entries ws i l)
 
-  items-allowed : (s : Section) → T (itemsFit (s .items)) → T (every (itemAllowed (kindOf s)) (s .items))
-  unfolding itemsFit kindOf
-  items-allowed s f = search (and-left)
-
   row-items : (words : List ℕ) (r : Row) → RowFacts r → length words ≤ 508 → entriesIn words ≡ r .entries → ItemsOf (sectionAt r) words
   unfolding powersRunDown sectionAt
   row-items words r f few e =
@@ -113,7 +122,7 @@ module _ (ws : List ℕ) (i : ℕ) {start : ℕ} {h : Head} (t : T (passes ws)) 
   pub part-items : ItemsOf (sectionIn ws i) part
   part-items =
       rw (section-row ws i l)
-      (row-items part (rowIn ws i) facts (rw (length-take (start + 2 * h .items - start) (drop start ws)) (omega (arith, count, head-ranges (rowIn ws i .head) (facts .head) .items)))
+      (row-items part (rowIn ws i) (facts ws i t l) (rw (length-take (start + 2 * h .items - start) (drop start ws)) (omega (arith, count, head-ranges (rowIn ws i .head) (facts ws i t l .head) .items)))
       part-entries)
 
 -- ---- the loop that finds where the words begin, before section k

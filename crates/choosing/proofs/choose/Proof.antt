@@ -3,6 +3,7 @@
 use Prim.Native.Nat.{_-_}
 use native.Mathlib.Omega.{arith}
 use mathlib.Core.Path.{sym, _∙_}
+use Rattle.table_words.proofs.Heads.{long}
 use Rattle.choosing.specs.Seeking.{exactOf}
 use Rattle.choosing.proofs.Choosing.{Walking, walking-start, walking-step, walking-found, walking-end, choose-first}
 use borrow.Author.Needs.{needs}
@@ -22,7 +23,7 @@ returns : tie.Need-returns Inv-loop μ-loop
 returns c = choose-first _ _ _ (c .before .before .before .pre .0) (c .before .counted .ensures) (c .if1 .taken)
 
 section-count-requires : tie.Need-section-count-requires Inv-loop μ-loop
-section-count-requires c κs = search needs
+section-count-requires c κs = omega (arith, long _ (c .before .before .before .pre .0))
 
 loop-holds : tie.Need-loop-holds Inv-loop μ-loop
 loop-holds c = walking-start _ _ _ (c .before .before .before .before .pre .0)
@@ -33,13 +34,10 @@ takes-requires c κs = search needs
 cast-t9 : tie.Need-cast-t9 Inv-loop μ-loop
 cast-t9 c = omega arith
 
-has-condition-requires : tie.Need-has-condition-requires Inv-loop μ-loop
-has-condition-requires c κs = search needs
-
 returns-2 : tie.Need-returns-2 Inv-loop μ-loop
 returns-2 c =
-    walking-found _ _ _ _ _ (c .before .before .before .before .loop .inv) (search needs) (c .before .before .before .before .before .before .before .counted .ensures) (c .before .before .before .before .before .before .if1 .left)
-    (sym (c .before .before .takes .ensures) ∙ c .before .if2 .taken) (c .has-condition .ensures)
+    walking-found _ _ _ _ (c .before .before .before .loop .inv) (search needs) (c .before .before .before .before .before .before .counted .ensures) (c .before .before .before .before .before .if1 .left)
+    (sym (c .before .takes .ensures) ∙ c .if2 .taken)
 
 add-i : tie.Need-add-i Inv-loop μ-loop
 add-i c = omega arith
@@ -65,7 +63,6 @@ choose-spec =
     loop-holds
     takes-requires
     cast-t9
-    has-condition-requires
     returns-2
     add-i
     loop-less

@@ -3,6 +3,7 @@
 use Prim.Native.Nat.{_-_}
 use native.Mathlib.Omega.{arith}
 use mathlib.Core.Path.{sym, _∙_}
+use Rattle.table_words.proofs.Heads.{long}
 use Rattle.choosing.proofs.Choosing.{TextWalking, text-walking-start, text-walking-step, text-walking-found, text-walking-end, text-fourth}
 use borrow.Author.Needs.{needs}
 use Rattle.choosing.proofs.choose_text.Statement.{statement}
@@ -15,7 +16,7 @@ abbrev μ-loop : tie.MeasureT-loop
 μ-loop table n i₀ i = n - i
 
 section-count-requires : tie.Need-section-count-requires Inv-loop μ-loop
-section-count-requires c κs = search needs
+section-count-requires c κs = omega (arith, long _ (c .before .pre))
 
 returns : tie.Need-returns Inv-loop μ-loop
 returns c = text-fourth _ (omega (arith, c .before .section-count .ensures))

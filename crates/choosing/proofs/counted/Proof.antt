@@ -3,6 +3,7 @@
 use Prim.Native.Nat.{_-_}
 use native.Mathlib.Omega.{arith}
 use mathlib.Core.Path.{sym, _∙_}
+use Rattle.table_words.proofs.Heads.{long}
 use Rattle.choosing.proofs.Choosing.{Counting, counting-start, counting-more, counting-over, counting-end}
 use borrow.Author.Needs.{needs}
 use Rattle.choosing.proofs.counted.Statement.{statement}
@@ -15,7 +16,7 @@ abbrev μ-loop : tie.MeasureT-loop
 μ-loop table n count₀ i₀ count i = n - i
 
 section-count-requires : tie.Need-section-count-requires Inv-loop μ-loop
-section-count-requires c κs = search needs
+section-count-requires c κs = omega (arith, long _ (c .before .pre))
 
 loop-holds : tie.Need-loop-holds Inv-loop μ-loop
 loop-holds c = counting-start _ (c .before .before .pre)

@@ -15,8 +15,8 @@ number-digits-requires c κs = search needs
 integer-places-requires : tie.Need-integer-places-requires
 integer-places-requires c κs = search needs
 
-word-requires : tie.Need-word-requires
-word-requires c κs = search needs
+is-grouped-requires : tie.Need-is-grouped-requires
+is-grouped-requires c κs = search needs
 
 figures-of-requires : tie.Need-figures-of-requires
 figures-of-requires c κs = search needs
@@ -31,8 +31,8 @@ show-section-requires c κs =
     let g = w .before in
     let n = g .before in
     let p = n .before .before .before .before .pre in
-    let words = number-words _ _ (p .0) (p .1) (p .4) refl (w .word .ensures) refl in
-    let are = number-figures words _ _ (p .2) (n .number-digits .ensures) (g .integer-places .ensures) (f .figures-of .ensures .0) in
+    let words = number-words _ _ (p .0) (p .1) (p .4) refl in
+    let are = number-figures words _ _ (p .2) (n .number-digits .ensures) (g .integer-places .ensures) (w .is-grouped .ensures) (f .figures-of .ensures .0) in
     (p .0, p .1, f .figures-of .ensures .1, not-lent refl, number-known _ (p .4) _ _ _ _ are)
 
 same-length : tie.Need-same-length
@@ -47,12 +47,12 @@ returns c =
     let g = w .before in
     let n = g .before in
     let p = n .before .before .before .before .pre in
-    let words = number-words _ _ (p .0) (p .1) (p .4) refl (w .word .ensures) refl in
-    let own = number-figures words _ _ (p .2) (n .number-digits .ensures) (g .integer-places .ensures) (f .figures-of .ensures .0) in
+    let words = number-words _ _ (p .0) (p .1) (p .4) refl in
+    let own = number-figures words _ _ (p .2) (n .number-digits .ensures) (g .integer-places .ensures) (w .is-grouped .ensures) (f .figures-of .ensures .0) in
     λ x why ev eo.
     let are = number-are _ _ x ev own in
     number-shows _ (p .4) x _ _ why
-    (number-text _ _ x why (p .0) (p .1) (m .added-minus .ensures) (negative-is _ x ev) eo (number-nought _ (p .4) x are)
+    (number-text _ _ x why (m .added-minus .ensures) (negative-is _ x ev) eo (number-nought _ (p .4) x are)
     (s .show-section .ensures _ (number-subject _ (p .4) _ _ _ _ are) (number-places _ x)))
 
 pub show-figures-spec : {M : Type 1} → statement M
@@ -61,7 +61,7 @@ show-figures-spec =
     (tie.spec
     number-digits-requires
     integer-places-requires
-    word-requires
+    is-grouped-requires
     figures-of-requires
     added-minus-requires
     show-section-requires

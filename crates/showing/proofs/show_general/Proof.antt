@@ -53,7 +53,7 @@ returns-2 c =
     let are = general-figures _ _ (r .round-general .ensures) (f .figures-of .ensures .0) (p .2) in
     λ x why ev eo.
     general-shows _ _ _ why x (p .4) (sym (wide-is _ x ev) ∙ sym (g .general-too-wide .ensures) ∙ r .before .if1 .left)
-    (number-text _ _ x why (p .0) (p .1) (m .added-minus .ensures) (negative-is _ x ev) eo
+    (number-text _ _ x why (m .added-minus .ensures) (negative-is _ x ev) eo
     (general-nought _ x _ _ (p .4) (standing-is _ x ev) (nought-told _ are))
     (s .show-section .ensures _ (general-subject _ _ _ _ _ x ev (p .4) refl (general-of _ _ are)) (number-places _ x)))
 

@@ -26,7 +26,7 @@ enum-known-i c = search needs
 show-instant-in-requires : tie.Need-show-instant-in-requires
 show-instant-in-requires c κs =
     let h = c .before .before .before .before in
-    (h .before .before .before .before .before .pre, found-within _ _ _ _ (sym (c .before .before .i .given .1) ∙ h .choose .ensures))
+    (h .before .before .before .before .before .pre, found-within _ _ _ (sym (c .before .before .i .given .1) ∙ h .choose .ensures))
 
 returns : tie.Need-returns
 returns c =
@@ -42,7 +42,7 @@ returns-2 c =
     let s = c .before .before in
     let g = s .before .before .before in
     let h = g .before .before in
-    instant-found _ _ _ _ (h .before .instant-sought .ensures) _ _ (sym (g .i .given .1) ∙ h .choose .ensures) (s .show-instant-in .ensures)
+    instant-found _ _ _ _ (h .before .instant-sought .ensures) _ (sym (g .i .given .1) ∙ h .choose .ensures) (s .show-instant-in .ensures)
 
 pub show-instant-spec : {M : Type 1} → statement M
 show-instant-spec =

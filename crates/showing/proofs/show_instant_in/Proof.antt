@@ -1,19 +1,19 @@
 -- `showing::show_instant_in` meets its contract.
 -- Assumes nothing.
 use mathlib.Core.Path.{refl}
-use Rattle.choosing.specs.Seeking.{sectionIn}
-use Rattle.showing.proofs.Instants.{twelve-told, date-takes, literal-takes, instant-places, instant-moment, instant-known, instant-shows, instant-refused, not-lent}
+use Rattle.table_words.specs.Sections.{sectionIn}
+use Rattle.showing.proofs.Instants.{date-takes, literal-takes, instant-places, instant-moment, instant-known, instant-shows, instant-refused, not-lent}
 use Rattle.showing.proofs.KindWords.{kind-with, told-sort}
 use Rattle.showing.proofs.Literals.{literal-subject, literal-known}
 use borrow.Author.Needs.{needs}
 use Rattle.showing.proofs.show_instant_in.Statement.{statement}
 use Rattle.showing.proofs.show_instant_in.Tie as tie
 
-word-requires : tie.Need-word-requires
-word-requires c κs = search needs
+head-of-requires : tie.Need-head-of-requires
+head-of-requires c κs = search needs
 
-word-requires-2 : tie.Need-word-requires-2
-word-requires-2 c κs = search needs
+is-twelve-hour-requires : tie.Need-is-twelve-hour-requires
+is-twelve-hour-requires c κs = search needs
 
 moment-of-requires : tie.Need-moment-of-requires
 moment-of-requires c κs = search needs
@@ -27,8 +27,8 @@ show-dated-section-requires c κs =
     let p = w .before .before .before .before .pre in (
       p .0,
       p .1,
-      kind-with _ _ _ (p .0) (p .1) (w .word .ensures) 4 (k .if1 .taken),
-      instant-known (sectionIn _ _) _ _ _ _ (twelve-told _ _ _ (p .0) (p .1) (f .word2 .ensures)) (n .moment-of .ensures),
+      kind-with _ _ (w .head-of .ensures .0) 4 (k .if1 .taken),
+      instant-known (sectionIn _ _) _ _ _ _ (f .is-twelve-hour .ensures) (n .moment-of .ensures),
     )
 
 same-length : tie.Need-same-length
@@ -42,8 +42,8 @@ returns c =
     let k = f .before in
     let w = k .before in
     let p = w .before .before .before .before .pre in
-    let e = date-takes _ (kind-with _ _ _ (p .0) (p .1) (w .word .ensures) 4 (k .if1 .taken)) in
-    let i = instant-moment (sectionIn _ _) _ _ _ _ (twelve-told _ _ _ (p .0) (p .1) (f .word2 .ensures)) (n .moment-of .ensures) in
+    let e = date-takes _ (kind-with _ _ (w .head-of .ensures .0) 4 (k .if1 .taken)) in
+    let i = instant-moment (sectionIn _ _) _ _ _ _ (f .is-twelve-hour .ensures) (n .moment-of .ensures) in
     λ why. instant-shows _ _ why _ _ e (s .show-dated-section .ensures _ i (instant-places _ _ (p .0) (p .1) e _ _))
 
 no-figures-requires : tie.Need-no-figures-requires
@@ -55,7 +55,7 @@ show-section-requires c κs =
     let k = n .before in
     let w = k .before .before in
     let p = w .before .before .before .before .pre in
-    let e = kind-with _ _ _ (p .0) (p .1) (w .word .ensures) 0 (k .if2 .taken) in
+    let e = kind-with _ _ (w .head-of .ensures .0) 0 (k .if2 .taken) in
     (p .0, p .1, n .no-figures .ensures, not-lent refl, literal-known _ e _ _ _)
 
 same-length-2 : tie.Need-same-length-2
@@ -67,7 +67,7 @@ returns-2 c =
     let k = s .before .before .before .before in
     let w = k .before .before in
     let p = w .before .before .before .before .pre in
-    let l = kind-with _ _ _ (p .0) (p .1) (w .word .ensures) 0 (k .if2 .taken) in
+    let l = kind-with _ _ (w .head-of .ensures .0) 0 (k .if2 .taken) in
     let e = literal-takes _ l in
     λ why. instant-shows _ _ why _ _ e (s .show-section .ensures _ (literal-subject _ l _ _ _ _) (instant-places _ _ (p .0) (p .1) e _ _))
 
@@ -80,15 +80,15 @@ returns-3 c =
     let j = k .before in
     let w = j .before in
     let p = w .before .before .before .before .pre in
-    let e = told-sort _ _ _ (p .0) (p .1) (w .word .ensures) (j .if1 .left) (k .if2 .left) in
+    let e = told-sort _ _ (w .head-of .ensures .0) (j .if1 .left) (k .if2 .left) in
     λ why. rw (c .refuse .ensures) (instant-refused _ _ _ why _ _ e)
 
 pub show-instant-in-spec : {M : Type 1} → statement M
 show-instant-in-spec =
     tie.close
     (tie.spec
-    word-requires
-    word-requires-2
+    head-of-requires
+    is-twelve-hour-requires
     moment-of-requires
     show-dated-section-requires
     same-length

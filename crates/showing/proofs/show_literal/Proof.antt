@@ -31,7 +31,7 @@ returns c =
     let p = a .before .before .before .before .pre in
     λ x why ev eo.
     literal-shows _ (p .2) x _ _ why
-    (number-text _ _ x why (p .0) (p .1) (a .added-minus .ensures) (negative-is _ x ev) eo (literal-nought _ (p .2) x)
+    (number-text _ _ x why (a .added-minus .ensures) (negative-is _ x ev) eo (literal-nought _ (p .2) x)
     (s .show-section .ensures _ (literal-subject _ (p .2) _ _ _ _) (number-places _ x)))
 
 pub show-literal-spec : {M : Type 1} → statement M

@@ -5,22 +5,22 @@ use borrow.Author.Needs.{needs}
 use Rattle.showing.proofs.show_number_in.Statement.{statement}
 use Rattle.showing.proofs.show_number_in.Tie as tie
 
-word-requires : tie.Need-word-requires
-word-requires c κs = search needs
+head-of-requires : tie.Need-head-of-requires
+head-of-requires c κs = search needs
 
 show-literal-requires : tie.Need-show-literal-requires
 show-literal-requires c κs =
     let m = c .before in
     let w = m .before in
     let p = w .before .before .before .before .pre in
-    (p .0, p .1, kind-with _ _ _ (p .0) (p .1) (w .word .ensures) 0 (m .match .keys1))
+    (p .0, p .1, kind-with _ _ (w .head-of .ensures .0) 0 (m .match .keys1))
 
 show-figures-requires : tie.Need-show-figures-requires
 show-figures-requires c κs =
     let m = c .before in
     let w = m .before in
     let p = w .before .before .before .before .pre in
-    (p .0, p .1, p .2, p .3, kind-with _ _ _ (p .0) (p .1) (w .word .ensures) 2 (m .match .keys2))
+    (p .0, p .1, p .2, p .3, kind-with _ _ (w .head-of .ensures .0) 2 (m .match .keys2))
 
 refuse-requires : tie.Need-refuse-requires
 refuse-requires c κs = search needs
@@ -31,7 +31,7 @@ show-general-requires c κs =
     let w = m .before in
     let p = w .before .before .before .before .pre in
     let o = m .match .rest in
-    (p .0, p .1, p .2, p .3, told-general _ _ _ (p .0) (p .1) (w .word .ensures) (o .0 .0 .1) (o .0 .1) (o .1))
+    (p .0, p .1, p .2, p .3, told-general _ _ (w .head-of .ensures .0) (o .0 .0 .1) (o .0 .1) (o .1))
 
 same-length : tie.Need-same-length
 same-length c = search needs
@@ -51,7 +51,7 @@ returns-3 c =
     let w = m .before in
     let p = w .before .before .before .before .pre in
     λ x why ev eo.
-    rw (c .refuse .ensures) (date-refused _ _ _ _ why x (kind-with _ _ _ (p .0) (p .1) (w .word .ensures) 4 (m .match .keys3)))
+    rw (c .refuse .ensures) (date-refused _ _ _ _ why x (kind-with _ _ (w .head-of .ensures .0) 4 (m .match .keys3)))
 
 same-length-3 : tie.Need-same-length-3
 same-length-3 c = search needs
@@ -63,7 +63,7 @@ pub show-number-in-spec : {M : Type 1} → statement M
 show-number-in-spec =
     tie.close
     (tie.spec
-    word-requires
+    head-of-requires
     show-literal-requires
     show-figures-requires
     refuse-requires

@@ -28,7 +28,7 @@ show-number-in-requires : tie.Need-show-number-in-requires
 show-number-in-requires c κs =
     let h = c .before .before .before .before in
     let p = h .before .before .before .before .before .pre in
-    (p .0, found-within _ _ _ _ (sym (c .before .before .i .given .1) ∙ h .choose .ensures), p .1, p .2)
+    (p .0, found-within _ _ _ (sym (c .before .before .i .given .1) ∙ h .choose .ensures), p .1, p .2)
 
 returns : tie.Need-returns
 returns c =
@@ -46,7 +46,7 @@ returns-2 c =
     let g = s .before .before .before in
     let h = g .before .before in
     λ x ev.
-    number-found _ _ (h .before .number-sought .ensures) x ev _ _ (sym (g .i .given .1) ∙ h .choose .ensures) (s .show-number-in .ensures)
+    number-found _ _ (h .before .number-sought .ensures) x ev _ (sym (g .i .given .1) ∙ h .choose .ensures) (s .show-number-in .ensures)
 
 pub show-number-in-range-spec : {M : Type 1} → statement M
 show-number-in-range-spec =
