@@ -78,9 +78,9 @@ unfolding firstBy
 first-element [] d e = absurd (omega arith)
 first-element (x ∷ ds) d e = refl
 
-pub table-put : (n many : ℕ) (first : Bool) (ds : List Draft) (words : List ℕ) (d : Draft) {l m o q : List ℕ} {a b r : ℕ}
+pub table-put : (n many : ℕ) (first : Bool) (ds : List Draft) (words : List ℕ) (d : Draft) {l m o q : List ℕ} {at a b r : ℕ}
     → many ≡ countedBy 0 (take n ds) → first ≡ hasConditionBy (getD ds 0 d) → length ds ≡ 4
-    → Put l 0 (n ∷ []) a m → Put m a (headsBy many first 0 (take n ds)) b o → Put o b words r q → Put l 0 (tableBy n ds words) r q
+    → Put l at (n ∷ []) a m → Put m a (headsBy many first 0 (take n ds)) b o → Put o b words r q → Put l at (tableBy n ds words) r q
 unfolding tableBy
 table-put n many first ds words d e f s x y z = rw (← e, ← (first-element ds d s), ← f) (put-put (put-put x y) z)
 
