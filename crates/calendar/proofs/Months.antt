@@ -1,15 +1,15 @@
 -- The months: their lengths make up the year, and the month that is found is the right one.
 -- Assumes nothing.
 use mathlib.Core.Path.{_≡_, refl, sym, ap, subst, _∙_}
-use mathlib.Core.Bool.{Bool, true, false, cond}
+use mathlib.Core.Bool.{Bool, true, false, cond, _||_, true≢false, or-false as or-no}
 use mathlib.Core.List.{List, [], _∷_}
 use Prim.Native.Nat.{ℕ, zero, suc, pred, _+_, _-_, _*_, _/_, _≤_, _<_}
 use native.Mathlib.Omega.{arith}
-use borrow.Author.Tests.{leb-true, leb-false, lt-leb}
-use lib.Dec.{leb}
+use borrow.Author.Tests.{leb-true, leb-false, ltb-false, eqb-true, le-ltb, lt-leb}
+use lib.Dec.{leb, ltb, eqb}
 use lib.ListN.{length, getD, take}
 use Rattle.lists.specs.Tables.{values}
-use Rattle.lists.proofs.Bools.{cond-case}
+use Rattle.lists.proofs.Bools.{cond-case, or-false}
 use Rattle.lists.proofs.Tables.{value-at}
 use Rattle.calendar.specs.Year.{leap, yearDays}
 use Rattle.calendar.specs.Date.{monthDays, MonthDay, monthDayFrom}
@@ -117,10 +117,10 @@ month-nought k n e = rw e
 
 -- the month and the day of it by arithmetic
 monthAt : Bool → ℕ → ℕ
-monthAt b n = (12 * movedBy b n + 361) / 367
+monthAt b n = (67 * movedBy b n + 2010) / 2048
 
 dayAt : Bool → ℕ → ℕ
-dayAt b n = movedBy b n - (367 * monthAt b n - 362) / 12
+dayAt b n = movedBy b n - (489 * monthAt b n - 480) / 16
 
 abbrev found : Bool → ℕ → MonthDay
 found b n = monthDayFrom 1 (monthsOf b) n
@@ -147,7 +147,17 @@ month-computed b n h =
 
 -- day being the n-th day of the year moved
 pub month-of-moved : (k n day : ℕ) (b : Bool) → b ≡ leap k → 1 ≤ n → n ≤ 366 → day ≡ movedBy b n →
-    monthDayFrom 1 (monthDays k) n ≡ record { month = (12 * day + 361) / 367; dayOfMonth = day - (367 * ((12 * day + 361) / 367) - 362) / 12 }
+    monthDayFrom 1 (monthDays k) n ≡ record { month = (67 * day + 2010) / 2048; dayOfMonth = day - (489 * ((67 * day + 2010) / 2048) - 480) / 16 }
 unfolding monthDays monthAt dayAt
 month-of-moved k zero day b e l h f = absurd (omega arith)
 month-of-moved k (suc n) day b e l h f = rw (← e, f) (month-computed b n (omega arith))
+
+-- how the code tells a day of a year
+pub outside : (n : ℕ) → (eqb n 0 || ltb 366 n) ≡ true → n ≤ 366 → n ≡ 0
+outside n e h =
+    let f : (eqb n 0 || false) ≡ true = rw (le-ltb 366 n h) at e in
+    eqb-true n 0 (sym (or-no (eqb n 0)) ∙ f)
+
+pub inside : (n : ℕ) → (eqb n 0 || ltb 366 n) ≡ false → (1 ≤ n) × (n ≤ 366)
+inside zero e = absurd (true≢false e)
+inside (suc n) e = (omega arith, ltb-false 366 (suc n) (or-false (eqb (suc n) 0) (ltb 366 (suc n)) e .1))

@@ -171,11 +171,10 @@ year-cycles q rest (suc j) h a b =
     (omega (arith, ap firstDay e, firstDay-cycles q (suc j)))
     (omega (arith, firstDay-cycles q j))
 
--- the year as the code finds it, f being the year's first day in the table
-pub year-later : (day k f : ℕ) → 367 ≤ day → f ≡ firstDay k → firstDay k ≤ (day - 367) % 146097 + 367 → (day - 367) % 146097 + 367 < firstDay (suc k) →
-    yearDayOf day ≡ record { years = k + 400 * ((day - 367) / 146097); dayOfYear = (day - 367) % 146097 + 367 - f + 1 }
-year-later day k f h e a b =
+-- the year as the code finds it: rest is the day of the first cycle, later the years of the cycles before, f the year's first day
+pub year-later : (day k f later rest : ℕ) → 367 ≤ day → later ≡ 400 * ((day - 367) / 146097) → rest ≡ (day - 367) % 146097 + 367 →
+    f ≡ firstDay k → firstDay k ≤ rest → rest < firstDay (suc k) → yearDayOf day ≡ record { years = k + later; dayOfYear = rest - f + 1 }
+year-later day k f later rest h l r e a b =
     let q : ℕ = (day - 367) / 146097 in
-    let rest : ℕ = (day - 367) % 146097 + 367 in
     let s : day ≡ rest + 146097 * q = omega arith in
-    rw e (ap yearDayOf s ∙ year-cycles q rest k (omega arith) a b)
+    rw (e, l) (ap yearDayOf s ∙ year-cycles q rest k (omega arith) a b)

@@ -4,7 +4,7 @@ mod tables;
 use values::Day;
 use values::Millisecond;
 ghost use mathlib.Core.Path.{_≡_};
-ghost use Prim.Native.Nat.{ℕ, suc, _+_, _^_, _≤_, _<_};
+ghost use Prim.Native.Nat.{ℕ, suc, _+_, _-_, _*_, _/_, _%_, _^_, _≤_, _<_};
 ghost use Rattle.calendar.specs.Year.{leap, firstDay, yearDayOf};
 ghost use Rattle.calendar.specs.Date.{monthDays, monthDayFrom, dateOf};
 ghost use Rattle.calendar.specs.Clock.{clockOf, twelveHour, afternoon, sinceDayZero, elapsedHours, elapsedMinutes, elapsedSeconds};
@@ -22,6 +22,12 @@ struct YearDay {
 struct YearStart {
     years: u32,
     first: u32,
+}
+
+// A day of the table's years, and how many years later it stands for.
+struct Cycled {
+    years: u32,
+    day: u32,
 }
 
 // A month, January being 1, and a day of it.
@@ -80,7 +86,22 @@ fn year_within(day: u32) -> YearStart
     }
 }
 
-// The year of a day number: from 1901 on the years repeat every 146,097 days, and the table has the first such cycle.
+// A day number as a day of the table's years, and the years that it stands behind that: from 1901 on the years repeat every 146,097
+// days, and the table has the first such cycle.
+fn in_table(day: u32) -> Cycled
+    requires { ⌜ 367 ≤ day ⌝ }
+    ensures { λ r. ⌜ (r .years ≡ 400 * ((day - 367) / 146097)) × (r .day ≡ (day - 367) % 146097 + 367) ⌝ }
+{
+    if day < 146464 {
+        return Cycled { years: 0, day: day };
+    }
+    Cycled {
+        years: 400 * ((day - 367) / 146097),
+        day: (day - 367) % 146097 + 367,
+    }
+}
+
+// The year of a day number.
 fn year_day_of(d: Day) -> YearDay
     ensures { λ r. ⌜ r ≡ madeYearDay (yearDayOf (d .0)) ⌝ }
 {
@@ -88,12 +109,11 @@ fn year_day_of(d: Day) -> YearDay
     if day < 367 {
         return YearDay { years: 0, day: day };
     }
-    let cycles = (day - 367) / 146097;
-    let rest = (day - 367) % 146097 + 367;
-    let start = year_within(rest);
+    let c = in_table(day);
+    let start = year_within(c.day);
     YearDay {
-        years: start.years + 400 * cycles,
-        day: rest - start.first + 1,
+        years: start.years + c.years,
+        day: c.day - start.first + 1,
     }
 }
 
@@ -102,9 +122,6 @@ fn is_leap(years: u32) -> bool
     requires { ⌜ 1900 + years < 2 ^ 32 ⌝ }
     ensures { λ r. ⌜ r ≡ leap years ⌝ }
 {
-    if years == 0 {
-        return true;
-    }
     let y = 1900 + years;
     if y % 4 != 0 {
         return false;
@@ -112,7 +129,10 @@ fn is_leap(years: u32) -> bool
     if y % 100 != 0 {
         return true;
     }
-    y % 400 == 0
+    if y % 400 == 0 {
+        return true;
+    }
+    years == 0
 }
 
 // A day of a year in a year whose February has 30 days, so that months of 31 and 30 days take turns but at July and August.
@@ -132,11 +152,14 @@ fn moved(long: bool, n: u32) -> u32
     n + 2
 }
 
-// The days behind December stand in a month 13.
-fn behind_december(long: bool, n: u32) -> MonthDay
-    requires { ⌜ 366 < n ⌝ }
+// What is no day of any year: day 0 stands in January, the days behind December in a month 13.
+fn outside_year(long: bool, n: u32) -> MonthDay
+    requires { ⌜ (n ≤ 366 → n ≡ 0) ⌝ }
     ensures { λ r. ⌜ ((k : ℕ) → long ≡ leap k → r ≡ madeMonthDay (monthDayFrom 1 (monthDays k) n)) ⌝ }
 {
+    if n <= 366 {
+        return MonthDay { month: 1, day: 0 };
+    }
     if long {
         return MonthDay {
             month: 13,
@@ -149,23 +172,21 @@ fn behind_december(long: bool, n: u32) -> MonthDay
     }
 }
 
-// The month of the n-th day of the year 1900 + years, and the day of it: twelve months have 367 days once February has 30.
+// The month of the n-th day of the year 1900 + years, and the day of it. Once February has 30 days the months are so even that
+// their numbers and first days go by a straight line.
 fn month_day_of(years: u32, n: u32) -> MonthDay
     requires { ⌜ 1900 + years < 2 ^ 32 ⌝ }
     ensures { λ r. ⌜ r ≡ madeMonthDay (monthDayFrom 1 (monthDays years) n) ⌝ }
 {
-    if n == 0 {
-        return MonthDay { month: 1, day: 0 };
-    }
     let long = is_leap(years);
-    if 366 < n {
-        return behind_december(long, n);
+    if (n == 0) | (366 < n) {
+        return outside_year(long, n);
     }
     let day = moved(long, n);
-    let month = (12 * day + 361) / 367;
+    let month = (67 * day + 2010) / 2048;
     MonthDay {
         month: month,
-        day: day - (367 * month - 362) / 12,
+        day: day - (489 * month - 480) / 16,
     }
 }
 
