@@ -15,8 +15,9 @@ use Rattle.tables.specs.Rules.{headInRange, conditionFits, shiftTells}
 use Rattle.tables.proofs.Ranges.{HeadRanges, head-ranges, head-in-ranges}
 use Rattle.tallies.specs.declared.Tally.{Tally}
 use Rattle.tallies.specs.Tally.{tallyOf, hasPlaces, hasNumberItems, kindTold, allowedTold, noPlainTold, itemsFitTold, withinTold, groupingTold, decimalsTold}
-use Rattle.checking.specs.declared.HeadWords.{HeadWords}
-use Rattle.checking.specs.Checking.{headFrom, agree, conditionTold, thousandsTold, shiftTold, rowTold, Undated, numberTold, otherTold}
+use Rattle.table_words.specs.declared.HeadWords.{HeadWords}
+use Rattle.table_words.specs.Sections.{headFrom}
+use Rattle.checking.specs.Checking.{agree, conditionTold, thousandsTold, shiftTold, rowTold, Undated, numberTold, otherTold}
 use Rattle.checking.proofs.Undated.{undated}
 use Rattle.checking.proofs.Rows.{Told, told, told-back}
 

@@ -12,10 +12,6 @@ use Rattle.tables.specs.Decode.{twoWords, wholeAt, millionthsAt, thousandsAt}
 use Rattle.tables.specs.Rules.{shiftTells}
 use Rattle.checking.specs.Checking.{comparedTold, conditionTold}
 
-pub two-words : (low high : ℕ) → low + 65536 * high ≡ twoWords low high
-unfolding twoWords
-two-words low high = refl
-
 -- no condition, and its words: their sum is 0 where each is
 none-compared : (negative a b c d : ℕ)
     → eqb (negative + a + b + c + d) 0 ≡ comparedTold 0 negative (a + 65536 * b) (c + 65536 * d)

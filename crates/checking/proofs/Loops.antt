@@ -7,7 +7,7 @@ use mathlib.Core.Path.{_≡_, refl, sym, _∙_, ap}
 use mathlib.Core.Bool.{Bool, true, false, cond, _||_}
 use mathlib.Core.List.{List, [], _∷_}
 use lib.ListN.{length, getD, drop, take, length-drop, length-take}
-use lib.Seq.{drop-drop, getD-drop}
+use lib.Seq.{drop-drop}
 use lib.Dec.{eqb}
 use Rattle.lists.specs.Lists.{every}
 use Rattle.lists.proofs.Bools.{cond-self}
@@ -16,8 +16,9 @@ use Rattle.tables.specs.Words.{Head, headAt, headsAt, entriesAt, entriesIn, row
 use Rattle.tables.specs.Standing.{countedOne, countedKinds}
 use Rattle.tables.proofs.Words.{entries-part, headsAt-length}
 use Rattle.tallies.specs.Tally.{tallyOf}
-use Rattle.checking.specs.declared.HeadWords.{HeadWords}
-use Rattle.checking.specs.Checking.{headFrom, Sized, rowTold, rowGood, hasIn, placeFits, placesFrom, placesFit, kindsIn, firstHasIn}
+use Rattle.table_words.specs.declared.HeadWords.{HeadWords}
+use Rattle.table_words.specs.Sections.{headFrom}
+use Rattle.checking.specs.Checking.{Sized, rowTold, rowGood, hasIn, placeFits, placesFrom, placesFit, kindsIn, firstHasIn}
 use Rattle.checking.proofs.Rows.{row-told}
 
 -- the heads from the i-th on
@@ -38,32 +39,6 @@ left-start ws n e = rw (sub-zero n, e)
 left-end : (ws : List ℕ) (n i : ℕ) → n ≤ i → left ws n i ≡ []
 unfolding headsAt
 left-end ws n i h = let z : n - i ≡ 0 = omega arith in rw z
-
--- ---- the words of the head at a place
-pub head-read : (ws : List ℕ) (a : ℕ) → (record {
-  kind = getD ws a 0;
-  colour = getD ws (a + 1) 0;
-  operator = getD ws (a + 2) 0;
-  negative = getD ws (a + 3) 0;
-  wholeLow = getD ws (a + 4) 0;
-  wholeHigh = getD ws (a + 5) 0;
-  millionthsLow = getD ws (a + 6) 0;
-  millionthsHigh = getD ws (a + 7) 0;
-  shift = getD ws (a + 8) 0;
-  flags = getD ws (a + 9) 0;
-  decimals = getD ws (a + 10) 0;
-  items = getD ws (a + 11) 0;
-}) ≡ headAt (drop a ws)
-unfolding headAt
-head-read ws a =
-    let nought : a + 0 ≡ a = omega arith in
-    rw (getD-drop a ws 0 0, getD-drop a ws 1 0, getD-drop a ws 2 0, getD-drop a ws 3 0, getD-drop a ws 4 0, getD-drop a ws 5 0, getD-drop a ws 6 0, getD-drop a ws 7 0, getD-drop a ws 8 0, getD-drop a ws 9 0, getD-drop a ws 10 0, getD-drop a ws 11 0, nought)
-
-pub items-read : (ws : List ℕ) (i : ℕ) → getD ws (12 + 12 * i) 0 ≡ headAt (drop (1 + 12 * i) ws) .items
-unfolding headAt
-items-read ws i =
-    let e : 12 + 12 * i ≡ 1 + 12 * i + 11 = omega arith in
-    ap (λ (k : ℕ). getD ws k 0) e ∙ sym (getD-drop (1 + 12 * i) ws 11 0)
 
 -- ---- the sum of the items
 pub record Summing (ws : List ℕ) (n i sum : ℕ) : Type 0 where
@@ -86,9 +61,10 @@ summing-start ws n e m l =
     }
 
 module _ (ws : List ℕ) (n i sum : ℕ) (inv : Summing ws n i sum) where
-  pub summing-step : (items : ℕ) → i < n → items ≡ headAt (drop (1 + 12 * i) ws) .items → items ≤ 65535 → Summing ws n (i + 1) (sum + items)
+  pub summing-step : (h : Head) → i < n → h ≡ headAt (drop (1 + 12 * i) ws) → h .items ≤ 65535 → Summing ws n (i + 1) (sum + h .items)
   unfolding itemsSaid
-  summing-step items l p m =
+  summing-step h l e m =
+      let p : h .items ≡ headAt (drop (1 + 12 * i) ws) .items = ap (λ (x : Head). x .items) e in
       let q : itemsSaid (left ws n i) ≡ headAt (drop (1 + 12 * i) ws) .items + itemsSaid (left ws n (i + 1)) = ap itemsSaid (left-front ws n i l) in
       record {
         sections = inv .sections;
@@ -142,9 +118,10 @@ module _ (ws : List ℕ) (n i at : ℕ) (inv : Rowing ws n i at) where
     pub said : itemsSaid (left ws n i) ≡ items + itemsSaid (left ws n (i + 1))
 
   module _ (l : i < n) where
-    pub within : (items : ℕ) → items ≡ here .items → Within items
+    pub within : (h : Head) → h ≡ here → Within (h .items)
     unfolding itemsSaid
-    within items p =
+    within h e =
+        let p : h .items ≡ here .items = ap (λ (x : Head). x .items) e in
         let q : itemsSaid (left ws n i) ≡ here .items + itemsSaid (left ws n (i + 1)) = ap itemsSaid (left-front ws n i l) in
         record {
           few = omega (arith, inv .few, p, q);
@@ -157,21 +134,21 @@ module _ (ws : List ℕ) (n i at : ℕ) (inv : Rowing ws n i at) where
         (every rowGood (rowsAt (left ws n (i + 1)) (drop (at + 2 * here .items) ws))) false
     unfolding rowsAt every
     row-front =
-        let w : Within (here .items) = within (here .items) refl in
+        let w : Within (here .items) = within here refl in
         let d : length (drop at ws) ≡ length ws - at = length-drop at ws in
         inv .same ∙ rw (left-front ws n i l, entries-part (here .items) (drop at ws) (omega arith), row-told here (entriesAt (here .items) (drop at ws)), drop-drop (2 * here .items) at ws)
 
-    module _ (items : ℕ) (p : items ≡ here .items) (m : ℕ) (k : m ≡ 2 * items) (b : Bool) (r : b ≡ rowTold here (tallyOf (entriesIn (take m (drop at ws))))) where
+    module _ (h : Head) (e : h ≡ here) (m : ℕ) (k : m ≡ 2 * h .items) (b : Bool) (r : b ≡ rowTold here (tallyOf (entriesIn (take m (drop at ws))))) where
       told : rowTold here (tallyOf (entriesIn (take (2 * here .items) (drop at ws)))) ≡ b
       told =
-          let j : m ≡ 2 * here .items = omega (arith, p, k) in
+          let j : m ≡ 2 * here .items = k ∙ ap (λ (x : Head). 2 * x .items) e in
           sym (r ∙ ap (λ (x : ℕ). rowTold here (tallyOf (entriesIn (take x (drop at ws))))) j)
 
-      pub rowing-step : b ≡ true → Rowing ws n (i + 1) (at + 2 * items)
+      pub rowing-step : b ≡ true → Rowing ws n (i + 1) (at + 2 * h .items)
       rowing-step v =
-          let w : Within items = within items p in
-          let moved : every rowGood (rowsAt (left ws n (i + 1)) (drop (at + 2 * here .items) ws)) ≡ every rowGood (rowsAt (left ws n (i + 1)) (drop (at + 2 * items) ws)) =
-          ap (λ (x : ℕ). every rowGood (rowsAt (left ws n (i + 1)) (drop (at + 2 * x) ws))) (sym p) in
+          let w : Within (h .items) = within h e in
+          let moved : every rowGood (rowsAt (left ws n (i + 1)) (drop (at + 2 * here .items) ws)) ≡ every rowGood (rowsAt (left ws n (i + 1)) (drop (at + 2 * h .items) ws)) =
+          ap (λ (x : Head). every rowGood (rowsAt (left ws n (i + 1)) (drop (at + 2 * x .items) ws))) (sym e) in
           record {
             sized = inv .sized;
             sections = inv .sections;

@@ -36,10 +36,10 @@ sized-facts ws t =
 pub not-sized-so : (ws : List ℕ) → (Sized ws → ⊥) → false ≡ sized ws
 not-sized-so ws refuted = by-cases (sized ws) (λ e. absurd (refuted (sized-facts ws (true-T e)))) (λ e. sym e)
 
-pub sized-so : (ws : List ℕ) (items : ℕ) → 1 ≤ getD ws 0 0 → getD ws 0 0 ≤ 4 → items ≡ itemsSaid (headsIn ws)
-    → (eqb (length ws) (1 + 12 * getD ws 0 0 + 2 * items) && leb items 254) ≡ sized ws
+pub sized-so : (ws : List ℕ) (n items : ℕ) → n ≡ getD ws 0 0 → 1 ≤ n → n ≤ 4 → items ≡ itemsSaid (headsIn ws)
+    → (eqb (length ws) (1 + 12 * n + 2 * items) && leb items 254) ≡ sized ws
 unfolding sized exactWords
-sized-so ws items least most e = rw (e, le-leb 1 (getD ws 0 0) least, le-leb (getD ws 0 0) 4 most)
+sized-so ws n items h least most e = rw (e, ← h, le-leb 1 n least, le-leb n 4 most)
 
 module _ (ws : List ℕ) where
   heads-are : headsOf (rowsIn ws) ≡ headsIn ws

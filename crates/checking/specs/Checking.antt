@@ -16,24 +16,6 @@ use Rattle.tables.specs.Decode.{wholeAt, millionthsAt, itemsAt, groupedAt, thou
 use Rattle.tables.specs.Rules.{headInRange, conditionFits, shiftTells, rowFits}
 use Rattle.tallies.specs.declared.Tally.{Tally}
 use Rattle.tallies.specs.Tally.{kindTold, itemsFitTold, oneFillTold, withinTold, groupingTold, decimalsTold}
-use Rattle.checking.specs.declared.HeadWords.{HeadWords}
-
-abbrev pub headFrom : HeadWords → Head
-headFrom w =
-    record {
-      kind = w .kind;
-      colour = w .colour;
-      operator = w .operator;
-      negative = w .negative;
-      wholeLow = w .«whole_low»;
-      wholeHigh = w .«whole_high»;
-      millionthsLow = w .«millionths_low»;
-      millionthsHigh = w .«millionths_high»;
-      shift = w .shift;
-      flags = w .flags;
-      decimals = w .decimals;
-      items = w .items;
-    }
 
 -- both or neither
 abbrev pub agree : Bool → Bool → Bool

@@ -7,10 +7,15 @@ ghost use Rattle.formats.specs.Minus.{exceptionA};
 ghost use Rattle.lists.specs.Lists.{every};
 ghost use Rattle.tables.specs.Words.{headAt, entriesIn, headsIn, rowsIn, itemsSaid};
 ghost use Rattle.tables.specs.Standing.{countedOne, countedKinds};
-ghost use Rattle.tables.specs.Decode.{twoWords, thousandsAt};
+ghost use Rattle.tables.specs.Decode.{thousandsAt};
 ghost use Rattle.tables.specs.Rules.{shiftTells, passes};
 ghost use Rattle.tallies.specs.Tally.{tallyOf};
-ghost use Rattle.checking.specs.Checking.{headFrom, agree, sized, Sized, comparedTold, conditionTold, numberTold, otherTold, rowTold, rowGood, comparedStands, plainFits, placeFits, kindsIn, placesFit};
+ghost use Rattle.table_words.specs.Sections.{headFrom};
+ghost use Rattle.checking.specs.Checking.{agree, sized, Sized, comparedTold, conditionTold, numberTold, otherTold, rowTold, rowGood, comparedStands, plainFits, placeFits, kindsIn, placesFit};
+use table_words::HeadWords;
+use table_words::head_at;
+use table_words::number;
+use table_words::section_count;
 use tables::flags;
 use tables::heads;
 use tables::kinds;
@@ -21,63 +26,10 @@ use tallies::kind;
 use tallies::tally_words;
 use tallies::within;
 
-// The words of a section's head.
-struct HeadWords {
-    kind: u16,
-    colour: u16,
-    operator: u16,
-    negative: u16,
-    whole_low: u16,
-    whole_high: u16,
-    millionths_low: u16,
-    millionths_high: u16,
-    shift: u16,
-    flags: u16,
-    decimals: u16,
-    items: u16,
-}
-
-// The head of section i.
-fn head_at(table: &[u16], i: usize) -> HeadWords
-    requires { ⌜ (i ≤ 3) × (13 + 12 * i ≤ length (now table)) ⌝ }
-    ensures { λ r. ⌜ headFrom r ≡ headAt (drop (1 + 12 * i) (now (table .entry))) ⌝ }
-{
-    let a = 1 + heads::WORDS * i;
-    HeadWords {
-        kind: table[a],
-        colour: table[a + heads::COLOUR],
-        operator: table[a + heads::OPERATOR],
-        negative: table[a + heads::NEGATIVE],
-        whole_low: table[a + heads::WHOLE_LOW],
-        whole_high: table[a + heads::WHOLE_HIGH],
-        millionths_low: table[a + heads::MILLIONTHS_LOW],
-        millionths_high: table[a + heads::MILLIONTHS_HIGH],
-        shift: table[a + heads::SHIFT],
-        flags: table[a + heads::FLAGS],
-        decimals: table[a + heads::DECIMALS],
-        items: table[a + heads::ITEMS],
-    }
-}
-
-// How many items section i has.
-fn items_at(table: &[u16], i: usize) -> u16
-    requires { ⌜ (i ≤ 3) × (13 + 12 * i ≤ length (now table)) ⌝ }
-    ensures { λ r. ⌜ r ≡ headAt (drop (1 + 12 * i) (now (table .entry))) .items ⌝ }
-{
-    table[heads::WORDS + heads::WORDS * i]
-}
-
 fn agree(a: bool, b: bool) -> bool
     ensures { λ r. ⌜ r ≡ agree a b ⌝ }
 {
     (a & b) | (!a & !b)
-}
-
-// A number in two words.
-fn number(low: u16, high: u16) -> u32
-    ensures { λ r. ⌜ r ≡ twoWords low high ⌝ }
-{
-    low as u32 + 65536 * high as u32
 }
 
 // No number without a comparison, no sign without a number.
@@ -252,7 +204,8 @@ fn items_said(table: &[u16], n: usize) -> usize
     let mut sum: usize = 0;
     let mut i: usize = 0;
     while i < n {
-        sum += items_at(table, i) as usize;
+        let h = head_at(table, i);
+        sum += h.items as usize;
         i += 1;
     }
     sum
@@ -266,7 +219,7 @@ fn is_sized(table: &[u16]) -> bool
     if length == 0 {
         return false;
     }
-    let n = table[0] as usize;
+    let n = section_count(table);
     if n == 0 {
         return false;
     }
@@ -285,11 +238,12 @@ fn rows_fit(table: &[u16]) -> bool
     requires { ⌜ Sized (now table) ⌝ }
     ensures { λ r. ⌜ r ≡ every rowGood (rowsIn (now (table .entry))) ⌝ }
 {
-    let n = table[0] as usize;
+    let n = section_count(table);
     let mut at = 1 + heads::WORDS * n;
     let mut i: usize = 0;
     while i < n {
-        let end = at + 2 * items_at(table, i) as usize;
+        let h = head_at(table, i);
+        let end = at + 2 * h.items as usize;
         if !row_fits(table, i, &table[at..end]) {
             return false;
         }
@@ -383,7 +337,7 @@ fn places_fit(table: &[u16]) -> bool
     requires { ⌜ Sized (now table) ⌝ }
     ensures { λ r. ⌜ r ≡ placesFit (headsIn (now (table .entry))) ⌝ }
 {
-    let n = table[0] as usize;
+    let n = section_count(table);
     if n == 1 {
         return place_fits(1, 1, false, 0, head_at(table, 0));
     }

@@ -1,14 +1,15 @@
 -- `checking::condition_fits` meets its contract.
 -- Assumes nothing.
 use mathlib.Core.Path.{_∙_}
-use Rattle.checking.specs.Checking.{headFrom, conditionTold}
+use Rattle.table_words.specs.Sections.{headFrom}
+use Rattle.checking.specs.Checking.{conditionTold}
 use Rattle.tables.specs.Decode.{wholeAt, millionthsAt}
 use Rattle.checking.proofs.Heads.{no-condition}
 use borrow.Author.Needs.{needs}
 use Rattle.checking.proofs.condition_fits.Statement.{statement}
 use Rattle.checking.proofs.condition_fits.Tie as tie
 use Rattle.checking.proofs.compared_fits.Reads as compared-fits-reads
-use Rattle.checking.proofs.number.Reads as number-reads
+use Rattle.table_words.proofs.number.Reads as number-reads
 
 cast-result : tie.Need-cast-result
 cast-result c = search needs

@@ -9,11 +9,8 @@ use Rattle.checking.proofs.is_sized.Tie as tie
 returns : tie.Need-returns
 returns c = not-sized-so _ (λ s. absurd (omega arith))
 
-shared-slice-read-n : tie.Need-shared-slice-read-n
-shared-slice-read-n c = search needs
-
-cast-n : tie.Need-cast-n
-cast-n c = omega (arith, c .shared-slice-known2 .given 0)
+section-count-requires : tie.Need-section-count-requires
+section-count-requires c κs = search needs
 
 returns-2 : tie.Need-returns-2
 returns-2 c = not-sized-so _ (λ s. absurd (omega arith))
@@ -46,15 +43,14 @@ add-result-2 : tie.Need-add-result-2
 add-result-2 c = search needs
 
 returns-5 : tie.Need-returns-5
-returns-5 c = sized-so _ _ (omega arith) (omega arith) (c .items-said .ensures .0)
+returns-5 c = sized-so _ _ _ (c .before .before .before .before .section-count .ensures) (omega arith) (omega arith) (c .items-said .ensures .0)
 
 pub is-sized-spec : {M : Type 1} → statement M
 is-sized-spec =
     tie.close
     (tie.spec
     returns
-    shared-slice-read-n
-    cast-n
+    section-count-requires
     returns-2
     returns-3
     mul-if4

@@ -15,8 +15,8 @@ abbrev μ-loop : tie.MeasureT-loop
 loop-holds : tie.Need-loop-holds Inv-loop μ-loop
 loop-holds c = summing-start _ _ (c .before .pre .0) (c .before .pre .1) (c .before .pre .2)
 
-items-at-requires : tie.Need-items-at-requires Inv-loop μ-loop
-items-at-requires c κs = search needs
+head-at-requires : tie.Need-head-at-requires Inv-loop μ-loop
+head-at-requires c κs = search needs
 
 cast-sum : tie.Need-cast-sum Inv-loop μ-loop
 cast-sum c = search needs
@@ -31,7 +31,7 @@ loop-less : tie.Need-loop-less Inv-loop μ-loop
 loop-less c = search needs
 
 loop-again : tie.Need-loop-again Inv-loop μ-loop
-loop-again c = summing-step _ _ _ _ (c .before .before .loop .inv) _ (search needs) (c .items-at .ensures) (search needs)
+loop-again c = summing-step _ _ _ _ (c .before .before .before .loop .inv) _ (search needs) (c .before .head-at .ensures) (search needs)
 
 returns : tie.Need-returns Inv-loop μ-loop
 returns c = summing-end _ _ _ _ (c .before .loop .inv) (search needs)
@@ -43,7 +43,7 @@ items-said-spec =
     Inv-loop
     μ-loop
     loop-holds
-    items-at-requires
+    head-at-requires
     cast-sum
     add-sum
     add-i

@@ -1,6 +1,6 @@
 -- `checking::place_fits` meets its contract.
 -- Assumes nothing.
-use Rattle.checking.specs.Checking.{headFrom}
+use Rattle.table_words.specs.Sections.{headFrom}
 use Rattle.checking.proofs.Stands.{place-plain, place-flagged, place-compared}
 use borrow.Author.Needs.{needs}
 use Rattle.checking.proofs.place_fits.Statement.{statement}

@@ -15,11 +15,8 @@ Inv-loop table n counted first-has i₀ i = Placing table n counted first-has i
 abbrev μ-loop : tie.MeasureT-loop
 μ-loop table n counted first-has i₀ i = n - i
 
-shared-slice-read-n : tie.Need-shared-slice-read-n Inv-loop μ-loop
-shared-slice-read-n c = search needs
-
-cast-n : tie.Need-cast-n Inv-loop μ-loop
-cast-n c = search needs
+section-count-requires : tie.Need-section-count-requires Inv-loop μ-loop
+section-count-requires c κs = search needs
 
 head-at-requires : tie.Need-head-at-requires Inv-loop μ-loop
 head-at-requires c κs = search needs
@@ -28,7 +25,7 @@ place-fits-requires : tie.Need-place-fits-requires Inv-loop μ-loop
 place-fits-requires c κs = search needs
 
 returns : tie.Need-returns Inv-loop μ-loop
-returns c = c .place-fits .ensures ∙ placing-alone _ _ _ (c .before .before .before .before .before .pre) refl (c .before .before .if1 .taken) (c .before .head-at .ensures)
+returns c = c .place-fits .ensures ∙ placing-alone _ _ _ (c .before .before .before .before .before .pre) (c .before .before .before .section-count .ensures) (c .before .before .if1 .taken) (c .before .head-at .ensures)
 
 counted-requires : tie.Need-counted-requires Inv-loop μ-loop
 counted-requires c κs = search needs
@@ -37,7 +34,7 @@ head-at-requires-2 : tie.Need-head-at-requires-2 Inv-loop μ-loop
 head-at-requires-2 c κs = search needs
 
 loop-holds : tie.Need-loop-holds Inv-loop μ-loop
-loop-holds c = placing-start _ _ _ _ (c .before .before .before .before .before .before .pre) refl (c .before .before .counted .ensures) (c .before .head-at2 .ensures)
+loop-holds c = placing-start _ _ _ _ (c .before .before .before .before .before .before .pre) (c .before .before .before .before .section-count .ensures) (c .before .before .counted .ensures) (c .before .head-at2 .ensures)
 
 head-at-requires-3 : tie.Need-head-at-requires-3 Inv-loop μ-loop
 head-at-requires-3 c κs = search needs
@@ -66,8 +63,7 @@ places-fit-spec =
     (tie.spec
     Inv-loop
     μ-loop
-    shared-slice-read-n
-    cast-n
+    section-count-requires
     head-at-requires
     place-fits-requires
     returns

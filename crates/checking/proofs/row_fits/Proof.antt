@@ -8,14 +8,14 @@ use borrow.Author.Tests.{eqb-true, eqb-false, not-true, not-false}
 use Rattle.tables.specs.Words.{entriesIn}
 use Rattle.tables.proofs.Ranges.{head-ranges}
 use Rattle.tallies.specs.Tally.{tallyOf}
-use Rattle.checking.specs.Checking.{headFrom}
+use Rattle.table_words.specs.Sections.{headFrom}
 use Rattle.lists.proofs.Bools.{carry}
 use Rattle.checking.proofs.ByKind.{refused, fills-most, condition-out, row-number, row-other, rowed, front-of}
 use borrow.Author.Needs.{needs}
 use Rattle.checking.proofs.row_fits.Statement.{statement}
 use Rattle.checking.proofs.row_fits.Tie as tie
 use Rattle.checking.proofs.condition_fits.Reads as condition-fits-reads
-use Rattle.checking.proofs.head_at.Reads as head-at-reads
+use Rattle.table_words.proofs.head_at.Reads as head-at-reads
 use Rattle.checking.proofs.number_fits.Reads as number-fits-reads
 use Rattle.checking.proofs.other_fits.Reads as other-fits-reads
 use Rattle.tallies.proofs.kind.Reads as kind-reads

@@ -17,11 +17,8 @@ Inv-loop table n at₀ i₀ at i = Rowing table n i at
 abbrev μ-loop : tie.MeasureT-loop
 μ-loop table n at₀ i₀ at i = n - i
 
-shared-slice-read-n : tie.Need-shared-slice-read-n Inv-loop μ-loop
-shared-slice-read-n c = search needs
-
-cast-n : tie.Need-cast-n Inv-loop μ-loop
-cast-n c = search needs
+section-count-requires : tie.Need-section-count-requires Inv-loop μ-loop
+section-count-requires c κs = search needs
 
 mul-at : tie.Need-mul-at Inv-loop μ-loop
 mul-at c = search needs
@@ -30,10 +27,10 @@ add-at : tie.Need-add-at Inv-loop μ-loop
 add-at c = search needs
 
 loop-holds : tie.Need-loop-holds Inv-loop μ-loop
-loop-holds c = rowing-start _ _ (c .before .before .pre) refl
+loop-holds c = rowing-start _ _ (c .before .before .pre) (c .section-count .ensures)
 
-items-at-requires : tie.Need-items-at-requires Inv-loop μ-loop
-items-at-requires c κs = search needs
+head-at-requires : tie.Need-head-at-requires Inv-loop μ-loop
+head-at-requires c κs = search needs
 
 cast-end : tie.Need-cast-end Inv-loop μ-loop
 cast-end c = search needs
@@ -54,24 +51,28 @@ part-row-fits-start : tie.Need-part-row-fits-start Inv-loop μ-loop
 part-row-fits-start c = search needs
 
 part-row-fits-end : tie.Need-part-row-fits-end Inv-loop μ-loop
-part-row-fits-end c = let w = within _ _ _ _ (c .before .before .loop .inv) (omega arith) _ (c .items-at .ensures) in search needs
+part-row-fits-end c = let w = within _ _ _ _ (c .before .before .before .loop .inv) (omega arith) _ (c .before .head-at .ensures) in search needs
 
 row-fits-requires : tie.Need-row-fits-requires Inv-loop μ-loop
 row-fits-requires c κs =
-    let w = within _ _ _ _ (c .before .before .before .loop .inv) (omega arith) _ (c .before .items-at .ensures) in
-    let at = c .before .before .before .loop .at in
-    let items = c .before .items-at .result in (
+    let h = c .before .before in
+    let l = h .before .before in
+    let w = within _ _ _ _ (l .loop .inv) (omega arith) _ (h .head-at .ensures) in
+    let at = l .loop .at in
+    let items = h .head-at .result .items in (
       search needs,
       search needs,
-      part-short (at + 2 * items - at) (drop at (now (c .before .before .before .before .before .before .args .table))) items (w .few) (omega arith),
-      within _ _ _ _ (c .before .before .before .loop .inv) (omega arith) _ refl .few,
+      part-short (at + 2 * items - at) (drop at (now (l .before .before .before .args .table))) items (w .few) (omega arith),
+      within _ _ _ _ (l .loop .inv) (omega arith) _ refl .few,
     )
 
 returns : tie.Need-returns Inv-loop μ-loop
 returns c =
-    let at = c .before .before .before .before .before .loop .at in
-    let items = c .before .before .before .items-at .result in
-    rowing-fails _ _ _ _ (c .before .before .before .before .before .loop .inv) (omega arith) items (c .before .before .before .items-at .ensures) (at + 2 * items - at) (omega arith) _ (c .before .row-fits .ensures) (not-true _ (c .if1 .taken))
+    let h = c .before .before .before .before in
+    let l = h .before .before in
+    let at = l .loop .at in
+    let items = h .head-at .result .items in
+    rowing-fails _ _ _ _ (l .loop .inv) (omega arith) _ (h .head-at .ensures) (at + 2 * items - at) (omega arith) _ (c .before .row-fits .ensures) (not-true _ (c .if1 .taken))
 
 add-i : tie.Need-add-i Inv-loop μ-loop
 add-i c = search needs
@@ -81,9 +82,11 @@ loop-less c = search needs
 
 loop-again : tie.Need-loop-again Inv-loop μ-loop
 loop-again c =
-    let at = c .before .before .before .before .before .loop .at in
-    let items = c .before .before .before .items-at .result in
-    rowing-step _ _ _ _ (c .before .before .before .before .before .loop .inv) (omega arith) items (c .before .before .before .items-at .ensures) (at + 2 * items - at) (omega arith) _ (c .before .row-fits .ensures) (not-false _ (c .if1 .left))
+    let h = c .before .before .before .before in
+    let l = h .before .before in
+    let at = l .loop .at in
+    let items = h .head-at .result .items in
+    rowing-step _ _ _ _ (l .loop .inv) (omega arith) _ (h .head-at .ensures) (at + 2 * items - at) (omega arith) _ (c .before .row-fits .ensures) (not-false _ (c .if1 .left))
 
 returns-2 : tie.Need-returns-2 Inv-loop μ-loop
 returns-2 c = rowing-end _ _ _ _ (c .before .loop .inv) (search needs)
@@ -94,12 +97,11 @@ rows-fit-spec =
     (tie.spec
     Inv-loop
     μ-loop
-    shared-slice-read-n
-    cast-n
+    section-count-requires
     mul-at
     add-at
     loop-holds
-    items-at-requires
+    head-at-requires
     cast-end
     mul-end
     add-end
