@@ -3,3 +3,4 @@ pub mod Choosing
 pub mod Comparing
 pub mod Conditions
 pub mod Finding
+pub mod Standing

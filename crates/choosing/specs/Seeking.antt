@@ -1,13 +1,11 @@
 -- What the chooser is asked, and what it answers.
 -- Assumes nothing.
 use Prim.Native.Nat.{ℕ, _^_}
-use mathlib.Core.Bool.{Bool, true, false, cond, not, _&&_, _||_}
-use lib.Dec.{eqb}
+use mathlib.Core.Bool.{Bool, true, false, cond}
 use Rattle.values.specs.declared.Day.{Day}
 use Rattle.values.specs.declared.Millisecond.{Millisecond}
 use Rattle.calendar.specs.Clock.{sinceDayZero}
 use Rattle.formats.specs.Items.{Section}
-use Rattle.formats.specs.Where.{isText}
 use Rattle.formats.specs.Choice.{Exact, Choice, nothing, chosen, TextChoice, itself, textIn, reasonFor, reasonHolds}
 use Rattle.choosing.specs.declared.Sought.{Sought}
 use Rattle.choosing.specs.declared.Found.{Found}
@@ -36,10 +34,6 @@ unfoldable pub textFoundOf : TextChoice → TextFound
 textFoundOf itself = text.Itself
 textFoundOf (textIn i s) = text.At i
 
--- neither text nor fourth
-unfoldable pub isCounted : ℕ → Section → Bool
-isCounted i s = not (isText s || eqb i 3)
-
--- whether section i takes a value, where N sections count
+-- whether section i, which counts, takes a value, where N sections count
 unfoldable pub takes : ℕ → ℕ → Section → Exact → Bool
-takes counted i s x = isCounted i s && reasonHolds (reasonFor counted i s) s x
+takes counted i s x = reasonHolds (reasonFor counted i s) s x

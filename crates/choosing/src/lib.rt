@@ -6,12 +6,13 @@ ghost use lib.Dec.{T};
 ghost use lib.ListN.{getD};
 ghost use Rattle.choosing.specs.Comparing.{orderOf, partsOrder, fraction, millionthsSize, reversed, signedOrder, isLess, isGreater, isEqual, holdsFor};
 ghost use Rattle.table_words.specs.Sections.{sectionIn};
-ghost use Rattle.choosing.specs.Seeking.{exactOf, foundOf, textFoundOf, isCounted, takes};
+ghost use Rattle.choosing.specs.Seeking.{exactOf, foundOf, textFoundOf, takes};
 ghost use Rattle.formats.specs.Items.{Section};
 ghost use Rattle.formats.specs.Where.{hasCondition};
 ghost use Rattle.formats.specs.Choice.{lessThan, zeroExact, counted, fallback, conditionHolds, reasonHolds, choose, chooseText};
 ghost use Rattle.tables.specs.Decode.{comparisonAt, decode};
 ghost use Rattle.tables.specs.Rules.{passes};
+use figures::power;
 use table_words::has_condition;
 use table_words::head_of;
 use table_words::is_text;
@@ -43,33 +44,6 @@ pub enum Found {
 pub enum TextFound {
     At(u16),
     Itself,
-}
-
-const POWERS: [u64; 16] = [
-    1,
-    10,
-    100,
-    1000,
-    10000,
-    100000,
-    1000000,
-    10000000,
-    100000000,
-    1000000000,
-    10000000000,
-    100000000000,
-    1000000000000,
-    10000000000000,
-    100000000000000,
-    1000000000000000,
-];
-
-// 10 to the k.
-fn power(k: u32) -> u64
-    requires { ⌜ k ≤ 15 ⌝ }
-    ensures { λ r. ⌜ r ≡ 10 ^ k ⌝ }
-{
-    POWERS[k as usize]
 }
 
 // By the whole parts, and by the rests where these are the same.
@@ -257,68 +231,56 @@ fn fallback_holds(counted: u16, i: usize, v: Sought) -> bool
     true
 }
 
-// Whether section i is neither text nor fourth.
-fn is_counted(table: &[u16], i: usize) -> bool
-    requires { ⌜ T (passes (now table)) × (i < getD (now table) 0 0) ⌝ }
-    ensures { λ r. ⌜ r ≡ isCounted i (sectionIn (now (table .entry)) i) ⌝ }
-{
-    if i == 3 {
-        return false;
-    }
-    !is_text(table, i)
-}
-
 // Whether section i takes the value, where N sections count.
 fn takes(table: &[u16], counted: u16, i: usize, v: Sought) -> bool
     requires { ⌜ T (passes (now table)) × (i < getD (now table) 0 0) × (v .scale ≤ 15) ⌝ }
     ensures { λ r. ⌜ r ≡ takes counted i (sectionIn (now (table .entry)) i) (exactOf v) ⌝ }
 {
-    if !is_counted(table, i) {
-        return false;
-    }
     if has_condition(table, i) {
         return condition_holds(table, i, v);
     }
     fallback_holds(counted, i, v)
 }
 
-// N: how many sections are neither text nor fourth.
-fn counted(table: &[u16]) -> u16
-    requires { ⌜ T (passes (now table)) ⌝ }
+// N: how many sections are neither text nor fourth. A text section stands last.
+fn counted(table: &[u16], n: usize) -> u16
+    requires { ⌜ T (passes (now table)) × (n ≡ getD (now table) 0 0) ⌝ }
     ensures { λ r. ⌜ r ≡ counted (decode (now (table .entry))) ⌝ }
 {
-    let n = section_count(table);
-    let mut count: u16 = 0;
-    let mut i: usize = 0;
-    while i < n {
-        if is_counted(table, i) {
-            count += 1;
-            i += 1;
-        } else {
-            i += 1;
-        }
+    if 3 < n {
+        return 3;
     }
-    count
+    let last = n - 1;
+    if is_text(table, last) {
+        return last as u16;
+    }
+    n as u16
 }
 
-// The section of a number or an instant.
+// The section of a number or an instant. The first N count, and only the first two may have a condition.
 pub fn choose(table: &[u16], v: Sought) -> Found
     requires { ⌜ T (passes (now table)) × (v .scale ≤ 15) ⌝ }
     ensures { λ r. ⌜ r ≡ foundOf (choose (decode (now (table .entry))) (exactOf v)) ⌝ }
 {
-    let counted = counted(table);
-    if counted == 0 {
+    let n = section_count(table);
+    let first = has_condition(table, 0);
+    if (n == 1) & !first {
         return Found::At(0);
     }
-    let n = section_count(table);
-    let mut i: usize = 0;
-    while i < n {
-        if takes(table, counted, i, v) {
-            return Found::At(i as u16);
-        }
-        i += 1;
+    let counted = counted(table, n);
+    if takes(table, counted, 0, v) {
+        return Found::At(0);
     }
-    Found::Nothing
+    if counted == 1 {
+        return Found::Nothing;
+    }
+    if takes(table, counted, 1, v) {
+        return Found::At(1);
+    }
+    if counted == 2 {
+        return Found::Nothing;
+    }
+    Found::At(2)
 }
 
 // The section of a text.
@@ -330,12 +292,9 @@ pub fn choose_text(table: &[u16]) -> TextFound
     if n == 4 {
         return TextFound::At(3);
     }
-    let mut i: usize = 0;
-    while i < n {
-        if is_text(table, i) {
-            return TextFound::At(i as u16);
-        }
-        i += 1;
+    let last = n - 1;
+    if is_text(table, last) {
+        return TextFound::At(last as u16);
     }
     TextFound::Itself
 }

@@ -19,7 +19,7 @@ use Rattle.formats.specs.WellFormed.{allStand}
 use Rattle.formats.specs.Choice.{counted}
 use Rattle.formats.specs.Minus.{firstHasCondition}
 use Rattle.tables.specs.Words.{Head, Row, headAt, headsAt, rowsAt, headsIn, rowsIn}
-use Rattle.tables.specs.Encode.{bit, flagsWord, headOf, rowOf, rowsFrom}
+use Rattle.tables.specs.Encode.{bit, flagsWord, rowOf, rowsFrom}
 use Rattle.tables.specs.Decode.{twoWords, sectionAt, decode}
 use Rattle.tables.specs.Rules.{headInRange, rowFits, passes}
 use Rattle.tables.proofs.Words.{rows-counted, rows-length, Exactly, exactly}

@@ -1,70 +1,108 @@
--- `choosing::choose` meets its contract. The invariant: the sections from i on give the choice of all.
+-- `choosing::choose` meets its contract.
 -- Assumes nothing.
-use Prim.Native.Nat.{_-_}
 use native.Mathlib.Omega.{arith}
 use mathlib.Core.Path.{sym, _∙_}
+use borrow.Author.Tests.{eq-eqb, ne-eqb}
 use Rattle.table_words.proofs.Heads.{long}
-use Rattle.choosing.specs.Seeking.{exactOf}
-use Rattle.choosing.proofs.Choosing.{Walking, walking-start, walking-step, walking-found, walking-end, choose-first}
+use Rattle.choosing.proofs.Standing.{single-told, choice-told, second-there}
 use borrow.Author.Needs.{needs}
 use Rattle.choosing.proofs.choose.Statement.{statement}
 use Rattle.choosing.proofs.choose.Tie as tie
 
-abbrev Inv-loop : tie.InvT-loop
-Inv-loop table v counted n i₀ i = Walking table counted (exactOf v) i
+section-count-requires : tie.Need-section-count-requires
+section-count-requires c κs = omega (arith, long _ (c .before .pre .0))
 
-abbrev μ-loop : tie.MeasureT-loop
-μ-loop table v counted n i₀ i = n - i
+has-condition-requires : tie.Need-has-condition-requires
+has-condition-requires c κs = let p = c .before .before .pre in (p .0, omega (arith, long _ (p .0)))
 
-counted-requires : tie.Need-counted-requires Inv-loop μ-loop
-counted-requires c κs = search needs
+returns : tie.Need-returns
+returns c =
+    let f = c .before in
+    let n = f .before in
+    let p = n .before .before .pre in
+    sym (single-told _ (p .0) (n .section-count .ensures) (f .has-condition .ensures) _ (c .if1 .taken))
 
-returns : tie.Need-returns Inv-loop μ-loop
-returns c = choose-first _ _ _ (c .before .before .before .pre .0) (c .before .counted .ensures) (c .if1 .taken)
+takes-requires : tie.Need-takes-requires
+takes-requires c κs =
+    let p = c .before .before .before .before .before .pre in
+    (p .0, omega (arith, long _ (p .0)), p .1)
 
-section-count-requires : tie.Need-section-count-requires Inv-loop μ-loop
-section-count-requires c κs = omega (arith, long _ (c .before .before .before .pre .0))
-
-loop-holds : tie.Need-loop-holds Inv-loop μ-loop
-loop-holds c = walking-start _ _ _ (c .before .before .before .before .pre .0)
-
-takes-requires : tie.Need-takes-requires Inv-loop μ-loop
-takes-requires c κs = search needs
-
-cast-t9 : tie.Need-cast-t9 Inv-loop μ-loop
-cast-t9 c = omega arith
-
-returns-2 : tie.Need-returns-2 Inv-loop μ-loop
+returns-2 : tie.Need-returns-2
 returns-2 c =
-    walking-found _ _ _ _ (c .before .before .before .loop .inv) (search needs) (c .before .before .before .before .before .before .counted .ensures) (c .before .before .before .before .before .if1 .left)
-    (sym (c .before .takes .ensures) ∙ c .if2 .taken)
+    let t = c .before in
+    let k = t .before in
+    let f = k .before .before in
+    let n = f .before in
+    let p = n .before .before .pre in
+    sym (choice-told _ (p .0) (n .section-count .ensures) (f .has-condition .ensures) (k .before .if1 .left) (k .counted .ensures) _
+    ∙ rw (sym (t .takes .ensures) ∙ c .if2 .taken))
 
-add-i : tie.Need-add-i Inv-loop μ-loop
-add-i c = omega arith
+returns-3 : tie.Need-returns-3
+returns-3 c =
+    let t = c .before .before in
+    let k = t .before in
+    let f = k .before .before in
+    let n = f .before in
+    let p = n .before .before .pre in
+    sym (choice-told _ (p .0) (n .section-count .ensures) (f .has-condition .ensures) (k .before .if1 .left) (k .counted .ensures) _
+    ∙ rw (sym (t .takes .ensures) ∙ c .before .if2 .left, eq-eqb _ 1 (c .if3 .taken)))
 
-loop-less : tie.Need-loop-less Inv-loop μ-loop
-loop-less c = omega arith
+takes-requires-2 : tie.Need-takes-requires-2
+takes-requires-2 c κs =
+    let k = c .before .before .before in
+    let f = k .before .before in
+    let n = f .before in
+    let p = n .before .before .pre in
+    (p .0, second-there _ (p .0) (n .section-count .ensures) (f .has-condition .ensures) (k .before .if1 .left) (k .counted .ensures) (c .if3 .left), p .1)
 
-loop-again : tie.Need-loop-again Inv-loop μ-loop
-loop-again c = walking-step _ _ _ _ (c .before .before .before .loop .inv) (search needs) (sym (c .before .takes .ensures) ∙ c .if2 .left)
+returns-4 : tie.Need-returns-4
+returns-4 c =
+    let u = c .before in
+    let s = u .before in
+    let t = s .before .before in
+    let k = t .before in
+    let f = k .before .before in
+    let n = f .before in
+    let p = n .before .before .pre in
+    sym (choice-told _ (p .0) (n .section-count .ensures) (f .has-condition .ensures) (k .before .if1 .left) (k .counted .ensures) _
+    ∙ rw (sym (t .takes .ensures) ∙ s .before .if2 .left, ne-eqb _ 1 (s .if3 .left), sym (u .takes2 .ensures) ∙ c .if4 .taken))
 
-returns-3 : tie.Need-returns-3 Inv-loop μ-loop
-returns-3 c = walking-end _ _ _ _ (c .before .loop .inv) (search needs) (c .before .before .before .before .counted .ensures) (c .before .before .before .if1 .left)
+returns-5 : tie.Need-returns-5
+returns-5 c =
+    let u = c .before .before in
+    let s = u .before in
+    let t = s .before .before in
+    let k = t .before in
+    let f = k .before .before in
+    let n = f .before in
+    let p = n .before .before .pre in
+    sym (choice-told _ (p .0) (n .section-count .ensures) (f .has-condition .ensures) (k .before .if1 .left) (k .counted .ensures) _
+    ∙ rw (sym (t .takes .ensures) ∙ s .before .if2 .left, ne-eqb _ 1 (s .if3 .left), sym (u .takes2 .ensures) ∙ c .before .if4 .left, eq-eqb _ 2 (c .if5 .taken)))
+
+returns-6 : tie.Need-returns-6
+returns-6 c =
+    let u = c .before .before in
+    let s = u .before in
+    let t = s .before .before in
+    let k = t .before in
+    let f = k .before .before in
+    let n = f .before in
+    let p = n .before .before .pre in
+    sym (choice-told _ (p .0) (n .section-count .ensures) (f .has-condition .ensures) (k .before .if1 .left) (k .counted .ensures) _
+    ∙ rw (sym (t .takes .ensures) ∙ s .before .if2 .left, ne-eqb _ 1 (s .if3 .left), sym (u .takes2 .ensures) ∙ c .before .if4 .left, ne-eqb _ 2 (c .if5 .left)))
 
 pub choose-spec : {M : Type 1} → statement M
 choose-spec =
     tie.close
     (tie.spec
-    Inv-loop
-    μ-loop
-    counted-requires
-    returns
     section-count-requires
-    loop-holds
+    has-condition-requires
+    returns
+    (λ c κs. search needs)
     takes-requires
-    cast-t9
     returns-2
-    add-i
-    loop-less
-    loop-again
-    returns-3)
+    returns-3
+    takes-requires-2
+    returns-4
+    returns-5
+    returns-6)

@@ -1,67 +1,35 @@
--- `choosing::counted` meets its contract. The invariant: N is what was counted and what the sections from i on count.
+-- `choosing::counted` meets its contract.
 -- Assumes nothing.
-use Prim.Native.Nat.{_-_}
 use native.Mathlib.Omega.{arith}
 use mathlib.Core.Path.{sym, _∙_}
-use Rattle.table_words.proofs.Heads.{long}
-use Rattle.choosing.proofs.Choosing.{Counting, counting-start, counting-more, counting-over, counting-end}
+use borrow.Author.Tests.{lt-ltb, le-ltb}
+use Rattle.choosing.proofs.Standing.{bounds, counted-told}
 use borrow.Author.Needs.{needs}
 use Rattle.choosing.proofs.counted.Statement.{statement}
 use Rattle.choosing.proofs.counted.Tie as tie
 
-abbrev Inv-loop : tie.InvT-loop
-Inv-loop table n count₀ i₀ count i = Counting table count i
+returns : tie.Need-returns
+returns c = let p = c .before .before .pre in sym (counted-told _ (p .0) (p .1) ∙ rw (lt-ltb 3 _ (c .if1 .taken)))
 
-abbrev μ-loop : tie.MeasureT-loop
-μ-loop table n count₀ i₀ count i = n - i
+sub-last : tie.Need-sub-last
+sub-last c = let p = c .before .before .pre in omega (arith, bounds _ (p .0) (p .1))
 
-section-count-requires : tie.Need-section-count-requires Inv-loop μ-loop
-section-count-requires c κs = omega (arith, long _ (c .before .pre))
+is-text-requires : tie.Need-is-text-requires
+is-text-requires c κs = let p = c .before .before .pre in (p .0, omega (arith, p .1, bounds _ (p .0) (p .1)))
 
-loop-holds : tie.Need-loop-holds Inv-loop μ-loop
-loop-holds c = counting-start _ (c .before .before .pre)
+returns-2 : tie.Need-returns-2
+returns-2 c =
+    let i = c .before in
+    let p = i .before .before .before .pre in
+    sym (counted-told _ (p .0) (p .1) ∙ rw (le-ltb 3 _ (i .before .if1 .left), sym (i .is-text .ensures) ∙ c .if2 .taken))
 
-is-counted-requires : tie.Need-is-counted-requires Inv-loop μ-loop
-is-counted-requires c κs = search needs
-
-add-count : tie.Need-add-count Inv-loop μ-loop
-add-count c = omega arith
-
-add-i : tie.Need-add-i Inv-loop μ-loop
-add-i c = omega arith
-
-loop-less : tie.Need-loop-less Inv-loop μ-loop
-loop-less c = omega arith
-
-loop-again : tie.Need-loop-again Inv-loop μ-loop
-loop-again c = counting-more _ _ _ (c .before .before .before .loop .inv) (search needs) (sym (c .before .is-counted .ensures) ∙ c .if1 .taken)
-
-add-i-2 : tie.Need-add-i-2 Inv-loop μ-loop
-add-i-2 c = omega arith
-
-loop-less-2 : tie.Need-loop-less-2 Inv-loop μ-loop
-loop-less-2 c = omega arith
-
-loop-again-2 : tie.Need-loop-again-2 Inv-loop μ-loop
-loop-again-2 c = counting-over _ _ _ (c .before .before .before .loop .inv) (search needs) (sym (c .before .is-counted .ensures) ∙ c .if1 .left)
-
-returns : tie.Need-returns Inv-loop μ-loop
-returns c = counting-end _ _ _ (c .before .loop .inv) (search needs)
+returns-3 : tie.Need-returns-3
+returns-3 c =
+    let i = c .before in
+    let p = i .before .before .before .pre in
+    sym (counted-told _ (p .0) (p .1) ∙ rw (le-ltb 3 _ (i .before .if1 .left), sym (i .is-text .ensures) ∙ c .if2 .left))
 
 pub counted-spec : {M : Type 1} → statement M
 counted-spec =
     tie.close
-    (tie.spec
-    Inv-loop
-    μ-loop
-    section-count-requires
-    loop-holds
-    is-counted-requires
-    add-count
-    add-i
-    loop-less
-    loop-again
-    add-i-2
-    loop-less-2
-    loop-again-2
-    returns)
+    (tie.spec returns sub-last is-text-requires (λ c. search needs) returns-2 (λ c. search needs) returns-3)

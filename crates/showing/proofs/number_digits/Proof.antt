@@ -4,9 +4,6 @@ use Rattle.showing.proofs.Sections.{number-words, number-roundable, num
 use borrow.Author.Needs.{needs}
 use Rattle.showing.proofs.number_digits.Statement.{statement}
 use Rattle.showing.proofs.number_digits.Tie as tie
-use Rattle.table_words.proofs.head_of.Reads as head-of-reads
-use Rattle.figures.proofs.round.Reads as round-reads
-use Rattle.showing.proofs.excess.Reads as excess-reads
 
 head-of-requires : tie.Need-head-of-requires
 head-of-requires c κs = search needs

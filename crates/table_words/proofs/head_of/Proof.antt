@@ -1,7 +1,6 @@
 -- `table_words::head_of` meets its contract.
 -- Assumes nothing.
 use Rattle.table_words.proofs.Heads.{head-within, head-made}
-use borrow.Author.Needs.{needs}
 use Rattle.table_words.proofs.head_of.Statement.{statement}
 use Rattle.table_words.proofs.head_of.Tie as tie
 

@@ -1,0 +1,208 @@
+-- The choice where sections stand as the rules say: text last, conditions on the first two. At most four sections are gone through one
+-- by one.
+-- Assumes nothing.
+use Prim.Native.Nat.{ℕ, suc, _-_, _≤_, _<_}
+use native.Mathlib.Omega.{arith}
+use mathlib.Core.Path.{_≡_, refl, sym, ap, _∙_}
+use mathlib.Core.Bool.{Bool, true, false, cond, not, _&&_, _||_, true≢false}
+use mathlib.Core.List.{List, [], _∷_}
+use lib.ListN.{length, getD}
+use lib.Dec.{T, eqb, ltb, eqb→eq, ltb→lt}
+use borrow.Author.Tests.{ne-eqb, not-true}
+use Rattle.lists.proofs.Bools.{and-left, and-right, implied, true-T, T-true, by-cases}
+use Rattle.formats.specs.Items.{Section}
+use Rattle.formats.specs.Where.{implies, hasCondition, isText, standsAt}
+use Rattle.formats.specs.Choice.{Exact, countedFrom, counted, Reason, fallback, reasonFor, reasonHolds, Choice, nothing, chosen, chooseFrom, chooseFirst, choose, fourthFrom, textFrom, chooseText}
+use Rattle.tables.specs.Decode.{decode}
+use Rattle.tables.specs.Rules.{passes}
+use Rattle.table_words.specs.Sections.{noSection, sectionIn}
+use Rattle.table_words.proofs.Heads.{sections-length, Long, long, section-stands}
+use Rattle.choosing.specs.declared.Found.{Found}
+use Rattle.choosing.specs.declared.Found.the-variants as found
+use Rattle.choosing.specs.declared.TextFound.the-variants as text
+use Rattle.choosing.specs.Seeking.{foundOf, textFoundOf, takes}
+
+-- every section stands where it may
+abbrev Stand : List Section → Type 0
+Stand ss = (i : ℕ) → i < length ss → T (standsAt (length ss) i (getD ss i noSection))
+
+module _ (n i : ℕ) (s : Section) (t : T (standsAt n i s)) where
+  not-text : (suc i ≡ n → ⊥) → isText s ≡ false
+  unfolding standsAt
+  not-text apart =
+      let rule : T (implies (isText s) (eqb (suc i) n)) = search (and-left) in
+      by-cases (isText s) (λ e. absurd (apart (eqb→eq (suc i) n (implied (isText s) (eqb (suc i) n) rule (true-T e))))) (λ e. e)
+
+  unconditional : 2 ≤ i → hasCondition s ≡ false
+  unfolding standsAt
+  unconditional l =
+      let rule : T (implies (hasCondition s) (ltb i 2)) = search (and-left, and-right) in
+      by-cases (hasCondition s) (λ e. absurd (omega (arith, ltb→lt i 2 (implied (hasCondition s) (ltb i 2) rule (true-T e))))) (λ e. e)
+
+  conditional : hasCondition s ≡ true → isText s ≡ false
+  unfolding standsAt
+  conditional h =
+      let rule : T (implies (isText s) (not (hasCondition s))) = search (and-left, and-right) in
+      by-cases (isText s) (λ e. absurd (true≢false (sym h ∙ not-true (hasCondition s) (T-true _ (implied (isText s) (not (hasCondition s)) rule (true-T e)))))) (λ e. e)
+
+-- ---- N
+counted-is : (ss : List Section) → Stand ss → 1 ≤ length ss → length ss ≤ 4
+    → counted ss ≡ cond (ltb 3 (length ss)) 3 (cond (isText (getD ss (length ss - 1) noSection)) (length ss - 1) (length ss))
+unfolding counted countedFrom
+counted-is [] st l m = absurd (omega arith)
+counted-is (a ∷ []) st l m = by-cases (isText a) (λ e. rw e) (λ e. rw e)
+counted-is (a ∷ b ∷ []) st l m =
+    let ta = not-text 2 0 a (st 0 (omega arith)) (λ e. omega arith) in
+    by-cases (isText b) (λ e. rw (ta, e)) (λ e. rw (ta, e))
+counted-is (a ∷ b ∷ c ∷ []) st l m =
+    let ta = not-text 3 0 a (st 0 (omega arith)) (λ e. omega arith) in
+    let tb = not-text 3 1 b (st 1 (omega arith)) (λ e. omega arith) in
+    by-cases (isText c) (λ e. rw (ta, tb, e)) (λ e. rw (ta, tb, e))
+counted-is (a ∷ b ∷ c ∷ d ∷ []) st l m =
+    let ta = not-text 4 0 a (st 0 (omega arith)) (λ e. omega arith) in
+    let tb = not-text 4 1 b (st 1 (omega arith)) (λ e. omega arith) in
+    let tc = not-text 4 2 c (st 2 (omega arith)) (λ e. omega arith) in
+    by-cases (isText d) (λ e. rw (ta, tb, tc, e)) (λ e. rw (ta, tb, tc, e))
+counted-is (a ∷ b ∷ c ∷ d ∷ e ∷ ss) st l m = absurd (omega arith)
+
+-- ---- the section of a number or an instant
+-- what is found, where N sections count, by what the first two take
+abbrev answer : ℕ → Section → Section → Exact → Found
+answer n a b x =
+    cond (takes n 0 a x) (found.At 0)
+    (cond (eqb n 1) found.Nothing (cond (takes n 1 b x) (found.At 1) (cond (eqb n 2) found.Nothing (found.At 2))))
+
+either : (b : Bool) (i : ℕ) (s : Section) (why : Reason) (c : Choice) → foundOf (cond b (chosen i s why) c) ≡ cond b (found.At i) (foundOf c)
+unfolding foundOf
+either true i s why c = refl
+either false i s why c = refl
+
+module _ (n i : ℕ) (s : Section) (ss : List Section) (x : Exact) where
+  next : isText s ≡ false → (i ≡ 3 → ⊥) → foundOf (chooseFrom n i (s ∷ ss) x) ≡ cond (takes n i s x) (found.At i) (foundOf (chooseFrom n (suc i) ss x))
+  unfolding chooseFrom takes
+  next e apart = rw (e, ne-eqb i 3 apart) (either (takes n i s x) i s (reasonFor n i s) (chooseFrom n (suc i) ss x))
+
+none : (n i : ℕ) (s : Section) (x : Exact) → isText s || eqb i 3 ≡ true → foundOf (chooseFrom n i (s ∷ []) x) ≡ found.Nothing
+unfolding chooseFrom foundOf
+none n i s x e = rw e
+
+third : (s : Section) (ss : List Section) (x : Exact) → isText s ≡ false → hasCondition s ≡ false → foundOf (chooseFrom 3 2 (s ∷ ss) x) ≡ found.At 2
+unfolding chooseFrom reasonFor fallback reasonHolds foundOf
+third s ss x e f = rw (e, f)
+
+counting : (ss : List Section) (n : ℕ) (x : Exact) {r : Found} → (n ≡ 0 → ⊥) → counted ss ≡ n → foundOf (chooseFrom n 0 ss x) ≡ r → foundOf (choose ss x) ≡ r
+unfolding choose
+counting ss n x apart e h = rw (e, ne-eqb n 0 apart) h
+
+three : (a b c : Section) (ss : List Section) (x : Exact) → counted (a ∷ b ∷ c ∷ ss) ≡ 3 → isText a ≡ false → isText b ≡ false → isText c ≡ false
+    → hasCondition c ≡ false → foundOf (choose (a ∷ b ∷ c ∷ ss) x) ≡ answer 3 a b x
+three a b c ss x n ta tb tc hc =
+    counting (a ∷ b ∷ c ∷ ss) 3 x (λ z. omega arith) n (next 3 0 a (b ∷ c ∷ ss) x ta (λ f. omega arith)
+    ∙ ap (cond (takes 3 0 a x) (found.At 0)) (next 3 1 b (c ∷ ss) x tb (λ f. omega arith) ∙ ap (cond (takes 3 1 b x) (found.At 1)) (third c ss x tc hc)))
+
+-- a section alone that has a condition
+has : (a : Section) → (eqb (length (a ∷ [])) 1 && not (hasCondition a)) ≡ false → hasCondition a ≡ true
+has a p = by-cases (hasCondition a) (λ e. e) (λ e. absurd (true≢false (rw e at p)))
+
+alone : (a : Section) → Stand (a ∷ []) → (eqb (length (a ∷ [])) 1 && not (hasCondition a)) ≡ false → counted (a ∷ []) ≡ 1
+alone a st p = counted-is (a ∷ []) st (omega arith) (omega arith) ∙ rw (conditional 1 0 a (st 0 (omega arith)) (has a p))
+
+-- the choice, unless a section stands alone and has no condition
+choice-is : (ss : List Section) → Stand ss → length ss ≤ 4 → (x : Exact) → (eqb (length ss) 1 && not (hasCondition (getD ss 0 noSection))) ≡ false → 1 ≤ length ss
+    → foundOf (choose ss x) ≡ answer (counted ss) (getD ss 0 noSection) (getD ss 1 noSection) x
+unfolding foundOf chooseFrom
+choice-is [] st m x p l = absurd (omega arith)
+choice-is (a ∷ []) st m x p l =
+    let n : counted (a ∷ []) ≡ 1 = alone a st p in
+    rw n (counting (a ∷ []) 1 x (λ z. omega arith) n (next 1 0 a [] x (conditional 1 0 a (st 0 (omega arith)) (has a p)) (λ e. omega arith)))
+choice-is (a ∷ b ∷ []) st m x p l =
+    let ta = not-text 2 0 a (st 0 (omega arith)) (λ e. omega arith) in
+    by-cases (isText b)
+    (λ e. let n : counted (a ∷ b ∷ []) ≡ 1 = counted-is (a ∷ b ∷ []) st (omega arith) m ∙ rw e in
+    rw n (counting (a ∷ b ∷ []) 1 x (λ z. omega arith) n (next 1 0 a (b ∷ []) x ta (λ f. omega arith) ∙ ap (cond (takes 1 0 a x) (found.At 0)) (none 1 1 b x (rw e)))))
+    (λ e. let n : counted (a ∷ b ∷ []) ≡ 2 = counted-is (a ∷ b ∷ []) st (omega arith) m ∙ rw e in
+    rw n (counting (a ∷ b ∷ []) 2 x (λ z. omega arith) n (next 2 0 a (b ∷ []) x ta (λ f. omega arith) ∙ ap (cond (takes 2 0 a x) (found.At 0)) (next 2 1 b [] x e (λ f. omega arith)))))
+choice-is (a ∷ b ∷ c ∷ []) st m x p l =
+    let ta = not-text 3 0 a (st 0 (omega arith)) (λ e. omega arith) in
+    let tb = not-text 3 1 b (st 1 (omega arith)) (λ e. omega arith) in
+    by-cases (isText c)
+    (λ e. let n : counted (a ∷ b ∷ c ∷ []) ≡ 2 = counted-is (a ∷ b ∷ c ∷ []) st (omega arith) m ∙ rw e in
+    rw n (counting (a ∷ b ∷ c ∷ []) 2 x (λ z. omega arith) n (next 2 0 a (b ∷ c ∷ []) x ta (λ f. omega arith)
+    ∙ ap (cond (takes 2 0 a x) (found.At 0)) (next 2 1 b (c ∷ []) x tb (λ f. omega arith) ∙ ap (cond (takes 2 1 b x) (found.At 1)) (none 2 2 c x (rw e))))))
+    (λ e. let n : counted (a ∷ b ∷ c ∷ []) ≡ 3 = counted-is (a ∷ b ∷ c ∷ []) st (omega arith) m ∙ rw e in
+    rw n (three a b c [] x n ta tb e (unconditional 3 2 c (st 2 (omega arith)) (omega arith))))
+choice-is (a ∷ b ∷ c ∷ d ∷ []) st m x p l =
+    let ta = not-text 4 0 a (st 0 (omega arith)) (λ e. omega arith) in
+    let tb = not-text 4 1 b (st 1 (omega arith)) (λ e. omega arith) in
+    let tc = not-text 4 2 c (st 2 (omega arith)) (λ e. omega arith) in
+    let n : counted (a ∷ b ∷ c ∷ d ∷ []) ≡ 3 = counted-is (a ∷ b ∷ c ∷ d ∷ []) st (omega arith) m in
+    rw n (three a b c (d ∷ []) x n ta tb tc (unconditional 4 2 c (st 2 (omega arith)) (omega arith)))
+choice-is (a ∷ b ∷ c ∷ d ∷ e ∷ ss) st m x p l = absurd (omega arith)
+
+many : (ss : List Section) → Stand ss → (eqb (length ss) 1 && not (hasCondition (getD ss 0 noSection))) ≡ false → 1 ≤ length ss → (counted ss ≡ 1 → ⊥)
+    → 2 ≤ length ss
+many [] st p l apart = absurd (omega arith)
+many (a ∷ []) st p l apart = absurd (apart (alone a st p))
+many (a ∷ b ∷ ss) st p l apart = omega arith
+
+single : (ss : List Section) (x : Exact) → length ss ≡ 1 → hasCondition (getD ss 0 noSection) ≡ false → foundOf (choose ss x) ≡ found.At 0
+unfolding choose chooseFirst chooseFrom counted countedFrom reasonFor fallback reasonHolds foundOf
+single [] x e h = absurd (omega arith)
+single (a ∷ []) x e h = by-cases (isText a) (λ t. rw t) (λ t. rw (t, h))
+single (a ∷ b ∷ ss) x e h = absurd (omega arith)
+
+-- ---- the section of a text
+text-is : (ss : List Section) → Stand ss → 1 ≤ length ss → length ss ≤ 4
+    → textFoundOf (chooseText ss) ≡ cond (eqb (length ss) 4) (text.At 3) (cond (isText (getD ss (length ss - 1) noSection)) (text.At (length ss - 1)) text.Itself)
+unfolding chooseText fourthFrom textFrom textFoundOf
+text-is [] st l m = absurd (omega arith)
+text-is (a ∷ []) st l m = by-cases (isText a) (λ e. rw e) (λ e. rw e)
+text-is (a ∷ b ∷ []) st l m =
+    let ta = not-text 2 0 a (st 0 (omega arith)) (λ e. omega arith) in
+    by-cases (isText b) (λ e. rw (ta, e)) (λ e. rw (ta, e))
+text-is (a ∷ b ∷ c ∷ []) st l m =
+    let ta = not-text 3 0 a (st 0 (omega arith)) (λ e. omega arith) in
+    let tb = not-text 3 1 b (st 1 (omega arith)) (λ e. omega arith) in
+    by-cases (isText c) (λ e. rw (ta, tb, e)) (λ e. rw (ta, tb, e))
+text-is (a ∷ b ∷ c ∷ d ∷ []) st l m = refl
+text-is (a ∷ b ∷ c ∷ d ∷ e ∷ ss) st l m = absurd (omega arith)
+
+-- ---- of a table
+module _ (ws : List ℕ) (t : T (passes ws)) {n : ℕ} (en : n ≡ getD ws 0 0) where
+  size : length (decode ws) ≡ n
+  size = sections-length ws ∙ sym en
+
+  pub bounds : (1 ≤ n) × (n ≤ 4)
+  bounds = let x : Long ws = long ws t in (omega (arith, en), omega (arith, en))
+
+  stand : Stand (decode ws)
+  unfolding sectionIn
+  stand i h = true-T (section-stands ws i t (omega (arith, size, en)))
+
+  pub counted-told : counted (decode ws) ≡ cond (ltb 3 n) 3 (cond (isText (sectionIn ws (n - 1))) (n - 1) n)
+  unfolding sectionIn
+  counted-told = rw size at (counted-is (decode ws) stand (omega (arith, size, bounds)) (omega (arith, size, bounds)))
+
+  pub text-told : textFoundOf (chooseText (decode ws)) ≡ cond (eqb n 4) (text.At 3) (cond (isText (sectionIn ws (n - 1))) (text.At (n - 1)) text.Itself)
+  unfolding sectionIn
+  text-told = rw size at (text-is (decode ws) stand (omega (arith, size, bounds)) (omega (arith, size, bounds)))
+
+  -- a section alone without a condition, or not
+  module _ {first : Bool} (ef : first ≡ hasCondition (sectionIn ws 0)) where
+    pub single-told : (x : Exact) → (eqb n 1 && not first) ≡ true → foundOf (choose (decode ws) x) ≡ found.At 0
+    unfolding sectionIn
+    single-told x h =
+        single (decode ws) x (size ∙ eqb→eq n 1 (and-left (eqb n 1) (not first) (true-T h)))
+        (sym ef ∙ not-true first (T-true (not first) (and-right (eqb n 1) (not first) (true-T h))))
+
+    module _ (h : (eqb n 1 && not first) ≡ false) {m : ℕ} (em : m ≡ counted (decode ws)) where
+      plain : (eqb (length (decode ws)) 1 && not (hasCondition (getD (decode ws) 0 noSection))) ≡ false
+      unfolding sectionIn
+      plain = rw (size, ← ef) h
+
+      pub choice-told : (x : Exact) → foundOf (choose (decode ws) x) ≡ answer m (sectionIn ws 0) (sectionIn ws 1) x
+      unfolding sectionIn
+      choice-told x = rw em (choice-is (decode ws) stand (omega (arith, size, bounds)) x plain (omega (arith, size, bounds)))
+
+      pub second-there : (m ≡ 1 → ⊥) → 1 < getD ws 0 0
+      second-there apart = omega (arith, size, en, many (decode ws) stand plain (omega (arith, size, bounds)) (λ e. apart (em ∙ e)))
