@@ -8,7 +8,7 @@ use mathlib.Core.Bool.{Bool, true, false, cond, not, _&&_, _||_, true≢false}
 use mathlib.Core.List.{List, [], _∷_}
 use lib.ListN.{length, getD}
 use lib.Dec.{T, eqb, ltb, eqb→eq, ltb→lt}
-use borrow.Author.Tests.{ne-eqb, not-true}
+use borrow.Author.Tests.{eq-eqb, ne-eqb, not-true}
 use Rattle.lists.proofs.Bools.{and-left, and-right, implied, true-T, T-true, by-cases}
 use Rattle.formats.specs.Items.{Section}
 use Rattle.formats.specs.Where.{implies, hasCondition, isText, standsAt}
@@ -200,9 +200,27 @@ module _ (ws : List ℕ) (t : T (passes ws)) {n : ℕ} (en : n ≡ getD ws 0 0) 
       unfolding sectionIn
       plain = rw (size, ← ef) h
 
-      pub choice-told : (x : Exact) → foundOf (choose (decode ws) x) ≡ answer m (sectionIn ws 0) (sectionIn ws 1) x
+      choice-told : (x : Exact) → foundOf (choose (decode ws) x) ≡ answer m (sectionIn ws 0) (sectionIn ws 1) x
       unfolding sectionIn
       choice-told x = rw em (choice-is (decode ws) stand (omega (arith, size, bounds)) x plain (omega (arith, size, bounds)))
 
       pub second-there : (m ≡ 1 → ⊥) → 1 < getD ws 0 0
       second-there apart = omega (arith, size, en, many (decode ws) stand plain (omega (arith, size, bounds)) (λ e. apart (em ∙ e)))
+
+      -- the five answers
+      module _ (x : Exact) {one : Bool} (eo : one ≡ takes m 0 (sectionIn ws 0) x) where
+        pub found-first : one ≡ true → found.At 0 ≡ foundOf (choose (decode ws) x)
+        found-first a = sym (choice-told x ∙ rw (← eo, a))
+
+        pub found-none-of-one : one ≡ false → m ≡ 1 → found.Nothing ≡ foundOf (choose (decode ws) x)
+        found-none-of-one a e = sym (choice-told x ∙ rw (← eo, a, eq-eqb m 1 e))
+
+        module _ (a : one ≡ false) (apart : m ≡ 1 → ⊥) {two : Bool} (et : two ≡ takes m 1 (sectionIn ws 1) x) where
+          pub found-second : two ≡ true → found.At 1 ≡ foundOf (choose (decode ws) x)
+          found-second b = sym (choice-told x ∙ rw (← eo, a, ne-eqb m 1 apart, ← et, b))
+
+          pub found-none-of-two : two ≡ false → m ≡ 2 → found.Nothing ≡ foundOf (choose (decode ws) x)
+          found-none-of-two b e = sym (choice-told x ∙ rw (← eo, a, ne-eqb m 1 apart, ← et, b, eq-eqb m 2 e))
+
+          pub found-third : two ≡ false → (m ≡ 2 → ⊥) → found.At 2 ≡ foundOf (choose (decode ws) x)
+          found-third b e = sym (choice-told x ∙ rw (← eo, a, ne-eqb m 1 apart, ← et, b, ne-eqb m 2 e))

@@ -8,9 +8,6 @@ use borrow.Author.Needs.{needs}
 use Rattle.checking.proofs.check.Statement.{statement}
 use Rattle.checking.proofs.check.Tie as tie
 
-is-sized-requires : tie.Need-is-sized-requires
-is-sized-requires c κs = search needs
-
 returns : tie.Need-returns
 returns c = not-sized _ (sym (c .before .is-sized .ensures) ∙ not-true _ (c .if1 .taken))
 
@@ -29,4 +26,4 @@ returns-3 c = c .places-fit .ensures ∙ all-good _ (sym (c .before .before .bef
 pub check-spec : {M : Type 1} → statement M
 check-spec =
     tie.close
-    (tie.spec is-sized-requires returns rows-fit-requires returns-2 places-fit-requires returns-3)
+    (tie.spec (λ c κs. search needs) returns rows-fit-requires returns-2 places-fit-requires returns-3)

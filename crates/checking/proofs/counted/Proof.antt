@@ -16,20 +16,8 @@ abbrev μ-loop : tie.MeasureT-loop
 loop-holds : tie.Need-loop-holds Inv-loop μ-loop
 loop-holds c = counting-start _ _ (c .before .pre .0) (c .before .pre .1)
 
-head-at-requires : tie.Need-head-at-requires Inv-loop μ-loop
-head-at-requires c κs = search needs
-
-counted-one-requires : tie.Need-counted-one-requires Inv-loop μ-loop
-counted-one-requires c κs = search needs
-
 add-count : tie.Need-add-count Inv-loop μ-loop
 add-count c = omega (arith, one-most (c .before .before .before .loop .i) (c .before .head-at .result .kind))
-
-add-i : tie.Need-add-i Inv-loop μ-loop
-add-i c = search needs
-
-loop-less : tie.Need-loop-less Inv-loop μ-loop
-loop-less c = search needs
 
 loop-again : tie.Need-loop-again Inv-loop μ-loop
 loop-again c = counting-step _ _ _ _ (c .before .before .before .loop .inv) _ _ (search needs) (c .before .head-at .ensures) (c .counted-one .ensures)
@@ -44,10 +32,10 @@ counted-spec =
     Inv-loop
     μ-loop
     loop-holds
-    head-at-requires
-    counted-one-requires
+    (λ c κs. search needs)
+    (λ c κs. search needs)
     add-count
-    add-i
-    loop-less
+    (λ c. search needs)
+    (λ c. search needs)
     loop-again
     returns)

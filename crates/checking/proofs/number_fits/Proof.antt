@@ -35,9 +35,6 @@ returns-7 c = number-refused _ _ _ _ _ _ _ _ (λ f. absurd (omega arith))
 returns-8 : tie.Need-returns-8
 returns-8 c = number-ungrouped _ _ _ _ _ _ _ _ (c .if8 .taken)
 
-shift-tells-requires : tie.Need-shift-tells-requires
-shift-tells-requires c κs = search needs
-
 returns-9 : tie.Need-returns-9
 returns-9 c = c .shift-tells .ensures ∙ number-last _ _ _ _ _ _ _ _ (c .before .before .before .before .before .before .before .before .if1 .left) (omega arith) (omega arith) (omega arith) (omega arith) (eqb-true _ _ (not-false _ (c .before .before .before .if6 .left))) (omega arith) (c .before .if8 .left)
 
@@ -53,5 +50,5 @@ number-fits-spec =
     returns-6
     returns-7
     returns-8
-    shift-tells-requires
+    (λ c κs. search needs)
     returns-9)

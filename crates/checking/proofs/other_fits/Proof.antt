@@ -23,27 +23,15 @@ returns-2 c = other-refused _ _ _ _ (λ f. eqb-false _ _ (not-true _ (c .if2 .ta
 returns-3 : tie.Need-returns-3
 returns-3 c = other-refused _ _ _ _ (λ f. absurd (omega arith))
 
-grouping-fits-requires : tie.Need-grouping-fits-requires
-grouping-fits-requires c κs = search needs
-
 returns-4 : tie.Need-returns-4
 unfolding groupedAt
 returns-4 c = other-refused _ _ _ _ (λ f. carry (sym (c .before .grouping-fits .ensures) ∙ not-true _ (c .if4 .taken)) (f .grouping))
 
-agree-requires : tie.Need-agree-requires
-agree-requires c κs = search needs
-
 returns-5 : tie.Need-returns-5
 returns-5 c = other-refused _ _ _ _ (λ f. carry (sym (c .before .agree .ensures) ∙ not-true _ (c .if5 .taken)) (f .half))
 
-within-requires : tie.Need-within-requires
-within-requires c κs = search needs
-
 returns-6 : tie.Need-returns-6
 returns-6 c = other-refused _ _ _ _ (λ f. carry (sym (c .before .within .ensures) ∙ not-true _ (c .if6 .taken)) (f .within))
-
-items-fit-requires : tie.Need-items-fit-requires
-items-fit-requires c κs = search needs
 
 returns-7 : tie.Need-returns-7
 unfolding groupedAt
@@ -56,11 +44,11 @@ other-fits-spec =
     returns
     returns-2
     returns-3
-    grouping-fits-requires
+    (λ c κs. search needs)
     returns-4
-    agree-requires
+    (λ c κs. search needs)
     returns-5
-    within-requires
+    (λ c κs. search needs)
     returns-6
-    items-fit-requires
+    (λ c κs. search needs)
     returns-7)

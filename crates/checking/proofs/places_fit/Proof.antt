@@ -15,41 +15,14 @@ Inv-loop table n counted first-has i₀ i = Placing table n counted first-has i
 abbrev μ-loop : tie.MeasureT-loop
 μ-loop table n counted first-has i₀ i = n - i
 
-section-count-requires : tie.Need-section-count-requires Inv-loop μ-loop
-section-count-requires c κs = search needs
-
-head-at-requires : tie.Need-head-at-requires Inv-loop μ-loop
-head-at-requires c κs = search needs
-
-place-fits-requires : tie.Need-place-fits-requires Inv-loop μ-loop
-place-fits-requires c κs = search needs
-
 returns : tie.Need-returns Inv-loop μ-loop
 returns c = c .place-fits .ensures ∙ placing-alone _ _ _ (c .before .before .before .before .before .pre) (c .before .before .before .section-count .ensures) (c .before .before .if1 .taken) (c .before .head-at .ensures)
-
-counted-requires : tie.Need-counted-requires Inv-loop μ-loop
-counted-requires c κs = search needs
-
-head-at-requires-2 : tie.Need-head-at-requires-2 Inv-loop μ-loop
-head-at-requires-2 c κs = search needs
 
 loop-holds : tie.Need-loop-holds Inv-loop μ-loop
 loop-holds c = placing-start _ _ _ _ (c .before .before .before .before .before .before .pre) (c .before .before .before .before .section-count .ensures) (c .before .before .counted .ensures) (c .before .head-at2 .ensures)
 
-head-at-requires-3 : tie.Need-head-at-requires-3 Inv-loop μ-loop
-head-at-requires-3 c κs = search needs
-
-place-fits-requires-2 : tie.Need-place-fits-requires-2 Inv-loop μ-loop
-place-fits-requires-2 c κs = search needs
-
 returns-2 : tie.Need-returns-2 Inv-loop μ-loop
 returns-2 c = placing-fails _ _ _ _ _ (c .before .before .before .before .loop .inv) (omega arith) _ (c .before .before .head-at3 .ensures) (sym (c .before .place-fits2 .ensures) ∙ not-true _ (c .if2 .taken))
-
-add-i : tie.Need-add-i Inv-loop μ-loop
-add-i c = search needs
-
-loop-less : tie.Need-loop-less Inv-loop μ-loop
-loop-less c = search needs
 
 loop-again : tie.Need-loop-again Inv-loop μ-loop
 loop-again c = placing-step _ _ _ _ _ (c .before .before .before .before .loop .inv) (omega arith) _ (c .before .before .head-at3 .ensures) (sym (c .before .place-fits2 .ensures) ∙ not-false _ (c .if2 .left))
@@ -63,17 +36,17 @@ places-fit-spec =
     (tie.spec
     Inv-loop
     μ-loop
-    section-count-requires
-    head-at-requires
-    place-fits-requires
+    (λ c κs. search needs)
+    (λ c κs. search needs)
+    (λ c κs. search needs)
     returns
-    counted-requires
-    head-at-requires-2
+    (λ c κs. search needs)
+    (λ c κs. search needs)
     loop-holds
-    head-at-requires-3
-    place-fits-requires-2
+    (λ c κs. search needs)
+    (λ c κs. search needs)
     returns-2
-    add-i
-    loop-less
+    (λ c. search needs)
+    (λ c. search needs)
     loop-again
     returns-3)

@@ -21,24 +21,15 @@ use Rattle.checking.proofs.other_fits.Reads as other-fits-reads
 use Rattle.tallies.proofs.kind.Reads as kind-reads
 use Rattle.tallies.proofs.tally_words.Reads as tally-words-reads
 
-head-at-requires : tie.Need-head-at-requires
-head-at-requires c κs = search needs
-
 returns : tie.Need-returns
 returns c =
     rowed _ _ _ _ _ (c .before .before .head-at .ensures) refl
     (refused (headFrom (c .before .before .head-at .result)) (tallyOf (entriesIn (now (c .before .before .before .before .before .args .items)))) (λ f. absurd (omega (arith, head-ranges (headFrom (c .before .before .head-at .result)) (f .range) .colour))))
 
-condition-fits-requires : tie.Need-condition-fits-requires
-condition-fits-requires c κs = search needs
-
 returns-2 : tie.Need-returns-2
 returns-2 c =
     rowed _ _ _ _ _ (c .before .before .before .before .head-at .ensures) refl
     (refused (headFrom (c .before .before .before .before .head-at .result)) (tallyOf (entriesIn (now (c .before .before .before .before .before .before .before .args .items)))) (λ f. carry (sym (c .before .condition-fits .ensures) ∙ not-true _ (c .if2 .taken)) (condition-out _ _ f)))
-
-tally-words-requires : tie.Need-tally-words-requires
-tally-words-requires c κs = search needs
 
 returns-3 : tie.Need-returns-3
 returns-3 c =
@@ -50,19 +41,10 @@ returns-4 c =
     rowed _ _ _ _ _ (c .before .before .before .before .before .before .before .before .before .head-at .ensures) (c .before .before .before .before .tally-words .ensures)
     (refused (headFrom (c .before .before .before .before .before .before .before .before .before .head-at .result)) (c .before .before .before .before .tally-words .result) (λ f. let few = fills-most _ _ f in absurd (omega arith)))
 
-head-at-requires-2 : tie.Need-head-at-requires-2
-head-at-requires-2 c κs = search needs
-
-kind-requires : tie.Need-kind-requires
-kind-requires c κs = search needs
-
 returns-5 : tie.Need-returns-5
 returns-5 c =
     rowed _ _ _ _ _ (c .before .before .before .before .head-at2 .ensures) (c .before .before .before .before .before .before .before .before .before .tally-words .ensures)
     (refused (headFrom (c .before .before .before .before .head-at2 .result)) (c .before .before .before .before .before .before .before .before .before .tally-words .result) (λ f. eqb-false _ _ (not-true _ (c .if6 .taken)) (c .before .kind .ensures ∙ sym (eqb→eq _ _ (f .kind)) ∙ c .before .before .if5 .taken)))
-
-number-fits-requires : tie.Need-number-fits-requires
-number-fits-requires c κs = search needs
 
 returns-6 : tie.Need-returns-6
 returns-6 c =
@@ -80,16 +62,10 @@ returns-6 c =
     (not-false _ (h .before .before .before .if3 .left)) (omega (arith, h .before .if4 .left)) (k .before .if5 .taken ∙ sym two) in
     rowed _ _ _ _ _ (h .head-at2 .ensures) (t .tally-words .ensures) (c .number-fits .ensures ∙ row-number _ _ two front)
 
-kind-requires-2 : tie.Need-kind-requires-2
-kind-requires-2 c κs = search needs
-
 returns-7 : tie.Need-returns-7
 returns-7 c =
     rowed _ _ _ _ _ (c .before .before .before .before .before .head-at2 .ensures) (c .before .before .before .before .before .before .before .before .before .before .tally-words .ensures)
     (refused (headFrom (c .before .before .before .before .before .head-at2 .result)) (c .before .before .before .before .before .before .before .before .before .before .tally-words .result) (λ f. eqb-false _ _ (not-true _ (c .if7 .taken)) (eqb→eq _ _ (f .kind) ∙ sym (c .before .before .kind2 .ensures))))
-
-other-fits-requires : tie.Need-other-fits-requires
-other-fits-requires c κs = search needs
 
 returns-8 : tie.Need-returns-8
 returns-8 c =
@@ -112,19 +88,19 @@ pub row-fits-spec : {M : Type 1} → statement M
 row-fits-spec =
     tie.close
     (tie.spec
-    head-at-requires
+    (λ c κs. search needs)
     returns
-    condition-fits-requires
+    (λ c κs. search needs)
     returns-2
-    tally-words-requires
+    (λ c κs. search needs)
     returns-3
     returns-4
-    head-at-requires-2
-    kind-requires
+    (λ c κs. search needs)
+    (λ c κs. search needs)
     returns-5
-    number-fits-requires
+    (λ c κs. search needs)
     returns-6
-    kind-requires-2
+    (λ c κs. search needs)
     returns-7
-    other-fits-requires
+    (λ c κs. search needs)
     returns-8)

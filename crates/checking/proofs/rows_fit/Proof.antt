@@ -17,38 +17,8 @@ Inv-loop table n at₀ i₀ at i = Rowing table n i at
 abbrev μ-loop : tie.MeasureT-loop
 μ-loop table n at₀ i₀ at i = n - i
 
-section-count-requires : tie.Need-section-count-requires Inv-loop μ-loop
-section-count-requires c κs = search needs
-
-mul-at : tie.Need-mul-at Inv-loop μ-loop
-mul-at c = search needs
-
-add-at : tie.Need-add-at Inv-loop μ-loop
-add-at c = search needs
-
 loop-holds : tie.Need-loop-holds Inv-loop μ-loop
 loop-holds c = rowing-start _ _ (c .before .before .pre) (c .section-count .ensures)
-
-head-at-requires : tie.Need-head-at-requires Inv-loop μ-loop
-head-at-requires c κs = search needs
-
-cast-end : tie.Need-cast-end Inv-loop μ-loop
-cast-end c = search needs
-
-mul-end : tie.Need-mul-end Inv-loop μ-loop
-mul-end c = search needs
-
-add-end : tie.Need-add-end Inv-loop μ-loop
-add-end c = search needs
-
-mul-row-fits : tie.Need-mul-row-fits Inv-loop μ-loop
-mul-row-fits c = search needs
-
-sub-row-fits : tie.Need-sub-row-fits Inv-loop μ-loop
-sub-row-fits c = search needs
-
-part-row-fits-start : tie.Need-part-row-fits-start Inv-loop μ-loop
-part-row-fits-start c = search needs
 
 part-row-fits-end : tie.Need-part-row-fits-end Inv-loop μ-loop
 part-row-fits-end c = let w = within _ _ _ _ (c .before .before .before .loop .inv) (omega arith) _ (c .before .head-at .ensures) in search needs
@@ -74,12 +44,6 @@ returns c =
     let items = h .head-at .result .items in
     rowing-fails _ _ _ _ (l .loop .inv) (omega arith) _ (h .head-at .ensures) (at + 2 * items - at) (omega arith) _ (c .before .row-fits .ensures) (not-true _ (c .if1 .taken))
 
-add-i : tie.Need-add-i Inv-loop μ-loop
-add-i c = search needs
-
-loop-less : tie.Need-loop-less Inv-loop μ-loop
-loop-less c = search needs
-
 loop-again : tie.Need-loop-again Inv-loop μ-loop
 loop-again c =
     let h = c .before .before .before .before in
@@ -97,21 +61,21 @@ rows-fit-spec =
     (tie.spec
     Inv-loop
     μ-loop
-    section-count-requires
-    mul-at
-    add-at
+    (λ c κs. search needs)
+    (λ c. search needs)
+    (λ c. search needs)
     loop-holds
-    head-at-requires
-    cast-end
-    mul-end
-    add-end
-    mul-row-fits
-    sub-row-fits
-    part-row-fits-start
+    (λ c κs. search needs)
+    (λ c. search needs)
+    (λ c. search needs)
+    (λ c. search needs)
+    (λ c. search needs)
+    (λ c. search needs)
+    (λ c. search needs)
     part-row-fits-end
     row-fits-requires
     returns
-    add-i
-    loop-less
+    (λ c. search needs)
+    (λ c. search needs)
     loop-again
     returns-2)

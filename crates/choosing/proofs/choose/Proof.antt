@@ -1,10 +1,9 @@
 -- `choosing::choose` meets its contract.
 -- Assumes nothing.
 use native.Mathlib.Omega.{arith}
-use mathlib.Core.Path.{sym, _∙_}
-use borrow.Author.Tests.{eq-eqb, ne-eqb}
+use mathlib.Core.Path.{sym}
 use Rattle.table_words.proofs.Heads.{long}
-use Rattle.choosing.proofs.Standing.{single-told, choice-told, second-there}
+use Rattle.choosing.proofs.Standing.{single-told, second-there, found-first, found-none-of-one, found-second, found-none-of-two, found-third}
 use borrow.Author.Needs.{needs}
 use Rattle.choosing.proofs.choose.Statement.{statement}
 use Rattle.choosing.proofs.choose.Tie as tie
@@ -34,8 +33,7 @@ returns-2 c =
     let f = k .before .before in
     let n = f .before in
     let p = n .before .before .pre in
-    sym (choice-told _ (p .0) (n .section-count .ensures) (f .has-condition .ensures) (k .before .if1 .left) (k .counted .ensures) _
-    ∙ rw (sym (t .takes .ensures) ∙ c .if2 .taken))
+    found-first _ (p .0) (n .section-count .ensures) (f .has-condition .ensures) (k .before .if1 .left) (k .counted .ensures) _ (t .takes .ensures) (c .if2 .taken)
 
 returns-3 : tie.Need-returns-3
 returns-3 c =
@@ -44,8 +42,7 @@ returns-3 c =
     let f = k .before .before in
     let n = f .before in
     let p = n .before .before .pre in
-    sym (choice-told _ (p .0) (n .section-count .ensures) (f .has-condition .ensures) (k .before .if1 .left) (k .counted .ensures) _
-    ∙ rw (sym (t .takes .ensures) ∙ c .before .if2 .left, eq-eqb _ 1 (c .if3 .taken)))
+    found-none-of-one _ (p .0) (n .section-count .ensures) (f .has-condition .ensures) (k .before .if1 .left) (k .counted .ensures) _ (t .takes .ensures) (c .before .if2 .left) (c .if3 .taken)
 
 takes-requires-2 : tie.Need-takes-requires-2
 takes-requires-2 c κs =
@@ -53,7 +50,7 @@ takes-requires-2 c κs =
     let f = k .before .before in
     let n = f .before in
     let p = n .before .before .pre in
-    (p .0, second-there _ (p .0) (n .section-count .ensures) (f .has-condition .ensures) (k .before .if1 .left) (k .counted .ensures) (c .if3 .left), p .1)
+    (p .0, omega (arith, second-there _ (p .0) (n .section-count .ensures) (f .has-condition .ensures) (k .before .if1 .left) (k .counted .ensures) (c .if3 .left)), p .1)
 
 returns-4 : tie.Need-returns-4
 returns-4 c =
@@ -64,8 +61,8 @@ returns-4 c =
     let f = k .before .before in
     let n = f .before in
     let p = n .before .before .pre in
-    sym (choice-told _ (p .0) (n .section-count .ensures) (f .has-condition .ensures) (k .before .if1 .left) (k .counted .ensures) _
-    ∙ rw (sym (t .takes .ensures) ∙ s .before .if2 .left, ne-eqb _ 1 (s .if3 .left), sym (u .takes2 .ensures) ∙ c .if4 .taken))
+    found-second _ (p .0) (n .section-count .ensures) (f .has-condition .ensures) (k .before .if1 .left) (k .counted .ensures) _ (t .takes .ensures) (s .before .if2 .left) (s .if3 .left)
+    (u .takes2 .ensures) (c .if4 .taken)
 
 returns-5 : tie.Need-returns-5
 returns-5 c =
@@ -76,8 +73,8 @@ returns-5 c =
     let f = k .before .before in
     let n = f .before in
     let p = n .before .before .pre in
-    sym (choice-told _ (p .0) (n .section-count .ensures) (f .has-condition .ensures) (k .before .if1 .left) (k .counted .ensures) _
-    ∙ rw (sym (t .takes .ensures) ∙ s .before .if2 .left, ne-eqb _ 1 (s .if3 .left), sym (u .takes2 .ensures) ∙ c .before .if4 .left, eq-eqb _ 2 (c .if5 .taken)))
+    found-none-of-two _ (p .0) (n .section-count .ensures) (f .has-condition .ensures) (k .before .if1 .left) (k .counted .ensures) _ (t .takes .ensures) (s .before .if2 .left) (s .if3 .left)
+    (u .takes2 .ensures) (c .before .if4 .left) (c .if5 .taken)
 
 returns-6 : tie.Need-returns-6
 returns-6 c =
@@ -88,8 +85,8 @@ returns-6 c =
     let f = k .before .before in
     let n = f .before in
     let p = n .before .before .pre in
-    sym (choice-told _ (p .0) (n .section-count .ensures) (f .has-condition .ensures) (k .before .if1 .left) (k .counted .ensures) _
-    ∙ rw (sym (t .takes .ensures) ∙ s .before .if2 .left, ne-eqb _ 1 (s .if3 .left), sym (u .takes2 .ensures) ∙ c .before .if4 .left, ne-eqb _ 2 (c .if5 .left)))
+    found-third _ (p .0) (n .section-count .ensures) (f .has-condition .ensures) (k .before .if1 .left) (k .counted .ensures) _ (t .takes .ensures) (s .before .if2 .left) (s .if3 .left)
+    (u .takes2 .ensures) (c .before .if4 .left) (c .if5 .left)
 
 pub choose-spec : {M : Type 1} → statement M
 choose-spec =

@@ -6,24 +6,15 @@ use Rattle.choosing.proofs.Comparing.{few-decimals, many-decimals, rest
 use Rattle.choosing.proofs.compare_number.Statement.{statement}
 use Rattle.choosing.proofs.compare_number.Tie as tie
 
-power-requires : tie.Need-power-requires
-power-requires c κs = search needs
-
 rem-rest : tie.Need-rem-rest
 rem-rest c = power-positive _ _ (c .power .ensures)
 
 div-compare-parts : tie.Need-div-compare-parts
 div-compare-parts c = power-positive _ _ (c .before .power .ensures)
 
-power-requires-2 : tie.Need-power-requires-2
-power-requires-2 c κs = search needs
-
 mul-compare-parts : tie.Need-mul-compare-parts
 mul-compare-parts c =
     omega (arith, rest-small (c .before .before .before .args .above) _ _ _ (c .before .if1 .taken) (c .before .before .power .ensures) (c .power2 .ensures))
-
-compare-parts-requires : tie.Need-compare-parts-requires
-compare-parts-requires c κs = search needs
 
 returns : tie.Need-returns
 returns c = search few-decimals
@@ -31,18 +22,9 @@ returns c = search few-decimals
 div-compare-parts-2 : tie.Need-div-compare-parts-2
 div-compare-parts-2 c = power-positive _ _ (c .before .power .ensures)
 
-sub-power : tie.Need-sub-power
-sub-power c = search needs
-
-power-requires-3 : tie.Need-power-requires-3
-power-requires-3 c κs = search needs
-
 mul-compare-parts-2 : tie.Need-mul-compare-parts-2
 mul-compare-parts-2 c =
     omega (arith, millionths-small _ _ _ (c .before .before .before .pre .1) (c .before .before .before .pre .0) (c .power3 .ensures))
-
-compare-parts-requires-2 : tie.Need-compare-parts-requires-2
-compare-parts-requires-2 c κs = search needs
 
 returns-2 : tie.Need-returns-2
 returns-2 c = search many-decimals
@@ -51,16 +33,16 @@ pub compare-number-spec : {M : Type 1} → statement M
 compare-number-spec =
     tie.close
     (tie.spec
-    power-requires
+    (λ c κs. search needs)
     rem-rest
     div-compare-parts
-    power-requires-2
+    (λ c κs. search needs)
     mul-compare-parts
-    compare-parts-requires
+    (λ c κs. search needs)
     returns
     div-compare-parts-2
-    sub-power
-    power-requires-3
+    (λ c. search needs)
+    (λ c κs. search needs)
     mul-compare-parts-2
-    compare-parts-requires-2
+    (λ c κs. search needs)
     returns-2)

@@ -14,9 +14,6 @@ returns-2 c = search fallback-first-of-two
 returns-3 : tie.Need-returns-3
 returns-3 c = search fallback-second-of-two
 
-is-positive-requires : tie.Need-is-positive-requires
-is-positive-requires c κs = search needs
-
 returns-4 : tie.Need-returns-4
 returns-4 c = search fallback-first
 
@@ -29,4 +26,4 @@ returns-6 c = search fallback-other
 pub fallback-holds-spec : {M : Type 1} → statement M
 fallback-holds-spec =
     tie.close
-    (tie.spec returns returns-2 returns-3 is-positive-requires returns-4 returns-5 returns-6)
+    (tie.spec returns returns-2 returns-3 (λ c κs. search needs) returns-4 returns-5 returns-6)

@@ -9,15 +9,6 @@ use borrow.Author.Needs.{needs}
 use Rattle.choosing.proofs.holds.Statement.{statement}
 use Rattle.choosing.proofs.holds.Tie as tie
 
-is-less-requires : tie.Need-is-less-requires
-is-less-requires c κs = search needs
-
-is-equal-requires : tie.Need-is-equal-requires
-is-equal-requires c κs = search needs
-
-is-greater-requires : tie.Need-is-greater-requires
-is-greater-requires c κs = search needs
-
 returns : tie.Need-returns
 unfolding holdsFor comparisonAt
 returns c = rw (c .match .keys1) (c .before .before .is-equal .ensures)
@@ -49,9 +40,9 @@ pub holds-spec : {M : Type 1} → statement M
 holds-spec =
     tie.close
     (tie.spec
-    is-less-requires
-    is-equal-requires
-    is-greater-requires
+    (λ c κs. search needs)
+    (λ c κs. search needs)
+    (λ c κs. search needs)
     returns
     returns-2
     returns-3

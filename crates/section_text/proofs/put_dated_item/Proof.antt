@@ -8,34 +8,16 @@ use borrow.Author.Needs.{needs}
 use Rattle.section_text.proofs.put_dated_item.Statement.{statement}
 use Rattle.section_text.proofs.put_dated_item.Tie as tie
 
-put-moment-item-requires : tie.Need-put-moment-item-requires
-put-moment-item-requires c κs = search needs
-
-same-length : tie.Need-same-length
-same-length c = search needs
-
 returns : tie.Need-returns
 returns c =
     let p = c .before .before in
     let k = p .before .before in
     λ x q i f. moment-put _ x q _ _ (k .if1 .taken) (k .before .before .pre .1) (p .put-moment-item .ensures x q i)
 
-put-unit-requires : tie.Need-put-unit-requires
-put-unit-requires c κs = search needs
-
-put-unit-requires-2 : tie.Need-put-unit-requires-2
-put-unit-requires-2 c κs = search needs
-
-same-length-2 : tie.Need-same-length-2
-same-length-2 c = search needs
-
 returns-2 : tie.Need-returns-2
 returns-2 c =
     let p = c .before .before in
     λ x q i f. unit-put _ (literal-item x q _ _ (p .before .before .match .keys1)) (p .put-unit .ensures)
-
-same-length-3 : tie.Need-same-length-3
-same-length-3 c = search needs
 
 returns-3 : tie.Need-returns-3
 returns-3 c =
@@ -54,13 +36,13 @@ pub put-dated-item-spec : {M : Type 1} → statement M
 put-dated-item-spec =
     tie.close
     (tie.spec
-    put-moment-item-requires
-    same-length
+    (λ c κs. search needs)
+    (λ c. search needs)
     returns
-    put-unit-requires
-    put-unit-requires-2
-    same-length-2
+    (λ c κs. search needs)
+    (λ c κs. search needs)
+    (λ c. search needs)
     returns-2
-    same-length-3
+    (λ c. search needs)
     returns-3
     returns-4)

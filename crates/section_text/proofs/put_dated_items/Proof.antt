@@ -21,35 +21,11 @@ loop-holds c =
     let b = c .before .before in
     walking-start _ _ _ _ _ _ (b .pre .0) refl (dated-walks (b .pre .1))
 
-mul-i : tie.Need-mul-i Inv-loop μ-loop
-mul-i c = search needs
-
-add-j : tie.Need-add-j Inv-loop μ-loop
-add-j c = search needs
-
-mul-put-dated-item : tie.Need-mul-put-dated-item Inv-loop μ-loop
-mul-put-dated-item c = search needs
-
-shared-slice-read-put-dated-item : tie.Need-shared-slice-read-put-dated-item Inv-loop μ-loop
-shared-slice-read-put-dated-item c = search needs
-
-mul-put-dated-item-2 : tie.Need-mul-put-dated-item-2 Inv-loop μ-loop
-mul-put-dated-item-2 c = search needs
-
-shared-slice-read-put-dated-item-2 : tie.Need-shared-slice-read-put-dated-item-2 Inv-loop μ-loop
-shared-slice-read-put-dated-item-2 c = search needs
-
 put-dated-item-requires : tie.Need-put-dated-item-requires Inv-loop μ-loop
 put-dated-item-requires c κs =
     let t = c .before .before .before in
     let w = t .before .loop .inv in
     (walking-short w (omega arith), walking-in-range w (t .loop-test .taken))
-
-add-k : tie.Need-add-k Inv-loop μ-loop
-add-k c = search needs
-
-loop-less : tie.Need-loop-less Inv-loop μ-loop
-loop-less c = search needs
 
 loop-again : tie.Need-loop-again Inv-loop μ-loop
 loop-again c =
@@ -72,15 +48,15 @@ put-dated-items-spec =
     Inv-loop
     μ-loop
     loop-holds
-    mul-i
-    add-j
-    mul-put-dated-item
-    shared-slice-read-put-dated-item
-    mul-put-dated-item-2
-    shared-slice-read-put-dated-item-2
+    (λ c. search needs)
+    (λ c. search needs)
+    (λ c. search needs)
+    (λ c. search needs)
+    (λ c. search needs)
+    (λ c. search needs)
     put-dated-item-requires
-    add-k
-    loop-less
+    (λ c. search needs)
+    (λ c. search needs)
     loop-again
     same-length
     returns)

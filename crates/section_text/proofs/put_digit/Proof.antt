@@ -6,19 +6,10 @@ use borrow.Author.Needs.{needs}
 use Rattle.section_text.proofs.put_digit.Statement.{statement}
 use Rattle.section_text.proofs.put_digit.Tie as tie
 
-sub-q : tie.Need-sub-q
-sub-q c = search needs
-
-put-place-requires : tie.Need-put-place-requires
-put-place-requires c κs = search needs
-
-same-length : tie.Need-same-length
-same-length c = search needs
-
 returns : tie.Need-returns
 returns c =
     let p = c .before .before in
     (omega arith, λ x q are e. place-put x _ _ q e (p .put-place .ensures .1 x are))
 
 pub put-digit-spec : {M : Type 1} → statement M
-put-digit-spec = tie.close (tie.spec sub-q put-place-requires same-length returns)
+put-digit-spec = tie.close (tie.spec (λ c. search needs) (λ c κs. search needs) (λ c. search needs) returns)

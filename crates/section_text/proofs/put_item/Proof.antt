@@ -8,12 +8,6 @@ use borrow.Author.Needs.{needs}
 use Rattle.section_text.proofs.put_item.Statement.{statement}
 use Rattle.section_text.proofs.put_item.Tie as tie
 
-put-unit-requires : tie.Need-put-unit-requires
-put-unit-requires c κs = search needs
-
-put-unit-requires-2 : tie.Need-put-unit-requires-2
-put-unit-requires-2 c κs = search needs
-
 put-digit-requires : tie.Need-put-digit-requires
 put-digit-requires c κs =
     let b = c .before .before .before .before in
@@ -32,30 +26,12 @@ put-digit-requires-3 c κs =
     let f = place-argument _ _ (omega (arith, c .before .match .keys6)) (b .pre .3) in
     (b .pre .0, b .pre .1, f .0, f .1)
 
-put-point-requires : tie.Need-put-point-requires
-put-point-requires c κs = search needs
-
-put-unit-requires-3 : tie.Need-put-unit-requires-3
-put-unit-requires-3 c κs = search needs
-
-put-standing-requires : tie.Need-put-standing-requires
-put-standing-requires c κs = search needs
-
-put-standing-requires-2 : tie.Need-put-standing-requires-2
-put-standing-requires-2 c κs = search needs
-
-same-length : tie.Need-same-length
-same-length c = search needs
-
 returns : tie.Need-returns
 returns c =
     let p = c .before .before in
     let k = p .before .before in
     let e = k .match .keys1 in
     λ x kind q i f. unit-put _ (literal-item x q _ _ e) (p .put-unit .ensures)
-
-same-length-2 : tie.Need-same-length-2
-same-length-2 c = search needs
 
 returns-2 : tie.Need-returns-2
 returns-2 c =
@@ -68,17 +44,11 @@ returns-3 : tie.Need-returns-3
 returns-3 c =
     λ x kind q i f. piece-put _ (fill-item x q _ _ (c .match .keys3)) (omega arith) (put-none _ _)
 
-same-length-3 : tie.Need-same-length-3
-same-length-3 c = search needs
-
 returns-4 : tie.Need-returns-4
 returns-4 c =
     let p = c .before .before in
     let e = p .before .before .match .keys4 in
     λ x kind q i f. digit-put kind q _ _ i f (omega (arith, e)) (p .put-digit .ensures)
-
-same-length-4 : tie.Need-same-length-4
-same-length-4 c = search needs
 
 returns-5 : tie.Need-returns-5
 returns-5 c =
@@ -86,17 +56,11 @@ returns-5 c =
     let e = p .before .before .match .keys5 in
     λ x kind q i f. digit-put kind q _ _ i f (omega (arith, e)) (p .put-digit2 .ensures)
 
-same-length-5 : tie.Need-same-length-5
-same-length-5 c = search needs
-
 returns-6 : tie.Need-returns-6
 returns-6 c =
     let p = c .before .before in
     let e = p .before .before .match .keys6 in
     λ x kind q i f. digit-put kind q _ _ i f (omega (arith, e)) (p .put-digit3 .ensures)
-
-same-length-6 : tie.Need-same-length-6
-same-length-6 c = search needs
 
 returns-7 : tie.Need-returns-7
 returns-7 c =
@@ -107,9 +71,6 @@ returns-7 c =
     piece-put _ (point-item x q _ _ e) (omega (arith, p .put-point .ensures .0))
     (p .put-point .ensures .1 x (i .numeric (number-held kind q _ _ f (omega (arith, e)) (omega (arith, e)))))
 
-same-length-7 : tie.Need-same-length-7
-same-length-7 c = search needs
-
 returns-8 : tie.Need-returns-8
 returns-8 c =
     let p = c .before .before in
@@ -117,17 +78,11 @@ returns-8 c =
     let e = k .match .keys8 in
     λ x kind q i f. unit-put _ (percent-item x q _ _ e) (p .put-unit3 .ensures)
 
-same-length-8 : tie.Need-same-length-8
-same-length-8 c = search needs
-
 returns-9 : tie.Need-returns-9
 returns-9 c =
     let p = c .before .before in
     let e = p .before .before .match .keys9 in
     λ x kind q i f. lent-put kind q _ _ i f (omega (arith, e)) (p .put-standing .ensures)
-
-same-length-9 : tie.Need-same-length-9
-same-length-9 c = search needs
 
 returns-10 : tie.Need-returns-10
 returns-10 c =
@@ -145,32 +100,32 @@ pub put-item-spec : {M : Type 1} → statement M
 put-item-spec =
     tie.close
     (tie.spec
-    put-unit-requires
-    put-unit-requires-2
+    (λ c κs. search needs)
+    (λ c κs. search needs)
     put-digit-requires
     put-digit-requires-2
     put-digit-requires-3
-    put-point-requires
-    put-unit-requires-3
-    put-standing-requires
-    put-standing-requires-2
-    same-length
+    (λ c κs. search needs)
+    (λ c κs. search needs)
+    (λ c κs. search needs)
+    (λ c κs. search needs)
+    (λ c. search needs)
     returns
-    same-length-2
+    (λ c. search needs)
     returns-2
     returns-3
-    same-length-3
+    (λ c. search needs)
     returns-4
-    same-length-4
+    (λ c. search needs)
     returns-5
-    same-length-5
+    (λ c. search needs)
     returns-6
-    same-length-6
+    (λ c. search needs)
     returns-7
-    same-length-7
+    (λ c. search needs)
     returns-8
-    same-length-8
+    (λ c. search needs)
     returns-9
-    same-length-9
+    (λ c. search needs)
     returns-10
     returns-11)

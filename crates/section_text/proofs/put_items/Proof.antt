@@ -18,36 +18,12 @@ loop-holds c =
     let b = c .before .before .before in
     walking-start _ _ _ _ _ _ (b .pre .3) refl (ready-walks (b .pre .4))
 
-mul-i : tie.Need-mul-i Inv-loop μ-loop
-mul-i c = search needs
-
-add-j : tie.Need-add-j Inv-loop μ-loop
-add-j c = search needs
-
-mul-put-item : tie.Need-mul-put-item Inv-loop μ-loop
-mul-put-item c = search needs
-
-shared-slice-read-put-item : tie.Need-shared-slice-read-put-item Inv-loop μ-loop
-shared-slice-read-put-item c = search needs
-
-mul-put-item-2 : tie.Need-mul-put-item-2 Inv-loop μ-loop
-mul-put-item-2 c = search needs
-
-shared-slice-read-put-item-2 : tie.Need-shared-slice-read-put-item-2 Inv-loop μ-loop
-shared-slice-read-put-item-2 c = search needs
-
 put-item-requires : tie.Need-put-item-requires Inv-loop μ-loop
 put-item-requires c κs =
     let t = c .before .before .before in
     let b = t .before .before .before .before .before in
     let w = t .before .loop .inv in
     (walking-short w (b .pre .0), b .pre .1, b .pre .2, walking-in-range w (t .loop-test .taken))
-
-add-k : tie.Need-add-k Inv-loop μ-loop
-add-k c = search needs
-
-loop-less : tie.Need-loop-less Inv-loop μ-loop
-loop-less c = search needs
 
 loop-again : tie.Need-loop-again Inv-loop μ-loop
 loop-again c =
@@ -70,15 +46,15 @@ put-items-spec =
     Inv-loop
     μ-loop
     loop-holds
-    mul-i
-    add-j
-    mul-put-item
-    shared-slice-read-put-item
-    mul-put-item-2
-    shared-slice-read-put-item-2
+    (λ c. search needs)
+    (λ c. search needs)
+    (λ c. search needs)
+    (λ c. search needs)
+    (λ c. search needs)
+    (λ c. search needs)
     put-item-requires
-    add-k
-    loop-less
+    (λ c. search needs)
+    (λ c. search needs)
     loop-again
     same-length
     returns)

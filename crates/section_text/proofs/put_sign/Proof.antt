@@ -5,12 +5,6 @@ use borrow.Author.Needs.{needs}
 use Rattle.section_text.proofs.put_sign.Statement.{statement}
 use Rattle.section_text.proofs.put_sign.Tie as tie
 
-put-unit-requires : tie.Need-put-unit-requires
-put-unit-requires c κs = search needs
-
-same-length : tie.Need-same-length
-same-length c = search needs
-
 returns : tie.Need-returns
 returns c =
     let p = c .before .before in
@@ -20,4 +14,4 @@ returns-2 : tie.Need-returns-2
 returns-2 c = sign-none _ _ (c .if1 .left)
 
 pub put-sign-spec : {M : Type 1} → statement M
-put-sign-spec = tie.close (tie.spec put-unit-requires same-length returns returns-2)
+put-sign-spec = tie.close (tie.spec (λ c κs. search needs) (λ c. search needs) returns returns-2)

@@ -8,12 +8,6 @@ use borrow.Author.Needs.{needs}
 use Rattle.section_text.proofs.put_standing.Statement.{statement}
 use Rattle.section_text.proofs.put_standing.Tie as tie
 
-put-units-requires : tie.Need-put-units-requires
-put-units-requires c κs = search needs
-
-same-length : tie.Need-same-length
-same-length c = search needs
-
 returns : tie.Need-returns
 returns c =
     let p = c .before .before in
@@ -25,12 +19,6 @@ returns c =
         λ us h. rw (← stands-lent _ _ _ _ us (k .if1 .taken) h) (p .put-units .ensures),
       ),
     )
-
-put-general-requires : tie.Need-put-general-requires
-put-general-requires c κs = search needs
-
-same-length-2 : tie.Need-same-length-2
-same-length-2 c = search needs
 
 returns-2 : tie.Need-returns-2
 returns-2 c =
@@ -46,4 +34,4 @@ returns-2 c =
 pub put-standing-spec : {M : Type 1} → statement M
 put-standing-spec =
     tie.close
-    (tie.spec put-units-requires same-length returns put-general-requires same-length-2 returns-2)
+    (tie.spec (λ c κs. search needs) (λ c. search needs) returns (λ c κs. search needs) (λ c. search needs) returns-2)

@@ -6,15 +6,6 @@ use borrow.Author.Needs.{needs}
 use Rattle.section_text.proofs.put_text.Statement.{statement}
 use Rattle.section_text.proofs.put_text.Tie as tie
 
-put-sign-requires : tie.Need-put-sign-requires
-put-sign-requires c κs = search needs
-
-put-items-requires : tie.Need-put-items-requires
-put-items-requires c κs = search needs
-
-same-length : tie.Need-same-length
-same-length c = search needs
-
 returns : tie.Need-returns
 returns c =
     let p = c .before .before in
@@ -27,4 +18,4 @@ returns c =
     )
 
 pub put-text-spec : {M : Type 1} → statement M
-put-text-spec = tie.close (tie.spec put-sign-requires put-items-requires same-length returns)
+put-text-spec = tie.close (tie.spec (λ c κs. search needs) (λ c κs. search needs) (λ c. search needs) returns)

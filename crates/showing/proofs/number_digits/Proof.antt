@@ -5,24 +5,6 @@ use borrow.Author.Needs.{needs}
 use Rattle.showing.proofs.number_digits.Statement.{statement}
 use Rattle.showing.proofs.number_digits.Tie as tie
 
-head-of-requires : tie.Need-head-of-requires
-head-of-requires c κs = search needs
-
-cast-shift : tie.Need-cast-shift
-cast-shift c = search needs
-
-cast-decimals : tie.Need-cast-decimals
-cast-decimals c = search needs
-
-excess-requires : tie.Need-excess-requires
-excess-requires c κs = search needs
-
-excess-requires-2 : tie.Need-excess-requires-2
-excess-requires-2 c κs = search needs
-
-add-down : tie.Need-add-down
-add-down c = search needs
-
 round-requires : tie.Need-round-requires
 round-requires c κs =
     let x = c .before .before in
@@ -42,11 +24,11 @@ pub number-digits-spec : {M : Type 1} → statement M
 number-digits-spec =
     tie.close
     (tie.spec
-    head-of-requires
-    cast-shift
-    cast-decimals
-    excess-requires
-    excess-requires-2
-    add-down
+    (λ c κs. search needs)
+    (λ c. search needs)
+    (λ c. search needs)
+    (λ c κs. search needs)
+    (λ c κs. search needs)
+    (λ c. search needs)
     round-requires
     returns)

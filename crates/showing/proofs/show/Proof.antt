@@ -7,14 +7,8 @@ use borrow.Author.Needs.{needs}
 use Rattle.showing.proofs.show.Statement.{statement}
 use Rattle.showing.proofs.show.Tie as tie
 
-check-requires : tie.Need-check-requires
-check-requires c κs = search needs
-
 show-value-requires : tie.Need-show-value-requires
 show-value-requires c κs = true-T (sym (c .before .before .check .ensures) ∙ c .before .if1 .taken)
-
-same-length : tie.Need-same-length
-same-length c = search needs
 
 returns : tie.Need-returns
 returns c =
@@ -22,13 +16,10 @@ returns c =
     let t = s .before .before in
     table-shows _ _ _ (t .before .check .ensures) (t .if1 .taken) (s .show-value .ensures)
 
-refuse-requires : tie.Need-refuse-requires
-refuse-requires c κs = search needs
-
 returns-2 : tie.Need-returns-2
 returns-2 c = rw (c .refuse .ensures) (table-refused _ _ _ (c .before .before .check .ensures) _ (c .before .if1 .left))
 
 pub show-spec : {M : Type 1} → statement M
 show-spec =
     tie.close
-    (tie.spec check-requires show-value-requires same-length returns refuse-requires returns-2)
+    (tie.spec (λ c κs. search needs) show-value-requires (λ c. search needs) returns (λ c κs. search needs) returns-2)

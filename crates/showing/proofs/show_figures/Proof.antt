@@ -9,21 +9,6 @@ use borrow.Author.Needs.{needs}
 use Rattle.showing.proofs.show_figures.Statement.{statement}
 use Rattle.showing.proofs.show_figures.Tie as tie
 
-number-digits-requires : tie.Need-number-digits-requires
-number-digits-requires c κs = search needs
-
-integer-places-requires : tie.Need-integer-places-requires
-integer-places-requires c κs = search needs
-
-is-grouped-requires : tie.Need-is-grouped-requires
-is-grouped-requires c κs = search needs
-
-figures-of-requires : tie.Need-figures-of-requires
-figures-of-requires c κs = search needs
-
-added-minus-requires : tie.Need-added-minus-requires
-added-minus-requires c κs = search needs
-
 show-section-requires : tie.Need-show-section-requires
 show-section-requires c κs =
     let f = c .before .before .before .before in
@@ -34,9 +19,6 @@ show-section-requires c κs =
     let words = number-words _ _ (p .0) (p .1) (p .4) refl in
     let are = number-figures words _ _ (p .2) (n .number-digits .ensures) (g .integer-places .ensures) (w .is-grouped .ensures) (f .figures-of .ensures .0) in
     (p .0, p .1, f .figures-of .ensures .1, not-lent refl, number-known _ (p .4) _ _ _ _ are)
-
-same-length : tie.Need-same-length
-same-length c = search needs
 
 returns : tie.Need-returns
 returns c =
@@ -59,11 +41,11 @@ pub show-figures-spec : {M : Type 1} → statement M
 show-figures-spec =
     tie.close
     (tie.spec
-    number-digits-requires
-    integer-places-requires
-    is-grouped-requires
-    figures-of-requires
-    added-minus-requires
+    (λ c κs. search needs)
+    (λ c κs. search needs)
+    (λ c κs. search needs)
+    (λ c κs. search needs)
+    (λ c κs. search needs)
     show-section-requires
-    same-length
+    (λ c. search needs)
     returns)

@@ -8,12 +8,6 @@ use borrow.Author.Needs.{needs}
 use Rattle.showing.proofs.show_general.Statement.{statement}
 use Rattle.showing.proofs.show_general.Tie as tie
 
-general-too-wide-requires : tie.Need-general-too-wide-requires
-general-too-wide-requires c κs = search needs
-
-refuse-requires : tie.Need-refuse-requires
-refuse-requires c κs = search needs
-
 returns : tie.Need-returns
 returns c =
     let g = c .before .before in
@@ -22,15 +16,6 @@ returns c =
     rw (c .refuse .ensures)
     (general-wide _ _ _ why x (p .4) (sym (wide-is _ x ev) ∙ sym (g .general-too-wide .ensures) ∙ c .before .if1 .taken))
 
-round-general-requires : tie.Need-round-general-requires
-round-general-requires c κs = search needs
-
-figures-of-requires : tie.Need-figures-of-requires
-figures-of-requires c κs = search needs
-
-added-minus-requires : tie.Need-added-minus-requires
-added-minus-requires c κs = search needs
-
 show-section-requires : tie.Need-show-section-requires
 show-section-requires c κs =
     let f = c .before .before .before .before in
@@ -38,9 +23,6 @@ show-section-requires c κs =
     let p = r .before .before .before .before .before .before .pre in
     let are = general-figures _ _ (r .round-general .ensures) (f .figures-of .ensures .0) (p .2) in
     (p .0, p .1, f .figures-of .ensures .1, not-lent refl, general-known _ _ _ _ _ (p .4) refl (general-of _ _ are))
-
-same-length : tie.Need-same-length
-same-length c = search needs
 
 returns-2 : tie.Need-returns-2
 returns-2 c =
@@ -61,12 +43,12 @@ pub show-general-spec : {M : Type 1} → statement M
 show-general-spec =
     tie.close
     (tie.spec
-    general-too-wide-requires
-    refuse-requires
+    (λ c κs. search needs)
+    (λ c κs. search needs)
     returns
-    round-general-requires
-    figures-of-requires
-    added-minus-requires
+    (λ c κs. search needs)
+    (λ c κs. search needs)
+    (λ c κs. search needs)
     show-section-requires
-    same-length
+    (λ c. search needs)
     returns-2)

@@ -7,21 +7,9 @@ use borrow.Author.Needs.{needs}
 use Rattle.showing.proofs.show_instant.Statement.{statement}
 use Rattle.showing.proofs.show_instant.Tie as tie
 
-instant-sought-requires : tie.Need-instant-sought-requires
-instant-sought-requires c κs = search needs
-
 choose-requires : tie.Need-choose-requires
 choose-requires c κs =
     (c .before .before .before .before .pre, rw (c .instant-sought .ensures) (instant-scale _ _))
-
-enum-told : tie.Need-enum-told
-enum-told c = search needs
-
-refuse-requires : tie.Need-refuse-requires
-refuse-requires c κs = search needs
-
-enum-known-i : tie.Need-enum-known-i
-enum-known-i c = search needs
 
 show-instant-in-requires : tie.Need-show-instant-in-requires
 show-instant-in-requires c κs =
@@ -34,9 +22,6 @@ returns c =
     rw (c .refuse .ensures)
     (instant-nothing _ _ _ _ (h .before .instant-sought .ensures) _ (sym (c .before .enum-told .given .1) ∙ h .choose .ensures))
 
-same-length : tie.Need-same-length
-same-length c = search needs
-
 returns-2 : tie.Need-returns-2
 returns-2 c =
     let s = c .before .before in
@@ -48,12 +33,12 @@ pub show-instant-spec : {M : Type 1} → statement M
 show-instant-spec =
     tie.close
     (tie.spec
-    instant-sought-requires
+    (λ c κs. search needs)
     choose-requires
-    enum-told
-    refuse-requires
-    enum-known-i
+    (λ c. search needs)
+    (λ c κs. search needs)
+    (λ c. search needs)
     show-instant-in-requires
     returns
-    same-length
+    (λ c. search needs)
     returns-2)

@@ -9,15 +9,6 @@ use borrow.Author.Needs.{needs}
 use Rattle.showing.proofs.show_instant_in.Statement.{statement}
 use Rattle.showing.proofs.show_instant_in.Tie as tie
 
-head-of-requires : tie.Need-head-of-requires
-head-of-requires c κs = search needs
-
-is-twelve-hour-requires : tie.Need-is-twelve-hour-requires
-is-twelve-hour-requires c κs = search needs
-
-moment-of-requires : tie.Need-moment-of-requires
-moment-of-requires c κs = search needs
-
 show-dated-section-requires : tie.Need-show-dated-section-requires
 show-dated-section-requires c κs =
     let n = c .before in
@@ -31,9 +22,6 @@ show-dated-section-requires c κs =
       instant-known (sectionIn _ _) _ _ _ _ (f .is-twelve-hour .ensures) (n .moment-of .ensures),
     )
 
-same-length : tie.Need-same-length
-same-length c = search needs
-
 returns : tie.Need-returns
 returns c =
     let s = c .before .before in
@@ -46,9 +34,6 @@ returns c =
     let i = instant-moment (sectionIn _ _) _ _ _ _ (f .is-twelve-hour .ensures) (n .moment-of .ensures) in
     λ why. instant-shows _ _ why _ _ e (s .show-dated-section .ensures _ i (instant-places _ _ (p .0) (p .1) e _ _))
 
-no-figures-requires : tie.Need-no-figures-requires
-no-figures-requires c κs = search needs
-
 show-section-requires : tie.Need-show-section-requires
 show-section-requires c κs =
     let n = c .before .before in
@@ -57,9 +42,6 @@ show-section-requires c κs =
     let p = w .before .before .before .before .pre in
     let e = kind-with _ _ (w .head-of .ensures .0) 0 (k .if2 .taken) in
     (p .0, p .1, n .no-figures .ensures, not-lent refl, literal-known _ e _ _ _)
-
-same-length-2 : tie.Need-same-length-2
-same-length-2 c = search needs
 
 returns-2 : tie.Need-returns-2
 returns-2 c =
@@ -70,9 +52,6 @@ returns-2 c =
     let l = kind-with _ _ (w .head-of .ensures .0) 0 (k .if2 .taken) in
     let e = literal-takes _ l in
     λ why. instant-shows _ _ why _ _ e (s .show-section .ensures _ (literal-subject _ l _ _ _ _) (instant-places _ _ (p .0) (p .1) e _ _))
-
-refuse-requires : tie.Need-refuse-requires
-refuse-requires c κs = search needs
 
 returns-3 : tie.Need-returns-3
 returns-3 c =
@@ -87,15 +66,15 @@ pub show-instant-in-spec : {M : Type 1} → statement M
 show-instant-in-spec =
     tie.close
     (tie.spec
-    head-of-requires
-    is-twelve-hour-requires
-    moment-of-requires
+    (λ c κs. search needs)
+    (λ c κs. search needs)
+    (λ c κs. search needs)
     show-dated-section-requires
-    same-length
+    (λ c. search needs)
     returns
-    no-figures-requires
+    (λ c κs. search needs)
     show-section-requires
-    same-length-2
+    (λ c. search needs)
     returns-2
-    refuse-requires
+    (λ c κs. search needs)
     returns-3)

@@ -9,20 +9,11 @@ use borrow.Author.Needs.{needs}
 use Rattle.showing.proofs.show_literal.Statement.{statement}
 use Rattle.showing.proofs.show_literal.Tie as tie
 
-added-minus-requires : tie.Need-added-minus-requires
-added-minus-requires c κs = search needs
-
-no-figures-requires : tie.Need-no-figures-requires
-no-figures-requires c κs = search needs
-
 show-section-requires : tie.Need-show-section-requires
 show-section-requires c κs =
     let n = c .before .before in
     let p = n .before .before .before .before .before .pre in
     (p .0, p .1, n .no-figures .ensures, not-lent refl, literal-known _ (p .2) _ _ _)
-
-same-length : tie.Need-same-length
-same-length c = search needs
 
 returns : tie.Need-returns
 returns c =
@@ -36,4 +27,4 @@ returns c =
 
 pub show-literal-spec : {M : Type 1} → statement M
 show-literal-spec =
-    tie.close (tie.spec added-minus-requires no-figures-requires show-section-requires same-length returns)
+    tie.close (tie.spec (λ c κs. search needs) (λ c κs. search needs) show-section-requires (λ c. search needs) returns)

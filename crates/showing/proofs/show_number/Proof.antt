@@ -7,18 +7,6 @@ use borrow.Author.Needs.{needs}
 use Rattle.showing.proofs.show_number.Statement.{statement}
 use Rattle.showing.proofs.show_number.Tie as tie
 
-take-number-requires : tie.Need-take-number-requires
-take-number-requires c κs = search needs
-
-enum-told : tie.Need-enum-told
-enum-told c = search needs
-
-refuse-requires : tie.Need-refuse-requires
-refuse-requires c κs = search needs
-
-enum-known-v : tie.Need-enum-known-v
-enum-known-v c = search needs
-
 show-number-in-range-requires : tie.Need-show-number-in-range-requires
 show-number-in-range-requires c κs =
     let h = c .before .before .before .before in
@@ -29,9 +17,6 @@ returns : tie.Need-returns
 returns c =
     let h = c .before .before .before in
     rw (c .refuse .ensures) (out-of-range _ _ (out-says _ (sym (h .take-number .ensures) ∙ c .before .enum-told .given .1)))
-
-same-length : tie.Need-same-length
-same-length c = search needs
 
 returns-2 : tie.Need-returns-2
 returns-2 c =
@@ -44,11 +29,11 @@ pub show-number-spec : {M : Type 1} → statement M
 show-number-spec =
     tie.close
     (tie.spec
-    take-number-requires
-    enum-told
-    refuse-requires
-    enum-known-v
+    (λ c κs. search needs)
+    (λ c. search needs)
+    (λ c κs. search needs)
+    (λ c. search needs)
     show-number-in-range-requires
     returns
-    same-length
+    (λ c. search needs)
     returns-2)

@@ -5,9 +5,6 @@ use borrow.Author.Needs.{needs}
 use Rattle.showing.proofs.show_number_in.Statement.{statement}
 use Rattle.showing.proofs.show_number_in.Tie as tie
 
-head-of-requires : tie.Need-head-of-requires
-head-of-requires c κs = search needs
-
 show-literal-requires : tie.Need-show-literal-requires
 show-literal-requires c κs =
     let m = c .before in
@@ -22,9 +19,6 @@ show-figures-requires c κs =
     let p = w .before .before .before .before .pre in
     (p .0, p .1, p .2, p .3, kind-with _ _ (w .head-of .ensures .0) 2 (m .match .keys2))
 
-refuse-requires : tie.Need-refuse-requires
-refuse-requires c κs = search needs
-
 show-general-requires : tie.Need-show-general-requires
 show-general-requires c κs =
     let m = c .before in
@@ -33,14 +27,8 @@ show-general-requires c κs =
     let o = m .match .rest in
     (p .0, p .1, p .2, p .3, told-general _ _ (w .head-of .ensures .0) (o .0 .0 .1) (o .0 .1) (o .1))
 
-same-length : tie.Need-same-length
-same-length c = search needs
-
 returns : tie.Need-returns
 returns c = c .before .before .show-literal .ensures
-
-same-length-2 : tie.Need-same-length-2
-same-length-2 c = search needs
 
 returns-2 : tie.Need-returns-2
 returns-2 c = c .before .before .show-figures .ensures
@@ -53,9 +41,6 @@ returns-3 c =
     λ x why ev eo.
     rw (c .refuse .ensures) (date-refused _ _ _ _ why x (kind-with _ _ (w .head-of .ensures .0) 4 (m .match .keys3)))
 
-same-length-3 : tie.Need-same-length-3
-same-length-3 c = search needs
-
 returns-4 : tie.Need-returns-4
 returns-4 c = c .before .before .show-general .ensures
 
@@ -63,15 +48,15 @@ pub show-number-in-spec : {M : Type 1} → statement M
 show-number-in-spec =
     tie.close
     (tie.spec
-    head-of-requires
+    (λ c κs. search needs)
     show-literal-requires
     show-figures-requires
-    refuse-requires
+    (λ c κs. search needs)
     show-general-requires
-    same-length
+    (λ c. search needs)
     returns
-    same-length-2
+    (λ c. search needs)
     returns-2
     returns-3
-    same-length-3
+    (λ c. search needs)
     returns-4)

@@ -7,22 +7,10 @@ use borrow.Author.Needs.{needs}
 use Rattle.showing.proofs.show_number_in_range.Statement.{statement}
 use Rattle.showing.proofs.show_number_in_range.Tie as tie
 
-number-sought-requires : tie.Need-number-sought-requires
-number-sought-requires c κs = search needs
-
 choose-requires : tie.Need-choose-requires
 choose-requires c κs =
     let p = c .before .before .before .before .pre in
     (p .0, sought-scale _ (c .number-sought .ensures) (p .2))
-
-enum-told : tie.Need-enum-told
-enum-told c = search needs
-
-refuse-requires : tie.Need-refuse-requires
-refuse-requires c κs = search needs
-
-enum-known-i : tie.Need-enum-known-i
-enum-known-i c = search needs
 
 show-number-in-requires : tie.Need-show-number-in-requires
 show-number-in-requires c κs =
@@ -37,9 +25,6 @@ returns c =
     rw (c .refuse .ensures)
     (number-nothing _ _ (h .before .number-sought .ensures) x ev _ (sym (c .before .enum-told .given .1) ∙ h .choose .ensures))
 
-same-length : tie.Need-same-length
-same-length c = search needs
-
 returns-2 : tie.Need-returns-2
 returns-2 c =
     let s = c .before .before in
@@ -52,12 +37,12 @@ pub show-number-in-range-spec : {M : Type 1} → statement M
 show-number-in-range-spec =
     tie.close
     (tie.spec
-    number-sought-requires
+    (λ c κs. search needs)
     choose-requires
-    enum-told
-    refuse-requires
-    enum-known-i
+    (λ c. search needs)
+    (λ c κs. search needs)
+    (λ c. search needs)
     show-number-in-requires
     returns
-    same-length
+    (λ c. search needs)
     returns-2)

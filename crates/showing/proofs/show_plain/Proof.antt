@@ -5,20 +5,8 @@ use borrow.Author.Needs.{needs}
 use Rattle.showing.proofs.show_plain.Statement.{statement}
 use Rattle.showing.proofs.show_plain.Tie as tie
 
-refuse-requires : tie.Need-refuse-requires
-refuse-requires c κs = search needs
-
 returns : tie.Need-returns
 returns c = rw (c .refuse .ensures) (plain-none _ _ (c .before .if1 .taken))
-
-put-units-requires : tie.Need-put-units-requires
-put-units-requires c κs = search needs
-
-cast-t10 : tie.Need-cast-t10
-cast-t10 c = search needs
-
-same-length : tie.Need-same-length
-same-length c = search needs
 
 returns-2 : tie.Need-returns-2
 returns-2 c =
@@ -27,4 +15,4 @@ returns-2 c =
 
 pub show-plain-spec : {M : Type 1} → statement M
 show-plain-spec =
-    tie.close (tie.spec refuse-requires returns put-units-requires cast-t10 same-length returns-2)
+    tie.close (tie.spec (λ c κs. search needs) returns (λ c κs. search needs) (λ c. search needs) (λ c. search needs) returns-2)
