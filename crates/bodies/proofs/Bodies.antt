@@ -4,14 +4,15 @@ use Prim.Native.Nat.{ℕ, suc, _+_, _-_, _≤_, _<_}
 use mathlib.Core.Path.{_≡_, refl, sym, ap, _∙_}
 use mathlib.Core.Bool.{Bool, true, false, cond, not, _&&_, _||_}
 use mathlib.Core.List.{List, [], _∷_, map}
+use mathlib.Core.Option.{Option, none, some}
 use native.Mathlib.Omega.{arith}
 use lib.Dec.{eqb}
 use borrow.Author.Tests.{le-leb, lt-leb, ne-eqb}
 use lib.ListN.{length, getD}
 use Rattle.lists.specs.Lists.{every, any, count}
 use Rattle.formats.specs.Tokens.{Token}
-use Rattle.formats.specs.Items.{Kind, textKind, generalKind, dateKind, numberKind, literalKind, sameKind, kindFrom}
-use Rattle.formats.specs.Kinds.{isPlace, isPoint, isFillToken, integerPlaceTokens, isSolidus, startsWithPlace, solidusFrom, solidusFits, noBracket, tokenMakes, bodyKind}
+use Rattle.formats.specs.Items.{Kind, textKind, generalKind, dateKind, numberKind, literalKind, sameKind, isKind, kindFrom}
+use Rattle.formats.specs.Kinds.{isPlace, isPoint, isFillToken, integerPlaceTokens, isSolidus, startsWithPlace, solidusFrom, solidusFits, noBracket, tokenKind, tokenMakes, bodyKind}
 use Rattle.marks.specs.Marks.{markRows, markToken, conditionOf, tokensIn}
 use Rattle.bodies.specs.declared.facts.Facts.{Facts}
 use Rattle.bodies.specs.declared.facts.Seen.{Seen}
@@ -28,9 +29,13 @@ rankOf dateKind = 2
 rankOf generalKind = 3
 rankOf textKind = 4
 
+abbrev rankMade : Option Kind → ℕ
+rankMade none = 0
+rankMade (some k) = rankOf k
+
 -- one token more
 abbrev see : Seen → Token → Seen
-see s t = seen s (rankOf (tokenMakes t)) (isPlace t) (isPoint t) (isFillToken t) (isSolidus t) (noBracket t)
+see s t = seen s (rankMade (tokenKind t)) (isPlace t) (isPoint t) (isFillToken t) (isSolidus t) (noBracket t)
 
 abbrev pub nothingSeen : Seen
 nothingSeen = record { rank = 0; plain = true; solidus = true; fills = 0; places = 0; point = false; behind = false; divided = false }
@@ -46,7 +51,7 @@ no-date n h =
 
 -- what a token says, by its form and argument
 see-form : (s : Seen) (f a : ℕ) (us : List ℕ) → see s (markToken f a us) ≡ seeForm s f a
-unfolding markRows upFrom conditionOf tokenMakes isSolidus noBracket any dateForms
+unfolding markRows upFrom conditionOf isSolidus noBracket any dateForms
 see-form s f a us = by-form (see s) (λ (n : ℕ). seeForm s n a) a us refl
     (λ n h. rw (ne-eqb n 10 (omega arith), ne-eqb n 12 (omega arith), ne-eqb n 7 (omega arith), ne-eqb n 3 (omega arith), ne-eqb n 1 (omega arith), lt-leb n 6 (omega arith), le-leb 4 n (omega arith), ne-eqb n 23 (omega arith), ne-eqb n 24 (omega arith), no-date n (omega arith))) f
 
@@ -55,11 +60,11 @@ see-form s f a us = by-form (see s) (λ (n : ℕ). seeForm s n a) a us refl
 abbrev kindBy : Bool → Bool → Bool → Bool → Kind
 kindBy text general date number = cond text textKind (cond general generalKind (cond date dateKind (cond number numberKind literalKind)))
 
--- a kind in front of others: the higher rank is the rank of all
-abbrev Higher : Kind → Bool → Bool → Bool → Bool → Type 0
+-- a kind, or none, in front of others: the higher rank is the rank of all
+abbrev Higher : Option Kind → Bool → Bool → Bool → Bool → Type 0
 Higher k a b c d =
-    rankOf (kindBy (cond (sameKind textKind k) true a) (cond (sameKind generalKind k) true b) (cond (sameKind dateKind k) true c) (cond (sameKind numberKind k) true d))
-    ≡ rankOf k + (rankOf (kindBy a b c d) - rankOf k)
+    rankOf (kindBy (cond (isKind textKind k) true a) (cond (isKind generalKind k) true b) (cond (isKind dateKind k) true c) (cond (isKind numberKind k) true d))
+    ≡ rankMade k + (rankOf (kindBy a b c d) - rankMade k)
 
 five : (P : Bool → Bool → Bool → Bool → Type 0)
     → ((b c d : Bool) → P true b c d) → ((c d : Bool) → P false true c d) → ((d : Bool) → P false false true d) → P false false false true → P false false false false
@@ -70,16 +75,17 @@ five P t g u n l false false true d = u d
 five P t g u n l false false false true = n
 five P t g u n l false false false false = l
 
-higher : (k : Kind) (a b c d : Bool) → Higher k a b c d
-higher textKind = five (Higher textKind) (λ b c d. refl) (λ c d. refl) (λ d. refl) refl refl
-higher generalKind = five (Higher generalKind) (λ b c d. refl) (λ c d. refl) (λ d. refl) refl refl
-higher dateKind = five (Higher dateKind) (λ b c d. refl) (λ c d. refl) (λ d. refl) refl refl
-higher numberKind = five (Higher numberKind) (λ b c d. refl) (λ c d. refl) (λ d. refl) refl refl
-higher literalKind = five (Higher literalKind) (λ b c d. refl) (λ c d. refl) (λ d. refl) refl refl
+higher : (k : Option Kind) (a b c d : Bool) → Higher k a b c d
+higher none = five (Higher none) (λ b c d. refl) (λ c d. refl) (λ d. refl) refl refl
+higher (some textKind) = five (Higher (some textKind)) (λ b c d. refl) (λ c d. refl) (λ d. refl) refl refl
+higher (some generalKind) = five (Higher (some generalKind)) (λ b c d. refl) (λ c d. refl) (λ d. refl) refl refl
+higher (some dateKind) = five (Higher (some dateKind)) (λ b c d. refl) (λ c d. refl) (λ d. refl) refl refl
+higher (some numberKind) = five (Higher (some numberKind)) (λ b c d. refl) (λ c d. refl) (λ d. refl) refl refl
+higher (some literalKind) = five (Higher (some literalKind)) (λ b c d. refl) (λ c d. refl) (λ d. refl) refl refl
 
-rank-cons : (k : Kind) (ks : List Kind) → rankOf (kindFrom (k ∷ ks)) ≡ rankOf k + (rankOf (kindFrom ks) - rankOf k)
-unfolding kindFrom any
-rank-cons k ks = higher k (any (sameKind textKind) ks) (any (sameKind generalKind) ks) (any (sameKind dateKind) ks) (any (sameKind numberKind) ks)
+rank-cons : (t : Token) (ts : List Token) → rankOf (bodyKind (t ∷ ts)) ≡ rankMade (tokenKind t) + (rankOf (bodyKind ts) - rankMade (tokenKind t))
+unfolding bodyKind kindFrom any tokenMakes
+rank-cons t ts = higher (tokenKind t) (any (tokenMakes textKind) ts) (any (tokenMakes generalKind) ts) (any (tokenMakes dateKind) ts) (any (tokenMakes numberKind) ts)
 
 higher-higher : (a b c : ℕ) → a + (b - a) + (c - (a + (b - a))) ≡ a + (b + (c - b) - a)
 higher-higher a b c = omega arith
@@ -89,8 +95,8 @@ unfolding passed bodyKind kindFrom any
 rank-seen s [] = omega arith
 rank-seen s (t ∷ ts) =
     rank-seen (see s t) ts
-    ∙ higher-higher (s .rank) (rankOf (tokenMakes t)) (rankOf (bodyKind ts))
-    ∙ ap (λ (n : ℕ). s .rank + (n - s .rank)) (sym (rank-cons (tokenMakes t) (map tokenMakes ts)))
+    ∙ higher-higher (s .rank) (rankMade (tokenKind t)) (rankOf (bodyKind ts))
+    ∙ ap (λ (n : ℕ). s .rank + (n - s .rank)) (sym (rank-cons t ts))
 
 rank-date : (k : Kind) → sameKind k dateKind ≡ eqb (rankOf k) 2
 rank-date literalKind = refl

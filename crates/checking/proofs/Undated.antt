@@ -5,12 +5,12 @@ use mathlib.Core.Bool.{Bool, true, false, true≢false, cond}
 use mathlib.Core.List.{List, [], _∷_}
 use Rattle.lists.specs.Lists.{every, any, count}
 use Rattle.formats.specs.Tokens.{hours, minutes, seconds}
-use Rattle.formats.specs.Items.{Item, itemBelongs, isElapsed, isHalf}
+use Rattle.formats.specs.Items.{Item, itemMakes, isElapsed, isElapsedOf, isHalf}
 use Rattle.formats.specs.Limits.{elapsedShort}
 use Rattle.tables.specs.Words.{Entry}
 use Rattle.tables.specs.Decode.{itemsAt}
 use Rattle.formats.proofs.Each.{by-item}
-use Rattle.tallies.specs.Tally.{belongsDate, isElapsedOf, tallyOf}
+use Rattle.tallies.specs.Tally.{belongsDate, tallyOf}
 use Rattle.checking.specs.Checking.{Undated}
 
 record Plain (i : Item) : Type 0 where
@@ -22,7 +22,7 @@ record Plain (i : Item) : Type 0 where
   mark : isHalf i ≡ false
 
 plain : (i : Item) → belongsDate i ≡ false → Plain i
-unfolding itemBelongs isElapsedOf elapsedShort
+unfolding itemMakes elapsedShort
 plain =
     by-item (λ i. belongsDate i ≡ false → Plain i) (λ u e. search) (λ u e. search) (λ u e. search) (λ p e. search)
     (λ e. search) (λ e. search) (λ e. search) (λ e. search)

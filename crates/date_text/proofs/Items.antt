@@ -1,20 +1,16 @@
--- Laws of items' texts: a year, a part of a second, a half-day mark, and an item by its tag.
+-- Laws of items' texts: a year, a part of a second, a half-day mark.
 -- Assumes nothing.
-use Prim.Native.Nat.{ℕ, _-_, _/_, _%_, _^_, _≤_, _<_}
+use Prim.Native.Nat.{ℕ, _-_, _/_, _%_, _^_, _≤_}
 use native.Mathlib.Nat.{div-one}
 use native.Mathlib.Omega.{arith}
 use mathlib.Core.Path.{_≡_, sym}
-use mathlib.Core.Bool.{Bool, true, false, cond}
+use mathlib.Core.Bool.{Bool, true, false}
 use mathlib.Core.List.{[], _∷_, _++_}
-use lib.Dec.{leb, eqb}
-use borrow.Author.Tests.{leb-true, ne-eqb}
-use Rattle.lists.proofs.Bools.{by-cases}
+use borrow.Author.Tests.{ne-eqb}
 use Rattle.figures.specs.Digits.{numeral}
 use Rattle.calendar.specs.Names.{units}
-use Rattle.formats.specs.Items.{half}
 use Rattle.formats.specs.Text.{yearUnits, halfUnits}
-use Rattle.tables.specs.Encode.{entry}
-use Rattle.tables.specs.Decode.{halfAt, itemAt}
+use Rattle.tables.specs.Decode.{halfAt}
 use Rattle.date_text.specs.Moment.{halfLetter}
 
 pub year-two : (n y : ℕ) → n ≡ 2 → yearUnits n y ≡ numeral 2 (y % 100)
@@ -38,12 +34,3 @@ pub half-long : (mark : ℕ) (b : Bool) → ¬ (mark ≡ 1) → halfUnits (halfA
 unfolding halfUnits halfAt halfLetter units
 half-long mark true h = simp (ne-eqb mark 1 h)
 half-long mark false h = simp (ne-eqb mark 1 h)
-
--- a tag above 20 is none up to 20, and so a half-day mark's
-none-to-20 : (tag : ℕ) → 20 < tag → (k : ℕ) → eqb tag k ≡ cond (leb k 20) false (eqb tag k)
-none-to-20 tag h k =
-    by-cases (leb k 20) (λ t. rw t (ne-eqb tag k (λ e. omega (arith, leb-true k 20 t)))) (λ f. rw f)
-
-pub late-tag : (tag a : ℕ) → 20 < tag → itemAt (entry tag a) ≡ half (halfAt a)
-unfolding itemAt
-late-tag tag a h = simp (none-to-20 tag h)

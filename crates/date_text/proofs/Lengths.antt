@@ -18,10 +18,9 @@ use Rattle.formats.specs.Tokens.{HalfDay, short, long}
 use Rattle.formats.specs.Text.{Context, yearUnits, namedUnits, hourShown, partUnits, halfUnits, itemUnits}
 use Rattle.tables.specs.Encode.{entry}
 use Rattle.tables.specs.Decode.{halfAt, itemAt}
-use Rattle.tables.proofs.BackEntries.{span-at}
+use Rattle.tables.proofs.BackEntries.{span-at, late-tag}
 use Rattle.writing.proofs.Numerals.{numeral-short}
 use Rattle.date_text.proofs.Letters.{month-spelt, weekday-spelt}
-use Rattle.date_text.proofs.Items.{late-tag}
 
 numeral-length : (a n : ℕ) → length (numeral a n) ≤ a + 25
 unfolding numeral

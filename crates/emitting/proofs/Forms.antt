@@ -18,7 +18,7 @@ use Rattle.formats.specs.Text.{digitAfter}
 use Rattle.marks.specs.Marks.{markRows, markToken, conditionOf}
 use Rattle.marks.proofs.ByForm.{upFrom, by-form, fill-form, zero-form, point-form, seconds-form}
 use Rattle.tables.specs.Words.{entriesWords}
-use Rattle.tables.specs.Encode.{placeTag, elapsedTag, halfWord, entryOf, entriesFrom}
+use Rattle.tables.specs.Encode.{entryOf, entriesFrom}
 use Rattle.emitting.specs.Emit.{formSeconds, formHours, formDigit, runIf, tokenWords, formWords, itemsWords, literalWords}
 use Rattle.emitting.proofs.Joined.{runAfter, digitsAfter}
 
@@ -76,7 +76,7 @@ abbrev wordsForm : Bool → Bool → ℕ → ℕ → List ℕ → ℕ → List �
 wordsForm date hours q a us f = cond (eqb f 0) (literalWords (take a us)) (formWords date hours q a f)
 
 rows-words : (date hours : Bool) (q a : ℕ) (us : List ℕ) → map (tokenWords date hours q) (markRows a us) ≡ map (wordsForm date hours q a us) (upFrom 0 25)
-unfolding markRows conditionOf upFrom tokenWords itemsWords tokenItems runItem entriesWords entriesFrom entryOf placeTag elapsedTag halfWord settledFrom settledItem monthOrMinute meansMinutes runIf firstRun nearer runOf runOfElapsed digitAfter
+unfolding markRows conditionOf upFrom tokenWords itemsWords tokenItems runItem entriesWords entriesFrom entryOf settledFrom settledItem monthOrMinute meansMinutes runIf firstRun nearer runOf runOfElapsed digitAfter
 rows-words true true q a us = by-cases (leb a 2) (λ e. rw (literals-words hourRun q (take a us), e)) (λ e. rw (literals-words hourRun q (take a us), e))
 rows-words true false q a us = rw (literals-words noRun q (take a us))
 rows-words false true q a us = by-cases (leb a 2) (λ e. rw (literals-words hourRun q (take a us), e)) (λ e. rw (literals-words hourRun q (take a us), e))

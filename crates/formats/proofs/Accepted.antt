@@ -12,11 +12,11 @@ use Rattle.answers.specs.declared.Answer.the-variants as answer
 use Rattle.lists.specs.Lists.{every, firstFailing, isSome}
 use Rattle.lists.proofs.Bools.{and-in, every-head, every-tail, every-cons}
 use Rattle.lists.proofs.First.{none-every}
-use Rattle.formats.specs.Items.{Section}
+use Rattle.formats.specs.Items.{Section, isUnit}
 use Rattle.formats.specs.Kinds.{Parts, sectionOf, fits}
 use Rattle.formats.specs.Where.{standsAt}
 use Rattle.formats.specs.Limits.{withinLimits}
-use Rattle.formats.specs.WellFormed.{isUnit, sectionFormed, itemsInAll, allStand, wellFormed}
+use Rattle.formats.specs.WellFormed.{sectionFormed, itemsInAll, allStand, wellFormed}
 use Rattle.formats.specs.Accept.{partsIn, sectionsIn, semicolons, placedOf, Verdict, fine, refused, kindVerdict, whereVerdict, limitVerdict, verdict, sections, acceptedBy, accept}
 use Rattle.formats.specs.Tokens.{lex}
 use Rattle.formats.proofs.TokenRanges.{partsInRange, parts-pass}

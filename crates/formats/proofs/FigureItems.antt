@@ -10,7 +10,7 @@ use borrow.Author.Tests.{eqb-true, eqb-false, ltb-true, lt-ltb, lt-leb, eq-eqb, 
 use lib.Dec.{eqb, ltb}
 use Rattle.lists.specs.Lists.{any, count}
 use Rattle.lists.proofs.Bools.{by-cases}
-use Rattle.lists.proofs.Counts.{any-count}
+use Rattle.lists.proofs.Counts.{any-count, any-same}
 use Rattle.figures.proofs.Digits.{mod-next}
 use Rattle.formats.specs.Tokens.{Place, isDigit}
 use Rattle.formats.specs.Items.{Item, literal, blank, fill, place, point, percent, general, at, year, month, day, hour, minute, second, part, elapsed, half, Kind, textKind, generalKind, dateKind, numberKind, literalKind, sameKind, kindFrom, itemMakes, itemsKind, isPlace, isPoint, integerPlaces, decimalPlaces}
@@ -35,7 +35,7 @@ figuresShown c q is = figurePieces is (itemPieces c q is)
 
 -- an item is a place, the point, or neither
 item-case : (P : Item → Type 0) → ((p : Place) → P (place p)) → P point
-    → ((i : Item) → isPlace i ≡ false → isPoint i ≡ false → sameKind numberKind (itemMakes i) ≡ false → P i) → (i : Item) → P i
+    → ((i : Item) → isPlace i ≡ false → isPoint i ≡ false → itemMakes numberKind i ≡ false → P i) → (i : Item) → P i
 unfolding itemMakes
 item-case P f g h =
     by-item P (λ u. h (literal u) refl refl refl) (λ u. h (blank u) refl refl refl) (λ u. h (fill u) refl refl refl) f
@@ -45,14 +45,9 @@ item-case P f g h =
     (λ e n. h (elapsed e n) refl refl refl) (λ a. h (half a) refl refl refl)
 
 -- a number section has a place
-pub makes-place : (i : Item) → sameKind numberKind (itemMakes i) ≡ isPlace i
+pub makes-place : (i : Item) → itemMakes numberKind i ≡ isPlace i
 unfolding itemMakes
-makes-place = item-case (λ (i : Item). sameKind numberKind (itemMakes i) ≡ isPlace i) (λ p. refl) refl (λ i notPlace notPoint other. rw (notPlace, other))
-
-any-makes : (is : List Item) → any (sameKind numberKind) (map itemMakes is) ≡ any isPlace is
-unfolding any
-any-makes [] = refl
-any-makes (i ∷ is) = rw (makes-place i, any-makes is)
+makes-place = item-case (λ (i : Item). itemMakes numberKind i ≡ isPlace i) (λ p. refl) refl (λ i notPlace notPoint other. rw (notPlace, other))
 
 number-last : (a b c d : Bool)
     → cond a textKind (cond b generalKind (cond c dateKind (cond d numberKind literalKind))) ≡ numberKind → d ≡ true
@@ -65,9 +60,8 @@ number-last false false false false e = cc
 number-place : (is : List Item) → itemsKind is ≡ numberKind → any isPlace is ≡ true
 unfolding itemsKind kindFrom
 number-place is e =
-    let ks : List Kind = map itemMakes is in
-    sym (any-makes is)
-    ∙ number-last (any (sameKind textKind) ks) (any (sameKind generalKind) ks) (any (sameKind dateKind) ks) (any (sameKind numberKind) ks) e
+    sym (any-same (itemMakes numberKind) isPlace makes-place is)
+    ∙ number-last (any (itemMakes textKind) is) (any (itemMakes generalKind) is) (any (itemMakes dateKind) is) (any (itemMakes numberKind) is) e
 
 -- what has been read behind j decimals, where k digits of n are left: n itself where these are noughts, else the digits above them
 record Behind (n k j v w : ℕ) : Type 0 where

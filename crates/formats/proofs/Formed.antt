@@ -6,10 +6,10 @@ use mathlib.Core.Bool.{Bool, true, false, cond, _||_}
 use lib.Dec.{T, leb, eqb}
 use Rattle.lists.specs.Lists.{every, count}
 use Rattle.lists.proofs.Bools.{and-left, and-right, and-in, nought-unless}
-use Rattle.formats.specs.Items.{numberKind, sameKind, kindOf, itemsFit}
+use Rattle.formats.specs.Items.{itemInRange, numberKind, sameKind, kindOf, itemsFit}
 use Rattle.formats.specs.Kinds.{Parts, bodyKind, commaUses, isDividing, bodyItems, lastFill, sectionOf, fits}
 use Rattle.formats.specs.Limits.{elapsedShort, sectionWithin, writtenWithin, withinLimits}
-use Rattle.formats.specs.WellFormed.{itemInRange, conditionInRange, partsFollow, oneFill, isSettled, dividingFits, sectionFormed}
+use Rattle.formats.specs.WellFormed.{conditionInRange, partsFollow, oneFill, isSettled, dividingFits, sectionFormed}
 use Rattle.formats.proofs.TokenRanges.{tokenInRange, conditionDigits, partsPass, partsInRange}
 use Rattle.formats.proofs.FormedItems.{settling-settles, fills-one}
 use Rattle.formats.proofs.FormedKinds.{kind-of-body}

@@ -8,7 +8,7 @@ use mathlib.Core.List.{List, [], _∷_}
 use lib.Dec.{T, leb, eqb, le→leb, eqb-refl}
 use Rattle.lists.specs.Lists.{every, any, count}
 use Rattle.lists.proofs.Bools.{no, by-cases, cond-both, cond-case, and-left, and-right, and-in, T-true, true-T, every-head, every-tail, every-cons}
-use Rattle.formats.specs.Items.{Item, literal, blank, fill, place, point, percent, general, at, year, month, day, hour, minute, second, part, elapsed, half, sortOf, isFill, isPlace, isPoint, isPart, integerPlaces, Run, noRun, runOf, nearer, firstRun, meansMinutes, monthOrMinute, settledItem, settledFrom, settled}
+use Rattle.formats.specs.Items.{Item, literal, blank, fill, place, point, percent, general, at, year, month, day, hour, minute, second, part, elapsed, half, itemNumber, isFill, isPlace, isPoint, isPart, integerPlaces, Run, noRun, runOf, nearer, firstRun, meansMinutes, monthOrMinute, settledItem, settledFrom, settled}
 use Rattle.formats.specs.Kinds.{lastFill}
 use Rattle.formats.specs.WellFormed.{oneFill, settledTest, isSettled, isSeconds, partsFrom}
 use Rattle.formats.proofs.Each.{by-item}
@@ -152,8 +152,8 @@ settled-test e (i ∷ is) =
     let l = firstRun is in
     let r = nearer (runOf i) e in
     rw (first-settled r is, settled-again e l i, run-settled e l i)
-    (and-in (eqb (sortOf (settledItem e l i)) (sortOf (settledItem e l i))) (settledTest r (settledFrom r is))
-    (eqb-refl (sortOf (settledItem e l i))) (settled-test r is))
+    (and-in (eqb (itemNumber (settledItem e l i)) (itemNumber (settledItem e l i))) (settledTest r (settledFrom r is))
+    (eqb-refl (itemNumber (settledItem e l i))) (settled-test r is))
 
 pub settling-settles : (is : List Item) → T (isSettled (settled is))
 unfolding isSettled settled

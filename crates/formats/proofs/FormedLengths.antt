@@ -12,16 +12,15 @@ use Rattle.lists.proofs.Bools.{by-cases, cond-both, cond-case, and-left, and-ri
 use Rattle.lists.proofs.Counts.{every-map}
 use Rattle.values.specs.Ranges.{between}
 use Rattle.formats.specs.Tokens as token
-use Rattle.formats.specs.Tokens.{Token, Letter, letterY, letterM, letterD, letterH, letterS, runAllowed}
+use Rattle.formats.specs.Tokens.{Token, Letter, letterY, letterM, letterD, letterH, letterS, HalfDay, runAllowed}
 use Rattle.formats.specs.Items as item
-use Rattle.formats.specs.Items.{Item, Run, meansMinutes, monthOrMinute, settledItem}
+use Rattle.formats.specs.Items.{Item, isUnit, itemInRange, Run, meansMinutes, monthOrMinute, settledItem}
 use Rattle.formats.specs.Kinds.{Parts, runItem, tokenItems, sectionOf}
 use Rattle.formats.specs.Where.{implies}
 use Rattle.formats.specs.Limits.{elapsedShort}
-use Rattle.formats.specs.WellFormed.{isUnit, itemInRange}
 use Rattle.formats.proofs.TokenRanges.{tokenPasses, tokenInRange, items-pass}
 use Rattle.formats.proofs.FormedItems.{settled-cases}
-use Rattle.formats.proofs.Each.{by-token, by-letter}
+use Rattle.formats.proofs.Each.{by-token, by-letter, by-half}
 
 -- in range where it is within the limit on elapsed runs
 unfoldable pub rangedShort : Item → Bool
@@ -32,7 +31,7 @@ unfolding rangedShort elapsedShort itemInRange
 literals-ranged us t = rw (every-map rangedShort item.literal us) t
 
 run-ranged : (l : Letter) (n : ℕ) → T (runAllowed l n) → T (rangedShort (runItem l n))
-unfolding rangedShort elapsedShort itemInRange runItem runAllowed
+unfolding rangedShort elapsedShort itemInRange runItem
 run-ranged l n = by-letter (λ (k : Letter). T (runAllowed k n) → T (rangedShort (runItem k n))) (λ t. t) (λ t. t) (λ t. t) (λ t. t) (λ t. t) l
 
 one : (i : Item) → T (rangedShort i) → T (every rangedShort (i ∷ []))
@@ -46,7 +45,7 @@ token-ranged d =
     literals-ranged (λ u h. one (item.literal u) h) (λ u h. one (item.blank u) h) (λ u h. one (item.fill u) h) (λ p h. tt)
     (λ h. cond-both (λ (i : Item). T (every rangedShort (i ∷ []))) d {x = item.literal 46} {y = item.point} tt tt)
     (λ h. cond-both (λ (is : List Item). T (every rangedShort is)) d {x = item.literal 44 ∷ []} {y = []} tt tt)
-    (λ h. tt) (λ h. tt) (λ h. tt) (λ h. tt) (λ k h. tt) (λ l n h. one (runItem l n) (run-ranged l n h))
+    (λ h. tt) (λ h. tt) (λ h. tt) (λ h. tt) (λ k h. by-half (λ (x : HalfDay). T (every rangedShort (item.half x ∷ []))) tt tt k) (λ l n h. one (runItem l n) (run-ranged l n h))
     (λ e n h. one (item.elapsed e n) (implies-in (leb n 9) (leb 1 n && leb n 9) (λ s. and-in (leb 1 n) (leb n 9) h (true-T s))))
     (λ n h. tt) (λ w h. tt)
 
@@ -57,7 +56,7 @@ part-ranged (suc n) h e = and-in (leb 1 (suc n)) (leb (suc n) 3) (le→leb 1 (su
 
 -- a run of m of 1 to 5 is minutes only where it is one of 1 or 2
 month-ranged : (b : Bool) (n : ℕ) → T (between 1 5 n) → T (rangedShort (monthOrMinute b n))
-unfolding rangedShort elapsedShort itemInRange monthOrMinute
+unfolding rangedShort elapsedShort itemInRange monthOrMinute runAllowed
 month-ranged b n t =
     cond-case (λ (i : Item). T (rangedShort i)) (b && leb n 2)
     (λ h. and-in (leb 1 n) (leb n 2) (and-left (leb 1 n) (leb n 5) t) (and-right b (leb n 2) (true-T h)))
@@ -69,7 +68,7 @@ minute-month n t =
     and-in (leb 1 n) (leb n 5) (and-left (leb 1 n) (leb n 2) t) (le→leb n 5 (omega arith))
 
 item-settled : (e l : Run) (i : Item) → T (rangedShort i) → T (rangedShort (settledItem e l i))
-unfolding rangedShort elapsedShort itemInRange
+unfolding rangedShort elapsedShort itemInRange runAllowed
 item-settled e l = settled-cases (λ (i : Item) (g : Run → Run → Item). T (rangedShort i) → T (rangedShort (g e l)))
     (λ n t. month-ranged (meansMinutes e l) n t) (λ n t. month-ranged (meansMinutes e l) n (minute-month n t)) (λ i t. t)
 

@@ -7,9 +7,9 @@ use mathlib.Core.List.{List, [], _∷_, _++_, map}
 use lib.Dec.{T, eqb}
 use Rattle.lists.proofs.Bools.{by-cases, cond-both, T-true, true-T, implied, implies-in}
 use Rattle.formats.specs.Tokens as token
-use Rattle.formats.specs.Tokens.{Token, Letter, letterY, letterM, letterD, letterH, letterS}
+use Rattle.formats.specs.Tokens.{Token, Letter, letterY, letterM, letterD, letterH, letterS, elapsedIndex}
 use Rattle.formats.specs.Items as item
-use Rattle.formats.specs.Items.{Item, dateKind, sameKind, settled, noRun, isSecondsElapsed}
+use Rattle.formats.specs.Items.{Item, dateKind, sameKind, settled, noRun}
 use Rattle.formats.specs.Kinds.{bodyKind, isPoint, partZeros, isSecondsLetter, isSecondsToken, piecesFrom, runItem, tokenItems, pieceItems, plainItems, dateItems, bodyItems, lastFill}
 use Rattle.formats.specs.Where.{implies}
 use Rattle.formats.specs.WellFormed.{isSeconds, partsFrom, partsFollow}
@@ -49,7 +49,7 @@ token-follows d t is c =
     by-token (λ (t : Token). Follow (isSecondsToken t) is → T (partsFrom c (tokenItems d t ++ is)))
     (λ us f. literals-follow us is c f) (λ u f. f false tt) (λ u f. f false tt) (λ u f. f false tt) (λ p f. f false tt)
     (point-follows d is c) (comma-follows d is c) (λ f. f false tt) (λ f. f false tt) (λ f. f c tt) (λ f. f false tt) (λ h f. f false tt)
-    (λ l n f. run-follows l n is c f) (λ e n f. f (isSecondsElapsed e) (implies-in (isSecondsElapsed e) (isSecondsElapsed e) true-T))
+    (λ l n f. run-follows l n is c f) (λ e n f. f (eqb (elapsedIndex e) 2) (implies-in (eqb (elapsedIndex e) 2) (eqb (elapsedIndex e) 2) true-T))
     (λ n f. f c tt) (λ w f. f c tt) t
 
 plain-follow : (ts : List Token) (c : Bool) → T (partsFrom c (plainItems ts))

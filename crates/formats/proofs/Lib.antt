@@ -3,6 +3,7 @@ pub mod Cases
 pub mod TokenRanges
 pub mod ItemCount
 pub mod Each
+pub mod ByNumber
 pub mod CommaUses
 pub mod FormedItems
 pub mod FormedPieces

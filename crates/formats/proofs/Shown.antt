@@ -22,9 +22,9 @@ use Rattle.figures.specs.General.{generalDecimals, generalRounded, generalTooWi
 use Rattle.figures.proofs.Tens.{ten-pos}
 use Rattle.figures.proofs.Rounding.{half-unit, scaled-powered, scaled-small, rounded-small}
 use Rattle.calendar.specs.Names.{units}
-use Rattle.formats.specs.Items.{Item, literal, blank, fill, place, point, percent, general, at, year, month, day, hour, minute, second, part, elapsed, half, Section, Kind, textKind, generalKind, dateKind, numberKind, literalKind, kindIndex, sameKind, kindOf, itemBelongs, itemAllowed, isPoint, isPercent, itemsFit, integerPlaces, decimalPlaces}
+use Rattle.formats.specs.Items.{Item, isUnit, literal, blank, fill, place, point, percent, general, at, year, month, day, hour, minute, second, part, elapsed, half, Section, Kind, textKind, generalKind, dateKind, numberKind, literalKind, kindIndex, sameKind, kindOf, itemAllowed, isPoint, isPercent, itemsFit, integerPlaces, decimalPlaces}
 use Rattle.formats.specs.Limits.{sectionWithin}
-use Rattle.formats.specs.WellFormed.{isUnit, sectionFormed, wellFormed}
+use Rattle.formats.specs.WellFormed.{sectionFormed, wellFormed}
 use Rattle.formats.specs.Choice.{Exact, numberExact, zeroExact, lessThan, counted, Reason, Choice, nothing, chosen, choose}
 use Rattle.formats.specs.Minus.{Sign, minus, notNegative, noItem, forNegatives, nought, isOwn, firstHasCondition, exceptionA, signFor, signUnits}
 use Rattle.formats.specs.Text.{placeUnits, pointUnits, itemUnits, digitAfter, sectionUnits}
@@ -146,7 +146,7 @@ module _ (ss : List Section) (i : ℕ) (s : Section) (why : Reason) (x : Number)
   dated a = absurd (no-date (kindOf s) takes a)
 
   piece : (q : ℕ) (j : Item) → T (itemAllowed (kindOf s) j) → PieceOf x added j (itemUnits (numberContext s x) q j)
-  unfolding itemAllowed itemBelongs itemUnits pointUnits units numberContext showsGeneral
+  unfolding itemAllowed itemUnits pointUnits units numberContext showsGeneral
   piece q =
       by-item (λ (j : Item). T (itemAllowed (kindOf s) j) → PieceOf x added j (itemUnits (numberContext s x) q j))
       (λ u a. ofLiteral u) (λ u a. ofBlank u) (λ u a. ofFill u)

@@ -14,9 +14,8 @@ use Rattle.lists.proofs.Bools.{and-left, and-right, and-in, true-T, by-cases, c
 use Rattle.lists.proofs.Counts.{every-map, every-weaker}
 use Rattle.calendar.specs.Names.{units}
 use Rattle.formats.specs.Tokens.{Letter, Elapsed, hours, minutes, seconds, Comparison, equal, less, greater, atMost, atLeast, unequal, Written, Token, literal, bare, blank, fill, place, point, comma, percent, at, semicolon, general, half, run, elapsed, colour, condition, Step, read, broken, before, leading, startsWith, same, quoted, marked, generalWord, halfDayWord, runAllowed, runStep, isDigit, digitOf, numberFrom, colourNames, namedFrom, noLeadingZero, colourDigits, numbered, elapsedInside, decimalsOf, wholeOf, signedOf, conditionInside, firstForm, insideOf, closed, bracketed, First, quote, backslash, underscore, asterisk, openBracket, capitalG, capitalA, other, letter, single, FirstRow, firstRows, firstIn, bareLiterals, stepBy, stepAt, Placed, Lexed, good, bad, onto, afterStep, lexFrom, lex}
-use Rattle.formats.specs.Items.{Item, part, dateKind, sameKind, Run, noRun, runOf, nearer, firstRun, settledItem, settledFrom, settled}
+use Rattle.formats.specs.Items.{Item, isUnit, part, dateKind, sameKind, Run, noRun, runOf, nearer, firstRun, settledItem, settledFrom, settled}
 use Rattle.formats.specs.Kinds.{isSemicolon, isColour, isCondition, Parts, colourIn, conditionIn, afterColour, partsOf, bodyKind, isSecondsToken, partZeros, piecesFrom, tokenItems, pieceItems, plainItems, dateItems, bodyItems, lastFill, sectionOf}
-use Rattle.formats.specs.WellFormed.{isUnit}
 use Rattle.formats.specs.Accept.{placedOf, tokensOf, joined, split, partsIn}
 use Rattle.formats.proofs.FormedItems.{every-lastFill}
 use Rattle.formats.proofs.FormedPieces.{zeros-most}

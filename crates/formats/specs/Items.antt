@@ -4,9 +4,10 @@ use Prim.Native.Nat.{ℕ, zero, suc, _+_}
 use mathlib.Core.Bool.{Bool, true, false, cond, not, _&&_, _||_}
 use mathlib.Core.List.{List, [], _∷_, map}
 use mathlib.Core.Option.{Option, none, some}
-use lib.Dec.{leb, eqb}
+use lib.Dec.{leb, ltb, eqb}
+use Rattle.values.specs.Ranges.{between}
 use Rattle.lists.specs.Lists.{every, any, count}
-use Rattle.formats.specs.Tokens.{Place, Elapsed, hours, minutes, seconds, HalfDay, Comparison}
+use Rattle.formats.specs.Tokens.{Place, placeIndex, Elapsed, hours, minutes, seconds, elapsedIndex, HalfDay, halfIndex, Comparison, letterY, letterM, letterD, letterH, letterS, runAllowed}
 
 -- a date or time item has the length of its run
 pub data Item : Type 0 where
@@ -45,148 +46,148 @@ kindIndex literalKind = 4
 abbrev pub sameKind : Kind → Kind → Bool
 sameKind j k = eqb (kindIndex j) (kindIndex k)
 
--- the kind of a body from what its parts make of it, `literalKind` where a part makes nothing of it: "with an `@` [..]
--- text; with `General`, General; with a date token, date-time; with a place, number; with literals [..] only or empty, literal" (R30)
-unfoldable pub kindFrom : List Kind → Kind
-kindFrom ks =
-    cond (any (sameKind textKind) ks) textKind
-    (cond (any (sameKind generalKind) ks) generalKind
-    (cond (any (sameKind dateKind) ks) dateKind
-    (cond (any (sameKind numberKind) ks) numberKind literalKind)))
+-- the runs that the rule for m looks at
+pub data Run : Type 0 where
+  hourRun secondRun otherRun noRun : Run
 
--- what an item makes of its body
-unfoldable pub itemMakes : Item → Kind
-itemMakes (literal u) = literalKind
-itemMakes (blank u) = literalKind
-itemMakes (fill u) = literalKind
-itemMakes (place p) = numberKind
-itemMakes point = literalKind
-itemMakes percent = literalKind
-itemMakes general = generalKind
-itemMakes at = textKind
-itemMakes (year n) = dateKind
-itemMakes (month n) = dateKind
-itemMakes (day n) = dateKind
-itemMakes (hour n) = dateKind
-itemMakes (minute n) = dateKind
-itemMakes (second n) = dateKind
-itemMakes (part n) = literalKind
-itemMakes (elapsed e n) = dateKind
-itemMakes (half h) = literalKind
+unfoldable pub runOfElapsed : Elapsed → Run
+runOfElapsed hours = hourRun
+runOfElapsed minutes = otherRun
+runOfElapsed seconds = secondRun
+
+-- "A unit may be any number to 65,535." (R1)
+abbrev pub isUnit : ℕ → Bool
+isUnit u = ltb u 65536
+
+-- what is to be known of an item beside its text
+pub record ItemRow : Type 0 where
+  -- document 01's number of the item, by which items are told apart: the first of them where it has three
+  pub number : ℕ
+  -- which of its numbers it has, counted from the first
+  pub variant : ℕ
+  -- its unit, the length of its run, or 1 or 2 for the half-day marks; 0 where it has none
+  pub argument : ℕ
+  pub takes : ℕ → Bool
+  -- the kind that it makes of its body
+  pub makes : Option Kind
+  -- the kinds whose bodies may hold it
+  pub heldBy : Kind → Bool
+  pub run : Run
+
+abbrev row : ℕ → ℕ → ℕ → (ℕ → Bool) → Option Kind → (Kind → Bool) → Run → ItemRow
+row n v a t m h r = record { number = n; variant = v; argument = a; takes = t; makes = m; heldBy = h; run = r }
+
+abbrev nothing : ℕ → Bool
+nothing a = eqb a 0
+
+abbrev anyKind : Kind → Bool
+anyKind k = true
+
+-- the items: "1 literal, 2 blank, 3 fill (each with its unit); 4, 5, 6 places `0 # ?`; 7 point, 8 percent, 9 General, 10 at; 11 year,
+-- 12 month, 13 day, 14 hour, 15 minute, 16 second, 17 part of a second, 18 to 20 elapsed h, m, s (run length); 21 half-day (1 A/P,
+-- 2 AM/PM)". Runs have the lengths that their tokens may have; "literals, blanks and fills anywhere". (R31, R94, R97)
+abbrev pub itemRow : Item → ItemRow
+itemRow (literal u) = row 1 0 u isUnit none anyKind noRun
+itemRow (blank u) = row 2 0 u isUnit none anyKind noRun
+itemRow (fill u) = row 3 0 u isUnit none anyKind noRun
+itemRow (place p) = row 4 (placeIndex p) 0 nothing (some numberKind) (sameKind numberKind) noRun
+itemRow point = row 7 0 0 nothing none (sameKind numberKind) noRun
+itemRow percent = row 8 0 0 nothing none (sameKind numberKind) noRun
+itemRow general = row 9 0 0 nothing (some generalKind) (sameKind generalKind) noRun
+itemRow at = row 10 0 0 nothing (some textKind) (sameKind textKind) noRun
+itemRow (year n) = row 11 0 n (runAllowed letterY) (some dateKind) (sameKind dateKind) otherRun
+itemRow (month n) = row 12 0 n (runAllowed letterM) (some dateKind) (sameKind dateKind) otherRun
+itemRow (day n) = row 13 0 n (runAllowed letterD) (some dateKind) (sameKind dateKind) otherRun
+itemRow (hour n) = row 14 0 n (runAllowed letterH) (some dateKind) (sameKind dateKind) hourRun
+itemRow (minute n) = row 15 0 n (between 1 2) (some dateKind) (sameKind dateKind) otherRun
+itemRow (second n) = row 16 0 n (runAllowed letterS) (some dateKind) (sameKind dateKind) secondRun
+itemRow (part n) = row 17 0 n (between 1 3) none (sameKind dateKind) noRun
+itemRow (elapsed e n) = row 18 (elapsedIndex e) n (between 1 9) (some dateKind) (sameKind dateKind) (runOfElapsed e)
+itemRow (half h) = row 21 0 (suc (halfIndex h)) (between 1 2) none (sameKind dateKind) noRun
+
+abbrev pub itemNumber : Item → ℕ
+itemNumber i = itemRow i .number
+
+abbrev pub isFill : Item → Bool
+isFill i = eqb (itemNumber i) 3
+
+abbrev pub isPlace : Item → Bool
+isPlace i = eqb (itemNumber i) 4
+
+abbrev pub isPoint : Item → Bool
+isPoint i = eqb (itemNumber i) 7
+
+abbrev pub isPercent : Item → Bool
+isPercent i = eqb (itemNumber i) 8
+
+abbrev pub isGeneral : Item → Bool
+isGeneral i = eqb (itemNumber i) 9
+
+abbrev pub isMonth : Item → Bool
+isMonth i = eqb (itemNumber i) 12
+
+abbrev pub isHour : Item → Bool
+isHour i = eqb (itemNumber i) 14
+
+abbrev pub isMinute : Item → Bool
+isMinute i = eqb (itemNumber i) 15
+
+abbrev pub isSecond : Item → Bool
+isSecond i = eqb (itemNumber i) 16
+
+abbrev pub isPart : Item → Bool
+isPart i = eqb (itemNumber i) 17
+
+abbrev pub isElapsed : Item → Bool
+isElapsed i = eqb (itemNumber i) 18
+
+abbrev pub isHalf : Item → Bool
+isHalf i = eqb (itemNumber i) 21
+
+-- an elapsed item that counts this unit
+abbrev pub isElapsedOf : Elapsed → Item → Bool
+isElapsedOf e i = isElapsed i && eqb (itemRow i .variant) (elapsedIndex e)
+
+-- "every word in its range"
+unfoldable pub itemInRange : Item → Bool
+itemInRange i = itemRow i .takes (itemRow i .argument)
+
+unfoldable pub runOf : Item → Run
+runOf i = itemRow i .run
+
+abbrev pub isKind : Kind → Option Kind → Bool
+isKind k none = false
+isKind k (some j) = sameKind k j
+
+unfoldable pub itemMakes : Kind → Item → Bool
+itemMakes k i = isKind k (itemRow i .makes)
+
+-- the kind of a body, by whether a part of it makes it of a kind: "with an `@` [..] text; with `General`, General; with a date
+-- token, date-time; with a place, number; with literals [..] only or empty, literal" (R30)
+unfoldable pub kindFrom : (Kind → Bool) → Kind
+kindFrom made =
+    cond (made textKind) textKind
+    (cond (made generalKind) generalKind
+    (cond (made dateKind) dateKind
+    (cond (made numberKind) numberKind literalKind)))
 
 unfoldable pub itemsKind : List Item → Kind
-itemsKind is = kindFrom (map itemMakes is)
+itemsKind is = kindFrom (λ (k : Kind). any (itemMakes k) is)
 
 unfoldable pub kindOf : Section → Kind
 kindOf s = itemsKind (s .items)
 
--- the kind that may hold an item; `literalKind` for what may stand anywhere
-unfoldable pub itemBelongs : Item → Kind
-itemBelongs (literal u) = literalKind
-itemBelongs (blank u) = literalKind
-itemBelongs (fill u) = literalKind
-itemBelongs (place p) = numberKind
-itemBelongs point = numberKind
-itemBelongs percent = numberKind
-itemBelongs general = generalKind
-itemBelongs at = textKind
-itemBelongs (year n) = dateKind
-itemBelongs (month n) = dateKind
-itemBelongs (day n) = dateKind
-itemBelongs (hour n) = dateKind
-itemBelongs (minute n) = dateKind
-itemBelongs (second n) = dateKind
-itemBelongs (part n) = dateKind
-itemBelongs (elapsed e n) = dateKind
-itemBelongs (half h) = dateKind
-
 -- "A body holds only what is named here for its kind, with literals, blanks and fills anywhere." (R31, R32)
 unfoldable pub itemAllowed : Kind → Item → Bool
-itemAllowed k i = sameKind (itemBelongs i) literalKind || sameKind (itemBelongs i) k
+itemAllowed k i = itemRow i .heldBy k
 
--- a number for each sort of item, to count them by
-abbrev pub sortOf : Item → ℕ
-sortOf (literal u) = 0
-sortOf (blank u) = 1
-sortOf (fill u) = 2
-sortOf (place p) = 3
-sortOf point = 4
-sortOf percent = 5
-sortOf general = 6
-sortOf at = 7
-sortOf (year n) = 8
-sortOf (month n) = 9
-sortOf (day n) = 10
-sortOf (hour n) = 11
-sortOf (minute n) = 12
-sortOf (second n) = 13
-sortOf (part n) = 14
-sortOf (elapsed e n) = 15
-sortOf (half h) = 16
-
-abbrev pub isFill : Item → Bool
-isFill i = eqb (sortOf i) 2
-
-abbrev pub isPlace : Item → Bool
-isPlace i = eqb (sortOf i) 3
-
-abbrev pub isPoint : Item → Bool
-isPoint i = eqb (sortOf i) 4
-
-abbrev pub isPercent : Item → Bool
-isPercent i = eqb (sortOf i) 5
-
-abbrev pub isGeneral : Item → Bool
-isGeneral i = eqb (sortOf i) 6
-
-abbrev pub isHour : Item → Bool
-isHour i = eqb (sortOf i) 11
-
-abbrev pub isMinute : Item → Bool
-isMinute i = eqb (sortOf i) 12
-
-abbrev pub isSecond : Item → Bool
-isSecond i = eqb (sortOf i) 13
-
-abbrev pub isPart : Item → Bool
-isPart i = eqb (sortOf i) 14
-
-abbrev pub isElapsed : Item → Bool
-isElapsed i = eqb (sortOf i) 15
-
-abbrev pub isHalf : Item → Bool
-isHalf i = eqb (sortOf i) 16
-
-unfoldable pub isSecondsElapsed : Elapsed → Bool
-isSecondsElapsed hours = false
-isSecondsElapsed minutes = false
-isSecondsElapsed seconds = true
-
--- the plain equivalent of an elapsed item
-unfoldable pub isPlain : Elapsed → Item → Bool
-isPlain hours i = isHour i
-isPlain minutes i = isMinute i
-isPlain seconds i = isSecond i
+-- the plain equivalent of the elapsed item of this variant: hour, minute, second (14 to 16) of elapsed h, m, s (18 to 20)
+abbrev pub isPlain : ℕ → Item → Bool
+isPlain variant i = eqb (itemNumber i) (14 + variant)
 
 -- an elapsed item has no plain equivalent anywhere among the items
 unfoldable pub noPlain : List Item → Item → Bool
-noPlain is (elapsed e n) = not (any (isPlain e) is)
-noPlain is (literal u) = true
-noPlain is (blank u) = true
-noPlain is (fill u) = true
-noPlain is (place p) = true
-noPlain is point = true
-noPlain is percent = true
-noPlain is general = true
-noPlain is at = true
-noPlain is (year n) = true
-noPlain is (month n) = true
-noPlain is (day n) = true
-noPlain is (hour n) = true
-noPlain is (minute n) = true
-noPlain is (second n) = true
-noPlain is (part n) = true
-noPlain is (half h) = true
+noPlain is i = not (isElapsed i && any (isPlain (itemRow i .variant)) is)
 
 -- the rules for items: what their kind may hold; "General (once"; "at most one point"; "At most one elapsed token, and not
 -- beside its plain equivalent" (R31 to R33, R41)
@@ -206,34 +207,6 @@ integerPlaces (i ∷ is) = let r = integerPlaces is in cond (isPoint i) 0 (cond 
 unfoldable pub decimalPlaces : List Item → ℕ
 decimalPlaces [] = 0
 decimalPlaces (i ∷ is) = let r = decimalPlaces is in cond (isPoint i) (count isPlace is) r
-
--- the runs that the rule for m looks at
-pub data Run : Type 0 where
-  hourRun secondRun otherRun noRun : Run
-
-unfoldable pub runOfElapsed : Elapsed → Run
-runOfElapsed hours = hourRun
-runOfElapsed minutes = otherRun
-runOfElapsed seconds = secondRun
-
-unfoldable pub runOf : Item → Run
-runOf (literal u) = noRun
-runOf (blank u) = noRun
-runOf (fill u) = noRun
-runOf (place p) = noRun
-runOf point = noRun
-runOf percent = noRun
-runOf general = noRun
-runOf at = noRun
-runOf (year n) = otherRun
-runOf (month n) = otherRun
-runOf (day n) = otherRun
-runOf (hour n) = hourRun
-runOf (minute n) = otherRun
-runOf (second n) = secondRun
-runOf (part n) = noRun
-runOf (elapsed e n) = runOfElapsed e
-runOf (half h) = noRun
 
 -- the first of two that is a run
 unfoldable pub nearer : Run → Run → Run
@@ -259,23 +232,7 @@ monthOrMinute isMinutes n = cond (isMinutes && leb n 2) (minute n) (month n)
 
 -- an item by the rule for m, between its nearest earlier and its nearest later run
 unfoldable pub settledItem : Run → Run → Item → Item
-settledItem earlier later (month n) = monthOrMinute (meansMinutes earlier later) n
-settledItem earlier later (minute n) = monthOrMinute (meansMinutes earlier later) n
-settledItem earlier later (literal u) = literal u
-settledItem earlier later (blank u) = blank u
-settledItem earlier later (fill u) = fill u
-settledItem earlier later (place p) = place p
-settledItem earlier later point = point
-settledItem earlier later percent = percent
-settledItem earlier later general = general
-settledItem earlier later at = at
-settledItem earlier later (year n) = year n
-settledItem earlier later (day n) = day n
-settledItem earlier later (hour n) = hour n
-settledItem earlier later (second n) = second n
-settledItem earlier later (part n) = part n
-settledItem earlier later (elapsed e n) = elapsed e n
-settledItem earlier later (half h) = half h
+settledItem earlier later i = cond (isMonth i || isMinute i) (monthOrMinute (meansMinutes earlier later) (itemRow i .argument)) i
 
 unfoldable pub settledFrom : Run → List Item → List Item
 settledFrom earlier [] = []

@@ -8,9 +8,9 @@ use lib.ListN.{length}
 use lib.Dec.{eqb}
 use Rattle.lists.specs.Lists.{every, any, count}
 use Rattle.formats.specs.Tokens as token
-use Rattle.formats.specs.Tokens.{Token, Place, zeroPlace, hashPlace, spacePlace, Letter, letterY, letterM, letterD, letterH, letterS, Written, numberFrom}
+use Rattle.formats.specs.Tokens.{Token, Place, zeroPlace, hashPlace, spacePlace, Letter, letterY, letterM, letterD, letterH, letterS, elapsedIndex, Written, numberFrom}
 use Rattle.formats.specs.Items as item
-use Rattle.formats.specs.Items.{Item, Condition, Section, Kind, literalKind, generalKind, numberKind, textKind, dateKind, sameKind, kindFrom, isFill, itemsFit, settled, isSecondsElapsed}
+use Rattle.formats.specs.Items.{Item, Condition, Section, Kind, generalKind, numberKind, textKind, dateKind, sameKind, isKind, kindFrom, isFill, itemsFit, settled}
 
 -- a number for each form of token, to tell them by
 abbrev pub formOf : Token → ℕ
@@ -105,26 +105,29 @@ partsOf [] = afterColour 0 []
 partsOf (t ∷ ts) = cond (isColour t) (afterColour (colourIn t) ts) (afterColour 0 (t ∷ ts))
 
 -- what a token makes of its body (R30); a half-day mark is no date token
-unfoldable pub tokenMakes : Token → Kind
-tokenMakes (token.literal us) = literalKind
-tokenMakes (token.bare u) = literalKind
-tokenMakes (token.blank u) = literalKind
-tokenMakes (token.fill u) = literalKind
-tokenMakes (token.place p) = numberKind
-tokenMakes token.point = literalKind
-tokenMakes token.comma = literalKind
-tokenMakes token.percent = literalKind
-tokenMakes token.at = textKind
-tokenMakes token.semicolon = literalKind
-tokenMakes token.general = generalKind
-tokenMakes (token.half h) = literalKind
-tokenMakes (token.run l n) = dateKind
-tokenMakes (token.elapsed e n) = dateKind
-tokenMakes (token.colour n) = literalKind
-tokenMakes (token.condition w) = literalKind
+abbrev pub tokenKind : Token → Option Kind
+tokenKind (token.literal us) = none
+tokenKind (token.bare u) = none
+tokenKind (token.blank u) = none
+tokenKind (token.fill u) = none
+tokenKind (token.place p) = some numberKind
+tokenKind token.point = none
+tokenKind token.comma = none
+tokenKind token.percent = none
+tokenKind token.at = some textKind
+tokenKind token.semicolon = none
+tokenKind token.general = some generalKind
+tokenKind (token.half h) = none
+tokenKind (token.run l n) = some dateKind
+tokenKind (token.elapsed e n) = some dateKind
+tokenKind (token.colour n) = none
+tokenKind (token.condition w) = none
+
+unfoldable pub tokenMakes : Kind → Token → Bool
+tokenMakes k t = isKind k (tokenKind t)
 
 unfoldable pub bodyKind : List Token → Kind
-bodyKind ts = kindFrom (map tokenMakes ts)
+bodyKind ts = kindFrom (λ (k : Kind). any (tokenMakes k) ts)
 
 -- Number: "A comma with integer places on both sides of it asks for grouping. Commas between the last integer place and the
 -- point or end, or after the last place of all, each divide by 1,000. Any other comma is 4." (R34 to R36)
@@ -225,7 +228,7 @@ isSecondsLetter letterS = true
 
 unfoldable pub isSecondsToken : Token → Bool
 isSecondsToken (token.run l n) = isSecondsLetter l
-isSecondsToken (token.elapsed e n) = isSecondsElapsed e
+isSecondsToken (token.elapsed e n) = eqb (elapsedIndex e) 2
 isSecondsToken (token.literal us) = false
 isSecondsToken (token.bare u) = false
 isSecondsToken (token.blank u) = false

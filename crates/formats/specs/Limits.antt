@@ -2,34 +2,18 @@
 -- 6 after the point, elapsed runs of 9."
 -- Assumes nothing.
 use Prim.Native.Nat.{ℕ}
-use mathlib.Core.Bool.{Bool, true, _&&_}
+use mathlib.Core.Bool.{Bool, true, not, _&&_, _||_}
 use mathlib.Core.List.{List}
 use mathlib.Core.Option.{Option, none, some}
 use lib.ListN.{length}
 use lib.Dec.{leb}
 use Rattle.lists.specs.Lists.{every, count}
-use Rattle.formats.specs.Tokens.{Written, Elapsed}
-use Rattle.formats.specs.Items.{Item, literal, blank, fill, place, point, percent, general, at, year, month, day, hour, minute, second, part, elapsed, half, Section, isPercent, integerPlaces, decimalPlaces}
+use Rattle.formats.specs.Tokens.{Written}
+use Rattle.formats.specs.Items.{Item, itemRow, Section, isPercent, isElapsed, integerPlaces, decimalPlaces}
 use Rattle.formats.specs.Kinds.{Parts, sectionOf}
 
 unfoldable pub elapsedShort : Item → Bool
-elapsedShort (elapsed e n) = leb n 9
-elapsedShort (literal u) = true
-elapsedShort (blank u) = true
-elapsedShort (fill u) = true
-elapsedShort (place p) = true
-elapsedShort point = true
-elapsedShort percent = true
-elapsedShort general = true
-elapsedShort at = true
-elapsedShort (year n) = true
-elapsedShort (month n) = true
-elapsedShort (day n) = true
-elapsedShort (hour n) = true
-elapsedShort (minute n) = true
-elapsedShort (second n) = true
-elapsedShort (part n) = true
-elapsedShort (half h) = true
+elapsedShort i = not (isElapsed i) || leb (itemRow i .argument) 9
 
 -- the limits on a section, whether a code or a table gives it (R51, R53)
 unfoldable pub sectionWithin : Section → Bool

@@ -15,6 +15,11 @@ use Rattle.calendar.specs.Names.{units}
 pub data Place : Type 0 where
   zeroPlace hashPlace spacePlace : Place
 
+abbrev pub placeIndex : Place → ℕ
+placeIndex zeroPlace = 0
+placeIndex hashPlace = 1
+placeIndex spacePlace = 2
+
 -- the letter of a date or time run
 pub data Letter : Type 0 where
   letterY letterM letterD letterH letterS : Letter
@@ -23,9 +28,18 @@ pub data Letter : Type 0 where
 pub data Elapsed : Type 0 where
   hours minutes seconds : Elapsed
 
+abbrev pub elapsedIndex : Elapsed → ℕ
+elapsedIndex hours = 0
+elapsedIndex minutes = 1
+elapsedIndex seconds = 2
+
 -- the half-day marks `A/P` and `AM/PM`
 pub data HalfDay : Type 0 where
   short long : HalfDay
+
+abbrev pub halfIndex : HalfDay → ℕ
+halfIndex short = 0
+halfIndex long = 1
 
 -- `= < > <= >= <>`
 pub data Comparison : Type 0 where

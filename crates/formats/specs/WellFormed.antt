@@ -9,33 +9,10 @@ use lib.ListN.{length}
 use lib.Dec.{leb, ltb, eqb}
 use Rattle.values.specs.Ranges.{between}
 use Rattle.lists.specs.Lists.{every, count, firstFailing, isSome}
-use Rattle.formats.specs.Items.{Item, literal, blank, fill, place, point, percent, general, at, year, month, day, hour, minute, second, part, elapsed, half, Condition, Section, Kind, numberKind, sameKind, kindOf, sortOf, isFill, isPart, itemsFit, integerPlaces, Run, noRun, runOf, nearer, firstRun, settledItem, isSecondsElapsed}
+use Rattle.formats.specs.Tokens.{seconds}
+use Rattle.formats.specs.Items.{Item, Condition, Section, Kind, numberKind, sameKind, kindOf, itemNumber, isFill, isSecond, isPart, isElapsedOf, itemInRange, itemsFit, integerPlaces, Run, noRun, runOf, nearer, firstRun, settledItem}
 use Rattle.formats.specs.Where.{implies, standsAt}
 use Rattle.formats.specs.Limits.{sectionWithin}
-
--- "A unit may be any number to 65,535." (R1)
-abbrev pub isUnit : ℕ → Bool
-isUnit u = ltb u 65536
-
--- a literal's, blank's or fill's unit is a unit; runs have the lengths that their tokens may have
-unfoldable pub itemInRange : Item → Bool
-itemInRange (literal u) = isUnit u
-itemInRange (blank u) = isUnit u
-itemInRange (fill u) = isUnit u
-itemInRange (place p) = true
-itemInRange point = true
-itemInRange percent = true
-itemInRange general = true
-itemInRange at = true
-itemInRange (year n) = eqb n 2 || eqb n 4
-itemInRange (month n) = between 1 5 n
-itemInRange (day n) = between 1 4 n
-itemInRange (hour n) = between 1 2 n
-itemInRange (minute n) = between 1 2 n
-itemInRange (second n) = between 1 2 n
-itemInRange (part n) = between 1 3 n
-itemInRange (elapsed e n) = between 1 9 n
-itemInRange (half h) = true
 
 -- a whole part to 999,999,999 and six decimals; the sign is false at zero
 unfoldable pub conditionInRange : Option Condition → Bool
@@ -48,23 +25,7 @@ oneFill is = leb (count isFill is) 1
 
 -- seconds, elapsed or not
 unfoldable pub isSeconds : Item → Bool
-isSeconds (second n) = true
-isSeconds (elapsed e n) = isSecondsElapsed e
-isSeconds (literal u) = false
-isSeconds (blank u) = false
-isSeconds (fill u) = false
-isSeconds (place p) = false
-isSeconds point = false
-isSeconds percent = false
-isSeconds general = false
-isSeconds at = false
-isSeconds (year n) = false
-isSeconds (month n) = false
-isSeconds (day n) = false
-isSeconds (hour n) = false
-isSeconds (minute n) = false
-isSeconds (part n) = false
-isSeconds (half h) = false
+isSeconds i = isSecond i || isElapsedOf seconds i
 
 -- a part of a second stands directly behind seconds (R99); behindSeconds: the item just before is seconds
 unfoldable pub partsFrom : Bool → List Item → Bool
@@ -74,12 +35,12 @@ partsFrom behindSeconds (i ∷ is) = let r = partsFrom (isSeconds i) is in impli
 unfoldable pub partsFollow : List Item → Bool
 partsFollow is = partsFrom false is
 
--- every m run of 1 or 2 is a month or minutes as the rule for m says (R103): the rule changes no item's sort
+-- every m run of 1 or 2 is a month or minutes as the rule for m says (R103): the rule changes no item's number
 unfoldable pub settledTest : Run → List Item → Bool
 settledTest earlier [] = true
 settledTest earlier (i ∷ is) =
     let r = settledTest (nearer (runOf i) earlier) is in
-    eqb (sortOf (settledItem earlier (firstRun is) i)) (sortOf i) && r
+    eqb (itemNumber (settledItem earlier (firstRun is) i)) (itemNumber i) && r
 
 unfoldable pub isSettled : List Item → Bool
 isSettled is = settledTest noRun is

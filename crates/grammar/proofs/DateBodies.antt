@@ -12,7 +12,7 @@ use Rattle.lists.proofs.Bools.{no, and-parts, by-cases}
 use Rattle.lists.proofs.Counts.{any-map}
 use Rattle.formats.specs.Tokens.{Token, fill, run, elapsed, letterY, letterM, letterD, letterH, letterS, Elapsed, hours, minutes, seconds}
 use Rattle.formats.specs.Items as item
-use Rattle.formats.specs.Items.{Item, Kind, textKind, generalKind, dateKind, sameKind, itemAllowed, isFill, isElapsed, Run, noRun, runOf, nearer, firstRun, settledItem, settledFrom, settled, isSecondsElapsed}
+use Rattle.formats.specs.Items.{Item, Kind, textKind, generalKind, dateKind, sameKind, itemAllowed, isFill, isElapsed, Run, noRun, runOf, nearer, firstRun, settledItem, settledFrom, settled}
 use Rattle.formats.specs.Kinds.{isPlace, isPoint, noBracket, tokenMakes, bodyKind, isSolidus, startsWithPlace, solidusFrom, solidusFits, commasFit, isSecondsLetter, isSecondsToken, runItem, tokenItems, piecesFrom, dateItems, bodyItems, lastFill}
 use Rattle.formats.proofs.FormedItems.{dropped, fills-kept}
 use Rattle.grammar.specs.Bodies.{Behind, behindOther, NFAbsTimeToken, NFPartAbsHour, NFPartAbsSecond, NFPartAbsMinute, NFDateTimeToken, NFPartYear, NFPartMonth, NFPartMonth-long, NFPartDay, NFPartHour, NFPartMinute, NFPartSecond, absolute, NFPartSubSecond, tenths, hundredths, thousandths, Between, DateTimeRest, rest-end, rest-token, rest-sub-second, rest-between, DateTimeFrom, from-token, from-between, isAbsolute, NFDateTime}
@@ -65,14 +65,14 @@ rest-facts (rest-between {t = t} {ts = ts} x r) =
 tokens-body : (ts : List Token) → every dateToken ts ≡ true → every inBody ts ≡ true
 tokens-body ts e = every-all dateToken inBody (λ t d. (and-parts (inBody t) _ d) .0) ts e
 
-tokens-none : (k : Kind) → ((t : Token) → dateToken t ≡ true → sameKind k (tokenMakes t) ≡ false) → (ts : List Token) → every dateToken ts ≡ true → has k ts ≡ false
-tokens-none k f ts e = any-map (sameKind k) tokenMakes ts ∙ every-none dateToken (λ (t : Token). sameKind k (tokenMakes t)) f ts e
+tokens-none : (k : Kind) → ((t : Token) → dateToken t ≡ true → tokenMakes k t ≡ false) → (ts : List Token) → every dateToken ts ≡ true → has k ts ≡ false
+tokens-none k f ts e = every-none dateToken (tokenMakes k) f ts e
 
-token-other : (t : Token) → dateToken t ≡ true → (sameKind textKind (tokenMakes t) ≡ false) × (sameKind generalKind (tokenMakes t) ≡ false)
+token-other : (t : Token) → dateToken t ≡ true → (tokenMakes textKind t ≡ false) × (tokenMakes generalKind t ≡ false)
 token-other t d =
     let others = (and-parts (inBody t) _ d) .1 in
-    let (a, b) = and-parts (not (sameKind textKind (tokenMakes t))) (not (sameKind generalKind (tokenMakes t))) others in
-    (not-true (sameKind textKind (tokenMakes t)) a, not-true (sameKind generalKind (tokenMakes t)) b)
+    let (a, b) = and-parts (not (tokenMakes textKind t)) (not (tokenMakes generalKind t)) others in
+    (not-true (tokenMakes textKind t) a, not-true (tokenMakes generalKind t) b)
 
 -- ---- elapsed items and absolute tokens
 
@@ -86,7 +86,7 @@ Alike b ts = count isElapsed (dateItems (piecesFrom (direct b) 0 ts)) ≡ count 
 
 absolute-elapsed : {x : Elapsed} {t : Token} {c : Behind} (abs : Option Elapsed) (d : Bool) (ts : List Token) → NFAbsTimeToken x t c → Alike c ts
     → count isElapsed (dateItems (piecesFrom d 0 (t ∷ ts))) ≡ count isAbsolute (t ∷ ts)
-unfolding count tokenItems isSecondsToken isSecondsElapsed
+unfolding count tokenItems isSecondsToken
 absolute-elapsed abs d ts (NFPartAbsHour {n = n} h) e = rw (whole-items abs d (elapsed hours n) ts refl) (ap suc e)
 absolute-elapsed abs d ts (NFPartAbsSecond {n = n} h) e = rw (whole-items abs d (elapsed seconds n) ts refl) (ap suc e)
 absolute-elapsed abs d ts (NFPartAbsMinute {n = n} h) e = rw (whole-items abs d (elapsed minutes n) ts refl) (ap suc e)
@@ -170,7 +170,7 @@ date-of ts s h f c =
     let items = date-body ts h in
     let dated : Dated (c .abs) noRun (dateItems (piecesFrom false 0 ts)) = rw items at (sym (dated-fill (c .abs) noRun (bodyItems ts)) ∙ c .each) in
     let rest : DateTimeRest (c .abs) behindOther ts = rest-of (c .abs) ts (body-tokens ts s (f .brackets)) behindOther noRun 0 (λ n k. refl) refl dated in
-    let few : count isElapsed (bodyItems ts) ≤ 1 = rw (count-kept 15 refl refl (bodyItems ts)) at (f .elapseds) in
+    let few : count isElapsed (bodyItems ts) ≤ 1 = rw (count-kept 18 refl refl (bodyItems ts)) at (f .elapseds) in
     record {
       abs = c .abs;
       tokens = from-rest rest (kind-has dateKind refl ts h);
@@ -192,10 +192,10 @@ date-fits ts d =
     let dated : every (dateItem (d .abs)) (kept ts) ≡ true = rw items (dated-fill (d .abs) noRun (dateItems (piecesFrom false 0 ts)) ∙ rest-dated (d .abs) rest noRun refl) in
     let a : every (itemAllowed dateKind) (bodyItems ts) ≡ true
     = sym (allowed-kept dateKind (bodyItems ts)) ∙ date-allowed (d .abs) (kept ts) dated in
-    let places : count item.isPlace (bodyItems ts) ≡ 0 = foreign dateKind 3 refl (bodyItems ts) a in
-    let points : count item.isPoint (bodyItems ts) ≡ 0 = foreign dateKind 4 refl (bodyItems ts) a in
-    let percents : count item.isPercent (bodyItems ts) ≡ 0 = foreign dateKind 5 refl (bodyItems ts) a in
-    let generals : count item.isGeneral (bodyItems ts) ≡ 0 = foreign dateKind 6 refl (bodyItems ts) a in
+    let places : count item.isPlace (bodyItems ts) ≡ 0 = foreign dateKind 4 refl (bodyItems ts) a in
+    let points : count item.isPoint (bodyItems ts) ≡ 0 = foreign dateKind 7 refl (bodyItems ts) a in
+    let percents : count item.isPercent (bodyItems ts) ≡ 0 = foreign dateKind 8 refl (bodyItems ts) a in
+    let generals : count item.isGeneral (bodyItems ts) ≡ 0 = foreign dateKind 9 refl (bodyItems ts) a in
     let once : count isElapsed (bodyItems ts) ≤ 1 = rw (items, rest-elapsed rest) (d .absolute-once) in (
       h,
       record {
@@ -205,7 +205,7 @@ date-fits ts d =
         allowed = rw h a;
         generals = omega arith;
         points = omega arith;
-        elapseds = rw (count-kept 15 refl refl (bodyItems ts)) once;
+        elapseds = rw (count-kept 18 refl refl (bodyItems ts)) once;
         apart = dates-apart (d .abs) (kept ts) dated;
         wholes = omega (arith, no-integers (bodyItems ts) places);
         decimals = omega (arith, no-decimals (bodyItems ts) places);

@@ -13,9 +13,9 @@ use lib.Dec.{leb, eqb}
 use borrow.Author.Tests.{eqb-true, eqb-false, leb-true, leb-false, le-leb, lt-leb}
 use Rattle.lists.specs.Lists.{every}
 use Rattle.lists.proofs.Bools.{no, and-parts, by-cases}
-use Rattle.formats.specs.Tokens.{Token, literal, bare, blank, fill, place, point, comma, percent, at, semicolon, general, half, run, elapsed, colour, condition, HalfDay, Place, zeroPlace, hashPlace, spacePlace, Letter, letterY, letterM, letterD, letterH, letterS, Elapsed, hours, minutes, seconds}
+use Rattle.formats.specs.Tokens.{Token, literal, bare, blank, fill, place, point, comma, percent, at, semicolon, general, half, run, elapsed, colour, condition, HalfDay, Place, zeroPlace, hashPlace, spacePlace, Letter, letterY, letterM, letterD, letterH, letterS, Elapsed, hours, minutes, seconds, elapsedIndex}
 use Rattle.formats.specs.Items as item
-use Rattle.formats.specs.Items.{Item, textKind, generalKind, dateKind, sameKind, Run, hourRun, secondRun, otherRun, noRun, runOf, runOfElapsed, nearer, firstRun, meansMinutes, monthOrMinute, settledItem, settledFrom, isSecondsElapsed}
+use Rattle.formats.specs.Items.{Item, textKind, generalKind, dateKind, sameKind, Run, hourRun, secondRun, otherRun, noRun, runOf, runOfElapsed, nearer, firstRun, meansMinutes, monthOrMinute, settledItem, settledFrom}
 use Rattle.formats.specs.Kinds.{isPoint, isPlace, startsWithPlace, noBracket, tokenMakes, whole, isSecondsLetter, isSecondsToken, isZeroIn, isZero, leadingZeros, partZeros, piecesFrom, runItem, tokenItems, pieceItems, dateItems}
 use Rattle.formats.proofs.FormedPieces.{zero-case}
 use Rattle.grammar.specs.Bodies.{free-string, free-repeat, free-space, free-bare, Behind, behindSeconds, behindHours, behindOther, past, NFAbsTimeToken, NFPartAbsHour, NFPartAbsSecond, NFPartAbsMinute, NFDateTimeToken, NFPartYear, NFPartMonth, NFPartMonth-long, NFPartDay, NFPartHour, NFPartMinute, NFPartSecond, absolute, NFPartSubSecond, tenths, hundredths, thousandths, Between, between-free, between-AMPM, between-comma, between-point, DateTimeRest, rest-end, rest-token, rest-sub-second, rest-between, isAbsolute}
@@ -75,10 +75,10 @@ plain-point false ts z = refl
 
 -- a token of a date's body makes it neither text nor General
 abbrev pub dateToken : Token → Bool
-dateToken t = inBody t && (not (sameKind textKind (tokenMakes t)) && not (sameKind generalKind (tokenMakes t)))
+dateToken t = inBody t && (not (tokenMakes textKind t) && not (tokenMakes generalKind t))
 
 -- a token beside a date's is no place, makes no date, is of a date's body, and is not absolute
-pub between-facts : {t : Token} → Between t → (isPlace t ≡ false) × (sameKind dateKind (tokenMakes t) ≡ false) × (dateToken t ≡ true) × (isAbsolute t ≡ false)
+pub between-facts : {t : Token} → Between t → (isPlace t ≡ false) × (tokenMakes dateKind t ≡ false) × (dateToken t ≡ true) × (isAbsolute t ≡ false)
 unfolding tokenMakes noBracket
 between-facts (between-free (free-string us)) = (refl, refl, refl, refl)
 between-facts (between-free (free-repeat u)) = (refl, refl, refl, refl)
@@ -215,9 +215,9 @@ module _ (abs : Option Elapsed) where
   unfolding dateItem
   counted-token x n g e = let (c, l) = and-parts (counts abs x) (leb n 9) e in absolute (counts-some abs x c) (g (leb-true n 9 l))
 
-  elapsed-from : (x : Elapsed) (n : ℕ) (ts : List Token) (b : Behind) (r : Run) → Dated r (item.elapsed x n ∷ dateItems (piecesFrom (isSecondsElapsed x) 0 ts)) → From ts
+  elapsed-from : (x : Elapsed) (n : ℕ) (ts : List Token) (b : Behind) (r : Run) → Dated r (item.elapsed x n ∷ dateItems (piecesFrom (eqb (elapsedIndex x) 2) 0 ts)) → From ts
       → DateTimeRest abs b (elapsed x n ∷ ts)
-  unfolding settledFrom settledItem runOf runOfElapsed nearer isSecondsElapsed
+  unfolding settledFrom settledItem runOf runOfElapsed nearer
   elapsed-from hours n ts b r e f = let (e₁, e₂) = every-parts (dateItem abs) _ _ e in step-from ts hourRun (counted-token hours n (λ h. NFPartAbsHour h) e₁) refl e₂ f
   elapsed-from minutes n ts b r e f = let (e₁, e₂) = every-parts (dateItem abs) _ _ e in step-from ts otherRun (counted-token minutes n (λ h. NFPartAbsMinute h) e₁) refl e₂ f
   elapsed-from seconds n ts b r e f = let (e₁, e₂) = every-parts (dateItem abs) _ _ e in step-from ts secondRun (counted-token seconds n (λ h. NFPartAbsSecond h) e₁) refl e₂ f
@@ -277,7 +277,7 @@ dating (absolute e (NFPartAbsHour {n = n} h)) = dating-elapsed hours n
 dating (absolute e (NFPartAbsSecond {n = n} h)) = dating-elapsed seconds n
 dating (absolute e (NFPartAbsMinute {n = n} h)) = dating-elapsed minutes n
 
-pub dating-facts : {t : Token} → Dating t → (isPlace t ≡ false) × (sameKind dateKind (tokenMakes t) ≡ true) × (dateToken t ≡ true)
+pub dating-facts : {t : Token} → Dating t → (isPlace t ≡ false) × (tokenMakes dateKind t ≡ true) × (dateToken t ≡ true)
 unfolding tokenMakes noBracket
 dating-facts (dating-run l n) = (refl, refl, refl)
 dating-facts (dating-elapsed x n) = (refl, refl, refl)
@@ -315,7 +315,7 @@ module _ (abs : Option Elapsed) where
 
   absolute-dated : {x : Elapsed} {t : Token} {c : Behind} (d : Bool) (r : Run) (ts : List Token) → abs ≡ some x → NFAbsTimeToken x t c → Follows c ts
       → Dated abs r (dateItems (piecesFrom d 0 (t ∷ ts)))
-  unfolding every settledFrom settledItem runOf runOfElapsed nearer dateItem tokenItems isSecondsToken isSecondsElapsed
+  unfolding every settledFrom settledItem runOf runOfElapsed nearer dateItem tokenItems isSecondsToken
   absolute-dated d r ts e (NFPartAbsHour {n = n} h) f =
       rw (whole-items abs d (elapsed hours n) ts refl, e, le-leb n 9 h) (rw e at (f hourRun refl))
   absolute-dated d r ts e (NFPartAbsSecond {n = n} h) f =

@@ -46,13 +46,13 @@ fitting p f w =
       commas = T-true (commasFit ts) (search (and-left, and-right) depth 10);
       solidus = T-true (solidusFits ts) (search (and-left, and-right) depth 10);
       allowed = rw (kind-of-body ts, allowed-kept (bodyKind ts) is) at (T-true (every (itemAllowed (itemsKind (kept ts))) (kept ts)) (search (and-left, and-right) depth 10));
-      generals = rw (count-kept 6 refl refl is) at (leb→le (count isGeneral (kept ts)) 1 (search (and-left, and-right) depth 10));
-      points = rw (count-kept 4 refl refl is) at (leb→le (count isPoint (kept ts)) 1 (search (and-left, and-right) depth 10));
+      generals = rw (count-kept 9 refl refl is) at (leb→le (count isGeneral (kept ts)) 1 (search (and-left, and-right) depth 10));
+      points = rw (count-kept 7 refl refl is) at (leb→le (count isPoint (kept ts)) 1 (search (and-left, and-right) depth 10));
       elapseds = leb→le (count isElapsed (kept ts)) 1 (search (and-left, and-right) depth 10);
       apart = T-true (every (noPlain (kept ts)) (kept ts)) (search (and-left, and-right) depth 10);
       wholes = rw (integers-kept is) at (leb→le (integerPlaces (kept ts)) 20 (search (and-left, and-right) depth 10));
       decimals = rw (decimals-kept is) at (leb→le (decimalPlaces (kept ts)) 15 (search (and-left, and-right) depth 10));
-      percents = rw (count-kept 5 refl refl is) at (leb→le (count isPercent (kept ts)) 5 (search (and-left, and-right) depth 10));
+      percents = rw (count-kept 8 refl refl is) at (leb→le (count isPercent (kept ts)) 5 (search (and-left, and-right) depth 10));
       divisions = leb→le (cond (sameKind (bodyKind ts) numberKind) (count isDividing (commaUses ts)) 0) 5 (search (and-left, and-right) depth 10);
       short = T-true (every elapsedShort (kept ts)) (search (and-left, and-right) depth 10);
     }
@@ -68,9 +68,9 @@ fits-fitting p f =
       kind-of-body (p .body),
       allowed-kept (bodyKind (p .body)) is,
       f .allowed,
-      count-kept 6 refl refl is,
+      count-kept 9 refl refl is,
       le-leb (count isGeneral is) 1 (f .generals),
-      count-kept 4 refl refl is,
+      count-kept 7 refl refl is,
       le-leb (count isPoint is) 1 (f .points),
       le-leb (count isElapsed (kept (p .body))) 1 (f .elapseds),
       f .apart,
@@ -85,7 +85,7 @@ within-fitting p f =
       le-leb (integerPlaces is) 20 (f .wholes),
       decimals-kept is,
       le-leb (decimalPlaces is) 15 (f .decimals),
-      count-kept 5 refl refl is,
+      count-kept 8 refl refl is,
       le-leb (count isPercent is) 5 (f .percents),
       le-leb (cond (sameKind (bodyKind (p .body)) numberKind) (count isDividing (commaUses (p .body))) 0) 5 (f .divisions),
       f .short,

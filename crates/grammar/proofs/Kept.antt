@@ -9,44 +9,44 @@ use lib.Dec.{leb, eqb}
 use borrow.Author.Tests.{eqb-true}
 use Rattle.lists.specs.Lists.{every, any, count}
 use Rattle.lists.proofs.Bools.{no, by-cases, cond-both, T-true, and-left, true-T}
-use Rattle.formats.specs.Items.{Item, literal, blank, fill, place, point, percent, general, at, year, month, day, hour, minute, second, part, elapsed, half, Kind, textKind, generalKind, dateKind, numberKind, sameKind, itemBelongs, itemAllowed, sortOf, isFill, isPlace, isPoint, integerPlaces, decimalPlaces, Run, noRun, runOf, nearer, firstRun, settledFrom, settled}
+use Rattle.formats.specs.Items.{Item, literal, blank, fill, place, point, percent, general, at, year, month, day, hour, minute, second, part, elapsed, half, Kind, textKind, generalKind, dateKind, numberKind, sameKind, itemAllowed, isFill, isPlace, isPoint, integerPlaces, decimalPlaces, Run, noRun, runOf, nearer, firstRun, settledFrom, settled, itemNumber}
 use Rattle.formats.specs.Kinds.{lastFill}
 use Rattle.formats.proofs.FormedItems.{both-kept}
 use Rattle.formats.proofs.Each.{by-item}
 
 -- ---- fills left out, runs of m settled
 
--- a sort other than fill, month or minute is counted alike
-pub count-kept : (k : ℕ) → eqb 2 k ≡ false → eqb 12 k ≡ eqb 9 k → (is : List Item)
-    → count (λ (i : Item). eqb (sortOf i) k) (settled (lastFill is)) ≡ count (λ (i : Item). eqb (sortOf i) k) is
+-- an item other than a fill, a month or a minute is counted alike
+pub count-kept : (k : ℕ) → eqb 3 k ≡ false → eqb 15 k ≡ eqb 12 k → (is : List Item)
+    → count (λ (i : Item). eqb (itemNumber i) k) (settled (lastFill is)) ≡ count (λ (i : Item). eqb (itemNumber i) k) is
 unfolding count
-count-kept k g h = both-kept (count (λ (i : Item). eqb (sortOf i) k)) (λ i is js e. rw e) (λ u is. rw g) (λ n is. rw h)
+count-kept k g h = both-kept (count (λ (i : Item). eqb (itemNumber i) k)) (λ i is js e. rw e) (λ u is. rw g) (λ n is. rw h)
 
--- ---- the sorts of items that a kind may hold
+-- ---- the numbers of the items that a kind may hold
 
 unfoldable pub sorts : Kind → ℕ → Bool
 sorts k n =
-    leb n 2
-    || cond (leb n 5) (sameKind numberKind k) (cond (eqb n 6) (sameKind generalKind k) (cond (eqb n 7) (sameKind textKind k) (sameKind dateKind k)))
+    leb n 3
+    || cond (leb n 8) (sameKind numberKind k) (cond (eqb n 9) (sameKind generalKind k) (cond (eqb n 10) (sameKind textKind k) (sameKind dateKind k)))
 
-pub allowed-sorts : (k : Kind) (i : Item) → itemAllowed k i ≡ sorts k (sortOf i)
-unfolding itemAllowed itemBelongs sorts
+pub allowed-sorts : (k : Kind) (i : Item) → itemAllowed k i ≡ sorts k (itemNumber i)
+unfolding itemAllowed sorts
 allowed-sorts k =
-    by-item (λ (i : Item). itemAllowed k i ≡ sorts k (sortOf i)) (λ u. refl) (λ u. refl) (λ u. refl) (λ p. refl) refl refl refl refl
+    by-item (λ (i : Item). itemAllowed k i ≡ sorts k (itemNumber i)) (λ u. refl) (λ u. refl) (λ u. refl) (λ p. refl) refl refl refl refl
     (λ n. refl) (λ n. refl) (λ n. refl) (λ n. refl) (λ n. refl) (λ n. refl) (λ n. refl) (λ e n. refl) (λ h. refl)
 
 pub allowed-kept : (k : Kind) (is : List Item) → every (itemAllowed k) (settled (lastFill is)) ≡ every (itemAllowed k) is
-unfolding every itemAllowed itemBelongs
+unfolding every itemAllowed
 allowed-kept k = both-kept (every (itemAllowed k)) (λ i is js e. rw e) (λ u is. refl) (λ n is. refl)
 
--- a sort that the kind does not hold is not there
-pub foreign : (k : Kind) (n : ℕ) → sorts k n ≡ false → (is : List Item) → every (itemAllowed k) is ≡ true → count (λ (i : Item). eqb (sortOf i) n) is ≡ 0
+-- an item that the kind does not hold is not there
+pub foreign : (k : Kind) (n : ℕ) → sorts k n ≡ false → (is : List Item) → every (itemAllowed k) is ≡ true → count (λ (i : Item). eqb (itemNumber i) n) is ≡ 0
 unfolding every count
 foreign k n f [] e = refl
 foreign k n f (i ∷ is) e =
-    by-cases (eqb (sortOf i) n)
+    by-cases (eqb (itemNumber i) n)
     (λ h.
-    let g : itemAllowed k i ≡ false = allowed-sorts k i ∙ ap (sorts k) (eqb-true (sortOf i) n h) ∙ f in
+    let g : itemAllowed k i ≡ false = allowed-sorts k i ∙ ap (sorts k) (eqb-true (itemNumber i) n h) ∙ f in
     no (rw g at e))
     (λ h. rw h (foreign k n f is (allowed-rest (itemAllowed k i) e)))
   where

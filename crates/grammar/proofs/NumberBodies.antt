@@ -43,12 +43,12 @@ alike (v-next {t = t} {ts = ts} (v-free g) vs) =
     let (p, q, r, w, d, h) = alike vs in
     let is = plainItems ts in
     let quiet = free-quiet g in (
-      free-count 4 refl refl refl is g ∙ p ∙ sym (passed-over isPoint t ts (quiet .no-point)),
-      free-count 5 refl refl refl is g ∙ q ∙ sym (passed-over isPercent t ts (free-percent g)),
-      free-count 3 refl refl refl is g ∙ r ∙ sym (passed-over isPlace t ts (quiet .no-place)),
+      free-count 7 refl refl refl is g ∙ p ∙ sym (passed-over isPoint t ts (quiet .no-point)),
+      free-count 8 refl refl refl is g ∙ q ∙ sym (passed-over isPercent t ts (free-percent g)),
+      free-count 4 refl refl refl is g ∙ r ∙ sym (passed-over isPlace t ts (quiet .no-place)),
       free-kept integerPlaces false (λ u js. refl) (λ u js. refl) (λ u js. refl) is g ∙ w ∙ sym (quiet-wholes ts quiet),
       free-kept item.decimalPlaces false (λ u js. refl) (λ u js. refl) (λ u js. refl) is g ∙ d ∙ sym (quiet-decimals ts quiet),
-      free-has numberKind refl ts g ∙ h ∙ sym (quiet-any ts quiet),
+      free-has numberKind ts g ∙ h ∙ sym (quiet-any ts quiet),
     )
 alike (v-next v-comma vs) = alike vs
 alike (v-next v-place vs) = let (p, q, r, w, d, h) = alike vs in (p, q, ap suc r, ap suc w, d, refl)
@@ -148,12 +148,12 @@ number-fits ts d =
     let c = num-counted (d .num) in
     let vs = c .views in
     let (points, percents, places, wholes, decimals, has-place) = alike vs in
-    let h = kind-number ts (views-has vs textKind refl refl) (views-has vs generalKind refl refl) (views-has vs dateKind refl refl) (has-place ∙ c .holds .ahead) in
+    let h = kind-number ts (views-has vs textKind refl) (views-has vs generalKind refl) (views-has vs dateKind refl) (has-place ∙ c .holds .ahead) in
     let items = plain-body ts numberKind h refl in
     let few = c .holds .points in
     let a : every (itemAllowed numberKind) (bodyItems ts) ≡ true = rw items (views-allowed vs) in
-    let generals : count item.isGeneral (bodyItems ts) ≡ 0 = foreign numberKind 6 refl (bodyItems ts) a in
-    let elapseds : count item.isElapsed (kept ts) ≡ 0 = count-kept 15 refl refl (bodyItems ts) ∙ foreign numberKind 15 refl (bodyItems ts) a in
+    let generals : count item.isGeneral (bodyItems ts) ≡ 0 = foreign numberKind 9 refl (bodyItems ts) a in
+    let elapseds : count item.isElapsed (kept ts) ≡ 0 = count-kept 18 refl refl (bodyItems ts) ∙ foreign numberKind 18 refl (bodyItems ts) a in
     let divided = d .divisions-most in (
       h,
       record {

@@ -9,7 +9,7 @@ use Rattle.lists.proofs.Bools.{no, and-parts, by-cases}
 use Rattle.lists.proofs.Counts.{every-both}
 use Rattle.formats.specs.Tokens.{Token, literal, bare, blank, fill, place, point, comma, percent, at, semicolon, general, half, run, elapsed, colour, condition, Place, Letter, letterY, letterM, letterD, letterH, letterS}
 use Rattle.formats.specs.Items as item
-use Rattle.formats.specs.Items.{Kind, textKind, generalKind, dateKind, numberKind, literalKind, sameKind, itemBelongs, itemAllowed, kindFrom}
+use Rattle.formats.specs.Items.{Kind, textKind, generalKind, dateKind, numberKind, literalKind, sameKind, itemAllowed, kindFrom}
 use Rattle.formats.specs.Kinds.{isSemicolon, noBracket, tokenMakes, bodyKind, tokenItems, runItem, plainItems}
 use Rattle.grammar.specs.Bodies.{Free, free-string, free-repeat, free-space, free-bare}
 use Rattle.grammar.proofs.Tests.{both, every-parts, every-in}
@@ -34,7 +34,7 @@ pub data Views (k : Kind) : List Token → Type 0 where
   v-next : {t : Token} {ts : List Token} → View k t → Views k ts → Views k (t ∷ ts)
 
 run-allowed : (k : Kind) (l : Letter) (n : ℕ) → itemAllowed k (runItem l n) ≡ sameKind dateKind k
-unfolding itemAllowed itemBelongs runItem
+unfolding itemAllowed runItem
 run-allowed k letterY n = refl
 run-allowed k letterM n = refl
 run-allowed k letterD n = refl
@@ -45,7 +45,7 @@ abbrev allowed : Kind → Token → Bool
 allowed k t = every (itemAllowed k) (tokenItems false t)
 
 view : (k : Kind) (t : Token) → sameKind dateKind k ≡ false → inBody t ≡ true → allowed k t ≡ true → View k t
-unfolding every itemAllowed itemBelongs tokenItems noBracket
+unfolding every itemAllowed tokenItems noBracket
 view k (literal us) d b a = v-free (free-string us)
 view k (bare u) d b a = v-free (free-bare u)
 view k (blank u) d b a = v-free (free-space u)
@@ -93,12 +93,12 @@ all-views k d (t ∷ ts) b a =
 
 -- and the other way round
 literals-allowed : (k : Kind) (us : List ℕ) → every (itemAllowed k) (map item.literal us) ≡ true
-unfolding every itemAllowed itemBelongs
+unfolding every itemAllowed
 literals-allowed k [] = refl
 literals-allowed k (u ∷ us) = literals-allowed k us
 
 view-allowed : (k : Kind) (t : Token) → View k t → (inBody t ≡ true) × (allowed k t ≡ true)
-unfolding every itemAllowed itemBelongs tokenItems noBracket
+unfolding every itemAllowed tokenItems noBracket
 view-allowed k t (v-free (free-string us)) = (refl, literals-allowed k us)
 view-allowed k t (v-free (free-repeat u)) = (refl, refl)
 view-allowed k t (v-free (free-space u)) = (refl, refl)
@@ -126,26 +126,26 @@ views-allowed {k} (v-next {t = t} {ts = ts} v vs) =
 
 -- a token of the body makes it of kind k
 abbrev pub has : Kind → List Token → Bool
-has k ts = any (sameKind k) (map tokenMakes ts)
+has k ts = any (tokenMakes k) ts
 
-pub free-has : (k : Kind) → sameKind k literalKind ≡ false → {t : Token} (ts : List Token) → Free t → has k (t ∷ ts) ≡ has k ts
+pub free-has : (k : Kind) {t : Token} (ts : List Token) → Free t → has k (t ∷ ts) ≡ has k ts
 unfolding any tokenMakes
-free-has k e ts (free-string us) = rw e
-free-has k e ts (free-repeat u) = rw e
-free-has k e ts (free-space u) = rw e
-free-has k e ts (free-bare u) = rw e
+free-has k ts (free-string us) = refl
+free-has k ts (free-repeat u) = refl
+free-has k ts (free-space u) = refl
+free-has k ts (free-bare u) = refl
 
 -- no token of a body makes another kind
-pub views-has : {k : Kind} {ts : List Token} → Views k ts → (j : Kind) → sameKind j literalKind ≡ false → sameKind j k ≡ false → has j ts ≡ false
+pub views-has : {k : Kind} {ts : List Token} → Views k ts → (j : Kind) → sameKind j k ≡ false → has j ts ≡ false
 unfolding any tokenMakes
-views-has v-end j e f = refl
-views-has (v-next {ts = ts} (v-free g) vs) j e f = free-has j e ts g ∙ views-has vs j e f
-views-has (v-next v-comma vs) j e f = rw e (views-has vs j e f)
-views-has (v-next v-place vs) j e f = rw f (views-has vs j e f)
-views-has (v-next v-point vs) j e f = rw e (views-has vs j e f)
-views-has (v-next v-percent vs) j e f = rw e (views-has vs j e f)
-views-has (v-next v-at vs) j e f = rw f (views-has vs j e f)
-views-has (v-next v-general vs) j e f = rw f (views-has vs j e f)
+views-has v-end j f = refl
+views-has (v-next {ts = ts} (v-free g) vs) j f = free-has j ts g ∙ views-has vs j f
+views-has (v-next v-comma vs) j f = views-has vs j f
+views-has (v-next v-place vs) j f = rw f (views-has vs j f)
+views-has (v-next v-point vs) j f = views-has vs j f
+views-has (v-next v-percent vs) j f = views-has vs j f
+views-has (v-next v-at vs) j f = rw f (views-has vs j f)
+views-has (v-next v-general vs) j f = rw f (views-has vs j f)
 
 pub kind-text : (ts : List Token) → has textKind ts ≡ true → bodyKind ts ≡ textKind
 unfolding bodyKind kindFrom

@@ -11,7 +11,7 @@ use Rattle.lists.specs.Lists.{every, any, count}
 use Rattle.lists.proofs.Bools.{no, and-parts}
 use Rattle.formats.specs.Tokens.{Token}
 use Rattle.formats.specs.Items as item
-use Rattle.formats.specs.Items.{Item, Kind, textKind, generalKind, dateKind, numberKind, literalKind, sameKind, sortOf, isGeneral, isPlace, isPercent, isPoint, isElapsed}
+use Rattle.formats.specs.Items.{Item, Kind, textKind, generalKind, dateKind, numberKind, literalKind, sameKind, isGeneral, isPlace, isPercent, isPoint, isElapsed, itemNumber}
 use Rattle.formats.specs.Kinds.{isSemicolon, noBracket, bodyKind, tokenMakes, isMisplaced, commasFit, solidusFrom, solidusFits, tokenItems, plainItems, bodyItems}
 use Rattle.formats.proofs.CommaUses.{commaUse, commaUsesFrom, comma-uses}
 use Rattle.grammar.specs.Bodies.{Free, Literals, literals-end, literals-free, NFGeneral, general-word, general-free, TextRest, text-end, text-more, text-literal, NFText, text-at, text-free}
@@ -24,11 +24,11 @@ use Rattle.grammar.proofs.Plain.{inBody, v-free, v-comma, v-place, v-po
 
 -- ---- literals
 
--- items of these sorts come of no literal
-pub free-count : (k : ℕ) → eqb 0 k ≡ false → eqb 1 k ≡ false → eqb 2 k ≡ false → {t : Token} (is : List Item) → Free t
-    → count (λ (i : Item). eqb (sortOf i) k) (tokenItems false t ++ is) ≡ count (λ (i : Item). eqb (sortOf i) k) is
+-- items of these numbers come of no literal
+pub free-count : (k : ℕ) → eqb 1 k ≡ false → eqb 2 k ≡ false → eqb 3 k ≡ false → {t : Token} (is : List Item) → Free t
+    → count (λ (i : Item). eqb (itemNumber i) k) (tokenItems false t ++ is) ≡ count (λ (i : Item). eqb (itemNumber i) k) is
 unfolding count
-free-count k a b c is g = free-kept (count (λ (i : Item). eqb (sortOf i) k)) false (λ u js. rw a) (λ u js. rw b) (λ u js. rw c) is g
+free-count k a b c is g = free-kept (count (λ (i : Item). eqb (itemNumber i) k)) false (λ u js. rw a) (λ u js. rw b) (λ u js. rw c) is g
 
 -- ---- what fitting says of such a body, and what makes it fit
 
@@ -79,15 +79,15 @@ bare-solidus (v-next v-general vs) n = bare-solidus vs n
 
 -- a body of literals, and of `@` or General, fits where it has no comma and General at most once
 quiet-fitting : (ts : List Token) (k : Kind) → bodyKind ts ≡ k → sameKind k dateKind ≡ false → sameKind k numberKind ≡ false
-    → sorts k 3 ≡ false → sorts k 4 ≡ false → sorts k 5 ≡ false → sorts k 15 ≡ false
+    → sorts k 4 ≡ false → sorts k 7 ≡ false → sorts k 8 ≡ false → sorts k 18 ≡ false
     → Views k ts → commaUsesFrom false false ts ≡ [] → count isGeneral (plainItems ts) ≤ 1 → Fitting ts
 unfolding commasFit solidusFits any
-quiet-fitting ts k h d n s₃ s₄ s₅ s₁₅ vs c g =
+quiet-fitting ts k h d n s₄ s₇ s₈ s₁₈ vs c g =
     let a : every (item.itemAllowed k) (bodyItems ts) ≡ true = rw (plain-body ts k h d) (views-allowed vs) in
-    let places : count isPlace (bodyItems ts) ≡ 0 = foreign k 3 s₃ (bodyItems ts) a in
-    let points : count isPoint (bodyItems ts) ≡ 0 = foreign k 4 s₄ (bodyItems ts) a in
-    let percents : count isPercent (bodyItems ts) ≡ 0 = foreign k 5 s₅ (bodyItems ts) a in
-    let elapseds : count isElapsed (kept ts) ≡ 0 = count-kept 15 refl refl (bodyItems ts) ∙ foreign k 15 s₁₅ (bodyItems ts) a in
+    let places : count isPlace (bodyItems ts) ≡ 0 = foreign k 4 s₄ (bodyItems ts) a in
+    let points : count isPoint (bodyItems ts) ≡ 0 = foreign k 7 s₇ (bodyItems ts) a in
+    let percents : count isPercent (bodyItems ts) ≡ 0 = foreign k 8 s₈ (bodyItems ts) a in
+    let elapseds : count isElapsed (kept ts) ≡ 0 = count-kept 18 refl refl (bodyItems ts) ∙ foreign k 18 s₁₈ (bodyItems ts) a in
     record {
       brackets = body-brackets ts (views-body vs);
       commas = rw (h, d, comma-uses ts, c);
@@ -118,7 +118,7 @@ unfolding commaUsesFrom count plainItems
 literals-facts literals-end = (v-end, refl, refl)
 literals-facts (literals-free {ts = ts} g d) =
     let (v, c, n) = literals-facts d in
-    (v-next (v-free g) v, quiet-commas ts (free-quiet g) false false ∙ c, free-count 6 refl refl refl (plainItems ts) g ∙ n)
+    (v-next (v-free g) v, quiet-commas ts (free-quiet g) false false ∙ c, free-count 9 refl refl refl (plainItems ts) g ∙ n)
 
 pub derive-literals : (ts : List Token) → NoSemicolon ts → bodyKind ts ≡ literalKind → Fitting ts → Literals ts
 derive-literals ts s h f = let p = plain-facts ts literalKind h refl refl s f in literals-of (p .views) (p .placed)
@@ -127,7 +127,7 @@ pub literals-fit : (ts : List Token) → Literals ts → (bodyKind ts ≡ litera
 unfolding sorts
 literals-fit ts d =
     let (v, c, n) = literals-facts {k = literalKind} d in
-    let h = kind-literal ts (views-has v textKind refl refl) (views-has v generalKind refl refl) (views-has v dateKind refl refl) (views-has v numberKind refl refl) in
+    let h = kind-literal ts (views-has v textKind refl) (views-has v generalKind refl) (views-has v dateKind refl) (views-has v numberKind refl) in
     (h, quiet-fitting ts literalKind h refl refl refl refl refl refl v c (omega arith))
 
 -- ---- NFGeneral
@@ -136,7 +136,7 @@ general-rest : {ts : List Token} → Views generalKind ts → any isMisplaced (c
 unfolding commaUsesFrom commaUse any count plainItems tokenItems
 general-rest v-end c n = literals-end
 general-rest (v-next {ts = ts} (v-free g) vs) c n =
-    literals-free g (general-rest vs (rw (quiet-commas ts (free-quiet g) false false) at c) (rw (free-count 6 refl refl refl (plainItems ts) g) at n))
+    literals-free g (general-rest vs (rw (quiet-commas ts (free-quiet g) false false) at c) (rw (free-count 9 refl refl refl (plainItems ts) g) at n))
 general-rest (v-next v-comma vs) c n = absurd (true≢false c)
 general-rest (v-next v-general vs) c n = absurd (omega arith)
 
@@ -146,7 +146,7 @@ unfolding commaUsesFrom commaUse any count plainItems tokenItems
 general-of v-end c n h = no h
 general-of (v-next {ts = ts} (v-free g) vs) c n h =
     general-free g
-    (general-of vs (rw (quiet-commas ts (free-quiet g) false false) at c) (rw (free-count 6 refl refl refl (plainItems ts) g) at n) (rw (free-has generalKind refl ts g) at h))
+    (general-of vs (rw (quiet-commas ts (free-quiet g) false false) at c) (rw (free-count 9 refl refl refl (plainItems ts) g) at n) (rw (free-has generalKind ts g) at h))
 general-of (v-next v-comma vs) c n h = absurd (true≢false c)
 general-of (v-next v-general vs) c n h = general-word (general-rest vs c (omega arith))
 
@@ -156,7 +156,7 @@ unfolding commaUsesFrom any tokenMakes count plainItems tokenItems
 general-facts (general-word d) = let (v, c, n) = literals-facts d in (v-next v-general v, c, refl, ap suc n)
 general-facts (general-free {ts = ts} g d) =
     let (v, c, h, n) = general-facts d in
-    (v-next (v-free g) v, quiet-commas ts (free-quiet g) false false ∙ c, free-has generalKind refl ts g ∙ h, free-count 6 refl refl refl (plainItems ts) g ∙ n)
+    (v-next (v-free g) v, quiet-commas ts (free-quiet g) false false ∙ c, free-has generalKind ts g ∙ h, free-count 9 refl refl refl (plainItems ts) g ∙ n)
 
 pub derive-general : (ts : List Token) → NoSemicolon ts → bodyKind ts ≡ generalKind → Fitting ts → NFGeneral ts
 derive-general ts s h f =
@@ -167,7 +167,7 @@ pub general-fits : (ts : List Token) → NFGeneral ts → (bodyKind ts ≡ gener
 unfolding sorts
 general-fits ts d =
     let (v, c, g, n) = general-facts d in
-    let h = kind-general ts (views-has v textKind refl refl) g in
+    let h = kind-general ts (views-has v textKind refl) g in
     (h, quiet-fitting ts generalKind h refl refl refl refl refl refl v c (omega arith))
 
 -- ---- NFText
@@ -183,7 +183,7 @@ unfolding commaUsesFrom any tokenMakes
 text-facts (text-at d) = let (v, c) = rest-facts d in (v-next v-at v, c, refl)
 text-facts (text-free {ts = ts} g d) =
     let (v, c, h) = text-facts d in
-    (v-next (v-free g) v, quiet-commas ts (free-quiet g) false false ∙ c, free-has textKind refl ts g ∙ h)
+    (v-next (v-free g) v, quiet-commas ts (free-quiet g) false false ∙ c, free-has textKind ts g ∙ h)
 
 text-rest : {ts : List Token} → Views textKind ts → any isMisplaced (commaUsesFrom false false ts) ≡ false → TextRest ts
 unfolding commaUsesFrom commaUse any
@@ -196,7 +196,7 @@ text-of : {ts : List Token} → Views textKind ts → any isMisplaced (commaUses
 unfolding commaUsesFrom commaUse any
 text-of v-end c h = no h
 text-of (v-next {ts = ts} (v-free g) vs) c h =
-    text-free g (text-of vs (rw (quiet-commas ts (free-quiet g) false false) at c) (rw (free-has textKind refl ts g) at h))
+    text-free g (text-of vs (rw (quiet-commas ts (free-quiet g) false false) at c) (rw (free-has textKind ts g) at h))
 text-of (v-next v-comma vs) c h = absurd (true≢false c)
 text-of (v-next v-at vs) c h = text-at (text-rest vs c)
 
@@ -210,5 +210,5 @@ unfolding sorts
 text-fits ts d =
     let (v, c, t) = text-facts d in
     let h = kind-text ts t in
-    let n = foreign textKind 6 refl (plainItems ts) (views-allowed v) in
+    let n = foreign textKind 9 refl (plainItems ts) (views-allowed v) in
     (h, quiet-fitting ts textKind h refl refl refl refl refl refl v c (omega arith))

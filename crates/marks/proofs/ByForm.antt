@@ -11,7 +11,6 @@ use lib.Dec.{leb, ltb, eqb}
 use lib.ListN.{getD, List·getD-map, List·getD-eq-default, length-map}
 use Rattle.lists.proofs.Bools.{by-cases}
 use Rattle.formats.specs.Tokens.{Token, literal}
-use Rattle.formats.specs.Items.{isSecondsElapsed}
 use Rattle.formats.specs.Kinds.{isPlace, isPoint, isSemicolon, isColour, isCondition, isFillToken, colourIn, isSecondsLetter, isSecondsToken, isZeroIn, isZero}
 use Rattle.marks.specs.Marks.{markRows, markToken, conditionOf}
 
@@ -61,7 +60,7 @@ module _ (f a : ℕ) (us : List ℕ) where
   semicolon-form = by-form isSemicolon (λ (n : ℕ). eqb n 11) a us refl (λ n h. sym (ne-eqb n 11 (omega arith))) f
 
   pub seconds-form : isSecondsToken (markToken f a us) ≡ (eqb f 19 || eqb f 22)
-  unfolding markRows upFrom conditionOf isSecondsToken isSecondsLetter isSecondsElapsed
+  unfolding markRows upFrom conditionOf isSecondsToken isSecondsLetter
   seconds-form = by-form isSecondsToken (λ (n : ℕ). eqb n 19 || eqb n 22) a us refl (λ n h. sym (simp (ne-eqb n 19 (omega arith), ne-eqb n 22 (omega arith)))) f
 
   pub colour-form : isColour (markToken f a us) ≡ eqb f 23

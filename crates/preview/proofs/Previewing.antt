@@ -16,7 +16,7 @@ use Rattle.values.specs.declared.Ask.{Ask}
 use Rattle.lists.specs.Lists.{overlay, every}
 use Rattle.lists.proofs.Bools.{cond-case, every-cons}
 use Rattle.formats.specs.Items.{Section}
-use Rattle.formats.specs.WellFormed.{isUnit}
+use Rattle.formats.specs.Items.{isUnit}
 use Rattle.formats.specs.Accept.{Verdict, fine, refused, verdict, Accepted, sections, refusal, acceptedBy, accept, sectionsIn}
 use Rattle.formats.specs.Reading.{readAccepted, codeReading}
 use Rattle.formats.proofs.First.{refused-by}

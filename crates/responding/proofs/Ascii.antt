@@ -5,7 +5,7 @@ use Prim.Native.String.{String}
 use native.Mathlib.Omega.{arith}
 use native.Mathlib.Nat.{mod-eq-of-lt}
 use mathlib.Core.Path.{_≡_, refl, ap₂}
-use mathlib.Core.Bool.{Bool, true, false, cond, not, _&&_}
+use mathlib.Core.Bool.{Bool, true, false, cond, not, _&&_, _||_}
 use mathlib.Core.List.{List, [], _∷_, _++_, map}
 use lib.ListN.{length, getD, take, drop}
 use lib.Dec.{T, leb, ltb, eqb, leb→le, le→leb}
@@ -18,7 +18,7 @@ use Rattle.figures.specs.General.{generalTooWide, withoutEndZeros, pointed, gen
 use Rattle.calendar.specs.Names.{units, monthNames, weekdayNames, monthName, weekdayName, shortName, firstLetter}
 use Rattle.formats.specs.Tokens as token
 use Rattle.formats.specs.Tokens.{before, startsWith, Token, Place, zeroPlace, hashPlace, spacePlace, HalfDay, short, long, Letter, letterY, letterM, letterD, letterH, letterS}
-use Rattle.formats.specs.Items.{Item, literal, blank, fill, place, point, percent, general, at, year, month, day, hour, minute, second, part, elapsed, half, Section, kindOf}
+use Rattle.formats.specs.Items.{Item, itemRow, literal, blank, fill, place, point, percent, general, at, year, month, day, hour, minute, second, part, elapsed, half, Section, kindOf}
 use Rattle.formats.specs.Kinds.{Parts, sectionOf, tokenItems, runItem}
 use Rattle.formats.specs.Accept.{partsIn, sectionsIn, Verdict, fine, verdict, acceptedBy, accept}
 use Rattle.formats.specs.Accept.{refused as wrong}
@@ -161,23 +161,7 @@ half-ascii long false = tt
 
 -- ---- items: of a literal the unit is shown
 unfoldable literalAscii : Item → Bool
-literalAscii (literal u) = isAscii u
-literalAscii (blank u) = true
-literalAscii (fill u) = true
-literalAscii (place p) = true
-literalAscii point = true
-literalAscii percent = true
-literalAscii general = true
-literalAscii at = true
-literalAscii (year n) = true
-literalAscii (month n) = true
-literalAscii (day n) = true
-literalAscii (hour n) = true
-literalAscii (minute n) = true
-literalAscii (second n) = true
-literalAscii (part n) = true
-literalAscii (elapsed e n) = true
-literalAscii (half h) = true
+literalAscii i = not (eqb (itemRow i .number) 1) || isAscii (itemRow i .argument)
 
 item-ascii : (c : Context) → Ascii (c .standing) → (q : ℕ) (i : Item) → T (literalAscii i) → Ascii (itemUnits c q i)
 unfolding itemUnits literalAscii yearUnits partUnits units every isAscii

@@ -11,7 +11,8 @@ use borrow.Author.Tests.{eqb-true}
 use Rattle.calendar.specs.Names.{units}
 use Rattle.lists.proofs.Bools.{by-cases}
 use Rattle.values.specs.Ranges.{between}
-use Rattle.formats.specs.Items.{Kind, dateKind, numberKind, sameKind, itemAllowed, itemBelongs, isPlace}
+use Rattle.formats.specs.Tokens.{runAllowed}
+use Rattle.formats.specs.Items.{Kind, dateKind, numberKind, sameKind, itemAllowed, isPlace}
 use Rattle.formats.specs.Where.{implies}
 use Rattle.formats.specs.Tokens.{Place}
 use Rattle.formats.specs.Text.{Context, itemUnits, placeUnits, pointUnits}
@@ -30,7 +31,7 @@ use Rattle.section_text.specs.Subject.{GeneralOf, StandsFor, SubjectIs, 
 
 -- a place's argument, and a date item's
 pub place-argument : (tag a : ℕ) → (4 ≤ tag) × (tag ≤ 6) → T (entryInRange (entry tag a)) → (1 ≤ a) × (a ≤ 40)
-unfolding entryInRange
+unfolding entryInRange itemAt runAllowed
 place-argument tag a b t =
     let f : (1 ≤ a) × (a ≤ 35) =
     span-at (λ (t : ℕ). T (entryInRange (entry t a)) → (1 ≤ a) × (a ≤ 35)) 4 3 tag
@@ -79,13 +80,13 @@ module _ (k : Kind) (q tag a : ℕ) (f : EntryFits k q (entry tag a)) where
 
   -- the kinds of sections that hold these items
   pub number-held : 4 ≤ tag → tag ≤ 7 → T (sameKind numberKind k)
-  unfolding itemAt itemAllowed itemBelongs
+  unfolding itemAt itemAllowed
   number-held least most =
       span-at (λ (t : ℕ). T (itemAllowed k (itemAt (entry t a))) → T (sameKind numberKind k)) 4 4 tag
       ((λ h. h), ((λ h. h), ((λ h. h), ((λ h. h), tt)))) least (omega arith) (f .allowed)
 
   pub date-held : 10 < tag → tag ≤ 21 → T (sameKind dateKind k)
-  unfolding itemAt itemAllowed itemBelongs
+  unfolding itemAt itemAllowed
   date-held least most =
       span-at (λ (t : ℕ). T (itemAllowed k (itemAt (entry t a))) → T (sameKind dateKind k)) 11 11 tag
       ((λ h. h), ((λ h. h), ((λ h. h), ((λ h. h), ((λ h. h), ((λ h. h), ((λ h. h), ((λ h. h), ((λ h. h), ((λ h. h), ((λ h. h), tt)))))))))))
@@ -93,7 +94,7 @@ module _ (k : Kind) (q tag a : ℕ) (f : EntryFits k q (entry tag a)) where
 
   pub standing-held : {digits : List ℕ} {s : Subject} {text : List ℕ} {c : Context} → SubjectIs k digits s text c → 9 ≤ tag → tag ≤ 10
       → StandsFor (s .lent) digits (s .figures) text (c .standing)
-  unfolding itemAt itemAllowed itemBelongs
+  unfolding itemAt itemAllowed
   standing-held {digits} {s} {text} {c} i least most =
       span-at (λ (t : ℕ). T (itemAllowed k (itemAt (entry t a))) → StandsFor (s .lent) digits (s .figures) text (c .standing)) 9 2 tag
       (i .general, (i .textual, tt)) least (omega arith) (f .allowed)
@@ -149,7 +150,7 @@ year-argument a t =
     (λ e. let f : T (eqb a 4) = rw e at t in omega (arith, eqb→eq a 4 f))
 
 date-argument : (tag a : ℕ) → 10 < tag → T (entryInRange (entry tag a)) → a ≤ 9
-unfolding entryInRange
+unfolding entryInRange itemAt runAllowed
 date-argument tag a h t =
     span-at (λ (t : ℕ). T (entryInRange (entry t a)) → a ≤ 9) 11 11 tag
     (year-argument a, (upto 5 (omega arith), (upto 4 (omega arith), (upto 2 (omega arith), (upto 2 (omega arith), (upto 2 (omega arith), (upto 3 (omega arith), (upto 9 (omega arith), (upto 9 (omega arith), (upto 9 (omega arith), (upto 2 (omega arith), tt)))))))))))
@@ -165,7 +166,7 @@ moment-put lent c q tag a h t p =
 
 -- of the first ten a date-time section holds three
 pub date-plain : (q tag a : ℕ) → 1 ≤ tag → tag ≤ 10 → EntryFits dateKind q (entry tag a) → tag ≤ 3
-unfolding itemAt itemAllowed itemBelongs
+unfolding itemAt itemAllowed
 date-plain q tag a least most f =
     ⊎-elim (λ (h : tag < 4). omega arith)
     (λ (h : 4 ≤ tag).

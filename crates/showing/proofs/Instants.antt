@@ -12,7 +12,7 @@ use Rattle.values.specs.declared.Day.{Day}
 use Rattle.values.specs.declared.Millisecond.{Millisecond}
 use Rattle.lists.specs.Lists.{every}
 use Rattle.lists.proofs.Bools.{every-head, every-tail}
-use Rattle.formats.specs.Items.{Item, Section, Kind, dateKind, numberKind, literalKind, sameKind, itemAllowed, itemBelongs, kindOf, integerPlaces}
+use Rattle.formats.specs.Items.{Item, Section, Kind, dateKind, numberKind, literalKind, sameKind, itemAllowed, kindOf, integerPlaces}
 use Rattle.answers.specs.Number.{refusedShown}
 use Rattle.calendar.specs.Clock.{sinceDayZero}
 use Rattle.formats.specs.Choice.{Exact, instantExact, Reason, Choice, chosen, choose}
@@ -37,7 +37,7 @@ use Rattle.section_text.proofs.Fitting.{shows-refused}
 
 -- a section that is no number section has no integer place
 no-places : (k : Kind) (is : List Item) → T (every (itemAllowed k) is) → sameKind numberKind k ≡ false → 0 ≡ integerPlaces is
-unfolding integerPlaces itemAllowed itemBelongs
+unfolding integerPlaces itemAllowed
 no-places k [] t e = refl
 no-places k (i ∷ is) t e =
     by-item (λ j. T (itemAllowed k j) → 0 ≡ integerPlaces is → 0 ≡ integerPlaces (j ∷ is)) (λ u t r. r) (λ u t r. r) (λ u t r. r)

@@ -19,17 +19,9 @@ use Rattle.tables.specs.Encode.{entry}
 use Rattle.tables.specs.Decode.{itemAt, itemsAt}
 use Rattle.tables.specs.Rules.{entryInRange, powersFrom}
 use Rattle.tables.proofs.Words.{entriesLeft, entries-front}
-use Rattle.tables.proofs.BackEntries.{span-at, tag-known}
+use Rattle.tables.proofs.BackEntries.{place-tag}
 use Rattle.table_words.specs.Sections.{ItemsOf}
 use Rattle.showing.specs.Number.{firstArgument}
-
--- a place by its tag
-place-told : (e : Entry) → T (entryInRange e) → between 4 6 (e .tag) ≡ isPlace (itemAt e)
-unfolding itemAt
-place-told e r =
-    span-at (λ (t : ℕ). between 4 6 t ≡ isPlace (itemAt (entry t (e .argument)))) 1 21 (e .tag)
-    (refl, (refl, (refl, (refl, (refl, (refl, (refl, (refl, (refl, (refl, (refl, (refl, (refl, (refl, (refl, (refl, (refl, (refl, (refl, (refl, (refl, tt)))))))))))))))))))))
-    (tag-known e r .0) (omega (arith, tag-known e r))
 
 -- a place's argument, and that another item changes no power
 first-argument : (q : ℕ) (e : Entry) (es : List Entry) → isPlace (itemAt e) ≡ true → T (powersFrom q (e ∷ es)) → e .argument ≡ suc q
@@ -54,7 +46,7 @@ first-is : (n : ℕ) (es : List Entry) → T (every entryInRange es) → T (powe
 unfolding firstArgument itemsAt integerPlaces
 first-is n [] r t z = rw (z refl)
 first-is n (e ∷ es) r t z =
-    let k = place-told e (every-head entryInRange e es r) in
+    let k = sym (place-tag (e .tag) (e .argument)) in
     by-cases (isPlace (itemAt e))
     (λ h. rw (k ∙ h) (omega (arith, first-argument (14 + n) e es h t)))
     (λ h. rw (k ∙ h)

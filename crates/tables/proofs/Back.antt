@@ -8,9 +8,9 @@ use lib.ListN.{length}
 use lib.Dec.{T, eqb→eq, le→leb}
 use Rattle.lists.specs.Lists.{every, count}
 use Rattle.lists.proofs.Bools.{and-left, and-right, and-in, nought-unless, every-head, every-tail, every-cons}
-use Rattle.formats.specs.Items.{numberKind, sameKind, kindOf, itemsKind, isPercent, itemsFit, integerPlaces}
+use Rattle.formats.specs.Items.{numberKind, sameKind, kindOf, itemsKind, isPercent, itemsFit, integerPlaces, itemInRange}
 use Rattle.formats.specs.Limits.{sectionWithin}
-use Rattle.formats.specs.WellFormed.{itemInRange, conditionInRange, oneFill, partsFollow, isSettled, groupingFits, dividingFits, sectionFormed}
+use Rattle.formats.specs.WellFormed.{conditionInRange, oneFill, partsFollow, isSettled, groupingFits, dividingFits, sectionFormed}
 use Rattle.tables.specs.Words.{Head, Row}
 use Rattle.tables.specs.Encode.{shiftWord, headOf, entriesOf, rowOf, rowsFrom}
 use Rattle.tables.specs.Decode.{wholeAt, millionthsAt, itemsAt, thousandsAt, sectionAt}

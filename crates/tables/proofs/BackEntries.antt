@@ -2,22 +2,24 @@
 -- Assumes nothing.
 use Prim.Native.Nat.{ℕ, zero, suc, _+_, _≤_, _<_}
 use native.Mathlib.Omega.{arith}
-use mathlib.Core.Path.{_≡_, refl}
+use mathlib.Core.Path.{_≡_, refl, sym}
 use mathlib.Core.Bool.{Bool}
 use mathlib.Core.List.{List, [], _∷_}
-use lib.ListN.{length, length-map}
+use lib.ListN.{length, length-map, List·getD-eq-default}
 use lib.Dec.{T, eqb, leb→le, eqb→eq}
-use borrow.Author.Tests.{eqb-true, eqb-false}
+use borrow.Author.Tests.{eqb-true, eqb-false, le-leb, lt-leb}
 use Rattle.values.specs.Ranges.{between}
 use Rattle.lists.specs.Lists.{every}
-use Rattle.lists.proofs.Bools.{and-left, and-right, true-T, by-cases, cond-case, every-head, every-tail, every-cons}
-use Rattle.formats.specs.Items.{isPlace}
+use Rattle.lists.proofs.Bools.{and-left, and-right, by-cases, every-head, every-tail, every-cons}
+use Rattle.formats.specs.Tokens.{halfIndex}
+use Rattle.formats.specs.Items.{isPlace, Item, place, elapsed, half, itemInRange}
 use Rattle.formats.specs.Where.{implies}
-use Rattle.formats.specs.WellFormed.{itemInRange}
+use Rattle.formats.proofs.Each.{by-item, by-place, by-elapsed}
+use Rattle.formats.proofs.ByNumber.{by-number}
 use Rattle.formats.specs.Text.{digitAfter}
 use Rattle.tables.specs.Words.{Entry}
-use Rattle.tables.specs.Encode.{entry, placeTag, elapsedTag, halfWord, entryOf, entriesFrom}
-use Rattle.tables.specs.Decode.{halfAt, itemAt, itemsAt}
+use Rattle.tables.specs.Encode.{entry, entryOf, entriesFrom, tagOf}
+use Rattle.tables.specs.Decode.{halfAt, itemAt, itemsAt, itemsByTag}
 use Rattle.tables.specs.Rules.{entryInRange, powersFrom}
 
 -- what holds of each of the n numbers from k
@@ -41,26 +43,27 @@ span-at P k (suc n) t ps least most =
 pub between-facts : (least greatest n : ℕ) → T (between least greatest n) → (least ≤ n) × (n ≤ greatest)
 between-facts least greatest n t = search (and-left, and-right, leb→le)
 
+-- a number of no item is read as the last
+pub late-tag : (t a : ℕ) → 20 < t → itemAt (entry t a) ≡ half (halfAt a)
+unfolding itemAt
+late-tag t a h = List·getD-eq-default (itemsByTag a) (half (halfAt a)) h
+
+pub place-tag : (t a : ℕ) → isPlace (itemAt (entry t a)) ≡ between 4 6 t
+unfolding itemAt
+place-tag t a =
+    by-number isPlace (λ (n : ℕ). between 4 6 n) (itemsByTag a) 21 (half (halfAt a)) refl
+    (λ n h. sym (simp (le-leb 4 n (omega arith), lt-leb n 6 (omega arith)))) t
+
 -- an entry in its range has one of the tags
+tag-most : (i : Item) → T (between 1 21 (tagOf i))
+tag-most =
+    by-item (λ i. T (between 1 21 (tagOf i))) (λ u. tt) (λ u. tt) (λ u. tt) (by-place (λ p. T (between 1 21 (tagOf (place p)))) tt tt tt)
+    tt tt tt tt (λ n. tt) (λ n. tt) (λ n. tt) (λ n. tt) (λ n. tt) (λ n. tt) (λ n. tt)
+    (λ e n. by-elapsed (λ d. T (between 1 21 (tagOf (elapsed d n)))) tt tt tt e) (λ h. tt)
+
 pub tag-known : (e : Entry) → T (entryInRange e) → (1 ≤ e .tag) × (e .tag ≤ 21)
 unfolding entryInRange
-tag-known e =
-    cond-case Known (between 1 3 t) (λ h _. omega (arith, between-facts 1 3 t (true-T h)))
-    (λ _. cond-case Known (between 4 6 t) (λ h _. omega (arith, between-facts 4 6 t (true-T h)))
-    (λ _. cond-case Known (between 7 10 t) (λ h _. omega (arith, between-facts 7 10 t (true-T h)))
-    (λ _. cond-case Known (eqb t 11) (λ h _. omega (arith, eqb-true t 11 h))
-    (λ _. cond-case Known (eqb t 12) (λ h _. omega (arith, eqb-true t 12 h))
-    (λ _. cond-case Known (eqb t 13) (λ h _. omega (arith, eqb-true t 13 h))
-    (λ _. cond-case Known (between 14 16 t) (λ h _. omega (arith, between-facts 14 16 t (true-T h)))
-    (λ _. cond-case Known (eqb t 17) (λ h _. omega (arith, eqb-true t 17 h))
-    (λ _. cond-case Known (between 18 20 t) (λ h _. omega (arith, between-facts 18 20 t (true-T h)))
-    (λ _ u. omega (arith, eqb→eq t 21 (and-left (eqb t 21) (between 1 2 (e .argument)) u)))))))))))
-  where
-    t : ℕ
-    t = e .tag
-
-    Known : Bool → Type 0
-    Known b = T b → (1 ≤ t) × (t ≤ 21)
+tag-known e t = rw (← eqb→eq (tagOf (itemAt e)) (e .tag) (and-left (eqb (tagOf (itemAt e)) (e .tag)) _ t)) (between-facts 1 21 (tagOf (itemAt e)) (tag-most (itemAt e)))
 
 -- what holds at each tag holds of every entry in its range
 pub by-tag : (P : Entry → Type 0) → Span (λ t. (a : ℕ) → T (entryInRange (entry t a)) → P (entry t a)) 1 21
@@ -69,18 +72,18 @@ by-tag P ps e r =
     span-at (λ t. (a : ℕ) → T (entryInRange (entry t a)) → P (entry t a)) 1 21 (e .tag) ps
     (tag-known e r .0) (omega (arith, tag-known e r)) (e .argument) r
 
-half-back : (a : ℕ) → T (between 1 2 a) → halfWord (halfAt a) ≡ a
-unfolding halfAt halfWord
+half-back : (a : ℕ) → T (between 1 2 a) → suc (halfIndex (halfAt a)) ≡ a
+unfolding halfAt
 half-back a r =
     let f : (1 ≤ a) × (a ≤ 2) = between-facts 1 2 a r in
-    span-at (λ n. halfWord (halfAt n) ≡ n) 1 2 a (refl, (refl, tt)) (f .0) (omega arith)
+    span-at (λ n. suc (halfIndex (halfAt n)) ≡ n) 1 2 a (refl, (refl, tt)) (f .0) (omega arith)
 
 -- a place's argument is what its power asks for; q is the power of the entry's digit and 15
 abbrev pub powerFits : ℕ → Entry → Bool
 powerFits q e = implies (isPlace (itemAt e)) (eqb (e .argument) (suc q))
 
 pub entry-back : (q : ℕ) (e : Entry) → T (entryInRange e) → T (powerFits q e) → entryOf q (itemAt e) ≡ e
-unfolding entryInRange itemAt entryOf placeTag elapsedTag
+unfolding entryInRange itemAt entryOf
 entry-back q =
     by-tag (λ e. T (powerFits q e) → entryOf q (itemAt e) ≡ e)
     (also (λ a r f. refl) (also (λ a r f. refl) (also (λ a r f. refl)
@@ -108,7 +111,7 @@ item-ranged =
     (also (λ a r. r) (also (λ a r. r) (also (λ a r. r)
     (also (λ a r. tt) (also (λ a r. tt) (also (λ a r. tt) (also (λ a r. tt) (also (λ a r. tt) (also (λ a r. tt) (also (λ a r. tt)
     (also (λ a r. r) (also (λ a r. r) (also (λ a r. r) (also (λ a r. r) (also (λ a r. r) (also (λ a r. r) (also (λ a r. r) (also (λ a r. r) (also (λ a r. r) (also (λ a r. r)
-    (also (λ a r. tt) tt)))))))))))))))))))))
+    (also (λ a r. rw (half-back a r) r) tt)))))))))))))))))))))
 
 pub items-ranged : (es : List Entry) → T (every entryInRange es) → T (every itemInRange (itemsAt es))
 unfolding itemsAt every

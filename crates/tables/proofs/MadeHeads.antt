@@ -10,10 +10,10 @@ use lib.Dec.{T, leb, ltb, eqb, leb→le, le→leb, ltb→lt, eqb→eq, eqb-refl}
 use Rattle.lists.specs.Lists.{every, count, isSome}
 use Rattle.lists.proofs.Bools.{and-left, and-right, and-in, true-T, by-cases}
 use Rattle.formats.specs.Tokens.{Comparison}
-use Rattle.formats.specs.Items.{Condition, Section, Kind, textKind, generalKind, dateKind, numberKind, literalKind, sameKind, kindOf, itemsFit, isPercent, integerPlaces, decimalPlaces}
+use Rattle.formats.specs.Items.{Condition, Section, Kind, textKind, generalKind, dateKind, numberKind, literalKind, sameKind, kindOf, itemsFit, isPercent, integerPlaces, decimalPlaces, itemInRange}
 use Rattle.formats.specs.Where.{implies}
 use Rattle.formats.specs.Limits.{sectionWithin}
-use Rattle.formats.specs.WellFormed.{itemInRange, conditionInRange, oneFill, partsFollow, isSettled, groupingFits, dividingFits, sectionFormed}
+use Rattle.formats.specs.WellFormed.{conditionInRange, oneFill, partsFollow, isSettled, groupingFits, dividingFits, sectionFormed}
 use Rattle.tables.specs.Words.{Head}
 use Rattle.tables.specs.Encode.{kindWord, comparisonWord, operatorWord, bit, negativeWord, wholePart, millionthsPart, lowWord, highWord, shiftWord, flagsWord, noMinus, hasHalf, decimalsWord, headOf}
 use Rattle.tables.specs.Decode.{comparisonAt, twoWords, wholeAt, millionthsAt, conditionAt, groupedAt, thousandsAt}

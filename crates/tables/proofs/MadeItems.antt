@@ -9,18 +9,17 @@ use lib.Dec.{T, leb, eqb, le→leb, eqb-refl}
 use Rattle.values.specs.Ranges.{between}
 use Rattle.lists.specs.Lists.{every}
 use Rattle.lists.proofs.Bools.{and-in, by-cases, every-head, every-tail, every-cons}
-use Rattle.formats.specs.Items.{Item, place, elapsed, half, isPlace, integerPlaces}
+use Rattle.formats.specs.Items.{Item, place, elapsed, half, isPlace, integerPlaces, itemInRange}
 use Rattle.formats.specs.Where.{implies}
-use Rattle.formats.specs.WellFormed.{itemInRange}
 use Rattle.formats.specs.Text.{digitAfter}
-use Rattle.tables.specs.Encode.{placeTag, elapsedTag, halfWord, entryOf, entriesFrom, entriesOf}
+use Rattle.tables.specs.Encode.{entryOf, entriesFrom, entriesOf}
 use Rattle.tables.specs.Decode.{halfAt, itemAt, itemsAt}
 use Rattle.tables.specs.Rules.{entryInRange, powersFrom, powersRunDown}
 use Rattle.formats.proofs.Each.{by-item, by-place, by-elapsed, by-half}
 
 -- an item's entry reads back as the item, whatever its arguments
 pub item-back : (q : ℕ) (i : Item) → itemAt (entryOf q i) ≡ i
-unfolding entryOf itemAt placeTag elapsedTag halfWord halfAt
+unfolding entryOf itemAt halfAt
 item-back q =
     by-item (λ i. itemAt (entryOf q i) ≡ i) (λ u. refl) (λ u. refl) (λ u. refl)
     (by-place (λ p. itemAt (entryOf q (place p)) ≡ place p) refl refl refl)
@@ -42,7 +41,7 @@ power-in-range : (q : ℕ) → q ≤ 34 → T (between 1 35 (suc q))
 power-in-range q h = and-in (leb 1 (suc q)) (leb (suc q) 35) (le→leb 1 (suc q) (omega arith)) (le→leb (suc q) 35 (omega arith))
 
 pub entry-in-range : (q : ℕ) (i : Item) → T (itemInRange i) → q ≤ 34 → T (entryInRange (entryOf q i))
-unfolding itemInRange entryOf entryInRange placeTag elapsedTag halfWord
+unfolding itemInRange entryOf entryInRange itemAt
 entry-in-range q =
     by-item (λ i. T (itemInRange i) → q ≤ 34 → T (entryInRange (entryOf q i))) (λ u t h. t) (λ u t h. t) (λ u t h. t)
     (λ p t h. by-place (λ x. T (entryInRange (entryOf q (place x)))) (power-in-range q h) (power-in-range q h) (power-in-range q h) p)

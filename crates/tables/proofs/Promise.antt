@@ -10,10 +10,10 @@ use lib.ListN.{length, length-map}
 use lib.Dec.{T, leb, leb→le, le→leb}
 use Rattle.lists.specs.Lists.{every}
 use Rattle.lists.proofs.Bools.{and-left, and-right, and-in, T-true, true-T}
-use Rattle.formats.specs.Items.{Section}
+use Rattle.formats.specs.Items.{Section, isUnit}
 use Rattle.formats.specs.Choice.{counted}
 use Rattle.formats.specs.Minus.{firstHasCondition}
-use Rattle.formats.specs.WellFormed.{isUnit, sectionFormed, itemsInAll, allStand, wellFormed}
+use Rattle.formats.specs.WellFormed.{sectionFormed, itemsInAll, allStand, wellFormed}
 use Rattle.formats.specs.Accept.{sections, accept}
 use Rattle.formats.specs.Reading.{readAccepted, codeReading}
 use Rattle.formats.proofs.Accepted.{accepted-formed}

@@ -9,8 +9,10 @@ use lib.Dec.{T, eqb, lt→ltb, eqb→eq}
 use Rattle.values.specs.Ranges.{between}
 use Rattle.lists.specs.Lists.{every}
 use Rattle.lists.proofs.Bools.{every-head, every-tail, every-cons}
-use Rattle.formats.specs.WellFormed.{isUnit}
+use Rattle.formats.specs.Tokens.{runAllowed}
+use Rattle.formats.specs.Items.{isUnit}
 use Rattle.tables.specs.Words.{Head, Entry, Row, headWords, headsWords, entriesWords, bodiesWords, tableWords}
+use Rattle.tables.specs.Decode.{itemAt}
 use Rattle.tables.specs.Rules.{headInRange, entryInRange, rowFits}
 use Rattle.tables.proofs.Ranges.{head-ranges}
 use Rattle.tables.proofs.BackEntries.{also, between-facts, tag-known, by-tag}
@@ -34,7 +36,7 @@ two-or-four a t = either (eqb a 2) (eqb a 4) (λ u. word a (omega (arith, eqb→
     either false c f g t = g t
 
 argument-word : (e : Entry) → T (entryInRange e) → T (isUnit (e .argument))
-unfolding entryInRange
+unfolding entryInRange itemAt runAllowed
 argument-word =
     by-tag (λ (e : Entry). T (isUnit (e .argument)))
     (also (λ a r. r) (also (λ a r. r) (also (λ a r. r)

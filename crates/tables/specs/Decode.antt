@@ -4,6 +4,7 @@ use Prim.Native.Nat.{ℕ, _+_, _-_, _*_, _/_, _%_, _^_}
 use mathlib.Core.Bool.{Bool, cond}
 use mathlib.Core.List.{List, [], _∷_, map}
 use mathlib.Core.Option.{Option, none, some}
+use lib.ListN.{getD}
 use lib.Dec.{eqb}
 use Rattle.lists.specs.Lists.{count}
 use Rattle.formats.specs.Tokens.{Place, zeroPlace, hashPlace, spacePlace, Elapsed, hours, minutes, seconds, HalfDay, short, long, Comparison, equal, less, greater, atMost, atLeast, unequal}
@@ -36,31 +37,15 @@ conditionAt h =
 unfoldable pub halfAt : ℕ → HalfDay
 halfAt a = cond (eqb a 1) short long
 
+-- the items by their numbers, with the argument a, behind what the number 0 is read as
+abbrev pub itemsByTag : ℕ → List Item
+itemsByTag a =
+    half (halfAt a) ∷ literal a ∷ blank a ∷ fill a ∷ place zeroPlace ∷ place hashPlace ∷ place spacePlace ∷ point ∷ percent ∷ general ∷ at
+    ∷ year a ∷ month a ∷ day a ∷ hour a ∷ minute a ∷ second a ∷ part a ∷ elapsed hours a ∷ elapsed minutes a ∷ elapsed seconds a ∷ []
+
 -- an item from its tag and argument; a word of no item, which the rules refuse, is read as the last
 unfoldable pub itemAt : Entry → Item
-itemAt e =
-    let t = e .tag in
-    let a = e .argument in
-    cond (eqb t 1) (literal a)
-    (cond (eqb t 2) (blank a)
-    (cond (eqb t 3) (fill a)
-    (cond (eqb t 4) (place zeroPlace)
-    (cond (eqb t 5) (place hashPlace)
-    (cond (eqb t 6) (place spacePlace)
-    (cond (eqb t 7) point
-    (cond (eqb t 8) percent
-    (cond (eqb t 9) general
-    (cond (eqb t 10) at
-    (cond (eqb t 11) (year a)
-    (cond (eqb t 12) (month a)
-    (cond (eqb t 13) (day a)
-    (cond (eqb t 14) (hour a)
-    (cond (eqb t 15) (minute a)
-    (cond (eqb t 16) (second a)
-    (cond (eqb t 17) (part a)
-    (cond (eqb t 18) (elapsed hours a)
-    (cond (eqb t 19) (elapsed minutes a)
-    (cond (eqb t 20) (elapsed seconds a) (half (halfAt a)))))))))))))))))))))
+itemAt e = getD (itemsByTag (e .argument)) (e .tag) (half (halfAt (e .argument)))
 
 unfoldable pub itemsAt : List Entry → List Item
 itemsAt es = map itemAt es

@@ -6,8 +6,8 @@ use mathlib.Core.List.{List, [], _∷_}
 use mathlib.Core.Option.{Option, none, some}
 use lib.ListN.{length}
 use Rattle.lists.specs.Lists.{any, count}
-use Rattle.formats.specs.Tokens.{Place, zeroPlace, hashPlace, spacePlace, Elapsed, hours, minutes, seconds, HalfDay, short, long, Comparison, equal, less, greater, atMost, atLeast, unequal}
-use Rattle.formats.specs.Items.{Item, literal, blank, fill, place, point, percent, general, at, year, month, day, hour, minute, second, part, elapsed, half, Condition, Section, Kind, textKind, generalKind, dateKind, numberKind, literalKind, sameKind, kindOf, isPercent, isHalf, integerPlaces, decimalPlaces}
+use Rattle.formats.specs.Tokens.{Comparison, equal, less, greater, atMost, atLeast, unequal}
+use Rattle.formats.specs.Items.{Item, itemRow, Condition, Section, Kind, textKind, generalKind, dateKind, numberKind, literalKind, sameKind, kindOf, isPlace, isPercent, isHalf, integerPlaces, decimalPlaces}
 use Rattle.formats.specs.Where.{hasCondition}
 use Rattle.formats.specs.Choice.{counted}
 use Rattle.formats.specs.Minus.{firstHasCondition, exceptionA}
@@ -99,42 +99,13 @@ headOf n i firstHas s =
 abbrev pub entry : ℕ → ℕ → Entry
 entry t a = record { tag = t; argument = a }
 
--- "4, 5, 6 places `0 # ?` (power + 16)"
-unfoldable pub placeTag : Place → ℕ
-placeTag zeroPlace = 4
-placeTag hashPlace = 5
-placeTag spacePlace = 6
+-- an item's number
+abbrev pub tagOf : Item → ℕ
+tagOf i = itemRow i .number + itemRow i .variant
 
--- "18 to 20 elapsed h, m, s"
-unfoldable pub elapsedTag : Elapsed → ℕ
-elapsedTag hours = 18
-elapsedTag minutes = 19
-elapsedTag seconds = 20
-
--- "21 half-day (1 A/P, 2 AM/PM)"
-unfoldable pub halfWord : HalfDay → ℕ
-halfWord short = 1
-halfWord long = 2
-
--- an item's two words (R94); q is the power of its digit and 15
+-- an item's two words (R94), its number and its argument: "4, 5, 6 places `0 # ?` (power + 16)". q is the power of its digit and 15.
 unfoldable pub entryOf : ℕ → Item → Entry
-entryOf q (literal u) = entry 1 u
-entryOf q (blank u) = entry 2 u
-entryOf q (fill u) = entry 3 u
-entryOf q (place p) = entry (placeTag p) (suc q)
-entryOf q point = entry 7 0
-entryOf q percent = entry 8 0
-entryOf q general = entry 9 0
-entryOf q at = entry 10 0
-entryOf q (year n) = entry 11 n
-entryOf q (month n) = entry 12 n
-entryOf q (day n) = entry 13 n
-entryOf q (hour n) = entry 14 n
-entryOf q (minute n) = entry 15 n
-entryOf q (second n) = entry 16 n
-entryOf q (part n) = entry 17 n
-entryOf q (elapsed e n) = entry (elapsedTag e) n
-entryOf q (half h) = entry 21 (halfWord h)
+entryOf q i = entry (tagOf i) (cond (isPlace i) (suc q) (itemRow i .argument))
 
 unfoldable pub entriesFrom : ℕ → List Item → List Entry
 entriesFrom q [] = []

@@ -8,8 +8,8 @@ use lib.ListN.{length}
 use lib.Dec.{T}
 use Rattle.values.specs.declared.Ask.{Ask}
 use Rattle.lists.specs.Lists.{every}
-use Rattle.formats.specs.Items.{Section}
-use Rattle.formats.specs.WellFormed.{isUnit, wellFormed}
+use Rattle.formats.specs.Items.{Section, isUnit}
+use Rattle.formats.specs.WellFormed.{wellFormed}
 use Rattle.formats.specs.Reading.{codeReading}
 use Rattle.tables.specs.Encode.{encode}
 use Rattle.tables.specs.Decode.{decode}

@@ -7,15 +7,15 @@ use lib.ListN.{length}
 use lib.Dec.{leb, ltb, eqb}
 use Rattle.values.specs.Ranges.{between}
 use Rattle.lists.specs.Lists.{every, any, count}
-use Rattle.formats.specs.Items.{Item, Section, numberKind, sameKind, kindOf, isPercent, isPlace, itemsFit, integerPlaces}
+use Rattle.formats.specs.Items.{Item, itemRow, isUnit, Section, numberKind, sameKind, kindOf, isPercent, isPlace, itemsFit, integerPlaces}
 use Rattle.formats.specs.Where.{implies, hasCondition}
 use Rattle.formats.specs.Limits.{sectionWithin}
-use Rattle.formats.specs.WellFormed.{isUnit, oneFill, partsFollow, isSettled, groupingFits, itemsInAll, allStand}
+use Rattle.formats.specs.WellFormed.{oneFill, partsFollow, isSettled, groupingFits, itemsInAll, allStand}
 use Rattle.formats.specs.Choice.{counted}
 use Rattle.formats.specs.Minus.{firstHasCondition}
 use Rattle.formats.specs.Text.{digitAfter}
 use Rattle.tables.specs.Words.{Head, Entry, Row, rowsIn, exactWords}
-use Rattle.tables.specs.Encode.{kindWord, flagsWord, noMinus, hasHalf, decimalsWord}
+use Rattle.tables.specs.Encode.{kindWord, flagsWord, noMinus, hasHalf, decimalsWord, tagOf}
 use Rattle.tables.specs.Decode.{wholeAt, millionthsAt, itemAt, itemsAt, groupedAt, thousandsAt, sectionAt, decode}
 
 -- "every word in its range" (R97)
@@ -32,21 +32,12 @@ headInRange h =
     && leb (h .decimals) 15
     && leb (h .items) 254
 
--- a literal's, blank's or fill's unit may be any; powers are -15 to 19; runs have the lengths that their tokens may have (R97)
+-- an item's number with an argument that it may have; powers are -15 to 19 (R97)
 unfoldable pub entryInRange : Entry → Bool
 entryInRange e =
-    let t = e .tag in
+    let i = itemAt e in
     let a = e .argument in
-    cond (between 1 3 t) (isUnit a)
-    (cond (between 4 6 t) (between 1 35 a)
-    (cond (between 7 10 t) (eqb a 0)
-    (cond (eqb t 11) (eqb a 2 || eqb a 4)
-    (cond (eqb t 12) (between 1 5 a)
-    (cond (eqb t 13) (between 1 4 a)
-    (cond (between 14 16 t) (between 1 2 a)
-    (cond (eqb t 17) (between 1 3 a)
-    (cond (between 18 20 t) (between 1 9 a)
-    (eqb t 21 && between 1 2 a)))))))))
+    eqb (tagOf i) (e .tag) && cond (isPlace i) (between 1 35 a) (itemRow i .takes a)
 
 unfoldable pub rowInRange : Row → Bool
 rowInRange r = headInRange (r .head) && every entryInRange (r .entries)

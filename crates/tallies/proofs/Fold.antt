@@ -13,7 +13,7 @@ use Rattle.lists.specs.Lists.{every, any, count, All}
 use Rattle.lists.proofs.Bools.{by-cases, cond-and}
 use Rattle.lists.proofs.Counts.{count-least, any-same, any-either, positive-count}
 use Rattle.formats.specs.Tokens.{hours, minutes, seconds}
-use Rattle.formats.specs.Items.{Item, elapsed, isFill, isPlace, isPoint, isPercent, isGeneral, isHour, isMinute, isSecond, isPart, isElapsed, isHalf, itemMakes, itemBelongs, sortOf, integerPlaces, decimalPlaces, Run, hourRun, secondRun, otherRun, noRun, runOf, nearer, firstRun, meansMinutes, settledItem}
+use Rattle.formats.specs.Items.{Item, elapsed, isFill, isPlace, isPoint, isPercent, isGeneral, isHour, isMinute, isSecond, isPart, isElapsed, isElapsedOf, isHalf, itemMakes, itemNumber, integerPlaces, decimalPlaces, Run, hourRun, secondRun, otherRun, noRun, runOf, nearer, firstRun, meansMinutes, settledItem}
 use Rattle.formats.specs.Where.{implies}
 use Rattle.formats.specs.Limits.{elapsedShort}
 use Rattle.formats.specs.WellFormed.{isSeconds, partsFrom, partsFollow, settledTest, isSettled}
@@ -24,7 +24,7 @@ use Rattle.formats.proofs.Each.{by-item, by-elapsed}
 use Rattle.tables.proofs.MadeHeads.{bit-back}
 use Rattle.tables.proofs.BackEntries.{items-length}
 use Rattle.tallies.specs.declared.Walk.{Walk}
-use Rattle.tallies.specs.Tally.{makesText, makesDate, belongsDate, isElapsedOf, soundEntries, tallyOf}
+use Rattle.tallies.specs.Tally.{makesText, makesDate, belongsDate, soundEntries, tallyOf}
 use Rattle.tallies.specs.Walk.{packed, tallies, weight, isLong, otherTests, dateTests, markTests, numberWeight, unitAfter, runAt, runAfter, settles, nextAfter, ended, powerTest, entrySound, faultOf, stepOf, walkFrom, startOf, soundTold, finishedOf}
 use Rattle.tallies.proofs.Packed.{tallies-none, tallies-turn, first-dropped, first-digit, later-digits, digit-at, tallies-small, packed-positive}
 use Rattle.tallies.proofs.Powers.{place-no-point, places-counted, chainFrom, rangeTest, chain-start}
@@ -52,11 +52,11 @@ numbers-walked w (e ∷ es) = omega (arith, numbers-walked (stepOf w e) es)
 
 place-weight : (i : Item) → isPlace i ≡ true → weight 65536 pointTests i ≡ 0
 unfolding weight bit
-place-weight i h = rw (eqb-true (sortOf i) 3 h)
+place-weight i h = rw (eqb-true (itemNumber i) 4 h)
 
 point-weight : (i : Item) → isPoint i ≡ true → weight 65536 pointTests i ≡ 1
 unfolding weight bit
-point-weight i h = rw (eqb-true (sortOf i) 4 h)
+point-weight i h = rw (eqb-true (itemNumber i) 7 h)
 
 closed-numbers : (is : List Item)
     → numbersLeft 65536 is ≡ 65536 * count isPlace is + 4294967296 * packed 65536 (tallies pointTests is)
@@ -178,7 +178,7 @@ marks-walked w (e ∷ es) =
 
 -- ---- what an item's weight says
 date-weight : (i : Item) → ltb 0 (weight 256 dateTests i) ≡ makesDate i
-unfolding weight bit itemMakes isElapsedOf
+unfolding weight bit itemMakes
 date-weight =
     by-item (λ i. ltb 0 (weight 256 dateTests i) ≡ makesDate i) (λ u. refl) (λ u. refl) (λ u. refl) (λ p. refl) refl refl refl refl
     (λ n. refl) (λ n. refl) (λ n. refl) (λ n. refl) (λ n. refl) (λ n. refl) (λ n. refl)
@@ -188,11 +188,9 @@ date-weight =
 abbrev besideTests : List (Item → Bool)
 besideTests = isHalf ∷ isPart ∷ []
 
-date-belongs : (i : Item) → (makesDate i || ltb 0 (weight 65536 besideTests i)) ≡ belongsDate i
-unfolding weight bit itemMakes itemBelongs
-date-belongs =
-    by-item (λ i. (makesDate i || ltb 0 (weight 65536 besideTests i)) ≡ belongsDate i) (λ u. refl) (λ u. refl) (λ u. refl) (λ p. refl) refl refl refl refl
-    (λ n. refl) (λ n. refl) (λ n. refl) (λ n. refl) (λ n. refl) (λ n. refl) (λ n. refl) (λ e n. refl) (λ h. refl)
+beside-weight : (i : Item) → ltb 0 (weight 65536 besideTests i) ≡ (isHalf i || isPart i)
+unfolding weight bit
+beside-weight i = by-cases (isHalf i) (λ h. rw h (by-cases (isPart i) (λ k. rw k) (λ k. rw k))) (λ h. rw h (by-cases (isPart i) (λ k. rw k) (λ k. rw k)))
 
 none-long : (is : List Item) → eqb (count isLong is) 0 ≡ every elapsedShort is
 unfolding count every
@@ -290,7 +288,7 @@ module _ (es : List Entry) (few : length es ≤ 254) where
   dates-told =
       let beside : Item → Bool = λ i. ltb 0 (weight 65536 besideTests i) in
       rw (dating-told, marks-beside, packed-positive 65536 besideTests is)
-      (sym (any-either makesDate beside is) ∙ any-same (λ (i : Item). makesDate i || beside i) belongsDate date-belongs is)
+      (sym (any-either makesDate beside is) ∙ any-same (λ (i : Item). makesDate i || beside i) belongsDate (λ i. rw (beside-weight i)) is)
 
   integers-told : end .numbers % 65536 ≡ integerPlaces is
   unfolding packed

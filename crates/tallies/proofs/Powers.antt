@@ -10,8 +10,8 @@ use borrow.Author.Tests.{ltb-true, ltb-false, eqb-true, eqb-false, eq-eqb, ne-eq
 use Rattle.values.specs.Ranges.{between}
 use Rattle.lists.specs.Lists.{every, count}
 use Rattle.lists.proofs.Bools.{by-cases, cond-case, true-T}
-use Rattle.tables.proofs.BackEntries.{between-facts}
-use Rattle.formats.specs.Items.{Item, sortOf, isPlace, isPoint, integerPlaces, decimalPlaces}
+use Rattle.tables.proofs.BackEntries.{between-facts, span-at, place-tag}
+use Rattle.formats.specs.Items.{Item, itemNumber, isPlace, isPoint, integerPlaces, decimalPlaces}
 use Rattle.formats.specs.Text.{digitAfter}
 use Rattle.tables.specs.Words.{Entry}
 use Rattle.tables.specs.Encode.{entry}
@@ -20,7 +20,7 @@ use Rattle.tables.specs.Rules.{entryInRange, powersFrom, powersRunDown}
 use Rattle.tallies.specs.Walk.{lower, unitAfter, nextAfter, ended, powerTest}
 
 point-no-place : (i : Item) → isPoint i ≡ true → isPlace i ≡ false
-point-no-place i h = rw (eqb-true (sortOf i) 4 h)
+point-no-place i h = rw (eqb-true (itemNumber i) 7 h)
 
 pub places-counted : (is : List Item) → integerPlaces is + decimalPlaces is ≡ count isPlace is
 unfolding integerPlaces decimalPlaces count
@@ -44,22 +44,9 @@ rangeTest e = isPlace (itemAt e) || entryInRange e
 -- ---- a place's range is that of its argument
 place-range : (t a : ℕ) → isPlace (itemAt (entry t a)) ≡ true → entryInRange (entry t a) ≡ between 1 35 a
 unfolding itemAt entryInRange
-place-range t a =
-    cond-case Q (eqb t 1) none (λ _. cond-case Q (eqb t 2) none (λ _. cond-case Q (eqb t 3) none
-    (λ _. cond-case Q (eqb t 4) (λ h _. rw (eqb-true t 4 h))
-    (λ _. cond-case Q (eqb t 5) (λ h _. rw (eqb-true t 5 h))
-    (λ _. cond-case Q (eqb t 6) (λ h _. rw (eqb-true t 6 h))
-    (λ _. cond-case Q (eqb t 7) none (λ _. cond-case Q (eqb t 8) none (λ _. cond-case Q (eqb t 9) none
-    (λ _. cond-case Q (eqb t 10) none (λ _. cond-case Q (eqb t 11) none (λ _. cond-case Q (eqb t 12) none
-    (λ _. cond-case Q (eqb t 13) none (λ _. cond-case Q (eqb t 14) none (λ _. cond-case Q (eqb t 15) none
-    (λ _. cond-case Q (eqb t 16) none (λ _. cond-case Q (eqb t 17) none (λ _. cond-case Q (eqb t 18) none
-    (λ _. cond-case Q (eqb t 19) none (λ _. cond-case Q (eqb t 20) none (λ _. λ g. absurd (false≢true g)))))))))))))))))))))
-  where
-    Q : Item → Type 0
-    Q i = isPlace i ≡ true → entryInRange (entry t a) ≡ between 1 35 a
-
-    none : {b : Bool} → b ≡ true → false ≡ true → entryInRange (entry t a) ≡ between 1 35 a
-    none h g = absurd (false≢true g)
+place-range t a h =
+    let f = between-facts 4 6 t (true-T (sym (place-tag t a) ∙ h)) in
+    span-at (λ (k : ℕ). entryInRange (entry k a) ≡ between 1 35 a) 4 3 t (refl, (refl, (refl, tt))) (f .0) (omega arith)
 
 -- ---- numbers
 lower-is : (a : ℕ) → lower a ≡ suc (a - 2)
@@ -113,7 +100,7 @@ closed-chain q m (e ∷ es) =
 
 -- ---- up to the point, with a place met
 pub place-no-point : (i : Item) → isPlace i ≡ true → isPoint i ≡ false
-place-no-point i h = rw (eqb-true (sortOf i) 3 h)
+place-no-point i h = rw (eqb-true (itemNumber i) 4 h)
 
 ended-is : (q : ℕ) → q ≤ 34 → ended (suc q) ≡ eqb q 14
 ended-is q m = rw (started q m) (same-test (suc q) 15 q 14 (λ e. omega arith) (λ e. omega arith))

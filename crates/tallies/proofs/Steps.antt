@@ -8,29 +8,29 @@ use native.Mathlib.Omega.{arith}
 use borrow.Author.Tests.{eqb-true, eq-eqb, ne-eqb, le-leb, lt-leb, leb-false, lt-ltb}
 use Rattle.values.specs.Ranges.{between}
 use Rattle.tables.specs.Encode.{entry, bit}
-use Rattle.formats.specs.Items.{itemMakes, runOf, runOfElapsed, noRun, meansMinutes, monthOrMinute, settledItem, sortOf, isSecondsElapsed}
+use Rattle.formats.specs.Tokens.{runAllowed}
+use Rattle.formats.specs.Items.{itemMakes, runOf, runOfElapsed, noRun, meansMinutes, monthOrMinute, settledItem, itemNumber}
 use Rattle.formats.specs.Limits.{elapsedShort}
 use Rattle.formats.specs.WellFormed.{isSeconds}
 use Rattle.tables.specs.Words.{Entry}
 use Rattle.tables.specs.Decode.{itemAt}
 use Rattle.tables.specs.Rules.{entryInRange}
 use Rattle.tallies.specs.declared.Walk.{Walk}
-use Rattle.tallies.specs.Tally.{isElapsedOf}
 use Rattle.tallies.specs.Walk.{runAt, runAfter, settles, weight, numberWeight, unitAfter, nextAfter, placeTest, powerTest, entrySound, tooLong, countedOf, placedOf, datedOf, stepOf}
 use Rattle.lists.proofs.Bools.{by-cases, true-T}
-use Rattle.tables.proofs.BackEntries.{between-facts, span-at}
+use Rattle.tables.proofs.BackEntries.{between-facts, span-at, late-tag}
 
 -- opens all that a step at a known tag computes by; the rule for m stays shut
 unfoldable pub computed : Walk → Entry → Walk
-unfolding stepOf numberWeight weight bit unitAfter nextAfter powerTest entrySound settles settledItem runAfter runOf runOfElapsed itemAt itemMakes isElapsedOf elapsedShort entryInRange isSeconds isSecondsElapsed
+unfolding stepOf numberWeight weight bit unitAfter nextAfter powerTest entrySound settles settledItem runAfter runOf runOfElapsed itemAt itemMakes elapsedShort entryInRange runAllowed isSeconds
 computed w e = stepOf w e
 
 -- the rule for m keeps a month, keeps minutes
-pub month-stays : (isMinutes : Bool) (n : ℕ) → eqb (sortOf (monthOrMinute isMinutes n)) 9 ≡ not (isMinutes && leb n 2)
+pub month-stays : (isMinutes : Bool) (n : ℕ) → eqb (itemNumber (monthOrMinute isMinutes n)) 12 ≡ not (isMinutes && leb n 2)
 unfolding monthOrMinute
 month-stays b n = by-cases (b && leb n 2) (λ e. rw e) (λ e. rw e)
 
-pub minute-stays : (isMinutes : Bool) (n : ℕ) → eqb (sortOf (monthOrMinute isMinutes n)) 12 ≡ (isMinutes && leb n 2)
+pub minute-stays : (isMinutes : Bool) (n : ℕ) → eqb (itemNumber (monthOrMinute isMinutes n)) 15 ≡ (isMinutes && leb n 2)
 unfolding monthOrMinute
 minute-stays b n = by-cases (b && leb n 2) (λ e. rw e) (λ e. rw e)
 
@@ -39,17 +39,6 @@ unfolding runAt meansMinutes
 means-by-number n =
     by-cases (eqb n 1) (λ e. rw (eqb-true n 1 e))
     (λ e. rw e (by-cases (eqb n 0) (λ f. rw f) (λ f. rw f (by-cases (eqb n 2) (λ g. rw g) (λ g. rw g)))))
-
--- ---- a tag behind the last
-module _ (t : ℕ) (h : 21 < t) where
-  other : (k : ℕ) → T (ltb k 22) → eqb t k ≡ false
-  other k small = ne-eqb t k (λ e. absurd (omega (arith, ltb→lt k 22 small)))
-
-  above : (k : ℕ) → T (ltb k 22) → leb t k ≡ false
-  above k small = lt-leb t k (omega (arith, ltb→lt k 22 small))
-
-  from : (k : ℕ) → T (ltb k 22) → leb k t ≡ true
-  from k small = le-leb k t (omega (arith, ltb→lt k 22 small))
 
 -- ---- each tag by its weights
 module _ (w : Walk) (a : ℕ) where
@@ -144,10 +133,7 @@ module _ (w : Walk) (a : ℕ) where
 
   pub unknown-step : (t : ℕ) → 21 < t → countedOf w 0 0 0 false 4294967296 ≡ stepOf w (entry t a)
   unfolding computed
-  unknown-step t h =
-      simp (other t h 1 tt, other t h 2 tt, other t h 3 tt, other t h 4 tt, other t h 5 tt, other t h 6 tt, other t h 7 tt, other t h 8 tt, other t h 9 tt, other t h 10 tt, other t h 11 tt)
-      (simp (other t h 12 tt, other t h 13 tt, other t h 14 tt, other t h 15 tt, other t h 16 tt, other t h 17 tt, other t h 18 tt, other t h 19 tt, other t h 20 tt, other t h 21 tt)
-      (simp (above t h 3 tt, above t h 6 tt, above t h 10 tt, above t h 16 tt, above t h 20 tt, from t h 1 tt, from t h 4 tt, from t h 7 tt, from t h 14 tt, from t h 18 tt)))
+  unknown-step t h = rw (late-tag t a (omega arith), ne-eqb 21 t (λ e. absurd (omega arith)))
 
 -- a number is none of m + 1 to m + j, behind what else is known of it, as the last arm of a `match` tells it
 abbrev pub Others : Type 0 → ℕ → ℕ → ℕ → Type 0

@@ -6,9 +6,9 @@ use mathlib.Core.List.{List}
 use lib.Dec.{T, leb, ltb, eqb}
 use Rattle.lists.specs.Lists.{every, any, count}
 use Rattle.lists.proofs.Bools.{and-left, and-right}
-use Rattle.lists.proofs.Counts.{any-map, either-positive, any-same, every-same, any-either, every-and, every-not-beside, positive-count}
+use Rattle.lists.proofs.Counts.{either-positive, any-same, every-same, any-either, every-and, every-not-beside, positive-count}
 use Rattle.formats.specs.Tokens.{Elapsed, hours, minutes, seconds}
-use Rattle.formats.specs.Items.{Item, elapsed, Section, Kind, textKind, generalKind, dateKind, numberKind, literalKind, sameKind, kindFrom, itemMakes, itemsKind, kindOf, itemBelongs, itemAllowed, isPlace, isPoint, isPercent, isGeneral, isHour, isMinute, isSecond, isElapsed, isPlain, noPlain, itemsFit, integerPlaces, decimalPlaces}
+use Rattle.formats.specs.Items.{Item, elapsed, Section, Kind, textKind, generalKind, dateKind, numberKind, literalKind, sameKind, kindFrom, itemMakes, itemsKind, kindOf, itemAllowed, isPlace, isPoint, isPercent, isGeneral, isHour, isMinute, isSecond, isElapsed, isElapsedOf, noPlain, itemsFit, integerPlaces, decimalPlaces}
 use Rattle.formats.specs.Limits.{elapsedShort, sectionWithin}
 use Rattle.formats.specs.WellFormed.{oneFill, partsFollow, isSettled, groupingFits}
 use Rattle.tables.specs.Words.{Entry}
@@ -18,32 +18,13 @@ use Rattle.tables.specs.Rules.{entryInRange, powersRunDown}
 use Rattle.formats.proofs.FigureItems.{makes-place}
 use Rattle.formats.proofs.Each.{by-item, by-elapsed, by-kind}
 use Rattle.tables.proofs.Standing.{number-word}
-use Rattle.tallies.specs.Tally.{makesText, makesDate, belongsDate, isElapsedOf, soundEntries, tallyOf, hasPlaces, hasNumberItems, kindTold, allowedTold, itemsFitTold, oneFillTold, withinTold, groupingTold, decimalsTold}
+use Rattle.tallies.specs.Tally.{makesText, makesDate, belongsDate, soundEntries, tallyOf, hasPlaces, hasNumberItems, kindTold, allowedTold, itemsFitTold, oneFillTold, withinTold, groupingTold, decimalsTold}
 use Rattle.tallies.proofs.Powers.{places-counted}
 
--- ---- what each item makes of its section, and where it belongs
-makes-general : (i : Item) → sameKind generalKind (itemMakes i) ≡ isGeneral i
+makes-general : (i : Item) → itemMakes generalKind i ≡ isGeneral i
 unfolding itemMakes
 makes-general =
-    by-item (λ i. sameKind generalKind (itemMakes i) ≡ isGeneral i) (λ u. refl) (λ u. refl) (λ u. refl) (λ p. refl) refl refl refl refl
-    (λ n. refl) (λ n. refl) (λ n. refl) (λ n. refl) (λ n. refl) (λ n. refl) (λ n. refl) (λ e n. refl) (λ h. refl)
-
-belongs-text : (i : Item) → sameKind (itemBelongs i) textKind ≡ makesText i
-unfolding itemMakes itemBelongs
-belongs-text =
-    by-item (λ i. sameKind (itemBelongs i) textKind ≡ makesText i) (λ u. refl) (λ u. refl) (λ u. refl) (λ p. refl) refl refl refl refl
-    (λ n. refl) (λ n. refl) (λ n. refl) (λ n. refl) (λ n. refl) (λ n. refl) (λ n. refl) (λ e n. refl) (λ h. refl)
-
-belongs-general : (i : Item) → sameKind (itemBelongs i) generalKind ≡ isGeneral i
-unfolding itemBelongs
-belongs-general =
-    by-item (λ i. sameKind (itemBelongs i) generalKind ≡ isGeneral i) (λ u. refl) (λ u. refl) (λ u. refl) (λ p. refl) refl refl refl refl
-    (λ n. refl) (λ n. refl) (λ n. refl) (λ n. refl) (λ n. refl) (λ n. refl) (λ n. refl) (λ e n. refl) (λ h. refl)
-
-belongs-number : (i : Item) → sameKind (itemBelongs i) numberKind ≡ (isPlace i || (isPoint i || isPercent i))
-unfolding itemBelongs
-belongs-number =
-    by-item (λ i. sameKind (itemBelongs i) numberKind ≡ (isPlace i || (isPoint i || isPercent i))) (λ u. refl) (λ u. refl) (λ u. refl) (λ p. refl) refl refl refl refl
+    by-item (λ i. itemMakes generalKind i ≡ isGeneral i) (λ u. refl) (λ u. refl) (λ u. refl) (λ p. refl) refl refl refl refl
     (λ n. refl) (λ n. refl) (λ n. refl) (λ n. refl) (λ n. refl) (λ n. refl) (λ n. refl) (λ e n. refl) (λ h. refl)
 
 -- ---- the places
@@ -66,12 +47,8 @@ kind-is : (is : List Item) → itemsKind is ≡ kindBy (any makesText is) (any i
 unfolding itemsKind kindFrom
 kind-is is =
     rw (
-      any-map (sameKind textKind) itemMakes is,
-      any-map (sameKind generalKind) itemMakes is,
-      any-map (sameKind dateKind) itemMakes is,
-      any-map (sameKind numberKind) itemMakes is,
-      any-same (λ (i : Item). sameKind generalKind (itemMakes i)) isGeneral makes-general is,
-      any-same (λ (i : Item). sameKind numberKind (itemMakes i)) isPlace makes-place is,
+      any-same (itemMakes generalKind) isGeneral makes-general is,
+      any-same (itemMakes numberKind) isPlace makes-place is,
     )
 
 kind-word : (t g d n : Bool) → cond t 3 (cond g 1 (cond d 4 (cond n 2 0))) ≡ kindWord (kindBy t g d n)
@@ -91,45 +68,45 @@ pub number-told : (es : List Entry) → eqb (kindTold (tallyOf es)) 2 ≡ sameKi
 number-told es = rw (kind-told es) (number-word (itemsKind (itemsAt es)))
 
 -- ---- no item belongs to another kind
-abbrev belongs : Kind → Item → Bool
-belongs j i = sameKind (itemBelongs i) j
+abbrev numberItem : Item → Bool
+numberItem i = isPlace i || (isPoint i || isPercent i)
 
--- where a section is of kind k, items belong to kind j
+-- where a section is of kind k, an item is one that only kind j holds
 abbrev other : Kind → Kind → Bool → Bool
 other k j some = not (some && not (sameKind j k))
 
 abbrev allowedBy : Kind → Bool → Bool → Bool → Bool → Bool
 allowedBy k T G D N = other k textKind T && (other k generalKind G && (other k dateKind D && other k numberKind N))
 
--- an item that belongs to kind b
-abbrev AllowedIn : Kind → Kind → Type 0
-AllowedIn k b =
-    (sameKind b literalKind || sameKind b k)
-    ≡ allowedBy k (sameKind b textKind) (sameKind b generalKind) (sameKind b dateKind) (sameKind b numberKind)
+twice : (b : Bool) → b ≡ not (not b)
+twice true = refl
+twice false = refl
 
-allowed-one : (k b : Kind) → AllowedIn k b
-allowed-one =
-    by-kind (λ k. (b : Kind) → AllowedIn k b) (by-kind (AllowedIn textKind) refl refl refl refl refl)
-    (by-kind (AllowedIn generalKind) refl refl refl refl refl) (by-kind (AllowedIn dateKind) refl refl refl refl refl)
-    (by-kind (AllowedIn numberKind) refl refl refl refl refl) (by-kind (AllowedIn literalKind) refl refl refl refl refl)
+allowed-one : (k : Kind) (i : Item) → itemAllowed k i ≡ allowedBy k (makesText i) (isGeneral i) (belongsDate i) (numberItem i)
+unfolding itemAllowed itemMakes
+allowed-one k =
+    let once : (j : Kind) → sameKind j k ≡ (not (not (sameKind j k)) && true) = λ j. twice (sameKind j k) ∙ sym (and-true (not (not (sameKind j k)))) in
+    by-item (λ i. itemAllowed k i ≡ allowedBy k (makesText i) (isGeneral i) (belongsDate i) (numberItem i)) (λ u. refl) (λ u. refl) (λ u. refl)
+    (λ p. twice (sameKind numberKind k)) (twice (sameKind numberKind k)) (twice (sameKind numberKind k)) (once generalKind) (once textKind)
+    (λ n. once dateKind) (λ n. once dateKind) (λ n. once dateKind) (λ n. once dateKind) (λ n. once dateKind) (λ n. once dateKind) (λ n. once dateKind)
+    (λ e n. once dateKind) (λ h. once dateKind)
 
 allowed-every : (k : Kind) (is : List Item)
-    → every (itemAllowed k) is
-    ≡ allowedBy k (any (belongs textKind) is) (any (belongs generalKind) is) (any (belongs dateKind) is) (any (belongs numberKind) is)
-unfolding itemAllowed
+    → every (itemAllowed k) is ≡ allowedBy k (any makesText is) (any isGeneral is) (any belongsDate is) (any numberItem is)
 allowed-every k is =
-    let one : Kind → Item → Bool = λ (j : Kind) (i : Item). other k j (belongs j i) in
-    let beside : (j : Kind) → every (one j) is ≡ other k j (any (belongs j) is) = λ j. every-not-beside (belongs j) (not (sameKind j k)) is in
-    every-same (itemAllowed k) (λ (i : Item). one textKind i && (one generalKind i && (one dateKind i && one numberKind i)))
-    (λ i. allowed-one k (itemBelongs i)) is
-    ∙ every-and (one textKind) (λ (i : Item). one generalKind i && (one dateKind i && one numberKind i)) is
+    let one : Kind → (Item → Bool) → Item → Bool = λ (j : Kind) (p : Item → Bool) (i : Item). other k j (p i) in
+    let beside : (j : Kind) (p : Item → Bool) → every (one j p) is ≡ other k j (any p is) = λ j p. every-not-beside p (not (sameKind j k)) is in
+    let D = one dateKind belongsDate in
+    let N = one numberKind numberItem in
+    every-same (itemAllowed k) (λ (i : Item). one textKind makesText i && (one generalKind isGeneral i && (D i && N i))) (allowed-one k) is
+    ∙ every-and (one textKind makesText) (λ (i : Item). one generalKind isGeneral i && (D i && N i)) is
     ∙ rw (
-      every-and (one generalKind) (λ (i : Item). one dateKind i && one numberKind i) is,
-      every-and (one dateKind) (one numberKind) is,
-      beside textKind,
-      beside generalKind,
-      beside dateKind,
-      beside numberKind,
+      every-and (one generalKind isGeneral) (λ (i : Item). D i && N i) is,
+      every-and D N is,
+      beside textKind makesText,
+      beside generalKind isGeneral,
+      beside dateKind belongsDate,
+      beside numberKind numberItem,
     )
 
 -- the tests of `allowedTold` are those of the kind that the flags make
@@ -143,24 +120,21 @@ allowed-by-kind false false false true D N = rw (and-true D, and-false N, and-tr
 allowed-by-kind false false false false D N = rw (and-true D, and-true N)
 
 module _ (es : List Entry) where
-  number-items-told : hasNumberItems (tallyOf es) ≡ any (belongs numberKind) (itemsAt es)
+  number-items-told : hasNumberItems (tallyOf es) ≡ any numberItem (itemsAt es)
   number-items-told =
       let is = itemsAt es in
       rw (places-told es)
       (unfold tallyOf in
       (rw (positive-count isPoint is, positive-count isPercent is)
-      (sym (any-same (belongs numberKind) (λ (i : Item). isPlace i || (isPoint i || isPercent i)) belongs-number is
-      ∙ any-either isPlace (λ (i : Item). isPoint i || isPercent i) is
-      ∙ ap (λ (b : Bool). any isPlace is || b) (any-either isPoint isPercent is)))))
+      (sym (any-either isPlace (λ (i : Item). isPoint i || isPercent i) is ∙ ap (λ (b : Bool). any isPlace is || b) (any-either isPoint isPercent is)))))
 
   allowed-told : allowedTold (tallyOf es) ≡ every (itemAllowed (itemsKind (itemsAt es))) (itemsAt es)
   allowed-told =
       let is = itemsAt es in
       rw (number-items-told, places-told es, generals-told es)
       (unfold tallyOf in
-      (allowed-by-kind (any makesText is) (any isGeneral is) (any makesDate is) (any isPlace is) (any belongsDate is) (any (belongs numberKind) is)
-      ∙ rw (← kind-is is, ← any-same (belongs textKind) makesText belongs-text is, ← any-same (belongs generalKind) isGeneral belongs-general is)
-      (sym (allowed-every (itemsKind is) is))))
+      (allowed-by-kind (any makesText is) (any isGeneral is) (any makesDate is) (any isPlace is) (any belongsDate is) (any numberItem is)
+      ∙ rw (← kind-is is) (sym (allowed-every (itemsKind is) is))))
 
 -- ---- no elapsed item beside its plain equivalent
 module _ (is : List Item) where
@@ -171,7 +145,7 @@ module _ (is : List Item) where
   Same i = noPlain is i ≡ (beside hours (any isHour is) i && (beside minutes (any isMinute is) i && beside seconds (any isSecond is) i))
 
   no-plain-item : (i : Item) → Same i
-  unfolding noPlain isElapsedOf isPlain
+  unfolding noPlain
   no-plain-item =
       by-item Same (λ u. refl) (λ u. refl) (λ u. refl) (λ p. refl) refl refl refl refl
       (λ n. refl) (λ n. refl) (λ n. refl) (λ n. refl) (λ n. refl) (λ n. refl) (λ n. refl)

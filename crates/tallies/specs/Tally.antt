@@ -5,8 +5,8 @@ use mathlib.Core.Bool.{Bool, false, cond, not, _&&_, _||_}
 use mathlib.Core.List.{List}
 use lib.Dec.{leb, ltb, eqb}
 use Rattle.lists.specs.Lists.{every, any, count}
-use Rattle.formats.specs.Tokens.{Elapsed, hours, minutes, seconds}
-use Rattle.formats.specs.Items.{Item, literal, blank, fill, place, point, percent, general, at, year, month, day, hour, minute, second, part, elapsed, half, dateKind, textKind, sameKind, itemMakes, itemBelongs, isFill, isPoint, isPercent, isGeneral, isHour, isMinute, isSecond, isElapsed, isHalf, integerPlaces, decimalPlaces}
+use Rattle.formats.specs.Tokens.{hours, minutes, seconds}
+use Rattle.formats.specs.Items.{Item, dateKind, textKind, itemMakes, isFill, isPoint, isPercent, isGeneral, isHour, isMinute, isSecond, isPart, isElapsed, isElapsedOf, isHalf, integerPlaces, decimalPlaces}
 use Rattle.formats.specs.Limits.{elapsedShort}
 use Rattle.formats.specs.WellFormed.{partsFollow, isSettled}
 use Rattle.tables.specs.Words.{Entry}
@@ -16,38 +16,14 @@ use Rattle.tables.specs.Rules.{entryInRange, powersRunDown}
 use Rattle.tallies.specs.declared.Tally.{Tally}
 
 abbrev pub makesText : Item → Bool
-makesText i = sameKind textKind (itemMakes i)
+makesText i = itemMakes textKind i
 
 abbrev pub makesDate : Item → Bool
-makesDate i = sameKind dateKind (itemMakes i)
+makesDate i = itemMakes dateKind i
 
+-- an item that only a date-time section holds
 abbrev pub belongsDate : Item → Bool
-belongsDate i = sameKind (itemBelongs i) dateKind
-
--- an elapsed item of hours, of minutes or of seconds, by its number
-abbrev pub elapsedIndex : Elapsed → ℕ
-elapsedIndex hours = 0
-elapsedIndex minutes = 1
-elapsedIndex seconds = 2
-
-unfoldable pub isElapsedOf : Elapsed → Item → Bool
-isElapsedOf d (elapsed e n) = eqb (elapsedIndex d) (elapsedIndex e)
-isElapsedOf d (literal u) = false
-isElapsedOf d (blank u) = false
-isElapsedOf d (fill u) = false
-isElapsedOf d (place p) = false
-isElapsedOf d point = false
-isElapsedOf d percent = false
-isElapsedOf d general = false
-isElapsedOf d at = false
-isElapsedOf d (year n) = false
-isElapsedOf d (month n) = false
-isElapsedOf d (day n) = false
-isElapsedOf d (hour n) = false
-isElapsedOf d (minute n) = false
-isElapsedOf d (second n) = false
-isElapsedOf d (part n) = false
-isElapsedOf d (half h) = false
+belongsDate i = makesDate i || (isHalf i || isPart i)
 
 -- the tests of a section's items that look at their order, their arguments or their powers
 unfoldable pub soundEntries : List Entry → Bool

@@ -7,7 +7,7 @@ use lib.Dec.{leb, ltb, eqb}
 use Rattle.values.specs.Ranges.{between}
 use Rattle.lists.specs.Lists.{count}
 use Rattle.formats.specs.Tokens.{hours, minutes, seconds}
-use Rattle.formats.specs.Items.{Item, sortOf, isFill, isPlace, isPoint, isPercent, isGeneral, isHour, isMinute, isSecond, isPart, isElapsed, isHalf, Run, hourRun, secondRun, otherRun, noRun, runOf, settledItem}
+use Rattle.formats.specs.Items.{Item, itemNumber, isFill, isPlace, isPoint, isPercent, isGeneral, isHour, isMinute, isSecond, isPart, isElapsed, isElapsedOf, isHalf, Run, hourRun, secondRun, otherRun, noRun, runOf, settledItem}
 use Rattle.formats.specs.Where.{implies}
 use Rattle.formats.specs.Limits.{elapsedShort}
 use Rattle.formats.specs.WellFormed.{isSeconds}
@@ -17,7 +17,7 @@ use Rattle.tables.specs.Decode.{itemAt}
 use Rattle.tables.specs.Rules.{entryInRange}
 use Rattle.tallies.specs.declared.Tally.{Tally}
 use Rattle.tallies.specs.declared.Walk.{Walk}
-use Rattle.tallies.specs.Tally.{makesText, isElapsedOf}
+use Rattle.tallies.specs.Tally.{makesText}
 
 -- ---- counts as the digits of a number, lowest first
 unfoldable pub packed : ℕ → List ℕ → ℕ
@@ -36,7 +36,7 @@ weight base (p ∷ ps) i = bit (p i) + base * weight base ps i
 
 -- a year, a month or a day
 abbrev pub isDay : Item → Bool
-isDay i = between 8 10 (sortOf i)
+isDay i = between 11 13 (itemNumber i)
 
 abbrev pub isLong : Item → Bool
 isLong i = not (elapsedShort i)
@@ -72,9 +72,9 @@ runAfter hourRun n = 1
 runAfter secondRun n = 2
 runAfter otherRun n = 3
 
--- the rule for m changes no item's sort, whatever run is later
+-- the rule for m changes no item's number, whatever run is later
 unfoldable pub settles : Run → Item → Bool
-settles earlier i = eqb (sortOf (settledItem earlier noRun i)) (sortOf i)
+settles earlier i = eqb (itemNumber (settledItem earlier noRun i)) (itemNumber i)
 
 -- ---- the powers
 -- the argument that the next place must have; 65536 before the first place, whose argument tells all others

@@ -3,9 +3,9 @@
 use borrow.Author.Needs.{needs}
 use Rattle.figures.proofs.Past.{past}
 use Rattle.formats.specs.Text.{itemUnits, elapsedCount}
+use Rattle.tables.proofs.BackEntries.{late-tag}
 use Rattle.tables.specs.Decode.{itemAt}
 use Rattle.date_text.proofs.Letters.{month-spelt, weekday-spelt}
-use Rattle.date_text.proofs.Items.{late-tag}
 use Rattle.date_text.proofs.put_moment_item.Statement.{statement}
 use Rattle.date_text.proofs.put_moment_item.Tie as tie
 
