@@ -3,7 +3,7 @@
 use Prim.Native.Nat.{ℕ, suc, _+_, _-_, _≤_, _<_}
 use mathlib.Core.Path.{_≡_, refl, sym, ap, _∙_}
 use mathlib.Core.Bool.{Bool, true, false, cond, not, _&&_, _||_}
-use mathlib.Core.List.{List, [], _∷_, map}
+use mathlib.Core.List.{List, [], _∷_}
 use mathlib.Core.Option.{Option, none, some}
 use native.Mathlib.Omega.{arith}
 use lib.Dec.{eqb}
@@ -12,13 +12,13 @@ use lib.ListN.{length, getD}
 use Rattle.lists.specs.Lists.{every, any, count}
 use Rattle.formats.specs.Tokens.{Token}
 use Rattle.formats.specs.Items.{Kind, textKind, generalKind, dateKind, numberKind, literalKind, sameKind, isKind, kindFrom}
-use Rattle.formats.specs.Kinds.{isPlace, isPoint, isFillToken, integerPlaceTokens, isSolidus, startsWithPlace, solidusFrom, solidusFits, noBracket, tokenKind, tokenMakes, bodyKind}
+use Rattle.formats.specs.Kinds.{isPlace, isPoint, isFillToken, integerPlaceTokens, isSolidus, startsWithPlace, solidusFrom, solidusFits, noBracket, tokenRow, tokenMakes, bodyKind}
 use Rattle.marks.specs.Marks.{markRows, markToken, conditionOf, tokensIn}
 use Rattle.bodies.specs.declared.facts.Facts.{Facts}
 use Rattle.bodies.specs.declared.facts.Seen.{Seen}
 use Rattle.bodies.specs.Forms.{one, placeForm, dateForms}
 use Rattle.bodies.specs.Bodies.{factsOf, seen, seeForm}
-use Rattle.marks.proofs.ByForm.{upFrom, by-form}
+use Rattle.marks.proofs.ByForm.{by-form}
 use Rattle.marks.proofs.Words.{passed, Passed, passed-start, passed-end, passed-step}
 
 -- the rank of a kind, by which it comes before others
@@ -35,7 +35,7 @@ rankMade (some k) = rankOf k
 
 -- one token more
 abbrev see : Seen → Token → Seen
-see s t = seen s (rankMade (tokenKind t)) (isPlace t) (isPoint t) (isFillToken t) (isSolidus t) (noBracket t)
+see s t = seen s (rankMade (tokenRow t .makes)) (isPlace t) (isPoint t) (isFillToken t) (isSolidus t) (noBracket t)
 
 abbrev pub nothingSeen : Seen
 nothingSeen = record { rank = 0; plain = true; solidus = true; fills = 0; places = 0; point = false; behind = false; divided = false }
@@ -51,7 +51,7 @@ no-date n h =
 
 -- what a token says, by its form and argument
 see-form : (s : Seen) (f a : ℕ) (us : List ℕ) → see s (markToken f a us) ≡ seeForm s f a
-unfolding markRows upFrom conditionOf isSolidus noBracket any dateForms
+unfolding markRows conditionOf isSolidus noBracket any dateForms
 see-form s f a us = by-form (see s) (λ (n : ℕ). seeForm s n a) a us refl
     (λ n h. rw (ne-eqb n 10 (omega arith), ne-eqb n 12 (omega arith), ne-eqb n 7 (omega arith), ne-eqb n 3 (omega arith), ne-eqb n 1 (omega arith), lt-leb n 6 (omega arith), le-leb 4 n (omega arith), ne-eqb n 23 (omega arith), ne-eqb n 24 (omega arith), no-date n (omega arith))) f
 
@@ -83,9 +83,9 @@ higher (some dateKind) = five (Higher (some dateKind)) (λ b c d. refl) (λ c d.
 higher (some numberKind) = five (Higher (some numberKind)) (λ b c d. refl) (λ c d. refl) (λ d. refl) refl refl
 higher (some literalKind) = five (Higher (some literalKind)) (λ b c d. refl) (λ c d. refl) (λ d. refl) refl refl
 
-rank-cons : (t : Token) (ts : List Token) → rankOf (bodyKind (t ∷ ts)) ≡ rankMade (tokenKind t) + (rankOf (bodyKind ts) - rankMade (tokenKind t))
+rank-cons : (t : Token) (ts : List Token) → rankOf (bodyKind (t ∷ ts)) ≡ rankMade (tokenRow t .makes) + (rankOf (bodyKind ts) - rankMade (tokenRow t .makes))
 unfolding bodyKind kindFrom any tokenMakes
-rank-cons t ts = higher (tokenKind t) (any (tokenMakes textKind) ts) (any (tokenMakes generalKind) ts) (any (tokenMakes dateKind) ts) (any (tokenMakes numberKind) ts)
+rank-cons t ts = higher (tokenRow t .makes) (any (tokenMakes textKind) ts) (any (tokenMakes generalKind) ts) (any (tokenMakes dateKind) ts) (any (tokenMakes numberKind) ts)
 
 higher-higher : (a b c : ℕ) → a + (b - a) + (c - (a + (b - a))) ≡ a + (b + (c - b) - a)
 higher-higher a b c = omega arith
@@ -95,7 +95,7 @@ unfolding passed bodyKind kindFrom any
 rank-seen s [] = omega arith
 rank-seen s (t ∷ ts) =
     rank-seen (see s t) ts
-    ∙ higher-higher (s .rank) (rankMade (tokenKind t)) (rankOf (bodyKind ts))
+    ∙ higher-higher (s .rank) (rankMade (tokenRow t .makes)) (rankOf (bodyKind ts))
     ∙ ap (λ (n : ℕ). s .rank + (n - s .rank)) (sym (rank-cons t ts))
 
 rank-date : (k : Kind) → sameKind k dateKind ≡ eqb (rankOf k) 2

@@ -18,7 +18,7 @@ use Rattle.marks.specs.Marks.{markRows, markToken, conditionOf, tokensIn}
 use Rattle.bodies.specs.declared.commas.Commas.{Commas}
 use Rattle.bodies.specs.declared.commas.Scan.{Scan}
 use Rattle.bodies.specs.Uses.{commasOf, met, atComma, atPoint, atPlace, scanned, scanForm}
-use Rattle.marks.proofs.ByForm.{upFrom, by-form}
+use Rattle.marks.proofs.ByForm.{by-form}
 use Rattle.marks.proofs.Words.{passed, Passed, passed-start, passed-end, passed-step}
 
 -- one token more
@@ -33,7 +33,7 @@ abbrev scanCommas : Scan → Commas
 scanCommas s = record { misplaced = ltb 0 (s .misplaced); grouped = ltb 0 (s .grouping); thousands = s .dividing + s .held }
 
 scan-form : (s : Scan) (f a : ℕ) (us : List ℕ) → scanToken s (markToken f a us) ≡ scanForm s f
-unfolding markRows upFrom conditionOf
+unfolding markRows conditionOf
 scan-form s f a us = by-form (scanToken s) (scanForm s) a us refl
     (λ n h. rw (ne-eqb n 8 (omega arith), ne-eqb n 7 (omega arith), lt-leb n 6 (omega arith), le-leb 4 n (omega arith))) f
 
@@ -71,7 +71,7 @@ module _ (f : CommaUse → Bool) where
 
   module _ (s : Scan) (t : Token) (ts : List Token) where
     -- a comma is held behind a place, and misplaced elsewhere
-    total-comma : formOf t ≡ 6 → total s (t ∷ ts) ≡ total (scanToken s t) ts
+    total-comma : formOf t ≡ 8 → total s (t ∷ ts) ≡ total (scanToken s t) ts
     unfolding total commaUsesFrom commaUse integerPlaceIn any
     total-comma k = by-cases (s .place)
         (λ q. let u = commaUse (s .point) true ts in
@@ -79,7 +79,7 @@ module _ (f : CommaUse → Bool) where
         (λ q. rw (k, q, or-none (s .point)) (omega (arith, weigh-add misplaced (s .misplaced) 1, weigh-cons misplaced (commaUsesFrom (s .point) false ts))))
 
     -- the first point ends the integer places
-    total-point : formOf t ≡ 5 → total s (t ∷ ts) ≡ total (scanToken s t) ts
+    total-point : formOf t ≡ 7 → total s (t ∷ ts) ≡ total (scanToken s t) ts
     unfolding total commaUsesFrom commaUse integerPlaceIn any
     total-point k = by-cases (s .point)
         (λ p. rw (k, p, or-none (s .place)))
@@ -97,8 +97,8 @@ module _ (f : CommaUse → Bool) where
     total-other a b c = rw (a, b, c, or-none (s .point), or-none (s .place))
 
     total-step : total s (t ∷ ts) ≡ total (scanToken s t) ts
-    total-step = by-cases (isComma t) (λ a. total-comma (eqb-true (formOf t) 6 a))
-        (λ a. by-cases (isPoint t) (λ b. total-point (eqb-true (formOf t) 5 b))
+    total-step = by-cases (isComma t) (λ a. total-comma (eqb-true (formOf t) 8 a))
+        (λ a. by-cases (isPoint t) (λ b. total-point (eqb-true (formOf t) 7 b))
         (λ b. by-cases (isPlace t) (λ c. total-place (eqb-true (formOf t) 4 c)) (λ c. total-other a b c)))
 
   total-all : (s : Scan) (ts : List Token) → total s ts ≡ total (passed scanToken s ts) []

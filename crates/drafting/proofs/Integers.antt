@@ -32,7 +32,7 @@ more b n = cond b (suc n) n
 
 -- ---- the places of a date
 point-place : (t : Token) → isPoint t ≡ true → isPlace t ≡ false
-point-place t e = rw (eqb-true (formOf t) 5 e) refl
+point-place t e = rw (eqb-true (formOf t) 7 e) refl
 
 -- the items of a token that belongs to no part, with those that follow
 piece-places : (n : ℕ) (t : Token) (ps : List Piece) → (eqb n 0 ≡ false → isPlace t ≡ false)

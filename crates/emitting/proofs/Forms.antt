@@ -15,8 +15,9 @@ use Rattle.formats.specs.Tokens.{Token}
 use Rattle.formats.specs.Items.{literal, isFill, Run, hourRun, noRun, runOf, runOfElapsed, nearer, meansMinutes, firstRun, monthOrMinute, settledItem, settledFrom}
 use Rattle.formats.specs.Kinds.{isFillToken, isPoint, isSecondsToken, isZero, runItem, tokenItems}
 use Rattle.formats.specs.Text.{digitAfter}
+use Rattle.formats.proofs.ByNumber.{numbered}
 use Rattle.marks.specs.Marks.{markRows, markToken, conditionOf}
-use Rattle.marks.proofs.ByForm.{upFrom, by-form, fill-form, zero-form, point-form, seconds-form}
+use Rattle.marks.proofs.ByForm.{by-form, fill-form, zero-form, point-form, seconds-form}
 use Rattle.tables.specs.Words.{entriesWords}
 use Rattle.tables.specs.Encode.{entryOf, entriesFrom}
 use Rattle.emitting.specs.Emit.{formSeconds, formHours, formDigit, runIf, tokenWords, formWords, itemsWords, literalWords}
@@ -61,8 +62,8 @@ leavesToken date e q t = (meansMinutes (runAfter e (tokenItems date t)) noRun, d
 abbrev leavesForm : Bool → ℕ → ℕ → Bool × ℕ
 leavesForm hours q f = (formHours f hours, formDigit f q)
 
-rows-leave : (date : Bool) (e : Run) (q a : ℕ) (us : List ℕ) → map (leavesToken date e q) (markRows a us) ≡ map (leavesForm (meansMinutes e noRun) q) (upFrom 0 25)
-unfolding markRows conditionOf upFrom formHours formDigit tokenItems runItem runAfter digitsAfter runOf runOfElapsed nearer meansMinutes digitAfter
+rows-leave : (date : Bool) (e : Run) (q a : ℕ) (us : List ℕ) → map (leavesToken date e q) (markRows a us) ≡ numbered (leavesForm (meansMinutes e noRun) q) 0 25
+unfolding markRows conditionOf formHours formDigit tokenItems runItem runAfter digitsAfter runOf runOfElapsed nearer meansMinutes digitAfter
 rows-leave true e q a us = rw (literals-run e (take a us), literals-digit q (take a us))
 rows-leave false e q a us = rw (literals-run e (take a us), literals-digit q (take a us))
 
@@ -75,8 +76,8 @@ behind date e q a us = by-form (leavesToken date e q) (leavesForm (meansMinutes 
 abbrev wordsForm : Bool → Bool → ℕ → ℕ → List ℕ → ℕ → List ℕ
 wordsForm date hours q a us f = cond (eqb f 0) (literalWords (take a us)) (formWords date hours q a f)
 
-rows-words : (date hours : Bool) (q a : ℕ) (us : List ℕ) → map (tokenWords date hours q) (markRows a us) ≡ map (wordsForm date hours q a us) (upFrom 0 25)
-unfolding markRows conditionOf upFrom tokenWords itemsWords tokenItems runItem entriesWords entriesFrom entryOf settledFrom settledItem monthOrMinute meansMinutes runIf firstRun nearer runOf runOfElapsed digitAfter
+rows-words : (date hours : Bool) (q a : ℕ) (us : List ℕ) → map (tokenWords date hours q) (markRows a us) ≡ numbered (wordsForm date hours q a us) 0 25
+unfolding markRows conditionOf tokenWords itemsWords tokenItems runItem entriesWords entriesFrom entryOf settledFrom settledItem monthOrMinute meansMinutes runIf firstRun nearer runOf runOfElapsed digitAfter
 rows-words true true q a us = by-cases (leb a 2) (λ e. rw (literals-words hourRun q (take a us), e)) (λ e. rw (literals-words hourRun q (take a us), e))
 rows-words true false q a us = rw (literals-words noRun q (take a us))
 rows-words false true q a us = by-cases (leb a 2) (λ e. rw (literals-words hourRun q (take a us), e)) (λ e. rw (literals-words hourRun q (take a us), e))

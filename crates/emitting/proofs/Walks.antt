@@ -76,7 +76,7 @@ fills-emitted date b zero (t ∷ ts) h =
     by-cases (eqb n 0)
     (λ e. rw e (count-append isFill (tokenItems date t) (emittedFrom date (isSecondsToken t) n ts) ∙ rw (token-fills date t, r)
     (by-cases (isFillToken t) (λ l. rw l (omega arith)) (λ l. rw l (omega arith)))))
-    (λ e. rw (e, eqb-true (formOf t) 5 (zeros-point (date && b) t ts e .1)) r)
+    (λ e. rw (e, eqb-true (formOf t) 7 (zeros-point (date && b) t ts e .1)) r)
 
 -- the words that are left behind a run of hours or not
 abbrev pub Words : Bool → Bool → ℕ → Bool → ℕ → List Token → List ℕ

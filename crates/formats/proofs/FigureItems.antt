@@ -5,7 +5,7 @@ use Prim.Native.Nat.{ℕ, zero, suc, _+_, _-_, _*_, _/_, _%_, _^_, _≤_, _<_}
 use native.Mathlib.Nat.{div-eq-of-lt}
 use native.Mathlib.Omega.{arith}
 use mathlib.Core.Bool.{Bool, true, false, cond, true≢false}
-use mathlib.Core.List.{List, [], _∷_, _++_, map, append-assoc, flatten}
+use mathlib.Core.List.{List, [], _∷_, _++_, append-assoc, flatten}
 use borrow.Author.Tests.{eqb-true, eqb-false, ltb-true, lt-ltb, lt-leb, eq-eqb, ne-eqb}
 use lib.Dec.{eqb, ltb}
 use Rattle.lists.specs.Lists.{any, count}
@@ -13,7 +13,7 @@ use Rattle.lists.proofs.Bools.{by-cases}
 use Rattle.lists.proofs.Counts.{any-count, any-same}
 use Rattle.figures.proofs.Digits.{mod-next}
 use Rattle.formats.specs.Tokens.{Place, isDigit}
-use Rattle.formats.specs.Items.{Item, literal, blank, fill, place, point, percent, general, at, year, month, day, hour, minute, second, part, elapsed, half, Kind, textKind, generalKind, dateKind, numberKind, literalKind, sameKind, kindFrom, itemMakes, itemsKind, isPlace, isPoint, integerPlaces, decimalPlaces}
+use Rattle.formats.specs.Items.{Item, literal, blank, fill, place, point, percent, general, at, year, month, day, hour, minute, second, part, elapsed, half, textKind, generalKind, dateKind, numberKind, literalKind, kindFrom, itemMakes, itemsKind, isPlace, isPoint, integerPlaces, decimalPlaces}
 use Rattle.formats.specs.Text.{Context, firstDigit, firstDecimal, insignificant, figureUnits, unitsBeyond, placeUnits, pointUnits, itemUnits, digitAfter, itemsUnits}
 use Rattle.formats.specs.Figures.{readFrom, unitsRead, Counts, figurePieces}
 use Rattle.formats.proofs.FigureUnits.{digit-in, figure-aside, figure-read, extra-read, idle-nought, cut-exact}

@@ -12,7 +12,7 @@ use Rattle.lists.proofs.Bools.{by-cases, cond-both, and-left, and-right, T-true
 use Rattle.formats.specs.Tokens as token
 use Rattle.formats.specs.Tokens.{Token, Letter, letterY, letterM, letterD, letterH, letterS}
 use Rattle.formats.specs.Items as item
-use Rattle.formats.specs.Items.{Item, numberKind, sameKind, kindIndex, integerPlaces, settled, noRun}
+use Rattle.formats.specs.Items.{Item, numberKind, sameKind, kindRow, integerPlaces, settled, noRun}
 use Rattle.formats.specs.Kinds.{formOf, isPlace, isPoint, isComma, Parts, bodyKind, CommaUse, divides, misplaced, isGrouping, integerPlaceTokens, integerPlaceIn, useOf, usesFrom, commaUses, runItem, tokenItems, plainItems, bodyItems, lastFill, sectionOf}
 use Rattle.formats.specs.WellFormed.{groupingFits}
 use Rattle.formats.proofs.FormedItems.{places-lastFill, places-settled}
@@ -76,7 +76,7 @@ grouped-here before t behind c e =
     let n = not-true (any isPoint before) (T-true p b) in
     let k = place-in before (T-true i a) in
     let l = place-in behind (T-true j (and-right (i && p) j (true-T h))) in
-    rw (places-append before (t ∷ behind) n, eqb-true (formOf t) 6 c) (omega arith))
+    rw (places-append before (t ∷ behind) n, eqb-true (formOf t) 8 c) (omega arith))
     (λ h. absurd (true≢false (sym (rw h at e)
     ∙ cond-both (λ (u : CommaUse). isGrouping u ≡ false) (i && p && not j) refl
     (cond-both (λ (u : CommaUse). isGrouping u ≡ false) (any isPlace before && not (any isPlace behind)) {x = divides} {y = misplaced} refl refl))))
@@ -93,7 +93,7 @@ grouped-two before (t ∷ ts) e =
 
 number-plain : (ts : List Token) → sameKind (bodyKind ts) numberKind ≡ true → bodyItems ts ≡ plainItems ts
 unfolding bodyItems
-number-plain ts e = rw (eqb-true (kindIndex (bodyKind ts)) 3 e)
+number-plain ts e = rw (eqb-true (kindRow (bodyKind ts) .number) 2 e)
 
 pub grouping-fits : (p : Parts) → T (groupingFits (sectionOf p))
 unfolding groupingFits sectionOf settled commaUses

@@ -7,10 +7,10 @@ use mathlib.Core.List.{List, [], _∷_, _++_, map}
 use lib.Dec.{T, eqb}
 use Rattle.lists.proofs.Bools.{by-cases, cond-both, T-true, true-T, implied, implies-in}
 use Rattle.formats.specs.Tokens as token
-use Rattle.formats.specs.Tokens.{Token, Letter, letterY, letterM, letterD, letterH, letterS, elapsedIndex}
+use Rattle.formats.specs.Tokens.{Token, Letter, letterY, letterM, letterD, letterH, letterS, letterIndex, elapsedIndex}
 use Rattle.formats.specs.Items as item
 use Rattle.formats.specs.Items.{Item, dateKind, sameKind, settled, noRun}
-use Rattle.formats.specs.Kinds.{bodyKind, isPoint, partZeros, isSecondsLetter, isSecondsToken, piecesFrom, runItem, tokenItems, pieceItems, plainItems, dateItems, bodyItems, lastFill}
+use Rattle.formats.specs.Kinds.{bodyKind, isPoint, partZeros, isSecondsToken, piecesFrom, runItem, tokenItems, pieceItems, plainItems, dateItems, bodyItems, lastFill}
 use Rattle.formats.specs.Where.{implies}
 use Rattle.formats.specs.WellFormed.{isSeconds, partsFrom, partsFollow}
 use Rattle.formats.proofs.FormedItems.{parts-lastFill, parts-settled}
@@ -26,10 +26,10 @@ unfolding partsFrom isSeconds
 literals-follow [] is c f = f c tt
 literals-follow (u ∷ us) is c f = literals-follow us is false f
 
-run-follows : (l : Letter) (n : ℕ) (is : List Item) (c : Bool) → Follow (isSecondsLetter l) is → T (partsFrom c (runItem l n ∷ is))
-unfolding partsFrom isSeconds isSecondsLetter runItem
+run-follows : (l : Letter) (n : ℕ) (is : List Item) (c : Bool) → Follow (eqb (letterIndex l) 4) is → T (partsFrom c (runItem l n ∷ is))
+unfolding partsFrom isSeconds runItem
 run-follows l n is c =
-    by-letter (λ (k : Letter). Follow (isSecondsLetter k) is → T (partsFrom c (runItem k n ∷ is)))
+    by-letter (λ (k : Letter). Follow (eqb (letterIndex k) 4) is → T (partsFrom c (runItem k n ∷ is)))
     (λ f. f false tt) (λ f. f false tt) (λ f. f false tt) (λ f. f false tt) (λ f. f true tt) l
 
 point-follows : (d : Bool) (is : List Item) (c : Bool) → Follow false is → T (partsFrom c (cond d (item.literal 46) item.point ∷ is))

@@ -5,7 +5,7 @@ use Prim.Native.Nat.{ℕ, _+_, _*_, _^_, _≤_, _<_}
 use native.Mathlib.Omega.{arith}
 use mathlib.Core.Bool.{Bool, true, false, cond, not, _&&_, or-true, true≢false}
 use mathlib.Core.List.{List, [], _∷_}
-use borrow.Author.Tests.{eq-eqb, eqb-true}
+use borrow.Author.Tests.{eq-eqb}
 use lib.ListN.{length}
 use lib.Dec.{T, leb, eqb, leb→le, ltb→lt}
 use lib.IntN.{natAbs}
@@ -15,14 +15,14 @@ use Rattle.values.specs.declared.Value.the-variants as value
 use Rattle.values.specs.declared.Ask.{Ask}
 use Rattle.values.specs.Ranges.{numberInRange}
 use Rattle.lists.specs.Lists.{every, count, isEmpty}
-use Rattle.lists.proofs.Bools.{cond-both, cond-case, and-left, and-right, every-head, every-tail, T-true, true-T, not-false}
+use Rattle.lists.proofs.Bools.{cond-both, cond-case, and-left, and-right, every-head, every-tail, true-T, not-false}
 use Rattle.figures.specs.Rounding.{Magnitude, scaled, rounded}
 use Rattle.figures.specs.Powers.{powered}
 use Rattle.figures.specs.General.{generalDecimals, generalRounded, generalTooWide, generalUnits}
 use Rattle.figures.proofs.Tens.{ten-pos}
 use Rattle.figures.proofs.Rounding.{half-unit, scaled-powered, scaled-small, rounded-small}
 use Rattle.calendar.specs.Names.{units}
-use Rattle.formats.specs.Items.{Item, isUnit, literal, blank, fill, place, point, percent, general, at, year, month, day, hour, minute, second, part, elapsed, half, Section, Kind, textKind, generalKind, dateKind, numberKind, literalKind, kindIndex, sameKind, kindOf, itemAllowed, isPoint, isPercent, itemsFit, integerPlaces, decimalPlaces}
+use Rattle.formats.specs.Items.{Item, isUnit, literal, blank, fill, place, point, percent, general, at, year, month, day, hour, minute, second, part, elapsed, half, Section, Kind, textKind, generalKind, dateKind, numberKind, literalKind, sameKind, kindOf, itemAllowed, isPoint, isPercent, itemsFit, integerPlaces, decimalPlaces}
 use Rattle.formats.specs.Limits.{sectionWithin}
 use Rattle.formats.specs.WellFormed.{sectionFormed, wellFormed}
 use Rattle.formats.specs.Choice.{Exact, numberExact, zeroExact, lessThan, counted, Reason, Choice, nothing, chosen, choose}
@@ -36,7 +36,7 @@ use Rattle.formats.proofs.FigureItems.{itemPieces, pieces-joined, figur
 use Rattle.formats.proofs.GeneralFigures.{general-read}
 use Rattle.formats.proofs.Chosen.{chosen-passes}
 use Rattle.formats.proofs.Accepted.{accepted-sections, accepted-formed}
-use Rattle.formats.proofs.Each.{by-item}
+use Rattle.formats.proofs.Each.{by-item, by-kind}
 
 -- no exact scaled number is divided by 0
 scaled-pos : (m s p t : ℕ) → 0 < (scaled m s p t) .below
@@ -93,6 +93,14 @@ standing-fits x range =
     unfold powered in ap {B = Magnitude} (λ (a : ℕ). record { above = a; below = 10 ^ (x .scale) }) (omega arith) in
     rw size (rounded-small m 0 (x .scale) _ small (omega arith) (omega arith))
 
+general-shown : (k : Kind) → T (sameKind generalKind k) → showsGeneral k ≡ true
+unfolding showsGeneral
+general-shown = by-kind (λ k. T (sameKind generalKind k) → showsGeneral k ≡ true) absurd (λ t. refl) absurd absurd absurd
+
+text-shows : (k : Kind) → T (sameKind textKind k) → showsGeneral k ≡ true
+unfolding showsGeneral
+text-shows = by-kind (λ k. T (sameKind textKind k) → showsGeneral k ≡ true) (λ t. refl) absurd absurd absurd absurd
+
 no-date : (k : Kind) → takesNumber k ≡ true → T (sameKind dateKind k) → ⊥
 unfolding takesNumber
 no-date textKind e t = t
@@ -146,14 +154,14 @@ module _ (ss : List Section) (i : ℕ) (s : Section) (why : Reason) (x : Number)
   dated a = absurd (no-date (kindOf s) takes a)
 
   piece : (q : ℕ) (j : Item) → T (itemAllowed (kindOf s) j) → PieceOf x added j (itemUnits (numberContext s x) q j)
-  unfolding itemAllowed itemUnits pointUnits units numberContext showsGeneral
+  unfolding itemAllowed itemUnits pointUnits units numberContext
   piece q =
       by-item (λ (j : Item). T (itemAllowed (kindOf s) j) → PieceOf x added j (itemUnits (numberContext s x) q j))
       (λ u a. ofLiteral u) (λ u a. ofBlank u) (λ u a. ofFill u)
       (λ p a. ofPlace p (placeUnits (numberContext s x) p q) (place-plain (numberContext s x) p q))
       (λ a. ofPoint _ (beyond-plain (numberContext s x) (eqb (integerPlaces (s .items)) 0) 14)) (λ a. ofPercent)
-      (λ a. ofGeneral _ (general-figures (rw (← (eqb-true 1 (kindIndex (kindOf s)) (T-true _ a))) refl)))
-      (λ a. ofAt _ (general-figures (rw (← (eqb-true 0 (kindIndex (kindOf s)) (T-true _ a))) refl)))
+      (λ a. ofGeneral _ (general-figures (general-shown (kindOf s) a)))
+      (λ a. ofAt _ (general-figures (text-shows (kindOf s) a)))
       (λ n. dated) (λ n. dated) (λ n. dated) (λ n. dated) (λ n. dated) (λ n. dated) (λ n. dated) (λ e n. dated) (λ h. dated)
 
   each-piece : (q : ℕ) (is : List Item) → T (every (itemAllowed (kindOf s)) is) → PiecesOf x added is (itemPieces (numberContext s x) q is)

@@ -2,7 +2,7 @@
 -- Assumes nothing.
 use Prim.Native.Nat.{ℕ, zero, suc, _+_}
 use mathlib.Core.Bool.{Bool, true, false, cond, not, _&&_, _||_}
-use mathlib.Core.List.{List, [], _∷_, map}
+use mathlib.Core.List.{List, [], _∷_}
 use mathlib.Core.Option.{Option, none, some}
 use lib.Dec.{leb, ltb, eqb}
 use Rattle.values.specs.Ranges.{between}
@@ -32,19 +32,34 @@ pub record Section : Type 0 where
   pub thousands : ℕ
   pub items : List Item
 
--- the kinds, and a number to compare them by
 pub data Kind : Type 0 where
   textKind generalKind dateKind numberKind literalKind : Kind
 
-abbrev pub kindIndex : Kind → ℕ
-kindIndex textKind = 0
-kindIndex generalKind = 1
-kindIndex dateKind = 2
-kindIndex numberKind = 3
-kindIndex literalKind = 4
+-- what is to be known of a kind
+pub record KindRow : Type 0 where
+  -- document 01's number of the kind, by which kinds are told apart
+  pub number : ℕ
+  pub takesNumber : Bool
+  pub takesInstant : Bool
+  -- General is what it shows of a number
+  pub showsGeneral : Bool
+
+-- a row with its fields in their order
+abbrev kind : ℕ → Bool → Bool → Bool → KindRow
+kind n takesN takesI shows = record { number = n; takesNumber = takesN; takesInstant = takesI; showsGeneral = shows }
+
+-- the kinds: "0 literal, 1 General, 2 number, 3 text, 4 date-time". "Number sections and General refuse instants; date-time refuses
+-- numbers (11). Literal sections take both." A text section is chosen only where N = 0: "a number appears as General wherever `@` stands;
+-- an instant is 11". (R59, R62, R90)
+abbrev pub kindRow : Kind → KindRow
+kindRow literalKind = kind 0 true true false
+kindRow generalKind = kind 1 true false true
+kindRow numberKind = kind 2 true false false
+kindRow textKind = kind 3 true false true
+kindRow dateKind = kind 4 false true false
 
 abbrev pub sameKind : Kind → Kind → Bool
-sameKind j k = eqb (kindIndex j) (kindIndex k)
+sameKind j k = eqb (kindRow j .number) (kindRow k .number)
 
 -- the runs that the rule for m looks at
 pub data Run : Type 0 where
@@ -67,34 +82,37 @@ pub record ItemRow : Type 0 where
   pub variant : ℕ
   -- its unit, the length of its run, or 1 or 2 for the half-day marks; 0 where it has none
   pub argument : ℕ
+  -- the arguments that it may have
   pub takes : ℕ → Bool
   -- the kind that it makes of its body
   pub makes : Option Kind
   -- the kinds whose bodies may hold it
   pub heldBy : Kind → Bool
+  -- what the rule for m sees of it
   pub run : Run
 
+-- a row with its fields in their order
 abbrev row : ℕ → ℕ → ℕ → (ℕ → Bool) → Option Kind → (Kind → Bool) → Run → ItemRow
 row n v a t m h r = record { number = n; variant = v; argument = a; takes = t; makes = m; heldBy = h; run = r }
 
-abbrev nothing : ℕ → Bool
-nothing a = eqb a 0
+abbrev noArgument : ℕ → Bool
+noArgument a = eqb a 0
 
 abbrev anyKind : Kind → Bool
 anyKind k = true
 
 -- the items: "1 literal, 2 blank, 3 fill (each with its unit); 4, 5, 6 places `0 # ?`; 7 point, 8 percent, 9 General, 10 at; 11 year,
 -- 12 month, 13 day, 14 hour, 15 minute, 16 second, 17 part of a second, 18 to 20 elapsed h, m, s (run length); 21 half-day (1 A/P,
--- 2 AM/PM)". Runs have the lengths that their tokens may have; "literals, blanks and fills anywhere". (R31, R94, R97)
+-- 2 AM/PM)". A body holds its kind's items, "with literals, blanks and fills anywhere". (R31, R94, R97)
 abbrev pub itemRow : Item → ItemRow
 itemRow (literal u) = row 1 0 u isUnit none anyKind noRun
 itemRow (blank u) = row 2 0 u isUnit none anyKind noRun
 itemRow (fill u) = row 3 0 u isUnit none anyKind noRun
-itemRow (place p) = row 4 (placeIndex p) 0 nothing (some numberKind) (sameKind numberKind) noRun
-itemRow point = row 7 0 0 nothing none (sameKind numberKind) noRun
-itemRow percent = row 8 0 0 nothing none (sameKind numberKind) noRun
-itemRow general = row 9 0 0 nothing (some generalKind) (sameKind generalKind) noRun
-itemRow at = row 10 0 0 nothing (some textKind) (sameKind textKind) noRun
+itemRow (place p) = row 4 (placeIndex p) 0 noArgument (some numberKind) (sameKind numberKind) noRun
+itemRow point = row 7 0 0 noArgument none (sameKind numberKind) noRun
+itemRow percent = row 8 0 0 noArgument none (sameKind numberKind) noRun
+itemRow general = row 9 0 0 noArgument (some generalKind) (sameKind generalKind) noRun
+itemRow at = row 10 0 0 noArgument (some textKind) (sameKind textKind) noRun
 itemRow (year n) = row 11 0 n (runAllowed letterY) (some dateKind) (sameKind dateKind) otherRun
 itemRow (month n) = row 12 0 n (runAllowed letterM) (some dateKind) (sameKind dateKind) otherRun
 itemRow (day n) = row 13 0 n (runAllowed letterD) (some dateKind) (sameKind dateKind) otherRun
@@ -148,13 +166,14 @@ isHalf i = eqb (itemNumber i) 21
 abbrev pub isElapsedOf : Elapsed → Item → Bool
 isElapsedOf e i = isElapsed i && eqb (itemRow i .variant) (elapsedIndex e)
 
--- "every word in its range"
+-- a literal's, blank's or fill's unit is a unit; runs have the lengths that their tokens may have
 unfoldable pub itemInRange : Item → Bool
 itemInRange i = itemRow i .takes (itemRow i .argument)
 
 unfoldable pub runOf : Item → Run
 runOf i = itemRow i .run
 
+-- what makes nothing of its body makes no kind of it
 abbrev pub isKind : Kind → Option Kind → Bool
 isKind k none = false
 isKind k (some j) = sameKind k j

@@ -8,28 +8,48 @@ use lib.ListN.{length}
 use lib.Dec.{eqb}
 use Rattle.lists.specs.Lists.{every, any, count}
 use Rattle.formats.specs.Tokens as token
-use Rattle.formats.specs.Tokens.{Token, Place, zeroPlace, hashPlace, spacePlace, Letter, letterY, letterM, letterD, letterH, letterS, elapsedIndex, Written, numberFrom}
+use Rattle.formats.specs.Tokens.{Token, placeIndex, halfIndex, Letter, letterY, letterM, letterD, letterH, letterS, letterIndex, elapsedIndex, Written, numberFrom}
 use Rattle.formats.specs.Items as item
 use Rattle.formats.specs.Items.{Item, Condition, Section, Kind, generalKind, numberKind, textKind, dateKind, sameKind, isKind, kindFrom, isFill, itemsFit, settled}
 
--- a number for each form of token, to tell them by
+-- what is to be known of a token beside the items that it makes
+pub record TokenRow : Type 0 where
+  -- a number for each form of token, by which tokens are told apart: the first of them where the form has several
+  pub form : ℕ
+  -- which of its numbers it has, counted from the first
+  pub variant : ℕ
+  -- its unit, the length of its run, or its colour; 0 where it has none of these
+  pub argument : ℕ
+  -- the kind that it makes of its body
+  pub makes : Option Kind
+  -- the condition that it writes
+  pub written : Option Written
+
+-- a row with its first four fields in their order
+abbrev row : ℕ → ℕ → ℕ → Option Kind → TokenRow
+row f v a m = record { form = f; variant = v; argument = a; makes = m; written = none }
+
+-- the tokens by their forms, as the code's buffer of tokens numbers them too; a half-day mark is no date token (R30)
+abbrev pub tokenRow : Token → TokenRow
+tokenRow (token.literal us) = row 0 0 0 none
+tokenRow (token.bare u) = row 1 0 u none
+tokenRow (token.blank u) = row 2 0 u none
+tokenRow (token.fill u) = row 3 0 u none
+tokenRow (token.place p) = row 4 (placeIndex p) 0 (some numberKind)
+tokenRow token.point = row 7 0 0 none
+tokenRow token.comma = row 8 0 0 none
+tokenRow token.percent = row 9 0 0 none
+tokenRow token.at = row 10 0 0 (some textKind)
+tokenRow token.semicolon = row 11 0 0 none
+tokenRow token.general = row 12 0 0 (some generalKind)
+tokenRow (token.half h) = row 13 (halfIndex h) 0 none
+tokenRow (token.run l n) = row 15 (letterIndex l) n (some dateKind)
+tokenRow (token.elapsed e n) = row 20 (elapsedIndex e) n (some dateKind)
+tokenRow (token.colour n) = row 23 0 n none
+tokenRow (token.condition w) = record { form = 24; variant = 0; argument = 0; makes = none; written = some w }
+
 abbrev pub formOf : Token → ℕ
-formOf (token.literal us) = 0
-formOf (token.bare u) = 1
-formOf (token.blank u) = 2
-formOf (token.fill u) = 3
-formOf (token.place p) = 4
-formOf token.point = 5
-formOf token.comma = 6
-formOf token.percent = 7
-formOf token.at = 8
-formOf token.semicolon = 9
-formOf token.general = 10
-formOf (token.half h) = 11
-formOf (token.run l n) = 12
-formOf (token.elapsed e n) = 13
-formOf (token.colour n) = 14
-formOf (token.condition w) = 15
+formOf t = tokenRow t .form
 
 abbrev pub isFillToken : Token → Bool
 isFillToken t = eqb (formOf t) 3
@@ -38,19 +58,19 @@ abbrev pub isPlace : Token → Bool
 isPlace t = eqb (formOf t) 4
 
 abbrev pub isPoint : Token → Bool
-isPoint t = eqb (formOf t) 5
+isPoint t = eqb (formOf t) 7
 
 abbrev pub isComma : Token → Bool
-isComma t = eqb (formOf t) 6
+isComma t = eqb (formOf t) 8
 
 abbrev pub isSemicolon : Token → Bool
-isSemicolon t = eqb (formOf t) 9
+isSemicolon t = eqb (formOf t) 11
 
 abbrev pub isColour : Token → Bool
-isColour t = eqb (formOf t) 14
+isColour t = eqb (formOf t) 23
 
 abbrev pub isCondition : Token → Bool
-isCondition t = eqb (formOf t) 15
+isCondition t = eqb (formOf t) 24
 
 -- "At most one colour, then at most one condition, then the body." (R29)
 pub record Parts : Type 0 where
@@ -59,40 +79,10 @@ pub record Parts : Type 0 where
   pub body : List Token
 
 unfoldable pub colourIn : Token → ℕ
-colourIn (token.colour n) = n
-colourIn (token.literal us) = 0
-colourIn (token.bare u) = 0
-colourIn (token.blank u) = 0
-colourIn (token.fill u) = 0
-colourIn (token.place p) = 0
-colourIn token.point = 0
-colourIn token.comma = 0
-colourIn token.percent = 0
-colourIn token.at = 0
-colourIn token.semicolon = 0
-colourIn token.general = 0
-colourIn (token.half h) = 0
-colourIn (token.run l n) = 0
-colourIn (token.elapsed e n) = 0
-colourIn (token.condition w) = 0
+colourIn t = cond (isColour t) (tokenRow t .argument) 0
 
 unfoldable pub conditionIn : Token → Option Written
-conditionIn (token.condition w) = some w
-conditionIn (token.literal us) = none
-conditionIn (token.bare u) = none
-conditionIn (token.blank u) = none
-conditionIn (token.fill u) = none
-conditionIn (token.place p) = none
-conditionIn token.point = none
-conditionIn token.comma = none
-conditionIn token.percent = none
-conditionIn token.at = none
-conditionIn token.semicolon = none
-conditionIn token.general = none
-conditionIn (token.half h) = none
-conditionIn (token.run l n) = none
-conditionIn (token.elapsed e n) = none
-conditionIn (token.colour n) = none
+conditionIn t = tokenRow t .written
 
 unfoldable pub afterColour : ℕ → List Token → Parts
 afterColour c [] = record { colour = c; condition = none; body = [] }
@@ -104,27 +94,8 @@ unfoldable pub partsOf : List Token → Parts
 partsOf [] = afterColour 0 []
 partsOf (t ∷ ts) = cond (isColour t) (afterColour (colourIn t) ts) (afterColour 0 (t ∷ ts))
 
--- what a token makes of its body (R30); a half-day mark is no date token
-abbrev pub tokenKind : Token → Option Kind
-tokenKind (token.literal us) = none
-tokenKind (token.bare u) = none
-tokenKind (token.blank u) = none
-tokenKind (token.fill u) = none
-tokenKind (token.place p) = some numberKind
-tokenKind token.point = none
-tokenKind token.comma = none
-tokenKind token.percent = none
-tokenKind token.at = some textKind
-tokenKind token.semicolon = none
-tokenKind token.general = some generalKind
-tokenKind (token.half h) = none
-tokenKind (token.run l n) = some dateKind
-tokenKind (token.elapsed e n) = some dateKind
-tokenKind (token.colour n) = none
-tokenKind (token.condition w) = none
-
 unfoldable pub tokenMakes : Kind → Token → Bool
-tokenMakes k t = isKind k (tokenKind t)
+tokenMakes k t = isKind k (tokenRow t .makes)
 
 unfoldable pub bodyKind : List Token → Kind
 bodyKind ts = kindFrom (λ (k : Kind). any (tokenMakes k) ts)
@@ -182,22 +153,7 @@ commasFit ts = sameKind (bodyKind ts) dateKind || not (any isMisplaced (commaUse
 
 -- "A `/` directly between two places is 4; any other is a literal." (R38)
 unfoldable pub isSolidus : Token → Bool
-isSolidus (token.bare u) = eqb u 47
-isSolidus (token.literal us) = false
-isSolidus (token.blank u) = false
-isSolidus (token.fill u) = false
-isSolidus (token.place p) = false
-isSolidus token.point = false
-isSolidus token.comma = false
-isSolidus token.percent = false
-isSolidus token.at = false
-isSolidus token.semicolon = false
-isSolidus token.general = false
-isSolidus (token.half h) = false
-isSolidus (token.run l n) = false
-isSolidus (token.elapsed e n) = false
-isSolidus (token.colour n) = false
-isSolidus (token.condition w) = false
+isSolidus t = eqb (formOf t) 1 && eqb (tokenRow t .argument) 47
 
 unfoldable pub startsWithPlace : List Token → Bool
 startsWithPlace [] = false
@@ -219,53 +175,12 @@ pub data Piece : Type 0 where
   whole : Token → Piece
   secondPart : ℕ → Piece
 
-unfoldable pub isSecondsLetter : Letter → Bool
-isSecondsLetter letterY = false
-isSecondsLetter letterM = false
-isSecondsLetter letterD = false
-isSecondsLetter letterH = false
-isSecondsLetter letterS = true
-
+-- "s, ss or an elapsed s": the last of the letters of runs, and of elapsed runs
 unfoldable pub isSecondsToken : Token → Bool
-isSecondsToken (token.run l n) = isSecondsLetter l
-isSecondsToken (token.elapsed e n) = eqb (elapsedIndex e) 2
-isSecondsToken (token.literal us) = false
-isSecondsToken (token.bare u) = false
-isSecondsToken (token.blank u) = false
-isSecondsToken (token.fill u) = false
-isSecondsToken (token.place p) = false
-isSecondsToken token.point = false
-isSecondsToken token.comma = false
-isSecondsToken token.percent = false
-isSecondsToken token.at = false
-isSecondsToken token.semicolon = false
-isSecondsToken token.general = false
-isSecondsToken (token.half h) = false
-isSecondsToken (token.colour n) = false
-isSecondsToken (token.condition w) = false
-
-unfoldable pub isZeroIn : Place → Bool
-isZeroIn zeroPlace = true
-isZeroIn hashPlace = false
-isZeroIn spacePlace = false
+isSecondsToken t = cond (eqb (formOf t) 15) (eqb (tokenRow t .variant) 4) (eqb (formOf t) 20 && eqb (tokenRow t .variant) 2)
 
 unfoldable pub isZero : Token → Bool
-isZero (token.place p) = isZeroIn p
-isZero (token.literal us) = false
-isZero (token.bare u) = false
-isZero (token.blank u) = false
-isZero (token.fill u) = false
-isZero token.point = false
-isZero token.comma = false
-isZero token.percent = false
-isZero token.at = false
-isZero token.semicolon = false
-isZero token.general = false
-isZero (token.half h) = false
-isZero (token.run l n) = false
-isZero (token.elapsed e n) = false
-isZero (token.colour n) = false
-isZero (token.condition w) = false
+isZero t = isPlace t && eqb (tokenRow t .variant) 0
 
 -- how many zeros stand at the start
 unfoldable pub leadingZeros : List Token → ℕ

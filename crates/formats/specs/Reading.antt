@@ -3,7 +3,7 @@
 -- showing's refusals after 8 that applies, or 0 with text, colour and section."
 -- Assumes nothing.
 use Prim.Native.Nat.{ℕ, zero, suc}
-use mathlib.Core.Bool.{Bool, true, false, cond, not, _&&_, _||_}
+use mathlib.Core.Bool.{Bool, false, cond, not, _&&_, _||_}
 use mathlib.Core.List.{List, [], _∷_, _++_}
 use lib.ListN.{length}
 use lib.Dec.{leb, eqb}
@@ -22,7 +22,7 @@ use Rattle.figures.specs.Rounding.{Magnitude, scaled, rounded}
 use Rattle.figures.specs.General.{generalRounded, generalTooWide, generalUnits}
 use Rattle.calendar.specs.Date.{dateOf}
 use Rattle.calendar.specs.Clock.{clockOf, sinceDayZero}
-use Rattle.formats.specs.Items.{Section, Kind, literalKind, generalKind, numberKind, textKind, dateKind, sameKind, kindOf, isPercent, isHalf, integerPlaces, decimalPlaces}
+use Rattle.formats.specs.Items.{Section, Kind, kindRow, numberKind, sameKind, kindOf, isPercent, isHalf, integerPlaces, decimalPlaces}
 use Rattle.formats.specs.Choice.{Exact, numberExact, instantExact, Choice, nothing, chosen, Reason, choose, counted, TextChoice, itself, textIn, chooseText}
 use Rattle.formats.specs.Minus.{Sign, isOwn, firstHasCondition, exceptionA, signFor, signUnits}
 use Rattle.formats.specs.Text.{Context, sectionUnits}
@@ -36,25 +36,15 @@ pub data Reading : Type 0 where
 unfoldable pub within : ℕ → List ℕ → ℕ → ℕ → Reading
 within room text colour section = cond (leb (length text) room) (shown text colour section) (refused answer.TextRoom)
 
--- 11: "Number sections and General refuse instants; date-time refuses numbers (11). Literal sections take both." A text
--- section is chosen only where N = 0: "a number appears as General wherever `@` stands; an instant is 11". (R59, R62)
+-- 11: "the section chosen can't show that sort of value" (R59, R62)
 unfoldable pub takesNumber : Kind → Bool
-takesNumber literalKind = true
-takesNumber generalKind = true
-takesNumber numberKind = true
-takesNumber textKind = true
-takesNumber dateKind = false
+takesNumber k = kindRow k .takesNumber
 
 unfoldable pub takesInstant : Kind → Bool
-takesInstant literalKind = true
-takesInstant generalKind = false
-takesInstant numberKind = false
-takesInstant textKind = false
-takesInstant dateKind = true
+takesInstant k = kindRow k .takesInstant
 
--- General is shown of a number: by a General section, and by a text section
 unfoldable pub showsGeneral : Kind → Bool
-showsGeneral k = sameKind k generalKind || sameKind k textKind
+showsGeneral k = kindRow k .showsGeneral
 
 -- the rounded number of a number section: the exact scaled number to its decimals (R67, R68)
 unfoldable pub sectionRounded : Section → Number → ℕ

@@ -15,6 +15,7 @@ use Rattle.calendar.specs.Names.{units}
 pub data Place : Type 0 where
   zeroPlace hashPlace spacePlace : Place
 
+-- each counted from 0, in this order
 abbrev pub placeIndex : Place → ℕ
 placeIndex zeroPlace = 0
 placeIndex hashPlace = 1
@@ -24,10 +25,19 @@ placeIndex spacePlace = 2
 pub data Letter : Type 0 where
   letterY letterM letterD letterH letterS : Letter
 
+-- each counted from 0, in this order
+abbrev pub letterIndex : Letter → ℕ
+letterIndex letterY = 0
+letterIndex letterM = 1
+letterIndex letterD = 2
+letterIndex letterH = 3
+letterIndex letterS = 4
+
 -- what an elapsed token counts
 pub data Elapsed : Type 0 where
   hours minutes seconds : Elapsed
 
+-- each counted from 0, in this order
 abbrev pub elapsedIndex : Elapsed → ℕ
 elapsedIndex hours = 0
 elapsedIndex minutes = 1
@@ -37,6 +47,7 @@ elapsedIndex seconds = 2
 pub data HalfDay : Type 0 where
   short long : HalfDay
 
+-- each counted from 0, in this order
 abbrev pub halfIndex : HalfDay → ℕ
 halfIndex short = 0
 halfIndex long = 1

@@ -9,11 +9,10 @@ use mathlib.Core.Option.{Option}
 use borrow.Author.Tests.{not-true}
 use Rattle.lists.specs.Lists.{every, any, count}
 use Rattle.lists.proofs.Bools.{no, and-parts, by-cases}
-use Rattle.lists.proofs.Counts.{any-map}
 use Rattle.formats.specs.Tokens.{Token, fill, run, elapsed, letterY, letterM, letterD, letterH, letterS, Elapsed, hours, minutes, seconds}
 use Rattle.formats.specs.Items as item
-use Rattle.formats.specs.Items.{Item, Kind, textKind, generalKind, dateKind, sameKind, itemAllowed, isFill, isElapsed, Run, noRun, runOf, nearer, firstRun, settledItem, settledFrom, settled}
-use Rattle.formats.specs.Kinds.{isPlace, isPoint, noBracket, tokenMakes, bodyKind, isSolidus, startsWithPlace, solidusFrom, solidusFits, commasFit, isSecondsLetter, isSecondsToken, runItem, tokenItems, piecesFrom, dateItems, bodyItems, lastFill}
+use Rattle.formats.specs.Items.{Item, Kind, textKind, generalKind, dateKind, itemAllowed, isFill, isElapsed, Run, noRun, runOf, nearer, firstRun, settledItem, settledFrom, settled}
+use Rattle.formats.specs.Kinds.{isPlace, isPoint, noBracket, tokenMakes, bodyKind, isSolidus, startsWithPlace, solidusFrom, solidusFits, commasFit, isSecondsToken, runItem, tokenItems, piecesFrom, dateItems, bodyItems, lastFill}
 use Rattle.formats.proofs.FormedItems.{dropped, fills-kept}
 use Rattle.grammar.specs.Bodies.{Behind, behindOther, NFAbsTimeToken, NFPartAbsHour, NFPartAbsSecond, NFPartAbsMinute, NFDateTimeToken, NFPartYear, NFPartMonth, NFPartMonth-long, NFPartDay, NFPartHour, NFPartMinute, NFPartSecond, absolute, NFPartSubSecond, tenths, hundredths, thousandths, Between, DateTimeRest, rest-end, rest-token, rest-sub-second, rest-between, DateTimeFrom, from-token, from-between, isAbsolute, NFDateTime}
 use Rattle.grammar.proofs.Tests.{every-in, every-all, every-none}
@@ -92,7 +91,7 @@ absolute-elapsed abs d ts (NFPartAbsSecond {n = n} h) e = rw (whole-items abs d 
 absolute-elapsed abs d ts (NFPartAbsMinute {n = n} h) e = rw (whole-items abs d (elapsed minutes n) ts refl) (ap suc e)
 
 token-elapsed : {abs : Option Elapsed} {b c : Behind} {t : Token} (ts : List Token) → NFDateTimeToken abs b t c → Alike c ts → Alike b (t ∷ ts)
-unfolding count tokenItems runItem isSecondsToken isSecondsLetter
+unfolding count tokenItems runItem isSecondsToken
 token-elapsed {abs} {b} ts (NFPartYear {n = n}) e = rw (whole-items abs (direct b) (run letterY n) ts refl) e
 token-elapsed {abs} {b} ts (NFPartMonth {n = n} h) e = rw (whole-items abs (direct b) (run letterM n) ts refl) e
 token-elapsed {abs} {b} ts (NFPartMonth-long {n = n} h) e = rw (whole-items abs (direct b) (run letterM n) ts refl) e

@@ -15,8 +15,8 @@ use Rattle.lists.specs.Lists.{every}
 use Rattle.lists.proofs.Bools.{no, and-parts, by-cases}
 use Rattle.formats.specs.Tokens.{Token, literal, bare, blank, fill, place, point, comma, percent, at, semicolon, general, half, run, elapsed, colour, condition, HalfDay, Place, zeroPlace, hashPlace, spacePlace, Letter, letterY, letterM, letterD, letterH, letterS, Elapsed, hours, minutes, seconds, elapsedIndex}
 use Rattle.formats.specs.Items as item
-use Rattle.formats.specs.Items.{Item, textKind, generalKind, dateKind, sameKind, Run, hourRun, secondRun, otherRun, noRun, runOf, runOfElapsed, nearer, firstRun, meansMinutes, monthOrMinute, settledItem, settledFrom}
-use Rattle.formats.specs.Kinds.{isPoint, isPlace, startsWithPlace, noBracket, tokenMakes, whole, isSecondsLetter, isSecondsToken, isZeroIn, isZero, leadingZeros, partZeros, piecesFrom, runItem, tokenItems, pieceItems, dateItems}
+use Rattle.formats.specs.Items.{Item, textKind, generalKind, dateKind, Run, hourRun, secondRun, otherRun, noRun, runOf, runOfElapsed, nearer, firstRun, meansMinutes, monthOrMinute, settledItem, settledFrom}
+use Rattle.formats.specs.Kinds.{isPoint, isPlace, startsWithPlace, noBracket, tokenMakes, whole, isSecondsToken, isZero, leadingZeros, partZeros, piecesFrom, runItem, tokenItems, pieceItems, dateItems}
 use Rattle.formats.proofs.FormedPieces.{zero-case}
 use Rattle.grammar.specs.Bodies.{free-string, free-repeat, free-space, free-bare, Behind, behindSeconds, behindHours, behindOther, past, NFAbsTimeToken, NFPartAbsHour, NFPartAbsSecond, NFPartAbsMinute, NFDateTimeToken, NFPartYear, NFPartMonth, NFPartMonth-long, NFPartDay, NFPartHour, NFPartMinute, NFPartSecond, absolute, NFPartSubSecond, tenths, hundredths, thousandths, Between, between-free, between-AMPM, between-comma, between-point, DateTimeRest, rest-end, rest-token, rest-sub-second, rest-between, isAbsolute}
 use Rattle.grammar.proofs.Tests.{every-parts}
@@ -101,7 +101,7 @@ module _ {A : Type 0} (m : List Item → A) (literals : (u : ℕ) (is : List Ite
 
 -- zeros behind the point of a part of a second
 zero-place : (q : Place) → isZero (place q) ≡ true → place q ≡ place zeroPlace
-unfolding isZero isZeroIn
+unfolding isZero
 zero-place zeroPlace e = refl
 zero-place hashPlace e = no e
 zero-place spacePlace e = no e
@@ -224,7 +224,7 @@ module _ (abs : Option Elapsed) where
 
   token-from : (t : Token) (ts : List Token) (b : Behind) (r : Run) → isHourRun r ≡ behindHour b → inBody t ≡ true
       → Dated r (dateItems (piecesFrom (direct b) 0 (t ∷ ts))) → From ts → DateTimeRest abs b (t ∷ ts)
-  unfolding tokenItems runItem isSecondsToken isSecondsLetter noBracket every settledFrom settledItem dateItem runOf nearer
+  unfolding tokenItems runItem isSecondsToken noBracket every settledFrom settledItem dateItem runOf nearer
   token-from (literal us) ts b r h i e f = from-between ts b r h (between-free (free-string us)) (rw (whole-items (direct b) (literal us) ts refl) at e) f
   token-from (bare u) ts b r h i e f = from-between ts b r h (between-free (free-bare u)) (rw (whole-items (direct b) (bare u) ts refl) at e) f
   token-from (blank u) ts b r h i e f = from-between ts b r h (between-free (free-space u)) (rw (whole-items (direct b) (blank u) ts refl) at e) f
@@ -330,7 +330,7 @@ module _ (abs : Option Elapsed) where
 
   token-dated : {b c : Behind} {t : Token} (r : Run) (ts : List Token) → isHourRun r ≡ behindHour b → NFDateTimeToken abs b t c → Follows c ts
       → Dated abs r (dateItems (piecesFrom (direct b) 0 (t ∷ ts)))
-  unfolding every settledFrom settledItem runOf nearer dateItem tokenItems runItem isSecondsToken isSecondsLetter monthOrMinute
+  unfolding every settledFrom settledItem runOf nearer dateItem tokenItems runItem isSecondsToken monthOrMinute
   token-dated {b} r ts h (NFPartYear {n = n}) f = rw (whole-items abs (direct b) (run letterY n) ts refl) (f otherRun refl)
   token-dated {b} r ts h (NFPartMonth {n = n} k) f =
       rw (whole-items abs (direct b) (run letterM n) ts refl)
@@ -362,7 +362,7 @@ module _ (abs : Option Elapsed) where
   -- the items of a part of a second
   pub sub-items : {ts us : List Token} → startsWithPlace us ≡ false → NFPartSubSecond ts us
       → (n : ℕ) × (dateItems (piecesFrom true 0 ts) ≡ item.part n ∷ dateItems (piecesFrom false 0 us))
-  unfolding piecesFrom partZeros leadingZeros isZero isZeroIn dateItems pieceItems isSecondsToken
+  unfolding piecesFrom partZeros leadingZeros isZero dateItems pieceItems isSecondsToken
   sub-items s (tenths {ts = us}) = (1, rw (no-zeros us s))
   sub-items s (hundredths {ts = us}) = (2, rw (no-zeros us s))
   sub-items s (thousandths {ts = us}) = (3, rw (no-zeros us s))

@@ -96,7 +96,7 @@ pub data NFPartNum : Part → ℕ → List Token → Type 0 where
   trailing-end : NFPartNum trailing 0 []
 
 abbrev pub isPercent : Token → Bool
-isPercent t = eqb (formOf t) 7
+isPercent t = eqb (formOf t) 9
 
 -- the places before the point, and those behind it
 unfoldable pub wholePlaces : List Token → ℕ
@@ -179,7 +179,7 @@ pub data DateTimeFrom (abs : Option Elapsed) : List Token → Type 0 where
   from-between : {t : Token} {ts : List Token} → Between t → DateTimeFrom abs ts → DateTimeFrom abs (t ∷ ts)
 
 abbrev pub isAbsolute : Token → Bool
-isAbsolute t = eqb (formOf t) 13
+isAbsolute t = eqb (formOf t) 20
 
 pub record NFDateTime (ts : List Token) : Type 0 where
   pub abs : Option Elapsed

@@ -16,8 +16,7 @@ use Rattle.lists.proofs.Tables.{each-passes}
 use Rattle.figures.specs.Digits.{digit, digitUnit, digitUnits, width, numeral}
 use Rattle.figures.specs.General.{generalTooWide, withoutEndZeros, pointed, generalUnits}
 use Rattle.calendar.specs.Names.{units, monthNames, weekdayNames, monthName, weekdayName, shortName, firstLetter}
-use Rattle.formats.specs.Tokens as token
-use Rattle.formats.specs.Tokens.{before, startsWith, Token, Place, zeroPlace, hashPlace, spacePlace, HalfDay, short, long, Letter, letterY, letterM, letterD, letterH, letterS}
+use Rattle.formats.specs.Tokens.{before, startsWith, Token, Place, zeroPlace, hashPlace, spacePlace, HalfDay, short, long, Letter}
 use Rattle.formats.specs.Items.{Item, itemRow, literal, blank, fill, place, point, percent, general, at, year, month, day, hour, minute, second, part, elapsed, half, Section, kindOf}
 use Rattle.formats.specs.Kinds.{Parts, sectionOf, tokenItems, runItem}
 use Rattle.formats.specs.Accept.{partsIn, sectionsIn, Verdict, fine, verdict, acceptedBy, accept}
@@ -37,6 +36,7 @@ use Rattle.values.specs.declared.Ask.{Ask}
 use Rattle.values.specs.Ranges.{inRange}
 use borrow.Author.Tests.{leb-true}
 use Rattle.formats.proofs.Chosen.{chosen-passes}
+use Rattle.formats.proofs.Each.{by-token, by-letter}
 use Rattle.tables.specs.Calls.{textAs}
 use Rattle.preview.specs.Preview.{previewText}
 use Rattle.requests.specs.declared.written.Sort.{Sort}
@@ -201,30 +201,16 @@ sign-ascii nought = tt
 -- ---- sections of an ASCII code
 run-ascii : (l : Letter) (n : ℕ) → T (every literalAscii (runItem l n ∷ []))
 unfolding runItem literalAscii every
-run-ascii letterY n = tt
-run-ascii letterM n = tt
-run-ascii letterD n = tt
-run-ascii letterH n = tt
-run-ascii letterS n = tt
+run-ascii l n = by-letter (λ (k : Letter). T (every literalAscii (runItem k n ∷ []))) tt tt tt tt tt l
 
 token-ascii : (d : Bool) (t : Token) → T (tokenPasses isAscii t) → T (every literalAscii (tokenItems d t))
 unfolding every literalAscii tokenItems tokenPasses isAscii
-token-ascii d (token.literal us) h = rw (every-map literalAscii literal us) h
-token-ascii d (token.bare u) h = every-cons literalAscii (literal u) [] h tt
-token-ascii d (token.blank u) h = tt
-token-ascii d (token.fill u) h = tt
-token-ascii d (token.place p) h = tt
-token-ascii d token.point h = cond-both (λ (i : Item). T (every literalAscii (i ∷ []))) d {x = literal 46} {y = point} tt tt
-token-ascii d token.comma h = cond-both (λ (is : List Item). T (every literalAscii is)) d {x = literal 44 ∷ []} {y = []} tt tt
-token-ascii d token.percent h = tt
-token-ascii d token.at h = tt
-token-ascii d token.semicolon h = tt
-token-ascii d token.general h = tt
-token-ascii d (token.half x) h = tt
-token-ascii d (token.run l n) h = run-ascii l n
-token-ascii d (token.elapsed e n) h = tt
-token-ascii d (token.colour n) h = tt
-token-ascii d (token.condition w) h = tt
+token-ascii d =
+    by-token (λ (t : Token). T (tokenPasses isAscii t) → T (every literalAscii (tokenItems d t)))
+    (λ us h. rw (every-map literalAscii literal us) h) (λ u h. every-cons literalAscii (literal u) [] h tt) (λ u h. tt) (λ u h. tt) (λ p h. tt)
+    (λ h. cond-both (λ (i : Item). T (every literalAscii (i ∷ []))) d {x = literal 46} {y = point} tt tt)
+    (λ h. cond-both (λ (is : List Item). T (every literalAscii is)) d {x = literal 44 ∷ []} {y = []} tt tt)
+    (λ h. tt) (λ h. tt) (λ h. tt) (λ h. tt) (λ x h. tt) (λ l n h. run-ascii l n) (λ e n h. tt) (λ n h. tt) (λ w h. tt)
 
 abbrev sectionAscii : Section → Bool
 sectionAscii s = every literalAscii (s .items)

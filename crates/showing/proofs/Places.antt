@@ -10,12 +10,11 @@ use lib.Dec.{T, eqb, eqb→eq}
 use lib.ListN.{length, getD}
 use Rattle.values.specs.Ranges.{between}
 use Rattle.lists.specs.Lists.{every}
-use Rattle.lists.proofs.Bools.{and-left, and-right, every-head, every-tail, by-cases}
+use Rattle.lists.proofs.Bools.{and-left, and-right, every-tail, by-cases}
 use Rattle.formats.specs.Items.{Item, Section, isPlace, isPoint, integerPlaces}
 use Rattle.formats.specs.Where.{implies}
 use Rattle.formats.specs.Text.{digitAfter}
 use Rattle.tables.specs.Words.{Entry, entriesAt, entriesIn}
-use Rattle.tables.specs.Encode.{entry}
 use Rattle.tables.specs.Decode.{itemAt, itemsAt}
 use Rattle.tables.specs.Rules.{entryInRange, powersFrom}
 use Rattle.tables.proofs.Words.{entriesLeft, entries-front}

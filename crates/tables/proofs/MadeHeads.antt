@@ -10,7 +10,7 @@ use lib.Dec.{T, leb, ltb, eqb, leb→le, le→leb, ltb→lt, eqb→eq, eqb-refl}
 use Rattle.lists.specs.Lists.{every, count, isSome}
 use Rattle.lists.proofs.Bools.{and-left, and-right, and-in, true-T, by-cases}
 use Rattle.formats.specs.Tokens.{Comparison}
-use Rattle.formats.specs.Items.{Condition, Section, Kind, textKind, generalKind, dateKind, numberKind, literalKind, sameKind, kindOf, itemsFit, isPercent, integerPlaces, decimalPlaces, itemInRange}
+use Rattle.formats.specs.Items.{Condition, Section, Kind, numberKind, sameKind, kindOf, itemsFit, isPercent, integerPlaces, decimalPlaces, itemInRange}
 use Rattle.formats.specs.Where.{implies}
 use Rattle.formats.specs.Limits.{sectionWithin}
 use Rattle.formats.specs.WellFormed.{conditionInRange, oneFill, partsFollow, isSettled, groupingFits, dividingFits, sectionFormed}
@@ -154,17 +154,6 @@ shift-most s w = by-cases (sameKind (kindOf s) numberKind) (λ e. rw e (omega ar
 decimals-most : (s : Section) → Within s → decimalsWord s ≤ 15
 unfolding decimalsWord
 decimals-most s w = by-cases (sameKind (kindOf s) numberKind) (λ e. rw e (omega arith)) (λ e. rw e (omega arith))
-
--- the kind word tells the kind
-abbrev SameWord : Kind → Kind → Type 0
-SameWord k j = eqb (kindWord k) (kindWord j) ≡ sameKind k j
-
-pub kind-word : (k j : Kind) → eqb (kindWord k) (kindWord j) ≡ sameKind k j
-unfolding kindWord
-kind-word =
-    by-kind (λ k. (j : Kind) → SameWord k j) (by-kind (SameWord textKind) refl refl refl refl refl)
-    (by-kind (SameWord generalKind) refl refl refl refl refl) (by-kind (SameWord dateKind) refl refl refl refl refl)
-    (by-kind (SameWord numberKind) refl refl refl refl refl) (by-kind (SameWord literalKind) refl refl refl refl refl)
 
 kind-most : (k : Kind) → kindWord k ≤ 4
 unfolding kindWord

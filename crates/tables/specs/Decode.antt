@@ -37,13 +37,13 @@ conditionAt h =
 unfoldable pub halfAt : ℕ → HalfDay
 halfAt a = cond (eqb a 1) short long
 
--- the items by their numbers, with the argument a, behind what the number 0 is read as
+-- the items by their tags from 0 to 20, with the argument a; 0 is the tag of no item
 abbrev pub itemsByTag : ℕ → List Item
 itemsByTag a =
     half (halfAt a) ∷ literal a ∷ blank a ∷ fill a ∷ place zeroPlace ∷ place hashPlace ∷ place spacePlace ∷ point ∷ percent ∷ general ∷ at
     ∷ year a ∷ month a ∷ day a ∷ hour a ∷ minute a ∷ second a ∷ part a ∷ elapsed hours a ∷ elapsed minutes a ∷ elapsed seconds a ∷ []
 
--- an item from its tag and argument; a word of no item, which the rules refuse, is read as the last
+-- an item from its tag and argument; a tag of no item, which the rules refuse, is read as the last, 21
 unfoldable pub itemAt : Entry → Item
 itemAt e = getD (itemsByTag (e .argument)) (e .tag) (half (halfAt (e .argument)))
 

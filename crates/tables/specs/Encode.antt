@@ -7,7 +7,7 @@ use mathlib.Core.Option.{Option, none, some}
 use lib.ListN.{length}
 use Rattle.lists.specs.Lists.{any, count}
 use Rattle.formats.specs.Tokens.{Comparison, equal, less, greater, atMost, atLeast, unequal}
-use Rattle.formats.specs.Items.{Item, itemRow, Condition, Section, Kind, textKind, generalKind, dateKind, numberKind, literalKind, sameKind, kindOf, isPlace, isPercent, isHalf, integerPlaces, decimalPlaces}
+use Rattle.formats.specs.Items.{Item, itemRow, Condition, Section, Kind, kindRow, numberKind, sameKind, kindOf, isPlace, isPercent, isHalf, integerPlaces, decimalPlaces}
 use Rattle.formats.specs.Where.{hasCondition}
 use Rattle.formats.specs.Choice.{counted}
 use Rattle.formats.specs.Minus.{firstHasCondition, exceptionA}
@@ -16,11 +16,7 @@ use Rattle.tables.specs.Words.{Head, Entry, Row, tableWords}
 
 -- "kind (0 literal, 1 General, 2 number, 3 text, 4 date-time)" (R90)
 unfoldable pub kindWord : Kind → ℕ
-kindWord literalKind = 0
-kindWord generalKind = 1
-kindWord numberKind = 2
-kindWord textKind = 3
-kindWord dateKind = 4
+kindWord k = kindRow k .number
 
 -- "operator (0 none [..]; then 1 to 6 in the order above)": `= < > <= >= <>` (R90)
 unfoldable pub comparisonWord : Comparison → ℕ

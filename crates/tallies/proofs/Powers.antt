@@ -3,13 +3,13 @@
 use Prim.Native.Nat.{ℕ, suc, _+_, _-_, _≤_}
 use native.Mathlib.Omega.{arith}
 use mathlib.Core.Path.{_≡_, refl, sym, _∙_, ap}
-use mathlib.Core.Bool.{Bool, true, false, false≢true, cond, _&&_, _||_, and-false}
+use mathlib.Core.Bool.{Bool, true, false, cond, _&&_, _||_, and-false}
 use mathlib.Core.List.{List, [], _∷_}
 use lib.Dec.{ltb, eqb}
 use borrow.Author.Tests.{ltb-true, ltb-false, eqb-true, eqb-false, eq-eqb, ne-eqb, le-leb}
 use Rattle.values.specs.Ranges.{between}
 use Rattle.lists.specs.Lists.{every, count}
-use Rattle.lists.proofs.Bools.{by-cases, cond-case, true-T}
+use Rattle.lists.proofs.Bools.{by-cases, true-T}
 use Rattle.tables.proofs.BackEntries.{between-facts, span-at, place-tag}
 use Rattle.formats.specs.Items.{Item, itemNumber, isPlace, isPoint, integerPlaces, decimalPlaces}
 use Rattle.formats.specs.Text.{digitAfter}

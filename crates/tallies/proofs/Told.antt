@@ -16,7 +16,7 @@ use Rattle.tables.specs.Encode.{kindWord, hasHalf, decimalsWord}
 use Rattle.tables.specs.Decode.{itemsAt}
 use Rattle.tables.specs.Rules.{entryInRange, powersRunDown}
 use Rattle.formats.proofs.FigureItems.{makes-place}
-use Rattle.formats.proofs.Each.{by-item, by-elapsed, by-kind}
+use Rattle.formats.proofs.Each.{by-item, by-elapsed}
 use Rattle.tables.proofs.Standing.{number-word}
 use Rattle.tallies.specs.Tally.{makesText, makesDate, belongsDate, soundEntries, tallyOf, hasPlaces, hasNumberItems, kindTold, allowedTold, itemsFitTold, oneFillTold, withinTold, groupingTold, decimalsTold}
 use Rattle.tallies.proofs.Powers.{places-counted}
