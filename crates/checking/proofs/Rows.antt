@@ -9,7 +9,7 @@ use Rattle.lists.specs.Lists.{every}
 use Rattle.lists.proofs.Bools.{and-left, and-right, and-in, carry, same-test}
 use Rattle.formats.specs.Items.{kindOf, itemsFit}
 use Rattle.formats.specs.Limits.{sectionWithin}
-use Rattle.formats.specs.WellFormed.{oneFill, partsFollow, isSettled, groupingFits}
+use Rattle.formats.specs.WellFormed.{oneFill, partsFollow, isSettled, groupingFits, sectionFits}
 use Rattle.tables.specs.Words.{Head, Entry, Row}
 use Rattle.tables.specs.Decode.{itemsAt, groupedAt, sectionAt}
 use Rattle.tables.specs.Rules.{headInRange, entryInRange, rowInRange, conditionFits, powersRunDown, shiftFits, kindFits, decimalsFit, rowFits}
@@ -83,7 +83,7 @@ module _ (h : Head) (es : List Entry) where
   half-is = ap (agree (leb 4 (h .flags))) (half-told es)
 
   good : Told h (tallyOf es) → T (rowGood row)
-  unfolding rowGood rowFits rowInRange sectionAt
+  unfolding rowGood rowFits sectionFits rowInRange sectionAt
   good f =
       let s : Sound es = sound-facts es (f .sound) in
       let range : T (headInRange h && every entryInRange es) = and-in (headInRange h) (every entryInRange es) (f .range) (s .ranges) in

@@ -9,7 +9,7 @@ use Rattle.lists.proofs.Bools.{and-left, and-right, and-in, nought-unless}
 use Rattle.formats.specs.Items.{itemInRange, numberKind, sameKind, kindOf, itemsFit}
 use Rattle.formats.specs.Kinds.{Parts, bodyKind, commaUses, isDividing, bodyItems, lastFill, sectionOf, fits}
 use Rattle.formats.specs.Limits.{elapsedShort, sectionWithin, writtenWithin, withinLimits}
-use Rattle.formats.specs.WellFormed.{conditionInRange, partsFollow, oneFill, isSettled, dividingFits, sectionFormed}
+use Rattle.formats.specs.WellFormed.{conditionInRange, partsFollow, oneFill, isSettled, dividingFits, sectionFormed, sectionFits}
 use Rattle.formats.proofs.TokenRanges.{tokenInRange, conditionDigits, partsPass, partsInRange}
 use Rattle.formats.proofs.FormedItems.{settling-settles, fills-one}
 use Rattle.formats.proofs.FormedKinds.{kind-of-body}
@@ -59,7 +59,7 @@ unfolding sectionOf
 colour-ranged p t = t
 
 pub section-formed : (p : Parts) → T (partsInRange p) → T (fits p) → T (withinLimits p) → T (sectionFormed (sectionOf p))
-unfolding partsPass fits withinLimits sectionFormed
+unfolding partsPass fits withinLimits sectionFormed sectionFits
 section-formed p r f w =
     let a : T (leb (p .colour) 56) = search (and-left, and-right) in
     let b : T (conditionDigits (p .condition)) = search (and-left, and-right) in

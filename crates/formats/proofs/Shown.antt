@@ -24,7 +24,7 @@ use Rattle.figures.proofs.Rounding.{half-unit, scaled-powered, scaled-small, ro
 use Rattle.calendar.specs.Names.{units}
 use Rattle.formats.specs.Items.{Item, isUnit, literal, blank, fill, place, point, percent, general, at, year, month, day, hour, minute, second, part, elapsed, half, Section, Kind, textKind, generalKind, dateKind, numberKind, literalKind, sameKind, kindOf, itemAllowed, isPoint, isPercent, itemsFit, integerPlaces, decimalPlaces}
 use Rattle.formats.specs.Limits.{sectionWithin}
-use Rattle.formats.specs.WellFormed.{sectionFormed, wellFormed}
+use Rattle.formats.specs.WellFormed.{sectionFormed, wellFormed, sectionFits}
 use Rattle.formats.specs.Choice.{Exact, numberExact, zeroExact, lessThan, counted, Reason, Choice, nothing, chosen, choose}
 use Rattle.formats.specs.Minus.{Sign, minus, notNegative, noItem, forNegatives, nought, isOwn, firstHasCondition, exceptionA, signFor, signUnits}
 use Rattle.formats.specs.Text.{placeUnits, pointUnits, itemUnits, digitAfter, sectionUnits}
@@ -52,7 +52,7 @@ record Rules (s : Section) : Type 0 where
   percents : count isPercent (s .items) ≤ 5
 
 rules : (ss : List Section) (x : Exact) (i : ℕ) (s : Section) (why : Reason) → T (wellFormed ss) → choose ss x ≡ chosen i s why → Rules s
-unfolding wellFormed sectionFormed sectionWithin itemsFit kindOf
+unfolding wellFormed sectionFormed sectionFits sectionWithin itemsFit kindOf
 rules ss x i s why formed e =
     let all : T (every sectionFormed ss) = search (and-left, and-right) in
     let one : T (sectionFormed s) = chosen-passes sectionFormed ss x i s why all e in

@@ -53,19 +53,26 @@ groupingFits s = implies (s .grouped) (leb 2 (integerPlaces (s .items)))
 unfoldable pub dividingFits : Section → Bool
 dividingFits s = sameKind (kindOf s) numberKind || eqb (s .thousands) 0
 
--- all rules for one section that do not speak of where it stands
+-- the rules for one section that do not speak of where it stands, whether a code or a table gives it: "items, kinds, [..] places and
+-- limits as above, at most one fill a section; [..] grouping only with two integer places; m runs of 1 or 2 are item 12 or 15 as the rule
+-- for m says"
+unfoldable pub sectionFits : Section → Bool
+sectionFits s =
+    itemsFit (s .items)
+    && partsFollow (s .items)
+    && oneFill (s .items)
+    && isSettled (s .items)
+    && groupingFits s
+    && sectionWithin s
+
+-- a section that fits, with its numbers in range
 unfoldable pub sectionFormed : Section → Bool
 sectionFormed s =
     leb (s .colour) 56
     && conditionInRange (s .condition)
     && every itemInRange (s .items)
-    && itemsFit (s .items)
-    && partsFollow (s .items)
-    && oneFill (s .items)
-    && isSettled (s .items)
-    && groupingFits s
     && dividingFits s
-    && sectionWithin s
+    && sectionFits s
 
 unfoldable pub itemsInAll : List Section → ℕ
 itemsInAll [] = 0

@@ -10,7 +10,7 @@ use Rattle.lists.specs.Lists.{every, count}
 use Rattle.lists.proofs.Bools.{and-left, and-right, and-in, nought-unless, every-head, every-tail, every-cons}
 use Rattle.formats.specs.Items.{numberKind, sameKind, kindOf, itemsKind, isPercent, itemsFit, integerPlaces, itemInRange}
 use Rattle.formats.specs.Limits.{sectionWithin}
-use Rattle.formats.specs.WellFormed.{conditionInRange, oneFill, partsFollow, isSettled, groupingFits, dividingFits, sectionFormed}
+use Rattle.formats.specs.WellFormed.{conditionInRange, oneFill, partsFollow, isSettled, groupingFits, dividingFits, sectionFormed, sectionFits}
 use Rattle.tables.specs.Words.{Head, Row}
 use Rattle.tables.specs.Encode.{shiftWord, headOf, entriesOf, rowOf, rowsFrom}
 use Rattle.tables.specs.Decode.{wholeAt, millionthsAt, itemsAt, thousandsAt, sectionAt}
@@ -22,6 +22,7 @@ use Rattle.tables.proofs.BackHead.{condition-facts, ConditionBack, cond
 
 -- the rules for one row as facts
 pub record RowFacts (r : Row) : Type 0 where
+  pub section : T (sectionFits (sectionAt r))
   pub head : T (headInRange (r .head))
   pub entries : T (every entryInRange (r .entries))
   pub condition : T (conditionFits (r .head))
@@ -37,7 +38,7 @@ pub record RowFacts (r : Row) : Type 0 where
   pub decimals : T (decimalsFit r)
 
 pub row-facts : (r : Row) → T (rowFits r) → RowFacts r
-unfolding rowFits rowInRange
+unfolding rowFits sectionFits rowInRange
 row-facts r t = search (and-left, and-right) depth 16
 
 -- heads with the same words are the same
@@ -115,6 +116,7 @@ section-formed r t =
     let ranged : T (every itemInRange (sectionAt r .items)) = items-ranged (r .entries) (f .entries) in
     let divides : T (dividingFits (sectionAt r)) = dividing r in
     let colour = le→leb (r .head .colour) 56 (h .colour) in
+    let fits : T (sectionFits (sectionAt r)) = f .section in
     search and-in depth 12
 
 pub rows-back : (n i : ℕ) (firstHas : Bool) (rs : List Row) → Counted rs → T (every rowFits rs) → T (flagsFrom n i firstHas rs)

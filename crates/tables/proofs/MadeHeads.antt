@@ -10,10 +10,10 @@ use lib.Dec.{T, leb, ltb, eqb, leb→le, le→leb, ltb→lt, eqb→eq, eqb-refl}
 use Rattle.lists.specs.Lists.{every, count, isSome}
 use Rattle.lists.proofs.Bools.{and-left, and-right, and-in, true-T, by-cases}
 use Rattle.formats.specs.Tokens.{Comparison}
-use Rattle.formats.specs.Items.{Condition, Section, Kind, numberKind, sameKind, kindOf, itemsFit, isPercent, integerPlaces, decimalPlaces, itemInRange}
+use Rattle.formats.specs.Items.{Condition, Section, Kind, numberKind, sameKind, kindOf, isPercent, integerPlaces, decimalPlaces, itemInRange}
 use Rattle.formats.specs.Where.{implies}
 use Rattle.formats.specs.Limits.{sectionWithin}
-use Rattle.formats.specs.WellFormed.{conditionInRange, oneFill, partsFollow, isSettled, groupingFits, dividingFits, sectionFormed}
+use Rattle.formats.specs.WellFormed.{conditionInRange, dividingFits, sectionFormed, sectionFits}
 use Rattle.tables.specs.Words.{Head}
 use Rattle.tables.specs.Encode.{kindWord, comparisonWord, operatorWord, bit, negativeWord, wholePart, millionthsPart, lowWord, highWord, shiftWord, flagsWord, noMinus, hasHalf, decimalsWord, headOf}
 use Rattle.tables.specs.Decode.{comparisonAt, twoWords, wholeAt, millionthsAt, conditionAt, groupedAt, thousandsAt}
@@ -26,16 +26,12 @@ pub record Formed (s : Section) : Type 0 where
   pub colour-most : s .colour ≤ 56
   pub condition : T (conditionInRange (s .condition))
   pub items-in-range : T (every itemInRange (s .items))
-  pub items-fit : T (itemsFit (s .items))
-  pub parts-follow : T (partsFollow (s .items))
-  pub one-fill : T (oneFill (s .items))
-  pub settled : T (isSettled (s .items))
-  pub grouping : T (groupingFits s)
   pub dividing : T (dividingFits s)
+  pub fits : T (sectionFits s)
   pub within : T (sectionWithin s)
 
 pub formed : (s : Section) → T (sectionFormed s) → Formed s
-unfolding sectionFormed
+unfolding sectionFormed sectionFits
 formed s t = search (and-left, and-right, leb→le) depth 12
 
 pub record Within (s : Section) : Type 0 where

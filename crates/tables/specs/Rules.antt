@@ -7,10 +7,9 @@ use lib.ListN.{length}
 use lib.Dec.{leb, ltb, eqb}
 use Rattle.values.specs.Ranges.{between}
 use Rattle.lists.specs.Lists.{every, any, count}
-use Rattle.formats.specs.Items.{Item, itemRow, isUnit, Section, numberKind, sameKind, kindOf, isPercent, isPlace, itemsFit, integerPlaces}
+use Rattle.formats.specs.Items.{Item, itemRow, isUnit, Section, numberKind, sameKind, kindOf, isPercent, isPlace, integerPlaces}
 use Rattle.formats.specs.Where.{implies, hasCondition}
-use Rattle.formats.specs.Limits.{sectionWithin}
-use Rattle.formats.specs.WellFormed.{oneFill, partsFollow, isSettled, groupingFits, itemsInAll, allStand}
+use Rattle.formats.specs.WellFormed.{sectionFits, itemsInAll, allStand}
 use Rattle.formats.specs.Choice.{counted}
 use Rattle.formats.specs.Minus.{firstHasCondition}
 use Rattle.formats.specs.Text.{digitAfter}
@@ -86,19 +85,13 @@ unfoldable pub flagsFrom : ℕ → ℕ → Bool → List Row → Bool
 flagsFrom n i firstHas [] = true
 flagsFrom n i firstHas (r ∷ rs) = let b = flagsFrom n (suc i) firstHas rs in flagsFit n i firstHas r && b
 
--- the rules for one row that do not speak of where it stands
+-- the rules for one row that do not speak of where it stands: those for its section, and those for its words
 unfoldable pub rowFits : Row → Bool
 rowFits r =
-    let s = sectionAt r in
-    rowInRange r
+    sectionFits (sectionAt r)
+    && rowInRange r
     && conditionFits (r .head)
-    && itemsFit (s .items)
-    && partsFollow (s .items)
-    && oneFill (s .items)
-    && sectionWithin s
     && powersRunDown (r .entries)
-    && groupingFits s
-    && isSettled (s .items)
     && kindFits r
     && shiftFits r
     && decimalsFit r
