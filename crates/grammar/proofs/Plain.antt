@@ -7,10 +7,11 @@ use mathlib.Core.List.{List, [], _∷_, map}
 use Rattle.lists.specs.Lists.{every, any}
 use Rattle.lists.proofs.Bools.{no, and-parts, by-cases}
 use Rattle.lists.proofs.Counts.{every-both}
-use Rattle.formats.specs.Tokens.{Token, literal, bare, blank, fill, place, point, comma, percent, at, semicolon, general, half, run, elapsed, colour, condition, Place, Letter, letterY, letterM, letterD, letterH, letterS}
+use Rattle.formats.specs.Tokens.{Token, literal, bare, blank, fill, place, point, comma, percent, at, semicolon, general, half, run, elapsed, colour, condition, Place, Letter}
 use Rattle.formats.specs.Items as item
 use Rattle.formats.specs.Items.{Kind, textKind, generalKind, dateKind, numberKind, literalKind, sameKind, itemAllowed, kindFrom}
 use Rattle.formats.specs.Kinds.{isSemicolon, noBracket, tokenMakes, bodyKind, tokenItems, runItem, plainItems}
+use Rattle.formats.proofs.Each.{by-letter, by-kind}
 use Rattle.grammar.specs.Bodies.{Free, free-string, free-repeat, free-space, free-bare}
 use Rattle.grammar.proofs.Tests.{both, every-parts, every-in}
 
@@ -35,11 +36,7 @@ pub data Views (k : Kind) : List Token → Type 0 where
 
 run-allowed : (k : Kind) (l : Letter) (n : ℕ) → itemAllowed k (runItem l n) ≡ sameKind dateKind k
 unfolding itemAllowed runItem
-run-allowed k letterY n = refl
-run-allowed k letterM n = refl
-run-allowed k letterD n = refl
-run-allowed k letterH n = refl
-run-allowed k letterS n = refl
+run-allowed k l n = by-letter (λ (m : Letter). itemAllowed k (runItem m n) ≡ sameKind dateKind k) refl refl refl refl refl l
 
 abbrev allowed : Kind → Token → Bool
 allowed k t = every (itemAllowed k) (tokenItems false t)
@@ -50,33 +47,13 @@ view k (literal us) d b a = v-free (free-string us)
 view k (bare u) d b a = v-free (free-bare u)
 view k (blank u) d b a = v-free (free-space u)
 view k (fill u) d b a = v-free (free-repeat u)
-view numberKind (place q) d b a = v-place
-view textKind (place q) d b a = no a
-view generalKind (place q) d b a = no a
-view dateKind (place q) d b a = no a
-view literalKind (place q) d b a = no a
-view numberKind point d b a = v-point
-view textKind point d b a = no a
-view generalKind point d b a = no a
-view dateKind point d b a = no a
-view literalKind point d b a = no a
+view k (place q) d b a = by-kind (λ (j : Kind). allowed j (place q) ≡ true → View j (place q)) no no no (λ e. v-place) no k a
+view k point d b a = by-kind (λ (j : Kind). allowed j point ≡ true → View j point) no no no (λ e. v-point) no k a
 view k comma d b a = v-comma
-view numberKind percent d b a = v-percent
-view textKind percent d b a = no a
-view generalKind percent d b a = no a
-view dateKind percent d b a = no a
-view literalKind percent d b a = no a
-view textKind at d b a = v-at
-view numberKind at d b a = no a
-view generalKind at d b a = no a
-view dateKind at d b a = no a
-view literalKind at d b a = no a
+view k percent d b a = by-kind (λ (j : Kind). allowed j percent ≡ true → View j percent) no no no (λ e. v-percent) no k a
+view k at d b a = by-kind (λ (j : Kind). allowed j at ≡ true → View j at) (λ e. v-at) no no no no k a
 view k semicolon d b a = no b
-view generalKind general d b a = v-general
-view textKind general d b a = no a
-view numberKind general d b a = no a
-view dateKind general d b a = no a
-view literalKind general d b a = no a
+view k general d b a = by-kind (λ (j : Kind). allowed j general ≡ true → View j general) no (λ e. v-general) no no no k a
 view k (half h) d b a = no (rw d at a)
 view k (run l n) d b a = no (rw (run-allowed k l n, d) at a)
 view k (elapsed e n) d b a = no (rw d at a)
