@@ -55,7 +55,7 @@ dividingFits s = sameKind (kindOf s) numberKind || eqb (s .thousands) 0
 
 -- the rules for one section that do not speak of where it stands, whether a code or a table gives it: "items, kinds, [..] places and
 -- limits as above, at most one fill a section; [..] grouping only with two integer places; m runs of 1 or 2 are item 12 or 15 as the rule
--- for m says"
+-- for m says" (R99, R100, R102, R103)
 unfoldable pub sectionFits : Section → Bool
 sectionFits s =
     itemsFit (s .items)
