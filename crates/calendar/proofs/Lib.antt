@@ -1,6 +1,7 @@
 pub mod Table
 pub mod Years
 pub mod Months
+pub mod Driving
 pub mod Dates
 pub mod Made
 pub mod Clocks

@@ -1,10 +1,17 @@
 // Days and times: the definitions stand in specs/, their laws in proofs/.
 mod tables;
 
+use searching::Turn;
 use values::Day;
 use values::Millisecond;
 ghost use mathlib.Core.Path.{_≡_};
 ghost use Prim.Native.Nat.{ℕ, suc, _+_, _-_, _*_, _/_, _%_, _^_, _≤_, _<_};
+ghost use mathlib.Core.Bool.{cond};
+ghost use mathlib.Core.Option.{some};
+ghost use lib.Dec.{leb};
+ghost use lib.ListN.{getD};
+ghost use Rattle.searching.specs.Machine.{started};
+ghost use Rattle.searching.specs.Search.{driven, answered};
 ghost use Rattle.calendar.specs.Year.{leap, firstDay, yearDayOf};
 ghost use Rattle.calendar.specs.Date.{monthDays, monthDayFrom, dateOf};
 ghost use Rattle.calendar.specs.Clock.{clockOf, twelveHour, afternoon, sinceDayZero, elapsedHours, elapsedMinutes, elapsedSeconds};
@@ -58,32 +65,62 @@ fn first_days() -> [u32; 401]
     tables::FIRST_DAYS
 }
 
-// The year of a day of the table's years, 1900 to 2300. Of these years fewer than 366 are common, so the day's year is the one
-// that leap years alone would give, or the next. The table is taken once: each use of the constant makes it anew.
+// The number of an entry, where it is not above the day, else the number kept so far.
+fn kept(day: u32, number: u32, before: u32) -> u32
+    ensures { λ r. ⌜ r ≡ cond (leb number day) number before ⌝ }
+{
+    if number <= day {
+        return number;
+    }
+    before
+}
+
+// Hands the search the entries of the table that it names, ten at most. The table is taken once: each use of the constant makes it
+// anew. From day 1 on the search finds a year, so the other answers are not given.
+fn driven_year(day: u32) -> YearStart
+    requires { ⌜ 1 ≤ day ⌝ }
+    ensures { λ r. ⌜ (driven 10 firstDays (started day) ≡ answered (some (r .years))) × (r .first ≡ getD firstDays (r .years) 0) ⌝ }
+{
+    let firsts = first_days();
+    let mut turn = searching::start(day);
+    let mut first: u32 = 0;
+    let mut left: u32 = 10;
+    loop {
+        match turn {
+            Turn::Read(k, s) => {
+                if left == 0 {
+                    return YearStart {
+                        years: 0,
+                        first: first,
+                    };
+                }
+                let number = firsts[k as usize];
+                first = kept(day, number, first);
+                turn = searching::told(s, number);
+                left -= 1;
+            }
+            Turn::Found(k) => {
+                return YearStart {
+                    years: k,
+                    first: first,
+                };
+            }
+            Turn::Nothing => {
+                return YearStart {
+                    years: 0,
+                    first: first,
+                };
+            }
+        }
+    }
+}
+
+// The year of a day of the table's years, 1900 to 2300.
 fn year_within(day: u32) -> YearStart
     requires { ⌜ (1 ≤ day) × (day < 146464) ⌝ }
     ensures { λ r. ⌜ (r .years ≤ 400) × (r .first ≡ firstDay (r .years)) × (r .first ≤ day) × (day < firstDay (suc (r .years))) ⌝ }
 {
-    let firsts = first_days();
-    let k = (day - 1) / 366;
-    let first = firsts[k as usize];
-    if k == 400 {
-        return YearStart {
-            years: k,
-            first: first,
-        };
-    }
-    let next = firsts[k as usize + 1];
-    if day < next {
-        return YearStart {
-            years: k,
-            first: first,
-        };
-    }
-    YearStart {
-        years: k + 1,
-        first: next,
-    }
+    driven_year(day)
 }
 
 // A day number as a day of the table's years, and the years that it stands behind that: from 1901 on the years repeat every 146,097
