@@ -5,14 +5,15 @@ use native.Mathlib.Omega.{arith}
 use mathlib.Core.Path.{_≡_, refl}
 use mathlib.Core.Bool.{cond, _&&_}
 use mathlib.Core.List.{List}
-use borrow.Author.Tests.{leb-true, leb-false, lt-ltb, le-ltb}
+use borrow.Author.Tests.{lt-leb, le-leb, leb-true, leb-false, lt-ltb, le-ltb}
 use lib.Dec.{leb, ltb}
 use lib.ListN.{getD}
 use Rattle.lists.proofs.Bools.{by-cases, cond-both, cond-case}
 use Rattle.searching.specs.declared.Search.{Search}
 use Rattle.searching.specs.declared.Turn.{Turn}
 use Rattle.searching.specs.declared.Turn.the-variants.{Read, Found, Nothing}
-use Rattle.searching.specs.Machine.{answer, between, above, notAbove, started, toldOf}
+use Rattle.searching.proofs.Steps.{told-cases}
+use Rattle.searching.specs.Machine.{border, answer, between, above, notAbove, started, toldOf}
 
 module _ (day : ℕ) (numbers : List ℕ) where
   -- the number kept is that of the last entry known not to be above the day
@@ -40,7 +41,7 @@ module _ (day : ℕ) (numbers : List ℕ) where
   unfolding above
   keeps-above s kept e h =
       cond-both (λ (t : Turn). Keeps t kept) (leb (s .asked) (s .low)) (keeps-answer (s .low) kept h)
-      (cond-both (λ (t : Turn). Keeps t kept) (s .first && leb (s .asked) 144) (e, refl, h) (rw e (keeps-between (s .low) (s .asked - 1) kept h)))
+      (cond-both (λ (t : Turn). Keeps t kept) (s .first && leb (s .asked) border) (e, refl, h) (rw e (keeps-between (s .low) (s .asked - 1) kept h)))
 
   keeps-not-above : (s : Search) (kept : ℕ) → s .day ≡ day → kept ≡ getD numbers (s .asked) 0 → Keeps (notAbove s) kept
   unfolding notAbove
@@ -48,18 +49,13 @@ module _ (day : ℕ) (numbers : List ℕ) where
       let b : s .asked + 1 - 1 ≡ s .asked = omega arith in
       let next : 0 < s .asked + 1 → kept ≡ getD numbers (s .asked + 1 - 1) 0 = λ p. rw b h in
       cond-both (λ (t : Turn). Keeps t kept) (leb (s .last) (s .asked)) h
-      (cond-both (λ (t : Turn). Keeps t kept) (s .first && leb 144 (s .asked)) (e, refl, next)
+      (cond-both (λ (t : Turn). Keeps t kept) (s .first && leb border (s .asked)) (e, refl, next)
       (rw e (keeps-between (s .asked + 1) (s .last) kept next)))
 
   -- a turn keeps it, the entry's number being kept where it is not above the day
   pub keeps-told : (k : ℕ) (s : Search) (kept number : ℕ) → number ≡ getD numbers k 0 → Keeps (Read k s) kept
       → Keeps (toldOf s number) (cond (leb number day) number kept)
-  unfolding toldOf
   keeps-told k s kept number e (d, a, h) =
-      by-cases (leb number day)
-      (λ t.
-      let n = leb-true number day t in
-      rw (t, le-ltb (s .day) number (omega arith)) (keeps-not-above s number d (rw a e)))
-      (λ f.
-      let n = leb-false number day f in
-      rw (f, lt-ltb (s .day) number (omega arith)) (keeps-above s kept d h))
+      told-cases (λ (t : Turn). Keeps t (cond (leb number day) number kept)) s number
+      (λ n. rw (lt-leb number day (omega arith)) (keeps-above s kept d h))
+      (λ n. rw (le-leb number day (omega arith)) (keeps-not-above s number d (rw a e)))

@@ -12,10 +12,11 @@ use Rattle.lists.proofs.Bools.{no, cond-case}
 use Rattle.searching.specs.declared.Search.{Search}
 use Rattle.searching.specs.declared.Turn.{Turn}
 use Rattle.searching.specs.declared.Turn.the-variants.{Found}
-use Rattle.searching.specs.Machine.{laterGuess, guessed, firstAsked, reading, answer, between, above, notAbove, started, toldOf}
+use Rattle.searching.specs.Machine.{laterGuess, guessed, border, firstAsked, reading, answer, between, above, notAbove, started, toldOf}
 use Rattle.searching.specs.Search.{Rising, lastNotAbove, handed, driven, answered}
 use Rattle.searching.proofs.Last.{Known, known-answer}
 use Rattle.searching.proofs.Turns.{driven-answer}
+use Rattle.searching.proofs.Steps.{told-cases}
 
 -- how many outcomes so many turns tell apart
 outcomes : ℕ → ℕ
@@ -40,9 +41,9 @@ guess-few day =
 first-within : (day : ℕ) → firstAsked (guessed day) ≤ 400
 unfolding firstAsked
 first-within day =
-    cond-case (λ (n : ℕ). n ≤ 400) (leb 145 (guessed day))
+    cond-case (λ (n : ℕ). n ≤ 400) (ltb border (guessed day))
     (λ t. omega (arith, guess-few day))
-    (λ f. omega (arith, leb-false 145 (guessed day) f))
+    (λ f. omega (arith, ltb-false border (guessed day) f))
 
 module _ (day : ℕ) (numbers : List ℕ) (size : length numbers ≡ 401) (rising : Rising numbers) where
   -- what is known when an entry is told
@@ -83,16 +84,16 @@ module _ (day : ℕ) (numbers : List ℕ) (size : length numbers ≡ 401) (risin
       → (Known day numbers low a → Right turns (above (state low last a first)))
       → (Known day numbers (a + 1) (suc last) → Right turns (notAbove (state low last a first)))
       → Right (suc turns) (reading day low last a first)
-  unfolding driven handed toldOf
+  unfolding driven handed
   right-told turns low last a first k l h p q =
       rw (lt-ltb a (length numbers) (omega (arith, k .within)))
-      (cond-case (Right turns) (ltb day (getD numbers a 0))
-      (λ t. p (known-above low (suc last) a k l (omega arith) (ltb-true day (getD numbers a 0) t)))
-      (λ f. q (known-not-above low (suc last) a k l (omega arith) (ltb-false day (getD numbers a 0) f))))
+      (told-cases (Right turns) (state low last a first) (getD numbers a 0)
+      (λ n. p (known-above low (suc last) a k l (omega arith) n))
+      (λ n. q (known-not-above low (suc last) a k l (omega arith) n)))
 
   -- what is left when an entry is above the day: the neighbour before it or the middle of those before it, where there are any
   right-above : (turns low last a : ℕ) (first : Bool) → Known day numbers low a
-      → (low < a → Known day numbers low (suc (a - 1)) → (first && leb a 144) ≡ true → Right turns (reading day low (a - 1) (a - 1) false))
+      → (low < a → Known day numbers low (suc (a - 1)) → (first && leb a border) ≡ true → Right turns (reading day low (a - 1) (a - 1) false))
       → (low < a → Known day numbers low (suc (a - 1)) → Right turns (between day low (a - 1)))
       → Right turns (above (state low last a first))
   unfolding above
@@ -103,11 +104,11 @@ module _ (day : ℕ) (numbers : List ℕ) (size : length numbers ≡ 401) (risin
       let l : low < a = leb-false a low f in
       let e : a ≡ suc (a - 1) = omega arith in
       let n : Known day numbers low (suc (a - 1)) = subst (Known day numbers low) e k in
-      cond-case (Right turns) (first && leb a 144) (p l n) (λ g. q l n))
+      cond-case (Right turns) (first && leb a border) (p l n) (λ g. q l n))
 
   -- the same where it is not above the day
   right-not-above : (turns low last a : ℕ) (first : Bool) → Known day numbers (a + 1) (suc last)
-      → (a < last → (first && leb 144 a) ≡ true → Right turns (reading day (a + 1) last (a + 1) false))
+      → (a < last → (first && leb border a) ≡ true → Right turns (reading day (a + 1) last (a + 1) false))
       → (a < last → Right turns (between day (a + 1) last))
       → Right turns (notAbove (state low last a first))
   unfolding notAbove answer
@@ -118,7 +119,7 @@ module _ (day : ℕ) (numbers : List ℕ) (size : length numbers ≡ 401) (risin
       right-met turns (suc a) (suc last) (rw e at k) (omega (arith, leb-true last a t)))
       (λ f.
       let l : a < last = leb-false last a f in
-      cond-case (Right turns) (first && leb 144 a) (p l) (λ g. q l))
+      cond-case (Right turns) (first && leb border a) (p l) (λ g. q l))
 
   right-between : (turns low last : ℕ) → low ≤ last → Known day numbers low (suc last) → last - low + 2 ≤ outcomes turns
       → Right turns (between day low last)
@@ -155,11 +156,11 @@ module _ (day : ℕ) (numbers : List ℕ) (size : length numbers ≡ 401) (risin
       right-told 9 0 400 a true nothing-known (omega arith) h
       (λ k.
       right-above 9 0 400 a true k
-      (λ m n e. right-second 0 (a - 1) (a - 1) n (omega arith) (omega arith) (omega (arith, leb-true a 144 e)) (omega arith))
+      (λ m n e. right-second 0 (a - 1) (a - 1) n (omega arith) (omega arith) (omega (arith, leb-true a border e)) (omega arith))
       (λ m n. right-between 9 0 (a - 1) (omega arith) n (omega arith)))
       (λ k.
       right-not-above 9 0 400 a true k
-      (λ m e. right-second (a + 1) 400 (a + 1) k (omega arith) (omega arith) (omega arith) (omega (arith, leb-true 144 a e)))
+      (λ m e. right-second (a + 1) 400 (a + 1) k (omega arith) (omega arith) (omega arith) (omega (arith, leb-true border a e)))
       (λ m. right-between 9 (a + 1) 400 (omega arith) k (omega arith)))
 
   -- "within ten such turns names the last entry not above the day, or none, for any 401 rising numbers"

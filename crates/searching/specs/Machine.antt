@@ -18,9 +18,13 @@ laterGuess day =
 unfoldable pub guessed : ℕ → ℕ
 guessed day = cond (ltb day 73416) ((4 * day + 1457) / 1461) (laterGuess day)
 
+-- behind this entry and in front of it there are few enough that eight turns tell them, once its neighbour is told too
+abbrev pub border : ℕ
+border = 144
+
 -- the last of so many entries or the entry behind them, whichever leaves the fewer entries untold where it goes as guessed
 unfoldable pub firstAsked : ℕ → ℕ
-firstAsked count = cond (leb 145 count) (count - 1) count
+firstAsked count = cond (ltb border count) (count - 1) count
 
 abbrev pub reading : ℕ → ℕ → ℕ → ℕ → Bool → Turn
 reading day low last asked first = Read asked (record { day = day; low = low; last = last; asked = asked; first = first })
@@ -37,7 +41,7 @@ answer (suc k) = Found k
 unfoldable pub above : Search → Turn
 above s =
     cond (leb (s .asked) (s .low)) (answer (s .low))
-    (cond (s .first && leb (s .asked) 144)
+    (cond (s .first && leb (s .asked) border)
     (reading (s .day) (s .low) (s .asked - 1) (s .asked - 1) false)
     (between (s .day) (s .low) (s .asked - 1)))
 
@@ -45,7 +49,7 @@ above s =
 unfoldable pub notAbove : Search → Turn
 notAbove s =
     cond (leb (s .last) (s .asked)) (Found (s .asked))
-    (cond (s .first && leb 144 (s .asked))
+    (cond (s .first && leb border (s .asked))
     (reading (s .day) (s .asked + 1) (s .last) (s .asked + 1) false)
     (between (s .day) (s .asked + 1) (s .last)))
 

@@ -3,6 +3,9 @@ ghost use mathlib.Core.Path.{_≡_};
 ghost use Prim.Native.Nat.{_≤_};
 ghost use Rattle.searching.specs.Machine.{laterGuess, guessed, firstAsked, between, answer, above, notAbove, started, toldOf};
 
+// Behind this entry and in front of it there are few enough that eight turns tell them, once its neighbour is told too.
+const BORDER: u32 = 144;
+
 // Entries before `low` are not above the day, those behind `last` are; `asked` is the entry asked for, by the guess where it is the
 // first.
 pub struct Search {
@@ -50,7 +53,7 @@ fn guess(day: u32) -> u32
 fn first_asked(count: u32) -> u32
     ensures { λ r. ⌜ r ≡ firstAsked count ⌝ }
 {
-    if 145 <= count {
+    if BORDER < count {
         return count - 1;
     }
     count
@@ -94,7 +97,7 @@ fn above(s: Search) -> Turn
         return answer(low);
     }
     let last = asked - 1;
-    if s.first & (asked <= 144) {
+    if s.first & (asked <= BORDER) {
         return Turn::Read(
             last,
             Search {
@@ -119,7 +122,7 @@ fn not_above(s: Search) -> Turn
         return Turn::Found(asked);
     }
     let low = asked + 1;
-    if s.first & (144 <= asked) {
+    if s.first & (BORDER <= asked) {
         return Turn::Read(
             low,
             Search {
