@@ -10,7 +10,7 @@ use lib.Dec.{leb, ltb, eqb}
 use lib.ListN.{length, getD, take}
 use Rattle.lists.specs.Tables.{values}
 use Rattle.lists.proofs.Bools.{cond-case, or-false}
-use Rattle.lists.proofs.Tables.{value-at}
+use Rattle.calendar.proofs.Table.{same-values}
 use Rattle.calendar.specs.Year.{leap, yearDays}
 use Rattle.calendar.specs.Date.{monthDays, MonthDay, monthDayFrom}
 use Rattle.calendar.specs.Found.{sum, MonthFound}
@@ -135,9 +135,6 @@ days-computed : (b : Bool) → values (λ (n : ℕ). found b (suc n) .dayOfMonth
 unfolding monthDayFrom movedBy monthAt dayAt
 days-computed true = refl
 days-computed false = refl
-
-same-values : (f g : ℕ → ℕ) (n i : ℕ) → values f 0 n ≡ values g 0 n → i < n → f i ≡ g i
-same-values f g n i e h = sym (value-at f n i h) ∙ ap (λ (x : List ℕ). getD x i 0) e ∙ value-at g n i h
 
 month-computed : (b : Bool) (n : ℕ) → n < 366 → found b (suc n) ≡ record { month = monthAt b (suc n); dayOfMonth = dayAt b (suc n) }
 month-computed b n h =
