@@ -1,4 +1,4 @@
--- How the search asks. It keeps the entries that are not told yet, those from `low` to `last`, and asks for the one in their middle;
+-- How the search (R124) asks. It keeps the entries that are not told yet, those from `low` to `last`, and asks for the one in their middle;
 -- first it asks for the two entries at the border of a guess.
 -- Assumes nothing.
 use Prim.Native.Nat.{ℕ, zero, suc, _+_, _-_, _*_, _/_}

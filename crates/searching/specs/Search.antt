@@ -1,5 +1,5 @@
 -- "The search sees no table: it names an entry, is handed its number, and within ten such turns names the last entry not above the
--- day, or none, for any 401 rising numbers."
+-- day, or none, for any 401 rising numbers." (R124)
 -- Assumes nothing.
 use Prim.Native.Nat.{ℕ, zero, suc, _≤_, _<_}
 use mathlib.Core.Bool.{cond}
