@@ -62,12 +62,6 @@ pub yearDays-least : (k : ℕ) → 365 ≤ yearDays k
 unfolding yearDays
 yearDays-least k = cond-both (λ (n : ℕ). 365 ≤ n) (leap k) (omega arith) (omega arith)
 
--- no year begins later than if each before it were a leap year
-pub firstDay-most : (k : ℕ) → firstDay k ≤ 366 * k + 1
-unfolding firstDay
-firstDay-most zero = omega arith
-firstDay-most (suc k) = omega (arith, firstDay-most k, yearDays-most k)
-
 -- each year has 365 days at least
 pub firstDay-far : (j k : ℕ) → j ≤ k → firstDay j + 365 * (k - j) ≤ firstDay k
 firstDay-far j zero h = let e : j ≡ 0 = omega arith in rw e (omega arith)
@@ -75,19 +69,6 @@ firstDay-far j (suc k) h =
     ⊎-elim (λ (e : j ≡ suc k). rw e (omega arith))
     (λ (l : j < suc k). omega (arith, firstDay-far j k (le-of-suc-le-suc l), firstDay-next k, yearDays-least k))
     (eq-or-lt-of-le h)
-
-firstDay-2100 : firstDay 200 ≡ 73051
-unfolding firstDay yearDays leap gregorianLeap
-firstDay-2100 = refl
-
--- up to 2301 fewer than 366 of the years before are common, so a year begins less than a year earlier than if all were leap years
-pub firstDay-near : (k : ℕ) → k ≤ 401 → 366 * k ≤ firstDay k + 365
-firstDay-near k h =
-    by-cases (ltb k 200)
-    (λ t. omega (arith, ltb-true k 200 t, firstDay-far 0 k (omega arith), firstDay-1900))
-    (λ f.
-    let l : 200 ≤ k = ltb-false k 200 f in
-    omega (arith, firstDay-far 200 k l, firstDay-2100))
 
 -- the table's last year, 2300, ends before day 146,464
 pub year-2301 : (k : ℕ) → 400 ≤ k → 146464 ≤ firstDay (suc k)

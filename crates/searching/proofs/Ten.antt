@@ -93,7 +93,8 @@ module _ (day : ℕ) (numbers : List ℕ) (size : length numbers ≡ 401) (risin
 
   -- what is left when an entry is above the day: the neighbour before it or the middle of those before it, where there are any
   right-above : (turns low last a : ℕ) (first : Bool) → Known day numbers low a
-      → (low < a → Known day numbers low (suc (a - 1)) → (first && leb a border) ≡ true → Right turns (reading day low (a - 1) (a - 1) false))
+      → (low < a → Known day numbers low (suc (a - 1)) → (first && leb a border) ≡ true
+      → Right turns (reading day low (a - 1) (a - 1) false))
       → (low < a → Known day numbers low (suc (a - 1)) → Right turns (between day low (a - 1)))
       → Right turns (above (state low last a first))
   unfolding above
