@@ -1,7 +1,7 @@
 // Finds the last of 401 rising numbers that is not above a day, without seeing them: it names an entry and is told its number.
 ghost use mathlib.Core.Path.{_≡_};
 ghost use Prim.Native.Nat.{_≤_};
-ghost use Rattle.searching.specs.Machine.{laterGuess, guessed, firstAsked, between, answer, above, notAbove, started, toldOf};
+ghost use Rattle.searching.specs.Machine.{laterGuess, guessed, firstAsked, reading, between, answer, above, notAbove, started, toldOf};
 
 // Behind this entry and in front of it there are few enough that eight turns tell them, once its neighbour is told too.
 const BORDER: u32 = 144;
@@ -59,12 +59,10 @@ fn first_asked(count: u32) -> u32
     count
 }
 
-// Asks for the entry in the middle of those that are not told yet.
-fn between(day: u32, low: u32, last: u32) -> Turn
-    requires { ⌜ low ≤ last ⌝ }
-    ensures { λ r. ⌜ r ≡ between day low last ⌝ }
+// Asks for an entry.
+fn reading(day: u32, low: u32, last: u32, asked: u32, first: bool) -> Turn
+    ensures { λ r. ⌜ r ≡ reading day low last asked first ⌝ }
 {
-    let asked = low + (last - low) / 2;
     Turn::Read(
         asked,
         Search {
@@ -72,9 +70,17 @@ fn between(day: u32, low: u32, last: u32) -> Turn
             low: low,
             last: last,
             asked: asked,
-            first: false,
+            first: first,
         },
     )
+}
+
+// Asks for the entry in the middle of those that are not told yet.
+fn between(day: u32, low: u32, last: u32) -> Turn
+    requires { ⌜ low ≤ last ⌝ }
+    ensures { λ r. ⌜ r ≡ between day low last ⌝ }
+{
+    reading(day, low, last, low + (last - low) / 2, false)
 }
 
 // The answer where the entries before `low` are those that are not above the day.
@@ -98,16 +104,7 @@ fn above(s: Search) -> Turn
     }
     let last = asked - 1;
     if s.first & (asked <= BORDER) {
-        return Turn::Read(
-            last,
-            Search {
-                day: s.day,
-                low: low,
-                last: last,
-                asked: last,
-                first: false,
-            },
-        );
+        return reading(s.day, low, last, last, false);
     }
     between(s.day, low, last)
 }
@@ -123,16 +120,7 @@ fn not_above(s: Search) -> Turn
     }
     let low = asked + 1;
     if s.first & (BORDER <= asked) {
-        return Turn::Read(
-            low,
-            Search {
-                day: s.day,
-                low: low,
-                last: last,
-                asked: low,
-                first: false,
-            },
-        );
+        return reading(s.day, low, last, low, false);
     }
     between(s.day, low, last)
 }
@@ -141,17 +129,7 @@ fn not_above(s: Search) -> Turn
 pub fn start(day: u32) -> Turn
     ensures { λ r. ⌜ r ≡ started day ⌝ }
 {
-    let asked = first_asked(guess(day));
-    Turn::Read(
-        asked,
-        Search {
-            day: day,
-            low: 0,
-            last: 400,
-            asked: asked,
-            first: true,
-        },
-    )
+    reading(day, 0, 400, first_asked(guess(day)), true)
 }
 
 // Goes on with the number of the entry asked for.

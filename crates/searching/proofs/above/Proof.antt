@@ -16,8 +16,8 @@ returns c =
 returns-2 : tie.Need-returns-2
 unfolding above
 returns-2 c =
-    let s = c .before .before .before .args .s in
-    rw (lt-leb (s .asked) (s .low) (omega arith), c .if2 .taken)
+    let s = c .before .before .before .before .args .s in
+    rw (lt-leb (s .asked) (s .low) (omega arith), c .before .if2 .taken) (c .reading .ensures)
 
 returns-3 : tie.Need-returns-3
 unfolding above
@@ -26,4 +26,4 @@ returns-3 c =
     rw (lt-leb (s .asked) (s .low) (omega arith), c .before .if2 .left) (c .between .ensures)
 
 pub above-spec : {M : Type 1} → statement M
-above-spec = tie.close (tie.spec (λ c κs. search needs) returns (λ c. search needs) returns-2 (λ c κs. search needs) returns-3)
+above-spec = tie.close (tie.spec (λ c κs. search needs) returns (λ c. search needs) (λ c κs. search needs) returns-2 (λ c κs. search needs) returns-3)

@@ -1,6 +1,5 @@
 -- `searching::between` meets its contract.
 -- Assumes nothing.
-use mathlib.Core.Path.{refl}
 use borrow.Author.Needs.{needs}
 use Rattle.searching.specs.Machine.{between}
 use Rattle.searching.proofs.between.Statement.{statement}
@@ -8,7 +7,7 @@ use Rattle.searching.proofs.between.Tie as tie
 
 returns : tie.Need-returns
 unfolding between
-returns c = refl
+returns c = c .reading .ensures
 
 pub between-spec : {M : Type 1} → statement M
-between-spec = tie.close (tie.spec (λ c. search needs) (λ c. search needs) returns)
+between-spec = tie.close (tie.spec (λ c. search needs) (λ c. search needs) (λ c κs. search needs) returns)
