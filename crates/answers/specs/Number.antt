@@ -1,4 +1,4 @@
--- "The answer list" (R7, R10): the number of each answer, and what a refusal returns.
+-- "The answer list" (R7, R10): the number of each answer, and what a call that is done and a refusal return.
 -- Assumes nothing.
 use Prim.Native.Nat.{ℕ}
 use Rattle.answers.specs.declared.Answer.{Answer}
@@ -22,6 +22,14 @@ numberOf answer.Sort = 11
 numberOf answer.General = 12
 numberOf answer.TextRoom = 13
 numberOf answer.Line = 14
+
+-- a table of so many words
+abbrev pub donePrepared : ℕ → Prepared
+donePrepared words = record { answer = answer.Done; place = 0; words = words }
+
+-- a text of this length
+abbrev pub doneShown : ℕ → ℕ → ℕ → Shown
+doneShown length colour section = record { answer = answer.Done; length = length; colour = colour; section = section }
 
 -- "On a refusal every returned number but the answer and the place is 0." (R7)
 abbrev pub refusedPrepared : Answer → ℕ → Prepared

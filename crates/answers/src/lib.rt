@@ -1,6 +1,6 @@
 // What a call answers: the answer list, and the results of preparing and of showing.
 ghost use mathlib.Core.Path.{_≡_};
-ghost use Rattle.answers.specs.Number.{numberOf};
+ghost use Rattle.answers.specs.Number.{numberOf, donePrepared, doneShown, refusedPrepared, refusedShown};
 
 // The answer list of document 01, in its order. `numberOf` in specs/ gives each its number.
 pub enum Answer {
@@ -34,6 +34,52 @@ pub struct Shown {
     pub length: u32,
     pub colour: u16,
     pub section: u16,
+}
+
+// What preparing returns where it has made a table of so many words.
+pub fn done_prepared(words: u32) -> Prepared
+    ensures { λ r. ⌜ r ≡ donePrepared words ⌝ }
+{
+    Prepared {
+        answer: Answer::Done,
+        place: 0,
+        words,
+    }
+}
+
+// What preparing returns where it refuses.
+pub fn refused_prepared(answer: Answer, place: u32) -> Prepared
+    ensures { λ r. ⌜ r ≡ refusedPrepared answer place ⌝ }
+{
+    Prepared {
+        answer,
+        place,
+        words: 0,
+    }
+}
+
+// What showing returns where a text of this length is shown.
+pub fn done_shown(length: u32, colour: u16, section: u16) -> Shown
+    ensures { λ r. ⌜ r ≡ doneShown length colour section ⌝ }
+{
+    Shown {
+        answer: Answer::Done,
+        length,
+        colour,
+        section,
+    }
+}
+
+// What showing returns where it refuses.
+pub fn refused_shown(answer: Answer) -> Shown
+    ensures { λ r. ⌜ r ≡ refusedShown answer ⌝ }
+{
+    Shown {
+        answer,
+        length: 0,
+        colour: 0,
+        section: 0,
+    }
 }
 
 // The number of an answer in the answer list.

@@ -11,11 +11,12 @@ use Rattle.answers.specs.declared.Answer.{Answer}
 use Rattle.answers.specs.declared.Answer.the-variants as answer
 use Rattle.values.specs.declared.Ask.{Ask}
 use Rattle.values.specs.declared.Value.the-variants as value
+use Rattle.values.specs.Ranges.{asked}
 use Rattle.lists.specs.Lists.{All}
 use Rattle.calendar.specs.Names.{units}
 use Rattle.formats.specs.Accept as accept
 use Rattle.formats.specs.Accept.{Verdict, fine, verdict, sectionSpan, sectionPart}
-use Rattle.formats.specs.Reading.{Reading, refused, shown, codeReading}
+use Rattle.formats.specs.Reading.{Reading, refused, shown, lookOf, codeReading}
 use Rattle.formats.proofs.Evaluate.{evaluated}
 
 -- rows whose computed lists are one list are right, each of them
@@ -32,25 +33,27 @@ pub record Case : Type 0 where
   pub answer : Reading
 
 abbrev pub number : ℤ → ℕ → Ask
-number c scale = record { value = value.Number (record { coefficient = c; scale = scale }) }
+number c scale = asked (value.Number (record { coefficient = c; scale = scale }))
 
 abbrev pub instant : ℕ → ℕ → Ask
-instant day ms = record { value = value.Instant (record { 0 = day }) (record { 0 = ms }) }
+instant day ms = asked (value.Instant (record { 0 = day }) (record { 0 = ms }))
 
 abbrev pub aText : Ask
-aText = record { value = value.Text }
+aText = asked value.Text
+
+abbrev pub seen : String → ℕ → ℕ → Reading
+unfolding units
+seen text colour section = shown (lookOf (units text) colour section)
 
 -- without a text, in a room of 4,096 units
 abbrev pub gives : String → Ask → Reading → Case
 gives code ask answer = record { code = code; ask = ask; text = []; room = 4096; answer = answer }
 
 abbrev pub shows : String → Ask → String → ℕ → Case
-unfolding units
-shows code ask text section = gives code ask (shown (units text) 0 section)
+shows code ask text section = gives code ask (seen text 0 section)
 
 abbrev pub colours : String → Ask → String → ℕ → ℕ → Case
-unfolding units
-colours code ask text colour section = gives code ask (shown (units text) colour section)
+colours code ask text colour section = gives code ask (seen text colour section)
 
 abbrev pub denies : String → Ask → Answer → Case
 denies code ask a = gives code ask (refused a)
@@ -59,7 +62,7 @@ denies code ask a = gives code ask (refused a)
 abbrev pub ofText : String → String → String → ℕ → ℕ → Case
 unfolding units
 ofText code text result colour section =
-    record { code = code; ask = aText; text = units text; room = 4096; answer = shown (units result) colour section }
+    record { code = code; ask = aText; text = units text; room = 4096; answer = seen result colour section }
 
 abbrev pub read : Case → Reading
 read c = codeReading (units (c .code)) (c .ask) (c .text) (c .room)
@@ -68,7 +71,7 @@ abbrev pub Right : Case → Type 0
 Right c = read c ≡ c .answer
 
 unfoldable pub cases : List Case
-unfolding units shows
+unfolding units seen
 cases =
     shows "#,##0" (number (pos 12000) 0) "12,000" 0
     ∷ shows "0.0,," (number (pos 12200000) 0) "12.2" 0
@@ -90,7 +93,7 @@ cases-right = all-equal read (λ (c : Case). c .answer) cases refl
 
 -- what is easily got wrong, in the order of document 01's headings
 unfoldable pub slips : List Case
-unfolding units shows colours ofText
+unfolding units seen ofText
 slips =
     -- out of range: a scale of 16, a day that is no more, where General would refuse it by 11, a text of 1,025 units
     denies "0" (number (pos 1) 16) answer.Range

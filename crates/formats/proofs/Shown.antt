@@ -29,7 +29,7 @@ use Rattle.formats.specs.Choice.{Exact, numberExact, zeroExact, lessThan
 use Rattle.formats.specs.Minus.{Sign, minus, notNegative, noItem, forNegatives, nought, isOwn, firstHasCondition, exceptionA, signFor, signUnits}
 use Rattle.formats.specs.Text.{placeUnits, pointUnits, itemUnits, digitAfter, sectionUnits}
 use Rattle.formats.specs.Accept.{sectionsIn, Accepted, sections, refusal, accept}
-use Rattle.formats.specs.Reading.{Reading, refused, shown, within, takesNumber, showsGeneral, sectionRounded, standingRounded, numberContext, showsNought, numberSign, numberUnits, readNumber, readValue, reading, readAccepted, codeReading}
+use Rattle.formats.specs.Reading.{Look, Reading, refused, shown, lookOf, within, takesNumber, showsGeneral, sectionRounded, standingRounded, numberContext, showsNought, numberSign, numberUnits, readNumber, readValue, reading, readAccepted, codeReading}
 use Rattle.formats.specs.Figures.{unitsRead, Counts, FiguresOf, GeneralFigures, PieceOf, ofLiteral, ofBlank, ofFill, ofPercent, ofPlace, ofPoint, ofGeneral, ofAt, PiecesOf, empty, more, figurePieces, NumberShown}
 use Rattle.formats.proofs.FigureUnits.{place-plain, beyond-plain}
 use Rattle.formats.proofs.FigureItems.{itemPieces, pieces-joined, figures-read}
@@ -171,7 +171,7 @@ module _ (ss : List Section) (i : ℕ) (s : Section) (why : Reason) (x : Number)
       more j (itemUnits (numberContext s x) q j) is (itemPieces (numberContext s x) (digitAfter q j) is)
       (piece q j (every-head (itemAllowed (kindOf s)) j is t)) (each-piece (digitAfter q j) is (every-tail (itemAllowed (kindOf s)) j is t))
 
-  text-shown : choose ss (numberExact x) ≡ chosen i s why → NumberShown ss x (numberUnits ss i s why x) (s .colour) i
+  text-shown : choose ss (numberExact x) ≡ chosen i s why → NumberShown ss x (lookOf (numberUnits ss i s why x) (s .colour) i)
   unfolding numberUnits sectionUnits
   text-shown e =
       record {
@@ -187,9 +187,9 @@ module _ (ss : List Section) (i : ℕ) (s : Section) (why : Reason) (x : Number)
       }
 
 -- of a reading that shows a text
-abbrev WhereShown : (List ℕ → ℕ → ℕ → Type 0) → Reading → Type 0
+abbrev WhereShown : (Look → Type 0) → Reading → Type 0
 WhereShown P (refused a) = Unit {0}
-WhereShown P (shown t colour section) = P t colour section
+WhereShown P (shown look) = P look
 
 choice-shown : (ss : List Section) (x : Number) (room : ℕ) → T (wellFormed ss) → T (numberInRange x) → (c : Choice) → choose ss (numberExact x) ≡ c
     → WhereShown (NumberShown ss x) (readNumber ss x room c)
@@ -218,16 +218,16 @@ accepted-shown code ask x text room known isNumber (sections ss) h =
     rw (accepted-sections code ss h .1) (reading-shown ss ask x text room (accepted-formed code ss known h) isNumber)
 
 -- the law of a number that sections show
-pub number-shown : (ss : List Section) (ask : Ask) (x : Number) (text : List ℕ) (room : ℕ) (t : List ℕ) (colour section : ℕ)
-    → T (wellFormed ss) → ask .value ≡ value.Number x → reading ss ask text room ≡ shown t colour section
-    → NumberShown ss x t colour section
-number-shown ss ask x text room t colour section formed isNumber e =
+pub number-shown : (ss : List Section) (ask : Ask) (x : Number) (text : List ℕ) (room : ℕ) (look : Look)
+    → T (wellFormed ss) → ask .value ≡ value.Number x → reading ss ask text room ≡ shown look
+    → NumberShown ss x look
+number-shown ss ask x text room look formed isNumber e =
     subst (WhereShown (NumberShown ss x)) e (reading-shown ss ask x text room formed isNumber)
 
 -- and of one that a code shows
-pub code-number-shown : (code : List ℕ) (ask : Ask) (x : Number) (text : List ℕ) (room : ℕ) (t : List ℕ) (colour section : ℕ)
-    → T (every isUnit code) → ask .value ≡ value.Number x → codeReading code ask text room ≡ shown t colour section
-    → NumberShown (sectionsIn code) x t colour section
+pub code-number-shown : (code : List ℕ) (ask : Ask) (x : Number) (text : List ℕ) (room : ℕ) (look : Look)
+    → T (every isUnit code) → ask .value ≡ value.Number x → codeReading code ask text room ≡ shown look
+    → NumberShown (sectionsIn code) x look
 unfolding codeReading
-code-number-shown code ask x text room t colour section known isNumber e =
+code-number-shown code ask x text room look known isNumber e =
     subst (WhereShown (NumberShown (sectionsIn code) x)) e (accepted-shown code ask x text room known isNumber (accept code) refl)

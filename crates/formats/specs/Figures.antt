@@ -15,7 +15,7 @@ use Rattle.figures.specs.Bounds.{Near}
 use Rattle.formats.specs.Tokens.{Place, isDigit, digitOf}
 use Rattle.formats.specs.Items.{Item, literal, blank, fill, place, point, percent, general, at, Section, numberKind, kindOf, isPlace, isPoint, isPercent, decimalPlaces}
 use Rattle.formats.specs.Choice.{Reason, numberExact, chosen, choose}
-use Rattle.formats.specs.Reading.{standingRounded}
+use Rattle.formats.specs.Reading.{Look, standingRounded}
 
 -- Units read as a decimal number, the fraction v / w. A digit goes in behind those of v, and behind the point it makes the fraction ten
 -- times finer. Any other unit, as a comma or a space, is set aside.
@@ -74,18 +74,18 @@ figurePieces [] pieces = []
 figurePieces (i ∷ is) [] = []
 figurePieces (i ∷ is) (us ∷ pieces) = cond (isPlace i || isPoint i) us [] ++ figurePieces is pieces
 
--- What the text t is, where the number x is shown by the sections ss, with this colour and section number:
+-- What is seen where the number x is shown by the sections ss:
 -- a minus in front or none, and then a piece for each item of the section that x goes to.
 -- Of a number section the figure pieces together are figures of the exact scaled number to the section's decimals.
 -- Of a section that shows General each piece of General or `@` is General's figures; a literal section has no figures.
-pub record NumberShown (ss : List Section) (x : Number) (t : List ℕ) (colour section : ℕ) : Type 0 where
+pub record NumberShown (ss : List Section) (x : Number) (look : Look) : Type 0 where
   pub taker : Section
   pub why : Reason
   pub minus : Bool
   pub pieces : List (List ℕ)
-  pub goes : choose ss (numberExact x) ≡ chosen section taker why
-  pub coloured : colour ≡ taker .colour
-  pub text : t ≡ cond minus (45 ∷ []) [] ++ flatten pieces
+  pub goes : choose ss (numberExact x) ≡ chosen (look .section) taker why
+  pub coloured : look .colour ≡ taker .colour
+  pub text : look .text ≡ cond minus (45 ∷ []) [] ++ flatten pieces
   pub each : PiecesOf x minus (taker .items) pieces
   pub figures : kindOf taker ≡ numberKind
       → FiguresOf (scaled (natAbs (x .coefficient)) (x .scale) (count isPercent (taker .items)) (taker .thousands))

@@ -28,13 +28,22 @@ use Rattle.formats.specs.Minus.{Sign, isOwn, firstHasCondition, exceptio
 use Rattle.formats.specs.Text.{Context, sectionUnits}
 use Rattle.formats.specs.Accept.{Accepted, sections, refusal, accept}
 
+-- what is seen of a value: "text, colour and section"
+pub record Look : Type 0 where
+  pub text : List ℕ
+  pub colour : ℕ
+  pub section : ℕ
+
 pub data Reading : Type 0 where
   refused : Answer → Reading
-  shown : List ℕ → ℕ → ℕ → Reading
+  shown : Look → Reading
+
+abbrev pub lookOf : List ℕ → ℕ → ℕ → Look
+lookOf text colour section = record { text = text; colour = colour; section = section }
 
 -- 13: "the text is longer than the room"
-unfoldable pub within : ℕ → List ℕ → ℕ → ℕ → Reading
-within room text colour section = cond (leb (length text) room) (shown text colour section) (refused answer.TextRoom)
+unfoldable pub within : ℕ → Look → Reading
+within room look = cond (leb (length (look .text)) room) (shown look) (refused answer.TextRoom)
 
 -- 11: "the section chosen can't show that sort of value" (R59, R62)
 unfoldable pub takesNumber : Kind → Bool
@@ -117,19 +126,19 @@ readNumber ss x room nothing = refused answer.NoSection
 readNumber ss x room (chosen i s why) =
     cond (not (takesNumber (kindOf s))) (refused answer.Sort)
     (cond (showsGeneral (kindOf s) && generalTooWide ((numberExact x) .size)) (refused answer.General)
-    (within room (numberUnits ss i s why x) (s .colour) i))
+    (within room (lookOf (numberUnits ss i s why x) (s .colour) i)))
 
 -- 10, 11, 13 of an instant, which is never below 0 (R62, R66)
 unfoldable pub readInstant : Day → Millisecond → ℕ → Choice → Reading
 readInstant d m room nothing = refused answer.NoSection
 readInstant d m room (chosen i s why) =
     cond (not (takesInstant (kindOf s))) (refused answer.Sort)
-    (within room (sectionUnits (instantContext s d m) (s .items)) (s .colour) i)
+    (within room (lookOf (sectionUnits (instantContext s d m) (s .items)) (s .colour) i))
 
 -- 13 of a text: "with no such section the text itself is shown, section 4, colour 0"
 unfoldable pub readText : List ℕ → ℕ → TextChoice → Reading
-readText text room itself = within room text 0 4
-readText text room (textIn i s) = within room (sectionUnits (textContext text) (s .items)) (s .colour) i
+readText text room itself = within room (lookOf text 0 4)
+readText text room (textIn i s) = within room (lookOf (sectionUnits (textContext text) (s .items)) (s .colour) i)
 
 unfoldable pub readValue : List Section → Value → List ℕ → ℕ → Reading
 readValue ss (value.Number x) text room = readNumber ss x room (choose ss (numberExact x))
@@ -138,7 +147,7 @@ readValue ss value.Text text room = readText text room (chooseText ss)
 
 -- the reading of sections; 9: "the value is out of range" (R108)
 unfoldable pub reading : List Section → Ask → List ℕ → ℕ → Reading
-reading ss ask text room = cond (inRange (ask .value) text) (readValue ss (ask .value) text room) (refused answer.Range)
+reading ss ask text room = cond (inRange ask text) (readValue ss (ask .value) text room) (refused answer.Range)
 
 -- the reading of a code: a refused code gives its refusal
 unfoldable pub readAccepted : Accepted → Ask → List ℕ → ℕ → Reading

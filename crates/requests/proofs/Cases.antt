@@ -9,7 +9,7 @@ use lib.IntN.{pos, negsuc}
 use lib.ListN.{replicate}
 use Rattle.values.specs.declared.Ask.{Ask}
 use Rattle.values.specs.declared.Value.the-variants as value
-use Rattle.values.specs.Ranges.{inRange}
+use Rattle.values.specs.Ranges.{inRange, asked}
 use Rattle.lists.specs.Lists.{All, every, isEmpty}
 use Rattle.calendar.specs.Names.{units}
 use Rattle.formats.specs.Tokens.{before, startsWith, same, isDigit, digitOf, numberFrom}
@@ -103,9 +103,9 @@ large =
     number (pos 1000000000000000) 0 ∷ number (negsuc 999999999999999) 0 ∷ number (pos 0) 16
     ∷ instant 2958466 0 ∷ instant 1000000000 0 ∷ instant 0 86400000 ∷ instant 0 1000000000 ∷ []
 
-pub limits-out : All (λ (a : Ask). inRange (a .value) [] ≡ false) large
+pub limits-out : All (λ (a : Ask). inRange a [] ≡ false) large
 unfolding large
 limits-out = (refl, (refl, (refl, (refl, (refl, (refl, (refl, tt)))))))
 
-pub text-out : inRange value.Text (replicate 1025 97) ≡ false
+pub text-out : inRange (asked value.Text) (replicate 1025 97) ≡ false
 text-out = refl

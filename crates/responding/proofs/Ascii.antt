@@ -317,7 +317,7 @@ code-fine code ask text room c t = by-verdict (verdict code)
     by-verdict : (v : Verdict) → Fine room (readAccepted (acceptedBy v (sectionsIn code)) ask text room)
     by-verdict (wrong a k) = fine-refused room a
     by-verdict fine =
-        cond-both (Fine room) (inRange (ask .value) text) (value-fine (sectionsIn code) text room (code-ascii code c) t (ask .value))
+        cond-both (Fine room) (inRange ask text) (value-fine (sectionsIn code) text room (code-ascii code c) t (ask .value))
         (fine-refused room answer.Range)
 
 -- ---- lines that are read

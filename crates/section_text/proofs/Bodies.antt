@@ -8,7 +8,7 @@ use lib.ListN.{length}
 use Rattle.answers.specs.declared.Shown.{Shown}
 use Rattle.formats.specs.Items.{Item, Section, Kind, dateKind, kindOf, integerPlaces}
 use Rattle.formats.specs.Text.{Context, itemsUnits, sectionUnits}
-use Rattle.formats.specs.Reading.{Reading, within}
+use Rattle.formats.specs.Reading.{Reading, lookOf, within}
 use Rattle.tables.specs.Words.{entriesIn}
 use Rattle.tables.specs.Decode.{itemsAt}
 use Rattle.table_words.specs.Sections.{ItemsOf}
@@ -39,14 +39,14 @@ module _ {z : Section} {words : List ℕ} (o : ItemsOf z words) where
   -- what is shown of the words is what is shown of the section
   pub items-shows : {old out : List ℕ} {r : Shown} {colour : ℕ} (i : ℕ) (minus : Bool) (c : Context)
       → colour ≡ z .colour → c .integerPlaces ≡ integerPlaces (z .items)
-      → Shows (within (length old) (signText minus ++ itemsUnits c (14 + integerPlaces (z .items)) (itemsAt (entriesIn words))) colour i) old r out
+      → Shows (within (length old) (lookOf (signText minus ++ itemsUnits c (14 + integerPlaces (z .items)) (itemsAt (entriesIn words))) colour i)) old r out
       → Shows (sectionReading (length old) z i minus c) old r out
   unfolding sectionReading sectionUnits
   items-shows {old} {out} {r} {colour} i minus c ec ei x =
       let q : ℕ = 14 + integerPlaces (z .items) in
       let g : sectionReading (length old) z i minus c
-      ≡ within (length old) (signText minus ++ itemsUnits c q (itemsAt (entriesIn words))) colour i =
-      ap (λ (n : ℕ). within (length old) (signText minus ++ itemsUnits c (14 + n) (z .items)) (z .colour) i) ei
-      ∙ ap (λ (is : List Item). within (length old) (signText minus ++ itemsUnits c q is) (z .colour) i) (o .items)
-      ∙ ap (λ (n : ℕ). within (length old) (signText minus ++ itemsUnits c q (itemsAt (entriesIn words))) n i) (sym ec) in
+      ≡ within (length old) (lookOf (signText minus ++ itemsUnits c q (itemsAt (entriesIn words))) colour i) =
+      ap (λ (n : ℕ). within (length old) (lookOf (signText minus ++ itemsUnits c (14 + n) (z .items)) (z .colour) i)) ei
+      ∙ ap (λ (is : List Item). within (length old) (lookOf (signText minus ++ itemsUnits c q is) (z .colour) i)) (o .items)
+      ∙ ap (λ (n : ℕ). within (length old) (lookOf (signText minus ++ itemsUnits c q (itemsAt (entriesIn words))) n i)) (sym ec) in
       subst (λ (d : Reading). Shows d old r out) (sym g) x

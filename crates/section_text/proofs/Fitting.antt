@@ -14,7 +14,7 @@ use Rattle.answers.specs.declared.Shown.{Shown}
 use Rattle.answers.specs.Number.{refusedShown}
 use Rattle.lists.specs.Lists.{overlay}
 use Rattle.lists.proofs.Bools.{true-T}
-use Rattle.formats.specs.Reading.{refused, within}
+use Rattle.formats.specs.Reading.{refused, lookOf, within}
 use Rattle.tables.specs.Calls.{shownAs, textAs}
 use Rattle.writing.specs.Put.{Put}
 use Rattle.writing.proofs.Laws.{put-none, sets-overlay}
@@ -46,14 +46,14 @@ none (x ∷ l) e = absurd (omega arith)
 
 module _ (old text : List ℕ) (colour i : ℕ) where
   pub shows-none : {n : ℕ} {small out : List ℕ} → Put small 0 text n out → length old < n
-      → Shows (within (length old) text colour i) old (refusedShown answer.TextRoom) old
+      → Shows (within (length old) (lookOf text colour i)) old (refusedShown answer.TextRoom) old
   unfolding within
   shows-none p h =
       let l : length old < length text = omega (arith, p .next) in
       rw (lt-leb (length text) (length old) l) (shows-refused old answer.TextRoom)
 
   pub shows-all : {n r : ℕ} {small after out : List ℕ} → Put small 0 text n after → n ≤ length old → Put old 0 text r out
-      → Shows (within (length old) text colour i) old (record { answer = answer.Done; length = n; colour = colour; section = i }) out
+      → Shows (within (length old) (lookOf text colour i)) old (record { answer = answer.Done; length = n; colour = colour; section = i }) out
   unfolding within shownAs textAs
   shows-all {n} p h q =
       let e : n ≡ length text = omega (arith, p .next) in
@@ -61,7 +61,7 @@ module _ (old text : List ℕ) (colour i : ℕ) where
       rw (le-leb (length text) (length old) l) (record { result = rw e; room = q .room ∙ sets-overlay old text l })
 
 -- no minus is no text
-pub unsigned : {old out : List ℕ} {r : Shown} (text : List ℕ) (colour i : ℕ) → Shows (within (length old) text colour i) old r out
-    → Shows (within (length old) (signText false ++ text) colour i) old r out
+pub unsigned : {old out : List ℕ} {r : Shown} (text : List ℕ) (colour i : ℕ) → Shows (within (length old) (lookOf text colour i)) old r out
+    → Shows (within (length old) (lookOf (signText false ++ text) colour i)) old r out
 unfolding signText
 unsigned text colour i x = x

@@ -8,7 +8,7 @@ use Rattle.answers.specs.declared.Shown.{Shown}
 use Rattle.lists.specs.Lists.{overlay}
 use Rattle.formats.specs.Items.{Section}
 use Rattle.formats.specs.Text.{Context, sectionUnits}
-use Rattle.formats.specs.Reading.{Reading, within}
+use Rattle.formats.specs.Reading.{Reading, lookOf, within}
 use Rattle.tables.specs.Calls.{shownAs, textAs}
 
 -- a minus in front, or none
@@ -17,7 +17,7 @@ signText minus = cond minus (45 ∷ []) []
 
 -- 13, or section i shown in a room of this size, with a minus in front or without
 unfoldable pub sectionReading : ℕ → Section → ℕ → Bool → Context → Reading
-sectionReading size s i minus c = within size (signText minus ++ sectionUnits c (s .items)) (s .colour) i
+sectionReading size s i minus c = within size (lookOf (signText minus ++ sectionUnits c (s .items)) (s .colour) i)
 
 pub record Shows (reading : Reading) (old : List ℕ) (r : Shown) (out : List ℕ) : Type 0 where
   pub result : r ≡ shownAs reading

@@ -7,7 +7,7 @@ ghost use lib.Dec.{T};
 ghost use lib.ListN.{length, getD};
 ghost use Rattle.answers.specs.Number.{refusedShown};
 ghost use Rattle.formats.specs.Items.{Kind, dateKind, kindOf, integerPlaces};
-ghost use Rattle.formats.specs.Reading.{within};
+ghost use Rattle.formats.specs.Reading.{lookOf, within};
 ghost use Rattle.formats.specs.Text.{Context, itemUnits, itemsUnits, placeUnits};
 ghost use Rattle.tables.specs.Words.{entriesIn};
 ghost use Rattle.tables.specs.Encode.{entry};
@@ -189,7 +189,7 @@ fn show_sure(
     requires { ⌜ (s .figures .used ≤ 40) × (s .lent ≡ true → length (now text) ≤ 1024) × (length (now items) ≤ 508)
         × Ready (now items) (now digits) s (now text) × (s .lent ≡ false) × (41 * length (now items) + 1 ≤ length (now room)) ⌝ }
     ensures { λ r. ⌜ ((c : Context) (k : Kind) (q : ℕ) → SubjectIs k (now (digits .entry)) s (now (text .entry)) c → EntriesFit k q (entriesIn (now (items .entry)))
-        → Shows (within (length (now (room .entry))) (signText minus ++ itemsUnits c q (itemsAt (entriesIn (now (items .entry))))) colour section)
+        → Shows (within (length (now (room .entry))) (lookOf (signText minus ++ itemsUnits c q (itemsAt (entriesIn (now (items .entry))))) colour section))
         (now (room .entry)) r (now (room .exit))) ⌝ }
 {
     let end = put_text(room, minus, items, digits, s, text);
@@ -215,7 +215,7 @@ fn show_items(
     requires { ⌜ (s .figures .used ≤ 40) × (s .lent ≡ true → length (now text) ≤ 1024) × (length (now items) ≤ 508)
         × Ready (now items) (now digits) s (now text) ⌝ }
     ensures { λ r. ⌜ ((c : Context) (k : Kind) (q : ℕ) → SubjectIs k (now (digits .entry)) s (now (text .entry)) c → EntriesFit k q (entriesIn (now (items .entry)))
-        → Shows (within (length (now (room .entry))) (signText minus ++ itemsUnits c q (itemsAt (entriesIn (now (items .entry))))) colour section)
+        → Shows (within (length (now (room .entry))) (lookOf (signText minus ++ itemsUnits c q (itemsAt (entriesIn (now (items .entry))))) colour section))
         (now (room .entry)) r (now (room .exit))) ⌝ }
 {
     let limit = room.len();
@@ -274,7 +274,7 @@ fn put_dated_items(room: &mut [u16], items: &[u16], m: Moment) -> usize
 fn show_dated_items(room: &mut [u16], items: &[u16], m: Moment, colour: u16, section: u16) -> Shown
     requires { ⌜ (length (now items) ≤ 508) × DatedReady (now items) m ⌝ }
     ensures { λ r. ⌜ ((c : Context) (q : ℕ) → MomentIs m c → EntriesFit dateKind q (entriesIn (now (items .entry)))
-        → Shows (within (length (now (room .entry))) (itemsUnits c q (itemsAt (entriesIn (now (items .entry))))) colour section)
+        → Shows (within (length (now (room .entry))) (lookOf (itemsUnits c q (itemsAt (entriesIn (now (items .entry))))) colour section))
         (now (room .entry)) r (now (room .exit))) ⌝ }
 {
     let limit = room.len();

@@ -28,7 +28,7 @@ use Rattle.figures.proofs.Places.{used-test}
 use Rattle.formats.specs.Items.{Kind, textKind, generalKind, dateKind, numberKind, literalKind, sameKind, kindOf, Section}
 use Rattle.formats.specs.Choice.{numberExact, Reason, chosen}
 use Rattle.formats.specs.Text.{Context}
-use Rattle.formats.specs.Reading.{textContext, numberContext, takesNumber, showsGeneral, standingRounded, showsNought, numberUnits, within, readNumber}
+use Rattle.formats.specs.Reading.{textContext, numberContext, takesNumber, showsGeneral, standingRounded, showsNought, numberUnits, lookOf, within, readNumber}
 use Rattle.figure_text.specs.declared.Figures.{Figures}
 use Rattle.figure_text.specs.Shown.{FiguresAre, figuresWith}
 use Rattle.figure_text.proofs.Digits.{figures-are}
@@ -144,7 +144,7 @@ module _ {old : List ℕ} (ss : List Section) (i : ℕ) (z : Section) (why : Rea
       rw (general-takes (kindOf z) t .0, y, e) (shows-refused old answer.General)
 
   pub general-shows : {out : List ℕ} {r : Shown} → generalTooWide (numberExact x .size) ≡ false
-      → Shows (within (length old) (numberUnits ss i z why x) (z .colour) i) old r out → Shows (readNumber ss x (length old) (chosen i z why)) old r out
+      → Shows (within (length old) (lookOf (numberUnits ss i z why x) (z .colour) i)) old r out → Shows (readNumber ss x (length old) (chosen i z why)) old r out
   unfolding readNumber
   general-shows e w =
       let y : showsGeneral (kindOf z) ≡ true = T-true (showsGeneral (kindOf z)) t in

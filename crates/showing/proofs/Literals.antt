@@ -10,7 +10,7 @@ use Rattle.values.specs.declared.Number.{Number}
 use Rattle.formats.specs.Items.{Kind, literalKind, kindOf, Section}
 use Rattle.formats.specs.Choice.{Reason, chosen}
 use Rattle.formats.specs.Text.{Context}
-use Rattle.formats.specs.Reading.{textContext, takesNumber, showsGeneral, showsNought, numberUnits, within, readNumber}
+use Rattle.formats.specs.Reading.{textContext, takesNumber, showsGeneral, showsNought, numberUnits, lookOf, within, readNumber}
 use Rattle.section_text.specs.declared.Subject.{Subject}
 use Rattle.section_text.specs.Subject.{SubjectIs}
 use Rattle.section_text.specs.Walk.{Known}
@@ -33,6 +33,6 @@ module _ (z : Section) (e : kindOf z ≡ literalKind) (x : Number) where
   literal-nought = rw e
 
   pub literal-shows : {old out : List ℕ} {r : Shown} (ss : List Section) (i : ℕ) (why : Reason)
-      → Shows (within (length old) (numberUnits ss i z why x) (z .colour) i) old r out → Shows (readNumber ss x (length old) (chosen i z why)) old r out
+      → Shows (within (length old) (lookOf (numberUnits ss i z why x) (z .colour) i)) old r out → Shows (readNumber ss x (length old) (chosen i z why)) old r out
   unfolding readNumber takesNumber showsGeneral
   literal-shows ss i why w = rw e w

@@ -15,7 +15,7 @@ use Rattle.formats.specs.Where.{hasCondition}
 use Rattle.formats.specs.Choice.{numberExact, Reason, counted, chosen, choose}
 use Rattle.formats.specs.Minus.{isOwn, firstHasCondition, exceptionA, signUnits}
 use Rattle.formats.specs.Text.{sectionUnits}
-use Rattle.formats.specs.Reading.{within, numberContext, showsNought, numberSign, numberUnits}
+use Rattle.formats.specs.Reading.{lookOf, within, numberContext, showsNought, numberSign, numberUnits}
 use Rattle.tables.specs.Words.{Head}
 use Rattle.tables.specs.Encode.{headOf}
 use Rattle.tables.specs.Decode.{decode}
@@ -39,7 +39,7 @@ pub number-text : {old out : List ℕ} {r : Shown} (ws : List ℕ) (i : ℕ) (x 
     → minus ≡ minusIn ws i negative held → negative ≡ ltZ (x .coefficient) (pos 0)
     → choose (decode ws) (numberExact x) ≡ chosen i (sectionIn ws i) why → held ≡ showsNought (sectionIn ws i) x
     → Shows (sectionReading (length old) (sectionIn ws i) i minus (numberContext (sectionIn ws i) x)) old r out
-    → Shows (within (length old) (numberUnits (decode ws) i (sectionIn ws i) why x) (sectionIn ws i .colour) i) old r out
+    → Shows (within (length old) (lookOf (numberUnits (decode ws) i (sectionIn ws i) why x) (sectionIn ws i .colour) i)) old r out
 unfolding sectionReading numberUnits numberSign
 number-text {old} {out} {r} ws i x why {negative} {minus} {held} em eg ec ed y =
     let s : Section = sectionIn ws i in
@@ -50,4 +50,4 @@ number-text {old} {out} {r} ws i x why {negative} {minus} {held} em eg ec ed y =
     let g : signUnits (numberSign (decode ws) i s why x) ≡ signText minus =
     sign-told x s (exceptionA (counted (decode ws)) i (isOwn why) first) (showsNought s x) n refl
     ∙ sym (ap signText em ∙ rw (eg, ed, a)) in
-    subst (λ (us : List ℕ). Shows (within (length old) (us ++ sectionUnits (numberContext s x) (s .items)) (s .colour) i) old r out) (sym g) y
+    subst (λ (us : List ℕ). Shows (within (length old) (lookOf (us ++ sectionUnits (numberContext s x) (s .items)) (s .colour) i)) old r out) (sym g) y

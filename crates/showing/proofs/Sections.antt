@@ -20,7 +20,7 @@ use Rattle.figures.proofs.Rounding.{powered-net, scaled-powered, rounded-small,
 use Rattle.formats.specs.Items.{Section, Kind, numberKind, kindOf, isPercent, integerPlaces, decimalPlaces}
 use Rattle.formats.specs.Choice.{Reason, chosen}
 use Rattle.formats.specs.Text.{Context}
-use Rattle.formats.specs.Reading.{takesNumber, showsGeneral, sectionRounded, numberContext, showsNought, numberUnits, within, readNumber}
+use Rattle.formats.specs.Reading.{takesNumber, showsGeneral, sectionRounded, numberContext, showsNought, numberUnits, lookOf, within, readNumber}
 use Rattle.tables.specs.Words.{Head}
 use Rattle.tables.specs.Encode.{shiftWord, decimalsWord, headOf}
 use Rattle.tables.specs.Rules.{passes}
@@ -119,6 +119,6 @@ module _ (z : Section) (e : kindOf z ≡ numberKind) (x : Number) where
   number-nought are = figures-nought (numberContext z x) are ∙ rw e (or-none (eqb (sectionRounded z x) 0))
 
   pub number-shows : {old out : List ℕ} {r : Shown} (ss : List Section) (i : ℕ) (why : Reason)
-      → Shows (within (length old) (numberUnits ss i z why x) (z .colour) i) old r out → Shows (readNumber ss x (length old) (chosen i z why)) old r out
+      → Shows (within (length old) (lookOf (numberUnits ss i z why x) (z .colour) i)) old r out → Shows (readNumber ss x (length old) (chosen i z why)) old r out
   unfolding readNumber takesNumber showsGeneral
   number-shows ss i why w = rw e w

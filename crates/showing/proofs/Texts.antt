@@ -15,7 +15,7 @@ use Rattle.lists.proofs.Bools.{and-left, and-right, implied, true-T, by-cases, 
 use Rattle.formats.specs.Items.{Kind, textKind, generalKind, dateKind, numberKind, literalKind, sameKind, kindOf, Section, integerPlaces}
 use Rattle.formats.specs.Where.{implies, isText, standsAt}
 use Rattle.formats.specs.Choice.{TextChoice, itself, textIn, fourthFrom, textFrom, chooseText}
-use Rattle.formats.specs.Reading.{textContext, within, readText}
+use Rattle.formats.specs.Reading.{textContext, lookOf, within, readText}
 use Rattle.tables.specs.Decode.{decode}
 use Rattle.tables.specs.Rules.{passes}
 use Rattle.writing.specs.Put.{Put}
@@ -114,14 +114,14 @@ module _ (ws : List ℕ) (i : ℕ) (t : T (passes ws)) (e : found.At i ≡ textF
 
 -- a text by itself
 module _ (old text : List ℕ) where
-  pub plain-none : length old < length text → Shows (within (length old) text 0 4) old (refusedShown answer.TextRoom) old
+  pub plain-none : length old < length text → Shows (within (length old) (lookOf text 0 4)) old (refusedShown answer.TextRoom) old
   plain-none h = shows-none old text 0 4 (put-out [] 0 text (omega arith)) (omega arith)
 
   pub plain-all : {r : ℕ} {out : List ℕ} → length text ≤ length old → Put old 0 text r out
-      → Shows (within (length old) text 0 4) old (record { answer = answer.Done; length = length text; colour = 0; section = 4 }) out
+      → Shows (within (length old) (lookOf text 0 4)) old (record { answer = answer.Done; length = length text; colour = 0; section = 4 }) out
   plain-all h p = shows-all old text 0 4 {small = []} (record { next = sym (zero-add (length text)); room = refl }) h p
 
 pub itself-shows : {old out : List ℕ} {r : Shown} (ws text : List ℕ) → found.Itself ≡ textFoundOf (chooseText (decode ws))
-    → Shows (within (length old) text 0 4) old r out → Shows (readText text (length old) (chooseText (decode ws))) old r out
+    → Shows (within (length old) (lookOf text 0 4)) old r out → Shows (readText text (length old) (chooseText (decode ws))) old r out
 unfolding readText
 itself-shows ws text e x = rw (text-itself ws e) x

@@ -17,7 +17,7 @@ use Rattle.values.specs.declared.Millisecond.{Millisecond}
 use Rattle.values.specs.declared.Value.{Value}
 use Rattle.values.specs.declared.Value.the-variants as value
 use Rattle.values.specs.declared.Ask.{Ask}
-use Rattle.values.specs.Ranges.{dayGreatest, millisecondGreatest, numberInRange, instantInRange, textInRange, inRange}
+use Rattle.values.specs.Ranges.{dayGreatest, millisecondGreatest, numberInRange, instantInRange, textInRange, valueInRange}
 use Rattle.figures.specs.declared.Signed.{Signed}
 use Rattle.figures.specs.declared.Taken.the-variants as taken
 use Rattle.figures.specs.Sign.{signedOf, takenOf}
@@ -77,11 +77,11 @@ day-and-millisecond d m = rw (le-leb 0 (d .0) (omega arith), le-leb 0 (m .0) (om
 
 -- the reading of a value, by its sort
 module _ {old out : List ℕ} {r : Shown} (ss : List Section) (ask : Ask) (text : List ℕ) where
-  value-shows : (v : Value) → ask .value ≡ v → Shows (cond (inRange v text) (readValue ss v text (length old)) (refused answer.Range)) old r out
+  value-shows : (v : Value) → ask .value ≡ v → Shows (cond (valueInRange v text) (readValue ss v text (length old)) (refused answer.Range)) old r out
       → Shows (reading ss ask text (length old)) old r out
   unfolding reading
   value-shows v e y =
-      subst (λ (u : Value). Shows (cond (inRange u text) (readValue ss u text (length old)) (refused answer.Range)) old r out) (sym e) y
+      subst (λ (u : Value). Shows (cond (valueInRange u text) (readValue ss u text (length old)) (refused answer.Range)) old r out) (sym e) y
 
   pub number-value : (x : Number) → ask .value ≡ value.Number x
       → Shows (cond (numberInRange x) (readNumber ss x (length old) (choose ss (numberExact x))) (refused answer.Range)) old r out

@@ -6,7 +6,7 @@ ghost use lib.Dec.{T, eqb};
 ghost use lib.ListN.{length, getD};
 ghost use Rattle.formats.specs.Items.{numberKind, literalKind, kindOf, integerPlaces};
 ghost use Rattle.formats.specs.Choice.{numberExact, instantExact, Reason, chosen, choose, chooseText};
-ghost use Rattle.formats.specs.Reading.{refused, within, readInstant, readText, showsGeneral, readNumber, reading};
+ghost use Rattle.formats.specs.Reading.{refused, lookOf, within, readInstant, readText, showsGeneral, readNumber, reading};
 ghost use Rattle.figures.specs.Digits.{figures};
 ghost use Rattle.figures.specs.Sign.{signedOf};
 ghost use Rattle.values.specs.declared.Number.{Number};
@@ -117,7 +117,7 @@ fn show_instant(room: &mut [u16], table: &[u16], d: Day, m: Millisecond, text: &
 // Shows a text by itself.
 fn show_plain(room: &mut [u16], text: &[u16]) -> Shown
     requires { ⌜ length (now text) ≤ 1024 ⌝ }
-    ensures { λ r. ⌜ Shows (within (length (now (room .entry))) (now (text .entry)) 0 4) (now (room .entry)) r (now (room .exit)) ⌝ }
+    ensures { λ r. ⌜ Shows (within (length (now (room .entry))) (lookOf (now (text .entry)) 0 4)) (now (room .entry)) r (now (room .exit)) ⌝ }
 {
     if room.len() < text.len() {
         return refuse(Answer::TextRoom);

@@ -9,7 +9,7 @@ use Rattle.answers.specs.declared.Answer.{Answer}
 use Rattle.answers.specs.declared.Answer.the-variants as answer
 use Rattle.answers.specs.declared.Prepared.{Prepared}
 use Rattle.answers.specs.declared.Shown.{Shown}
-use Rattle.answers.specs.Number.{refusedPrepared, refusedShown}
+use Rattle.answers.specs.Number.{donePrepared, doneShown, refusedPrepared, refusedShown}
 use Rattle.values.specs.declared.Ask.{Ask}
 use Rattle.lists.specs.Lists.{overlay}
 use Rattle.formats.specs.Accept.{Accepted, sections, refusal, accept}
@@ -30,8 +30,7 @@ tableOf code = wordsOf (accept code)
 unfoldable pub preparedAs : Accepted → ℕ → Prepared
 preparedAs (refusal a k) size = refusedPrepared a k
 preparedAs (sections ss) size =
-    cond (leb (length (encode ss)) size) (record { answer = answer.Done; place = 0; words = length (encode ss) })
-    (refusedPrepared answer.TableRoom 0)
+    cond (leb (length (encode ss)) size) (donePrepared (length (encode ss))) (refusedPrepared answer.TableRoom 0)
 
 unfoldable pub prepared : List ℕ → ℕ → Prepared
 prepared code size = preparedAs (accept code) size
@@ -52,12 +51,11 @@ tableReading table ask text room = cond (passes table) (reading (decode table) a
 -- begins with its text."
 unfoldable pub shownAs : Reading → Shown
 shownAs (refused a) = refusedShown a
-shownAs (shown text colour section) =
-    record { answer = answer.Done; length = length text; colour = colour; section = section }
+shownAs (shown look) = doneShown (length (look .text)) (look .colour) (look .section)
 
 unfoldable pub textAs : Reading → List ℕ
 textAs (refused a) = []
-textAs (shown text colour section) = text
+textAs (shown look) = look .text
 
 unfoldable pub showing : List ℕ → Ask → List ℕ → ℕ → Shown
 showing table ask text size = shownAs (tableReading table ask text size)

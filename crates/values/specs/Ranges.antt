@@ -15,6 +15,7 @@ use Rattle.values.specs.declared.MillisecondMade.the-variants as millise
 use Rattle.values.specs.declared.Number.{Number}
 use Rattle.values.specs.declared.Value.{Value}
 use Rattle.values.specs.declared.Value.the-variants as value
+use Rattle.values.specs.declared.Ask.{Ask}
 
 -- "a day number 0 to 2,958,465 and a millisecond 0 to 86,399,999" (R3)
 abbrev pub dayLeast : ℕ
@@ -63,8 +64,15 @@ instantInRange d m = between dayLeast dayGreatest (d .0) && between millisecondL
 abbrev pub textInRange : List ℕ → Bool
 textInRange text = leb (length text) 1024
 
--- the value is in its range; its text is the one lent beside it
-abbrev pub inRange : Value → List ℕ → Bool
-inRange (value.Number x) text = numberInRange x
-inRange (value.Instant d m) text = instantInRange d m
-inRange value.Text text = textInRange text
+abbrev pub valueInRange : Value → List ℕ → Bool
+valueInRange (value.Number x) text = numberInRange x
+valueInRange (value.Instant d m) text = instantInRange d m
+valueInRange value.Text text = textInRange text
+
+-- all that is asked for is in its range; a value's text is the one lent beside it
+abbrev pub inRange : Ask → List ℕ → Bool
+inRange ask text = valueInRange (ask .value) text
+
+-- a value, and nothing else, asked for
+abbrev pub asked : Value → Ask
+asked v = record { value = v }

@@ -2,7 +2,7 @@
 pub mod integers;
 
 ghost use mathlib.Core.Path.{_≡_};
-ghost use Rattle.values.specs.Ranges.{dayLeast, dayGreatest, dayOf, dayAnswer, millisecondLeast, millisecondGreatest, millisecondOf, millisecondAnswer, rangeAnswer};
+ghost use Rattle.values.specs.Ranges.{dayLeast, dayGreatest, dayOf, dayAnswer, millisecondLeast, millisecondGreatest, millisecondOf, millisecondAnswer, rangeAnswer, asked};
 
 // "A day number and a millisecond of the day are two units": a type for each, so that no call takes one for the other.
 // The field is open: a value out of range can be asked for, and is answered 9.
@@ -78,4 +78,11 @@ pub enum Value {
 // All that showing is told besides what is lent.
 pub struct Ask {
     pub value: Value,
+}
+
+// A value, and nothing else, asked for.
+pub fn asked(value: Value) -> Ask
+    ensures { λ r. ⌜ r ≡ asked value ⌝ }
+{
+    Ask { value }
 }
