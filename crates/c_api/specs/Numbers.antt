@@ -13,6 +13,7 @@ use Rattle.values.specs.declared.Number.{Number}
 use Rattle.values.specs.declared.Value.{Value}
 use Rattle.values.specs.declared.Value.the-variants as value
 use Rattle.values.specs.declared.Ask.{Ask}
+use Rattle.values.specs.Ranges.{asked}
 use Rattle.formats.specs.Accept.{Span}
 use Rattle.c_api.specs.declared.PreparedNumbers.{PreparedNumbers}
 use Rattle.c_api.specs.declared.PartNumbers.{PartNumbers}
@@ -33,10 +34,10 @@ shownNumbers s = record { answer = numberOf (s .answer); length = s .length; col
 
 -- what is asked for: a number, an instant, a text
 abbrev pub numberAsk : ℤ → ℕ → Ask
-numberAsk coefficient scale = record { value = value.Number (record { coefficient = coefficient; scale = scale }) }
+numberAsk coefficient scale = asked (value.Number (record { coefficient = coefficient; scale = scale }))
 
 abbrev pub instantAsk : ℕ → ℕ → Ask
-instantAsk day millisecond = record { value = value.Instant (record { 0 = day }) (record { 0 = millisecond }) }
+instantAsk day millisecond = asked (value.Instant (record { 0 = day }) (record { 0 = millisecond }))
 
 abbrev pub textAsk : Ask
-textAsk = record { value = value.Text }
+textAsk = asked value.Text

@@ -18,6 +18,7 @@ use values::Day;
 use values::Millisecond;
 use values::Number;
 use values::Value;
+use values::asked;
 
 // numfmt_prepared
 #[repr(C)]
@@ -96,9 +97,7 @@ fn shown_numbers(s: Shown) -> ShownNumbers
 fn number_ask(coefficient: i64, scale: u32) -> Ask
     ensures { λ r. ⌜ r ≡ numberAsk coefficient scale ⌝ }
 {
-    Ask {
-        value: Value::Number(Number { coefficient, scale }),
-    }
+    asked(Value::Number(Number { coefficient, scale }))
 }
 
 #[no_mangle]
@@ -124,9 +123,7 @@ pub extern "C" fn numfmt_show_instant(
     ensures result { λ r. ⌜ r ≡ shownNumbers (showing (now (table .entry)) (instantAsk day millisecond) [] (length (now (room .entry)))) ⌝ }
     ensures room { λ r. ⌜ now (room .exit) ≡ roomAfter (now (table .entry)) (instantAsk day millisecond) [] (now (room .entry)) ⌝ }
 {
-    let ask = Ask {
-        value: Value::Instant(Day(day), Millisecond(millisecond)),
-    };
+    let ask = asked(Value::Instant(Day(day), Millisecond(millisecond)));
     shown_numbers(show(table, ask, &table[..0], room))
 }
 
@@ -135,6 +132,5 @@ pub extern "C" fn numfmt_show_text(table: &[u16], text: &[u16], room: &mut [u16]
     ensures result { λ r. ⌜ r ≡ shownNumbers (showing (now (table .entry)) textAsk (now (text .entry)) (length (now (room .entry)))) ⌝ }
     ensures room { λ r. ⌜ now (room .exit) ≡ roomAfter (now (table .entry)) textAsk (now (text .entry)) (now (room .entry)) ⌝ }
 {
-    let ask = Ask { value: Value::Text };
-    shown_numbers(show(table, ask, text, room))
+    shown_numbers(show(table, asked(Value::Text), text, room))
 }

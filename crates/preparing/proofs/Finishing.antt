@@ -10,7 +10,7 @@ use lib.Dec.{T}
 use borrow.Author.Tests.{le-leb, lt-leb}
 use Rattle.answers.specs.declared.Answer.{Answer}
 use Rattle.answers.specs.declared.Answer.the-variants as answer
-use Rattle.answers.specs.Number.{refusedPrepared}
+use Rattle.answers.specs.Number.{donePrepared, refusedPrepared}
 use Rattle.lists.specs.Lists.{every, overlay}
 use Rattle.lists.proofs.First.{none-every}
 use Rattle.formats.specs.Kinds.{Parts, sectionOf}
@@ -90,7 +90,7 @@ module _ (code : List ℕ) (v : verdict code ≡ fine) {tokens : List ℕ} (r : 
     unfolding tableAfter tableOf wordsOf written
     room-table old h = rw (accepted, long, lt-leb size (length old) h)
 
-    pub done-prepared : (old : ℕ) → size ≤ old → prepared code old ≡ record { answer = answer.Done; place = 0; words = size }
+    pub done-prepared : (old : ℕ) → size ≤ old → prepared code old ≡ donePrepared size
     unfolding prepared preparedAs
     done-prepared old h = rw (accepted, long, le-leb size old h)
 

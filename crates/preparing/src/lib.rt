@@ -3,24 +3,15 @@ mod heads;
 
 use answers::Answer;
 use answers::Prepared;
+use answers::done_prepared;
 use answers::number;
+use answers::refused_prepared;
 use examining::examine;
 use heads::put_table;
 use tables::heads::WORDS;
 ghost use mathlib.Core.Path.{_≡_};
 ghost use lib.ListN.{length};
-ghost use Rattle.answers.specs.Number.{refusedPrepared};
 ghost use Rattle.tables.specs.Calls.{prepared, tableAfter};
-
-fn refused(answer: Answer, place: u32) -> Prepared
-    ensures { λ r. ⌜ r ≡ refusedPrepared answer place ⌝ }
-{
-    Prepared {
-        answer,
-        place,
-        words: 0,
-    }
-}
 
 // Prepares a code: the table is written only where it fits.
 pub fn prepare(code: &[u16], table: &mut [u16]) -> Prepared
@@ -32,18 +23,14 @@ pub fn prepare(code: &[u16], table: &mut [u16]) -> Prepared
     let e = examine(code, &mut tokens, &mut items);
     let answer = e.answer;
     if number(answer) != 0 {
-        return refused(answer, e.place);
+        return refused_prepared(answer, e.place);
     }
     let end = e.words;
     let size = 1 + WORDS * e.sections + end;
     if table.len() < size {
-        return refused(Answer::TableRoom, 0);
+        return refused_prepared(Answer::TableRoom, 0);
     }
     let drafts = e.drafts;
     put_table(table, drafts, e.sections, &items[..end]);
-    Prepared {
-        answer: Answer::Done,
-        place: 0,
-        words: size as u32,
-    }
+    done_prepared(size as u32)
 }

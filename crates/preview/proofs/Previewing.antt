@@ -52,7 +52,7 @@ words-within code size e = rw e (within-as (accept code) size)
 
 -- what is told of a code and of what is shown
 abbrev told : Accepted → Shown → Previewed
-told x s = record { answer = s .answer; place = placeOf x; length = s .length; colour = s .colour; section = s .section }
+told x s = record { place = placeOf x; shown = s }
 
 -- a code prepared in a table room of 557 words
 module _ (code : List ℕ) (u : T (every isUnit code)) (p : Prepared) {n size : ℕ} (e : p ≡ prepared code size) (m : n ≡ numberOf (p .answer))
@@ -111,8 +111,7 @@ module _ (code : List ℕ) (u : T (every isUnit code)) (p : Prepared) {n size : 
 
     pub made-shows : (s : Shown) {out : List ℕ} → s ≡ showing (take (p .words) after) ask text (length old)
         → out ≡ roomAfter (take (p .words) after) ask text old
-        → (_≡_ {A = Previewed} (record { answer = s .answer; place = 0; length = s .length; colour = s .colour; section = s .section })
-        (previewed code ask text (length old)))
+        → (_≡_ {A = Previewed} (record { place = 0; shown = s }) (previewed code ask text (length old)))
         × (out ≡ overlay (previewText code ask text (length old)) old)
     unfolding showing roomAfter previewed placeOf previewText
     made-shows s h r = (rw (h ∙ ap shownAs same-reading, d .is), r ∙ rw same-reading)

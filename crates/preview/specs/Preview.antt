@@ -3,6 +3,7 @@
 use Prim.Native.Nat.{ℕ}
 use mathlib.Core.List.{List}
 use Rattle.answers.specs.declared.Answer.{Answer}
+use Rattle.answers.specs.Number.{refusedShown}
 use Rattle.values.specs.declared.Ask.{Ask}
 use Rattle.formats.specs.Accept.{Accepted, sections, refusal, accept}
 use Rattle.formats.specs.Reading.{codeReading}
@@ -10,7 +11,7 @@ use Rattle.tables.specs.Calls.{shownAs, textAs}
 use Rattle.preview.specs.declared.Previewed.{Previewed}
 
 abbrev pub refusedPreview : Answer → ℕ → Previewed
-refusedPreview a k = record { answer = a; place = k; length = 0; colour = 0; section = 0 }
+refusedPreview a k = record { place = k; shown = refusedShown a }
 
 -- a code's refusal has a place; a reading has none
 unfoldable pub placeOf : Accepted → ℕ
@@ -19,9 +20,7 @@ placeOf (sections ss) = 0
 
 -- what showing returns of the reading off the code, with the place of a refused code
 unfoldable pub previewed : List ℕ → Ask → List ℕ → ℕ → Previewed
-previewed code ask text room =
-    let s = shownAs (codeReading code ask text room) in
-    record { answer = s .answer; place = placeOf (accept code); length = s .length; colour = s .colour; section = s .section }
+previewed code ask text room = record { place = placeOf (accept code); shown = shownAs (codeReading code ask text room) }
 
 -- the text that the room then begins with; of a refusal no unit
 unfoldable pub previewText : List ℕ → Ask → List ℕ → ℕ → List ℕ

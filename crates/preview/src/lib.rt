@@ -4,29 +4,25 @@ ghost use lib.ListN.{length};
 ghost use Rattle.lists.specs.Lists.{overlay};
 ghost use Rattle.preview.specs.Preview.{refusedPreview, previewed, previewText};
 use answers::Answer;
+use answers::Shown;
 use answers::number;
+use answers::refused_shown;
 use preparing::prepare;
 use showing::show;
 use values::Ask;
 
-// What previewing returns: preparing's refusal with its place, or what showing returns.
+// What previewing returns: what showing does, preparing's refusal with its place.
 pub struct Previewed {
-    pub answer: Answer,
     pub place: u32,
-    pub length: u32,
-    pub colour: u16,
-    pub section: u16,
+    pub shown: Shown,
 }
 
 fn refused(answer: Answer, place: u32) -> Previewed
     ensures { λ r. ⌜ r ≡ refusedPreview answer place ⌝ }
 {
     Previewed {
-        answer,
         place,
-        length: 0,
-        colour: 0,
-        section: 0,
+        shown: refused_shown(answer),
     }
 }
 
@@ -50,13 +46,8 @@ pub fn preview(code: &[u16], ask: Ask, text: &[u16], room: &mut [u16]) -> Previe
         return refused(answer, p.place);
     }
     let words = p.words as usize;
-    let s = show(&table[..words], ask, text, room);
-    let shown = s.answer;
     Previewed {
-        answer: shown,
         place: 0,
-        length: s.length,
-        colour: s.colour,
-        section: s.section,
+        shown: show(&table[..words], ask, text, room),
     }
 }

@@ -9,11 +9,11 @@ use lib.IntN.{pos, negsuc}
 use lib.ListN.{replicate}
 use Rattle.values.specs.declared.Ask.{Ask}
 use Rattle.values.specs.declared.Value.the-variants as value
-use Rattle.values.specs.Ranges.{inRange, asked}
+use Rattle.values.specs.Ranges.{inRange}
 use Rattle.lists.specs.Lists.{All, every, isEmpty}
 use Rattle.calendar.specs.Names.{units}
 use Rattle.formats.specs.Tokens.{before, startsWith, same, isDigit, digitOf, numberFrom}
-use Rattle.formats.proofs.Cases.{number, instant}
+use Rattle.formats.proofs.Cases.{number, instant, aText}
 use Rattle.requests.specs.Lines.{isAscii, isLine, fieldOf}
 use Rattle.requests.specs.Written.{sortOf, isDigits, numeralUpTo, signedBy, unsignedOf, numberOf, instantOf, valueOf, textOf}
 use Rattle.requests.specs.Request.{Request, malformed, request, fromEnd, fromValue, fromThird, fromKind, fromSecond, fromFirst, requestOf}
@@ -28,9 +28,9 @@ pub record Case : Type 0 where
   pub asks : Request
 
 -- an input of a code, a kind and a value, and what it asks
-abbrev pub asked : String → Ask → Case
+abbrev pub asking : String → Ask → Case
 unfolding units
-asked input ask = record { input = units input; asks = request (units "#,##0") ask [] }
+asking input ask = record { input = units input; asks = request (units "#,##0") ask [] }
 
 -- an input and its first malformed line
 abbrev pub wrong : String → ℕ → Case
@@ -43,23 +43,23 @@ unfolding units
 texted n =
     record {
       input = units "code=@\nkind=text\nvalue=" ++ replicate n 97 ++ units "\n";
-      asks = request (units "@") (record { value = value.Text }) (replicate n 97);
+      asks = request (units "@") aText (replicate n 97);
     }
 
 unfoldable pub cases : List Case
-unfolding units asked wrong texted
+unfolding units asking wrong texted
 cases =
     -- the example of document 01
-    asked "code=#,##0\nkind=number\nvalue=12000\n" (number (pos 12000) 0)
+    asking "code=#,##0\nkind=number\nvalue=12000\n" (number (pos 12000) 0)
     -- a minus, a point, zeros in front, which never make a number too large, and behind, which count
-    ∷ asked "code=#,##0\nkind=number\nvalue=-0\n" (number (pos 0) 0)
-    ∷ asked "code=#,##0\nkind=number\nvalue=-0.050\n" (number (negsuc 49) 3)
-    ∷ asked "code=#,##0\nkind=number\nvalue=00000000000000000000012\n" (number (pos 12) 0)
-    ∷ asked "code=#,##0\nkind=instant\nvalue=028086/0053760000\n" (instant 28086 53760000)
+    ∷ asking "code=#,##0\nkind=number\nvalue=-0\n" (number (pos 0) 0)
+    ∷ asking "code=#,##0\nkind=number\nvalue=-0.050\n" (number (negsuc 49) 3)
+    ∷ asking "code=#,##0\nkind=number\nvalue=00000000000000000000012\n" (number (pos 12) 0)
+    ∷ asking "code=#,##0\nkind=instant\nvalue=028086/0053760000\n" (instant 28086 53760000)
     -- too large
-    ∷ asked "code=#,##0\nkind=number\nvalue=-1000000000000000.1\n" (number (negsuc 999999999999999) 1)
-    ∷ asked "code=#,##0\nkind=number\nvalue=-0.0000000000000000\n" (number (pos 0) 16)
-    ∷ asked "code=#,##0\nkind=instant\nvalue=2958466/0\n" (instant 2958466 0)
+    ∷ asking "code=#,##0\nkind=number\nvalue=-1000000000000000.1\n" (number (negsuc 999999999999999) 1)
+    ∷ asking "code=#,##0\nkind=number\nvalue=-0.0000000000000000\n" (number (pos 0) 16)
+    ∷ asking "code=#,##0\nkind=instant\nvalue=2958466/0\n" (instant 2958466 0)
     -- an empty text is well formed, and so is one too long; 2,048 bytes are a line
     ∷ texted 0
     ∷ texted 1025
@@ -79,7 +79,7 @@ cases =
     ∷ wrong "kind=number\ncode=0\nvalue=1\n" 1
     -- a byte above 127 makes its line malformed; any other is a unit
     ∷ wrong "code=é\nkind=number\nvalue=1\n" 1
-    ∷ record { input = units "code=\t\r\nkind=text\nvalue=\n"; asks = request (9 ∷ 13 ∷ []) (record { value = value.Text }) [] }
+    ∷ record { input = units "code=\t\r\nkind=text\nvalue=\n"; asks = request (9 ∷ 13 ∷ []) aText [] }
     -- each line needs its line feed, and nothing follows the third
     ∷ wrong "" 1
     ∷ wrong "code=0" 1
@@ -107,5 +107,5 @@ pub limits-out : All (λ (a : Ask). inRange a [] ≡ false) large
 unfolding large
 limits-out = (refl, (refl, (refl, (refl, (refl, (refl, (refl, tt)))))))
 
-pub text-out : inRange (asked value.Text) (replicate 1025 97) ≡ false
+pub text-out : inRange aText (replicate 1025 97) ≡ false
 text-out = refl

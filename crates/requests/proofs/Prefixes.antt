@@ -12,6 +12,7 @@ use lib.Dec.{ltb, eqb}
 use lib.ListN.{length, take, drop, length-take}
 use lib.Seq.{take-take, length-take-le}
 use Rattle.values.specs.declared.Ask.{Ask}
+use Rattle.values.specs.Ranges.{asked}
 use Rattle.lists.specs.Lists.{isEmpty}
 use Rattle.lists.proofs.Bools.{by-cases}
 use Rattle.calendar.specs.Names.{units}
@@ -86,7 +87,7 @@ end-prefix code ask text (u ∷ us) (suc j) h = refl
 value-prefix : (code : List ℕ) (o : ValueRead) (text rest : List ℕ) (j : ℕ) → 1 ≤ j → fromValue code o text (take j rest) ≡ fromValue code o text rest
 unfolding fromValue
 value-prefix code read.Malformed text rest j h = refl
-value-prefix code (read.Known v) text rest j h = end-prefix code (record { value = v }) text rest j h
+value-prefix code (read.Known v) text rest j h = end-prefix code (asked v) text rest j h
 
 kind-prefix : (code : List ℕ) (k : SortRead) (rest : List ℕ) (j : ℕ) → 2050 ≤ j → fromKind code k (take j rest) ≡ fromKind code k rest
 unfolding fromKind fromThird

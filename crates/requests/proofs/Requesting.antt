@@ -6,6 +6,7 @@ use mathlib.Core.List.{List}
 use native.Mathlib.Omega.{arith}
 use lib.ListN.{length, drop, drop-of-length-le}
 use lib.Seq.{drop-cons}
+use Rattle.values.specs.Ranges.{asked}
 use Rattle.values.specs.declared.Value.{Value}
 use Rattle.lists.specs.Lists.{isEmpty}
 use Rattle.calendar.specs.Names.{units}
@@ -60,7 +61,7 @@ module _ (input : List ℕ) (code p : Part) (s : Sort) (v : Value) (x : valueOf 
 
   pub value-end : Ended input code → Ended input p → p .end + 1 ≡ length input
       → Reads input (fromValue (partOf input code) (valueOf s (partOf input p)) (textOf s (partOf input p)) (drop (p .end + 1) input))
-      (told.Request code (record { value = v }) (textPart s p))
+      (told.Request code (asked v) (textPart s p))
   unfolding fromValue fromEnd isEmpty
   value-end a b h =
       record {

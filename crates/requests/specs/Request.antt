@@ -6,6 +6,7 @@ use mathlib.Core.List.{List}
 use Rattle.answers.specs.declared.Answer.{Answer}
 use Rattle.answers.specs.declared.Answer.the-variants as answer
 use Rattle.values.specs.declared.Ask.{Ask}
+use Rattle.values.specs.Ranges.{asked}
 use Rattle.lists.specs.Lists.{isEmpty}
 use Rattle.calendar.specs.Names.{units}
 use Rattle.requests.specs.declared.written.Sort.{Sort}
@@ -31,7 +32,7 @@ fromEnd code ask text rest = cond (isEmpty rest) (request code ask text) (malfor
 -- line 3, `value=`
 unfoldable pub fromValue : List ℕ → ValueRead → List ℕ → List ℕ → Request
 fromValue code read.Malformed text rest = malformed 3
-fromValue code (read.Known v) text rest = fromEnd code (record { value = v }) text rest
+fromValue code (read.Known v) text rest = fromEnd code (asked v) text rest
 
 unfoldable pub fromThird : List ℕ → Sort → Field → Request
 fromThird code s missing = malformed 3

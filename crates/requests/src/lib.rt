@@ -8,6 +8,7 @@ use lines::Line;
 use lines::Part;
 use lines::line_at;
 use values::Ask;
+use values::asked;
 use written::Sort;
 use written::SortRead;
 use written::ValueRead;
@@ -50,7 +51,7 @@ fn from_value(input: &[u16], code: Part, sort: Sort, value: Part) -> RequestRead
         ValueRead::Known(v) => {
             if e + 1 == input.len() {
                 let text = text_part(sort, value);
-                return RequestRead::Request(code, Ask { value: v }, text);
+                return RequestRead::Request(code, asked(v), text);
             }
             RequestRead::Malformed(4)
         }

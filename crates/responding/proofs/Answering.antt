@@ -37,35 +37,35 @@ use Rattle.responding.proofs.Ascii.{response-bytes}
 as-length : (d : Reading) → shownAs d .length ≡ length (textAs d)
 unfolding shownAs textAs
 as-length (refused a) = refl
-as-length (shown text colour section) = refl
+as-length (shown look) = refl
 
 module _ (code : List ℕ) (ask : Ask) (text old : List ℕ) {room : List ℕ} (p : Previewed) {n : ℕ} (g : p ≡ previewed code ask text n)
     (h : room ≡ overlay (previewText code ask text n) old) (e : length room ≡ n) where
-  text-length : p .length ≡ length (previewText code ask text n)
+  text-length : p .shown .length ≡ length (previewText code ask text n)
   unfolding previewed previewText
-  text-length = ap (λ (q : Previewed). q .length) g ∙ as-length (codeReading code ask text n)
+  text-length = ap (λ (q : Previewed). q .shown .length) g ∙ as-length (codeReading code ask text n)
 
   -- what previewing shows lies in the room
-  pub shown-within : p .length ≤ n
+  pub shown-within : p .shown .length ≤ n
   unfolding overlay
   shown-within =
       let l = ap length h ∙ length-append (previewText code ask text n) (drop (length (previewText code ask text n)) old) in
       omega (arith, l, e, text-length)
 
   -- and is the text
-  pub shown-text : take (p .length) room ≡ previewText code ask text n
+  pub shown-text : take (p .shown .length) room ≡ previewText code ask text n
   unfolding overlay
   shown-text = rw (h, text-length) (take-append-seam (previewText code ask text n) _)
 
   -- and its lines are those of the request
-  pub preview-answered : {out before : List ℕ} (r : Told) → 4096 ≡ n → r .section ≡ p .section → r .length ≤ 4203
-      → Put before 0 (fourLines (p .answer) (p .place) (p .colour) (take (p .length) room)) (r .length) out
+  pub preview-answered : {out before : List ℕ} (r : Told) → 4096 ≡ n → r .section ≡ p .shown .section → r .length ≤ 4203
+      → Put before 0 (fourLines (p .shown .answer) (p .place) (p .shown .colour) (take (p .shown .length) room)) (r .length) out
       → Answers (request code ask text) before r out
   unfolding linesOf sectionOf
   preview-answered r m s l k =
       record {
         short = l;
-        shown = s ∙ (rw (← m) at (ap (λ (q : Previewed). q .section) g));
+        shown = s ∙ (rw (← m) at (ap (λ (q : Previewed). q .shown .section) g));
         put = rw (g, ← m) at (rw shown-text at k);
       }
 

@@ -32,12 +32,12 @@ unfoldable pub linesOf : Request → List ℕ
 linesOf (refused a k) = fourLines a k 0 []
 linesOf (request code ask text) =
     let p = previewed code ask text 4096 in
-    fourLines (p .answer) (p .place) (p .colour) (previewText code ask text 4096)
+    fourLines (p .shown .answer) (p .place) (p .shown .colour) (previewText code ask text 4096)
 
 -- the section that showed the value, 0 where none did
 unfoldable pub sectionOf : Request → ℕ
 sectionOf (refused a k) = 0
-sectionOf (request code ask text) = previewed code ask text 4096 .section
+sectionOf (request code ask text) = previewed code ask text 4096 .shown .section
 
 -- what the whole input is answered
 unfoldable pub responseOf : List ℕ → List ℕ

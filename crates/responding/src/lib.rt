@@ -46,12 +46,13 @@ fn respond_to(code: &[u16], ask: Ask, text: &[u16], out: &mut [u16]) -> Told
 {
     let mut room = text_room();
     let p = preview(code, ask, text, &mut room);
-    let answer = p.answer;
-    let n = p.length as usize;
-    let length = put_lines(out, answer, p.place, p.colour, &room[..n]);
+    let shown = p.shown;
+    let answer = shown.answer;
+    let n = shown.length as usize;
+    let length = put_lines(out, answer, p.place, shown.colour, &room[..n]);
     Told {
         length,
-        section: p.section,
+        section: shown.section,
     }
 }
 

@@ -1,29 +1,23 @@
 -- `c_api::numfmt_show_instant` meets its contract.
 -- Assumes nothing.
-use mathlib.Core.Path.{refl}
-use Rattle.c_api.proofs.Told.{shown-asked}
+use Rattle.c_api.proofs.Told.{shown-asked, room-asked}
 use borrow.Author.Needs.{needs}
 use Rattle.c_api.proofs.numfmt_show_instant.Statement.{statement}
 use Rattle.c_api.proofs.numfmt_show_instant.Tie as tie
 
-slice-aggregate-show : tie.Need-slice-aggregate-show
-slice-aggregate-show c = search needs
-
-show-requires : tie.Need-show-requires
-show-requires c κs = search needs
-
-shown-numbers-requires : tie.Need-shown-numbers-requires
-shown-numbers-requires c κs = search needs
-
-same-length : tie.Need-same-length
-same-length c = search needs
-
 returns : tie.Need-returns
 returns c =
     let s = c .before .before .before in
-    (shown-asked refl _ _ _ (c .shown-numbers .ensures) (s .show .ensures .0), s .show .ensures .1)
+    let a = s .before .before .before .asked .ensures in
+    (shown-asked a _ _ _ (c .shown-numbers .ensures) (s .show .ensures .0), room-asked a _ _ _ (s .show .ensures .1))
 
 pub numfmt-show-instant-spec : {M : Type 1} → statement M
 numfmt-show-instant-spec =
     tie.close
-    (tie.spec slice-aggregate-show show-requires shown-numbers-requires same-length returns)
+    (tie.spec
+    (λ c κs. search needs)
+    (λ c. search needs)
+    (λ c κs. search needs)
+    (λ c κs. search needs)
+    (λ c. search needs)
+    returns)

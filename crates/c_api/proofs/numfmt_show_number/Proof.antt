@@ -9,21 +9,6 @@ use borrow.Author.Needs.{needs}
 use Rattle.c_api.proofs.numfmt_show_number.Statement.{statement}
 use Rattle.c_api.proofs.numfmt_show_number.Tie as tie
 
-number-ask-requires : tie.Need-number-ask-requires
-number-ask-requires c κs = search needs
-
-slice-aggregate-show : tie.Need-slice-aggregate-show
-slice-aggregate-show c = search needs
-
-show-requires : tie.Need-show-requires
-show-requires c κs = search needs
-
-shown-numbers-requires : tie.Need-shown-numbers-requires
-shown-numbers-requires c κs = search needs
-
-same-length : tie.Need-same-length
-same-length c = search needs
-
 returns : tie.Need-returns
 returns c =
     let s = c .before .before .before in
@@ -37,9 +22,9 @@ pub numfmt-show-number-spec : {M : Type 1} → statement M
 numfmt-show-number-spec =
     tie.close
     (tie.spec
-    number-ask-requires
-    slice-aggregate-show
-    show-requires
-    shown-numbers-requires
-    same-length
+    (λ c κs. search needs)
+    (λ c. search needs)
+    (λ c κs. search needs)
+    (λ c κs. search needs)
+    (λ c. search needs)
     returns)

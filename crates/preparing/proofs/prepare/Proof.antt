@@ -30,7 +30,7 @@ returns : tie.Need-returns
 returns c =
     let m = c .before .before in
     let v = examined-no _ _ _ _ _ (m .before .before .before .examine .ensures) (m .number .ensures) (c .before .if1 .taken) in
-    (c .refused .ensures ∙ sym (refused-prepared _ _ _ v _), sym (refused-table _ _ _ v _))
+    (c .refused-prepared .ensures ∙ sym (refused-prepared _ _ _ v _), sym (refused-table _ _ _ v _))
 
 mul-size : tie.Need-mul-size
 mul-size c = omega (arith, sound (c .before) .few)
@@ -44,7 +44,7 @@ add-size-2 c = omega (arith, sound (c .before) .few, sound (c .before) .short)
 returns-2 : tie.Need-returns-2
 returns-2 c =
     let k = c .before .before .before in
-    (c .refused2 .ensures ∙ sym (room-prepared _ (accepted k) _ _ (sound k) _ refl _ (omega (arith, c .before .if2 .taken))), sym (room-table _ (accepted k) _ _ (sound k) _ refl _ (omega (arith, c .before .if2 .taken))))
+    (c .refused-prepared2 .ensures ∙ sym (room-prepared _ (accepted k) _ _ (sound k) _ refl _ (omega (arith, c .before .if2 .taken))), sym (room-table _ (accepted k) _ _ (sound k) _ refl _ (omega (arith, c .before .if2 .taken))))
 
 array-share-prefix-items : tie.Need-array-share-prefix-items
 array-share-prefix-items c = omega (arith, sound (c .before .before .before .before) .short)
@@ -57,14 +57,14 @@ put-table-requires c κs =
     let s = sound (c .before .before .before .before .before) in
     (s .few, simp length-take (omega (arith, s .short)))
 
-cast-t24 : tie.Need-cast-t24
-cast-t24 c = let s = sound (c .before .before .before .before .before .before .before .before) in omega (arith, s .few, s .short)
+cast-size : tie.Need-cast-done-prepared
+cast-size c = let s = sound (c .before .before .before .before .before .before .before .before) in omega (arith, s .few, s .short)
 
 returns-3 : tie.Need-returns-3
 returns-3 c =
-    let f = c .before .before .before .before .before .before in
+    let f = c .before .before .before .before .before .before .before in
     let k = f .before .before in
-    (sym (done-prepared _ (accepted k) _ _ (sound k) _ refl _ (omega (arith, f .if2 .left))), done-table _ (accepted k) _ _ (sound k) _ refl _ _ _ _ (omega (arith, f .if2 .left)) refl (c .before .before .put-table .ensures))
+    (c .done-prepared .ensures ∙ sym (done-prepared _ (accepted k) _ _ (sound k) _ refl _ (omega (arith, f .if2 .left))), done-table _ (accepted k) _ _ (sound k) _ refl _ _ _ _ (omega (arith, f .if2 .left)) refl (c .before .before .before .put-table .ensures))
 
 pub prepare-spec : {M : Type 1} → statement M
 prepare-spec =
@@ -84,6 +84,7 @@ prepare-spec =
     array-share-prefix-items
     slice-aggregate-put-table
     put-table-requires
-    cast-t24
+    cast-size
+    (λ c κs. search needs)
     (λ c. search needs)
     returns-3)
