@@ -64,10 +64,11 @@ module _ (ws : List ℕ) where
       (rw heads-are at (places-same (length (headsIn ws)) (countedKinds 0 (kindsIn (headsIn ws))) (firstHasIn (headsIn ws)) 0 rs t))
 
 -- the tests of all rows move in front of the test of each place
-and-moved : (x i r s f h p : Bool) → (T r → (s && f) ≡ (h && p)) → (x && i && r && s && f) ≡ ((x && i) && ((r && h) && p))
+and-moved : (x i r s f h p : Bool) → (T r → (s && f) ≡ (h && p)) → (x && r && (i && s) && f) ≡ ((x && i) && ((r && h) && p))
 and-moved true true true s f h p e = e tt
 and-moved true true false s f h p e = refl
-and-moved true false r s f h p e = refl
+and-moved true false true s f h p e = refl
+and-moved true false false s f h p e = refl
 and-moved false i r s f h p e = refl
 
 pub passes-told : (ws : List ℕ) → passes ws ≡ (sized ws && (every rowGood (rowsIn ws) && placesFit (headsIn ws)))

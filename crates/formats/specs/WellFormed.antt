@@ -81,10 +81,10 @@ itemsInAll (s ∷ ss) = length (s .items) + itemsInAll ss
 unfoldable pub allStand : List Section → Bool
 allStand ss = not (isSome (firstFailing (standsAt (length ss)) 0 ss))
 
--- one to four sections, "at most 254 items in all", each formed, each where it may stand (R95, R96, R100)
+-- the rules for all sections together, whether a code or a table gives them: "at most 254 items in all; [..] where sections may stand" (R96, R100)
+abbrev pub sectionsStand : List Section → Bool
+sectionsStand ss = leb (itemsInAll ss) 254 && allStand ss
+
+-- one to four sections, each formed (R95)
 unfoldable pub wellFormed : List Section → Bool
-wellFormed ss =
-    between 1 4 (length ss)
-    && leb (itemsInAll ss) 254
-    && every sectionFormed ss
-    && allStand ss
+wellFormed ss = between 1 4 (length ss) && every sectionFormed ss && sectionsStand ss

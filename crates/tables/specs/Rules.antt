@@ -9,7 +9,7 @@ use Rattle.values.specs.Ranges.{between}
 use Rattle.lists.specs.Lists.{every, any, count}
 use Rattle.formats.specs.Items.{Item, itemRow, isUnit, Section, numberKind, sameKind, kindOf, isPercent, isPlace, integerPlaces}
 use Rattle.formats.specs.Where.{implies, hasCondition}
-use Rattle.formats.specs.WellFormed.{sectionFits, itemsInAll, allStand}
+use Rattle.formats.specs.WellFormed.{sectionFits, sectionsStand}
 use Rattle.formats.specs.Choice.{counted}
 use Rattle.formats.specs.Minus.{firstHasCondition}
 use Rattle.formats.specs.Text.{digitAfter}
@@ -103,7 +103,6 @@ passes ws =
     let rs = rowsIn ws in
     let ss = decode ws in
     exactWords ws
-    && leb (itemsInAll ss) 254
     && every rowFits rs
-    && allStand ss
+    && sectionsStand ss
     && flagsFrom (counted ss) 0 (firstHasCondition ss) rs
