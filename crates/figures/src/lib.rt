@@ -121,7 +121,7 @@ fn cleared(digits: [u8; 40]) -> [u8; 40]
     zeros
 }
 
-// The digits of m times 10^z, put into forty zeros.
+// The digits of m times 10^z, put into forty zeros, two a turn.
 fn spread(zeros: [u8; 40], m: u64, z: u32) -> [u8; 40]
     requires { ⌜ (zeros ≡ figures 0) × (m * 10 ^ z < 10 ^ 40) ⌝ }
     ensures { λ r. ⌜ r ≡ figures (m * 10 ^ z) ⌝ }
@@ -129,11 +129,17 @@ fn spread(zeros: [u8; 40], m: u64, z: u32) -> [u8; 40]
     let mut digits = zeros;
     let mut rest = m;
     let mut k = z as usize;
-    while 0 < rest {
-        digits[k] = (rest % 10) as u8;
-        rest = rest / 10;
-        k += 1;
+    while 9 < rest {
+        let two = rest % 100;
+        digits[k] = (two % 10) as u8;
+        digits[k + 1] = (two / 10) as u8;
+        rest = rest / 100;
+        k += 2;
     }
+    if rest == 0 {
+        return digits;
+    }
+    digits[k] = rest as u8;
     digits
 }
 
