@@ -6,7 +6,7 @@ use mathlib.Core.Bool.{false, cond, _&&_}
 use mathlib.Core.Logic.{⊎-elim}
 use mathlib.Core.List.{List, [], _∷_, _++_}
 use Prim.Native.Nat.{ℕ, zero, suc, _+_, _-_, _/_, _%_, _^_, _≤_, _<_, max}
-use native.Mathlib.Nat.{mul-one, mod-one, eq-or-lt-of-le, div-lt-iff-lt-mul, one-mul, div-eq-of-lt}
+use native.Mathlib.Nat.{mul-one, mod-one, eq-or-lt-of-le, div-lt-iff-lt-mul, one-mul, div-eq-of-lt, lt-of-le-of-lt}
 use native.Mathlib.Numerals.{add-one}
 use native.Mathlib.Omega.{arith}
 use borrow.Author.Tests.{lt-leb, ne-eqb}
@@ -19,7 +19,7 @@ use Rattle.figures.specs.Rounding.{Magnitude, nearest}
 use Rattle.figures.specs.Powers.{powered}
 use Rattle.figures.specs.Places.{lowestPlace, placesUsed}
 use Rattle.figures.specs.General.{generalDecimals, generalTooWide, withoutEndZeros, pointed, generalUnits}
-use Rattle.figures.proofs.Rounding.{nearest-narrow}
+use Rattle.figures.proofs.Rounding.{nearest-le}
 use Rattle.figures.proofs.Digits.{quotient-quotient, width-unique, digitUnits-length, width-least}
 use Rattle.figures.proofs.Filling.{lt-or-le}
 use Rattle.figures.proofs.Places.{used-iff, used-most, lowest-iff, mod-lower, mod-zero-next, mod-zero-digit}
@@ -45,8 +45,8 @@ module _ (m s : ℕ) where
   unfolding generalTooWide powered
   wide-powered = ap (λ (x : ℕ). leb (10 ^ 11) (nearest x (10 ^ s))) (mul-one m)
 
-  pub narrow-powered : m < 2 ^ 64 → 8 < s → false ≡ generalTooWide (powered m 0 s)
-  narrow-powered hm hs = sym (wide-powered ∙ lt-leb (10 ^ 11) (nearest m (10 ^ s)) (nearest-narrow m s hm hs))
+  pub narrow-powered : m < 10 ^ 11 → false ≡ generalTooWide (powered m 0 s)
+  narrow-powered h = sym (wide-powered ∙ lt-leb (10 ^ 11) (nearest m (10 ^ s)) (lt-of-le-of-lt (nearest-le m (10 ^ s) (ten-pos s)) h))
 
 -- one unit in front of units without their end zeros
 kept : (d k : ℕ) (us : List ℕ) → (k ≡ 0 → d ≡ 0 → ⊥) → k ≤ length us

@@ -110,20 +110,25 @@ powered-net m u v w z d e =
     ∙ ap₂ (λ (x y : ℕ). rounded (powered m x y) d) e (add-comm v z)
     ∙ powered-common m w z v d
 
--- fifteen digits at 10^z, for z up to k. (omega takes no number of more than 38 digits.)
-fifteen-at : (m z k : ℕ) → m < 10 ^ 15 → z ≤ k → m * 10 ^ z < 10 ^ 15 * 10 ^ k
-fifteen-at m z k hm hz = lt-of-lt-of-le (mul-lt-mul-of-pos-right hm (ten-pos z)) (mul-le-mul-left (10 ^ 15) (ten-le z k hz))
-
 -- forty places are enough
-pub rounded-small : (m up down d : ℕ) → m < 10 ^ 15 → up ≤ 10 → d ≤ 15 → rounded (powered m up down) d < 10 ^ 40
+pub rounded-within : {m up d : ℕ} (down : ℕ) → Roundable m up d → rounded (powered m up down) d < 10 ^ 40
 unfolding rounded powered
-rounded-small m up down d hm hu hd =
+rounded-within {m} {up} {d} down r =
     let a : ℕ = m * 10 ^ up * 10 ^ d in
-    let e : a * 10 ^ (15 - d) ≡ m * 10 ^ (up + 15) =
-    unit-split (m * 10 ^ up) d hd ∙ mul-assoc m (10 ^ up) (10 ^ 15) ∙ ap (λ (x : ℕ). m * x) (sym (pow-add 10 up 15)) in
     lt-of-le-of-lt
     (mul-le-mul-right (10 ^ (15 - d)) (nearest-le a (10 ^ down) (ten-pos down)))
-    (rw e (fifteen-at m (up + 15) 25 hm (omega arith)))
+    (rw (unit-split (m * 10 ^ up) d (r .decimals)) (mul-lt-mul-of-pos-right (r .whole) (ten-pos 15)))
+
+-- five percents are in the rounder's reach
+pub roundable : {m up d : ℕ} → m < 10 ^ 15 → up ≤ 10 → d ≤ 15 → Roundable m up d
+roundable {m} {up} hm hu hd = record {
+  whole = lt-of-lt-of-le (mul-lt-mul-of-pos-right hm (ten-pos up)) (mul-le-mul-left (10 ^ 15) (ten-le up 10 hu));
+  power = omega arith;
+  decimals = hd;
+}
+
+pub rounded-small : (m up down d : ℕ) → m < 10 ^ 15 → up ≤ 10 → d ≤ 15 → rounded (powered m up down) d < 10 ^ 40
+rounded-small m up down d hm hu hd = rounded-within down (roundable hm hu hd)
 
 pub scaled-small : (m s p t d : ℕ) → m < 10 ^ 15 → p ≤ 5 → d ≤ 15 → rounded (scaled m s p t) d < 10 ^ 40
 scaled-small m s p t d hm hp hd =
@@ -168,37 +173,9 @@ module _ (m up down d : ℕ) (most : d ≤ 15) where
       ∙ mul-assoc m (10 ^ (k - down)) (10 ^ (15 - d))
       ∙ ap (λ (x : ℕ). m * x) (sym (pow-add 10 (k - down) (15 - d)) ∙ ap (λ (x : ℕ). 10 ^ x) f)
 
--- what the rounder spreads takes forty places at most: a rounded quotient of fifteen digits, or a product of 25 at fifteen decimals
-pub quotient-small : (m k z : ℕ) → m < 10 ^ 15 → z ≤ 25 → nearest m (10 ^ k) * 10 ^ z < 10 ^ 40
-quotient-small m k z hm hz = fifteen-at (nearest m (10 ^ k)) z 25 (lt-of-le-of-lt (nearest-le m (10 ^ k) (ten-pos k)) hm) hz
-
-pub product-small : (m up z : ℕ) → m * 10 ^ up < 10 ^ 25 → z ≤ up + 15 → m * 10 ^ z < 10 ^ 40
-product-small m up z h g =
-    lt-of-le-of-lt (mul-le-mul-left m (ten-le z (up + 15) g))
-    (rw (pow-add 10 up 15, ← mul-assoc m (10 ^ up) (10 ^ 15)) (mul-lt-mul-of-pos-right h (ten-pos 15)))
-
--- five percents are in the rounder's reach
-pub roundable : {m up d : ℕ} → m < 10 ^ 15 → up ≤ 10 → d ≤ 15 → Roundable m up d
-roundable {m} {up} hm hu hd = record {
-  magnitude = hm;
-  whole = fifteen-at m up 10 hm hu;
-  power = omega arith;
-  decimals = hd;
-}
-
--- fifteen digits are less than half of 10^16
-pub nearest-far : (m k : ℕ) → m < 10 ^ 15 → 15 < k → 0 ≡ nearest m (10 ^ k)
-nearest-far m k hm hk = sym (nearest-none m (10 ^ k) (omega (arith, ten-le 16 k hk)))
-
--- 64 bits divided by more than 10^8 do not reach 10^11
-pub nearest-narrow : (m k : ℕ) → m < 2 ^ 64 → 8 < k → nearest m (10 ^ k) < 10 ^ 11
-nearest-narrow m k hm hk =
-    let p : ℕ = 10 ^ k in
-    let q : ℕ = nearest m p in
-    let least : 10 ^ 9 ≤ p = ten-le 9 k hk in
-    let bound : 2 * (q * p) ≤ 2 * m + p = nearest-bound m p (ten-pos k) .0 in
-    let less : ¬ (10 ^ 11 ≤ q) = λ h. let g : 10 ^ 11 * p ≤ q * p = mul-le-mul-right p h in omega arith in
-    omega arith
+-- 64 bits are less than half of 10^20
+pub nearest-far : (m k : ℕ) → m < 2 ^ 64 → 19 < k → 0 ≡ nearest m (10 ^ k)
+nearest-far m k hm hk = sym (nearest-none m (10 ^ k) (omega (arith, ten-le 20 k hk)))
 
 -- the quotient as the code finds it, p being the power
 module _ (m p k : ℕ) (e : p ≡ 10 ^ k) where
@@ -213,6 +190,3 @@ module _ (m p k : ℕ) (e : p ≡ 10 ^ k) where
 
   pub divided-fits : m < 2 ^ 64 → p ≤ 2 * (m % p) → m / p + 1 < 2 ^ 64
   divided-fits fits h = rw (← nearest-up m p power-pos h) (lt-of-le-of-lt (nearest-le m p power-pos) fits)
-
-  pub remainder-fits : k ≤ 15 → 2 * (m % p) < 2 ^ 64
-  remainder-fits h = omega (arith, mod-lt m power-pos, ten-le k 15 h)

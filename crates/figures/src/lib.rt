@@ -92,17 +92,17 @@ pub fn power(k: u32) -> u64
     }
 }
 
-// m / 10^k to the nearest whole number, halves up.
+// m / 10^k to the nearest whole number, halves up. 64 bits are less than half of 10^20.
 fn divided(m: u64, k: u32) -> u64
-    requires { ⌜ (15 < k → m < 10 ^ 15) ⌝ }
     ensures { λ r. ⌜ r ≡ nearest m (10 ^ k) ⌝ }
 {
-    if 15 < k {
+    if 19 < k {
         return 0;
     }
     let p = power(k);
     let q = m / p;
-    if p <= 2 * (m % p) {
+    let r = m % p;
+    if p - r <= r {
         return q + 1;
     }
     q
@@ -274,7 +274,7 @@ fn general_decimals(m: u64, scale: u32) -> u32
 pub fn general_too_wide(m: u64, scale: u32) -> bool
     ensures { λ r. ⌜ r ≡ generalTooWide (powered m 0 scale) ⌝ }
 {
-    if 8 < scale {
+    if m < 100000000000 {
         return false;
     }
     100000000000 <= divided(m, scale)
@@ -282,7 +282,6 @@ pub fn general_too_wide(m: u64, scale: u32) -> bool
 
 // The digits of m / 10^scale as General rounds it.
 pub fn round_general(digits: [u8; 40], m: u64, scale: u32) -> [u8; 40]
-    requires { ⌜ m < 10 ^ 15 ⌝ }
     ensures { λ r. ⌜ r ≡ figures (generalRounded (powered m 0 scale)) ⌝ }
 {
     round(digits, m, 0, scale, general_decimals(m, scale))

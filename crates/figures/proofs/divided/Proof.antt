@@ -2,13 +2,14 @@
 -- Assumes nothing.
 use native.Mathlib.Omega.{arith}
 use borrow.Author.Needs.{needs}
+use native.Mathlib.Nat.{mod-lt}
 use Rattle.figures.proofs.Tens.{ten-pos}
-use Rattle.figures.proofs.Rounding.{nearest-far, divided-up, divided-down, divided-fits, remainder-fits}
+use Rattle.figures.proofs.Rounding.{nearest-far, divided-up, divided-down, divided-fits}
 use Rattle.figures.proofs.divided.Statement.{statement}
 use Rattle.figures.proofs.divided.Tie as tie
 
 returns : tie.Need-returns
-returns c = nearest-far (c .before .args .m) (c .before .args .k) (c .before .pre (c .if1 .taken)) (c .if1 .taken)
+returns c = nearest-far (c .before .args .m) (c .before .args .k) (omega arith) (c .if1 .taken)
 
 power-requires : tie.Need-power-requires
 power-requires c κs = search needs
@@ -16,11 +17,11 @@ power-requires c κs = search needs
 div-q : tie.Need-div-q
 div-q c = omega (arith, ten-pos (c .before .before .args .k))
 
-rem-if2 : tie.Need-rem-if2
-rem-if2 c = omega (arith, ten-pos (c .before .before .args .k))
+rem-r : tie.Need-rem-r
+rem-r c = omega (arith, ten-pos (c .before .before .args .k))
 
-mul-if2 : tie.Need-mul-if2
-mul-if2 c = record { fits = remainder-fits (c .before .before .args .m) (c .power .result) (c .before .before .args .k) (c .power .ensures) (omega arith) }
+sub-if2 : tie.Need-sub-if2
+sub-if2 c = omega (arith, ten-pos (c .before .before .args .k), mod-lt (c .before .before .args .m) (div-q c))
 
 add-result : tie.Need-add-result
 add-result c =
@@ -36,4 +37,4 @@ returns-3 c = let a = c .before .before .before .args in divided-down (a .m) (c 
 pub divided-spec : {M : Type 1} → statement M
 divided-spec =
     tie.close
-    (tie.spec returns power-requires div-q rem-if2 mul-if2 add-result returns-2 returns-3)
+    (tie.spec returns power-requires div-q rem-r sub-if2 add-result returns-2 returns-3)

@@ -3,16 +3,17 @@
 use mathlib.Core.Path.{sym, ap, _∙_}
 use Prim.Native.Nat.{_^_}
 use native.Mathlib.Omega.{arith}
+use borrow.Author.Needs.{needs}
 use lib.Dec.{leb}
 use Rattle.figures.proofs.General.{wide-powered, narrow-powered}
 use Rattle.figures.proofs.general_too_wide.Statement.{statement}
 use Rattle.figures.proofs.general_too_wide.Tie as tie
 
 returns : tie.Need-returns
-returns c = narrow-powered (c .before .args .m) (c .before .args .scale) (omega arith) (c .if1 .taken)
+returns c = narrow-powered (c .before .args .m) (c .before .args .scale) (omega arith)
 
 divided-requires : tie.Need-divided-requires
-divided-requires c κs = omega arith
+divided-requires c κs = search needs
 
 returns-2 : tie.Need-returns-2
 returns-2 c = ap (leb (10 ^ 11)) (c .divided .ensures) ∙ sym (wide-powered (c .before .before .args .m) (c .before .before .args .scale))

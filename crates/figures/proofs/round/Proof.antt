@@ -1,11 +1,11 @@
 -- `figures::round` meets its contract: a quotient where digits go, a product where none goes.
 -- Assumes nothing.
 use mathlib.Core.Path.{sym, ap, _∙_}
-use Prim.Native.Nat.{ℕ, _+_, _-_, _*_, _^_}
+use Prim.Native.Nat.{ℕ, _-_, _*_, _^_}
 use native.Mathlib.Omega.{arith}
 use borrow.Author.Needs.{needs}
 use Rattle.figures.specs.Digits.{figures}
-use Rattle.figures.proofs.Rounding.{rounded-divided, rounded-exact, quotient-small, product-small}
+use Rattle.figures.proofs.Rounding.{rounded-divided, rounded-exact, rounded-within}
 use Rattle.figures.proofs.round.Statement.{statement}
 use Rattle.figures.proofs.round.Tie as tie
 
@@ -19,7 +19,7 @@ sub-divided : tie.Need-sub-divided
 sub-divided c = search needs
 
 divided-requires : tie.Need-divided-requires
-divided-requires c κs h = c .before .before .pre .magnitude
+divided-requires c κs = search needs
 
 sub-spread : tie.Need-sub-spread
 sub-spread c = search needs
@@ -28,8 +28,7 @@ spread-requires : tie.Need-spread-requires
 spread-requires c κs =
     let b = c .before .before in
     let a = b .before .args in
-    let p = b .before .pre in
-    (b .cleared .ensures, rw (c .divided .ensures) (quotient-small (a .m) (a .down - (a .up + a .decimals)) (15 - a .decimals) (p .magnitude) (omega arith)))
+    (b .cleared .ensures, rw (c .divided .ensures, ← rounded-divided (a .m) (a .up) (a .down) (a .decimals) (omega arith) (omega arith)) (rounded-within (a .down) (b .before .pre)))
 
 returns : tie.Need-returns
 returns c =
@@ -47,7 +46,7 @@ spread-requires-2 : tie.Need-spread-requires-2
 spread-requires-2 c κs =
     let b = c .before .before in
     let a = b .args in
-    (c .before .cleared .ensures, product-small (a .m) (a .up) (a .up + 15 - a .down) (b .pre .whole) (omega arith))
+    (c .before .cleared .ensures, rw (← rounded-exact (a .m) (a .up) (a .down) (a .decimals) (omega arith) (omega arith)) (rounded-within (a .down) (b .pre)))
 
 returns-2 : tie.Need-returns-2
 returns-2 c =

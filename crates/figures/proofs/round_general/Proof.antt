@@ -9,7 +9,6 @@ use Rattle.figures.specs.Rounding.{rounded}
 use Rattle.figures.specs.Powers.{powered}
 use Rattle.figures.specs.General.{generalRounded}
 use Rattle.figures.proofs.General.{decimals-most}
-use Rattle.figures.proofs.Rounding.{roundable}
 use Rattle.figures.proofs.round_general.Statement.{statement}
 use Rattle.figures.proofs.round_general.Tie as tie
 
@@ -17,7 +16,9 @@ general-decimals-requires : tie.Need-general-decimals-requires
 general-decimals-requires c κs = search needs
 
 round-requires : tie.Need-round-requires
-round-requires c κs = let a = c .before .args in roundable (c .before .pre) (omega arith) (omega (arith, c .general-decimals .ensures, decimals-most (powered (a .m) 0 (a .scale))))
+round-requires c κs =
+    let a = c .before .args in
+    record { whole = omega arith; power = omega arith; decimals = omega (arith, c .general-decimals .ensures, decimals-most (powered (a .m) 0 (a .scale))) }
 
 returns : tie.Need-returns
 unfolding generalRounded
