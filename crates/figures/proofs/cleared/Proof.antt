@@ -19,9 +19,6 @@ abbrev μ-loop : tie.MeasureT-loop
 loop-holds : tie.Need-loop-holds Inv-loop μ-loop
 loop-holds c = (search needs, λ j h. absurd (omega arith))
 
-array-write-zeros : tie.Need-array-write-zeros Inv-loop μ-loop
-array-write-zeros c = search needs
-
 add-k : tie.Need-add-k Inv-loop μ-loop
 add-k c = omega arith
 
@@ -37,4 +34,4 @@ returns c = figures-ext (c .before .loop .zeros) 0 (c .before .loop .inv .0) (λ
 pub cleared-spec : {M : Type 1} → statement M
 cleared-spec =
     tie.close
-    (tie.spec Inv-loop μ-loop loop-holds array-write-zeros add-k loop-less loop-again returns)
+    (tie.spec Inv-loop μ-loop loop-holds (λ c. search needs) add-k loop-less loop-again returns)

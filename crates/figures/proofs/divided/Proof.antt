@@ -11,9 +11,6 @@ use Rattle.figures.proofs.divided.Tie as tie
 returns : tie.Need-returns
 returns c = nearest-far (c .before .args .m) (c .before .args .k) (omega arith) (c .if1 .taken)
 
-power-requires : tie.Need-power-requires
-power-requires c κs = search needs
-
 div-q : tie.Need-div-q
 div-q c = omega (arith, ten-pos (c .before .before .args .k))
 
@@ -37,4 +34,4 @@ returns-3 c = let a = c .before .before .before .args in divided-down (a .m) (c 
 pub divided-spec : {M : Type 1} → statement M
 divided-spec =
     tie.close
-    (tie.spec returns power-requires div-q rem-r sub-if2 add-result returns-2 returns-3)
+    (tie.spec returns (λ c κs. search needs) div-q rem-r sub-if2 add-result returns-2 returns-3)

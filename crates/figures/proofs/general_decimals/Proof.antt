@@ -5,15 +5,6 @@ use Rattle.figures.proofs.General.{decimals-some, decimals-none}
 use Rattle.figures.proofs.general_decimals.Statement.{statement}
 use Rattle.figures.proofs.general_decimals.Tie as tie
 
-whole-requires : tie.Need-whole-requires
-whole-requires c κs = search needs
-
-width-of-requires : tie.Need-width-of-requires
-width-of-requires c κs = search needs
-
-sub-result : tie.Need-sub-result
-sub-result c = search needs
-
 returns : tie.Need-returns
 returns c =
     let a = c .before .before .before .args in
@@ -26,4 +17,4 @@ returns-2 c =
 
 pub general-decimals-spec : {M : Type 1} → statement M
 general-decimals-spec =
-    tie.close (tie.spec whole-requires width-of-requires sub-result returns returns-2)
+    tie.close (tie.spec (λ c κs. search needs) (λ c κs. search needs) (λ c. search needs) returns returns-2)

@@ -12,11 +12,8 @@ use Rattle.figures.proofs.general_too_wide.Tie as tie
 returns : tie.Need-returns
 returns c = narrow-powered (c .before .args .m) (c .before .args .scale) (omega arith)
 
-divided-requires : tie.Need-divided-requires
-divided-requires c κs = search needs
-
 returns-2 : tie.Need-returns-2
 returns-2 c = ap (leb (10 ^ 11)) (c .divided .ensures) ∙ sym (wide-powered (c .before .before .args .m) (c .before .before .args .scale))
 
 pub general-too-wide-spec : {M : Type 1} → statement M
-general-too-wide-spec = tie.close (tie.spec returns divided-requires returns-2)
+general-too-wide-spec = tie.close (tie.spec returns (λ c κs. search needs) returns-2)

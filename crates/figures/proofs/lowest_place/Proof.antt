@@ -15,26 +15,14 @@ Inv-loop digits k₀ k = (k ≤ 40) × (lowestFrom (40 - k) k digits ≡ lowestP
 abbrev μ-loop : tie.MeasureT-loop
 μ-loop digits k₀ k = 40 - k
 
-bottom-of-requires : tie.Need-bottom-of-requires Inv-loop μ-loop
-bottom-of-requires c κs = search needs
-
 loop-holds : tie.Need-loop-holds Inv-loop μ-loop
 loop-holds c = c .bottom-of .ensures
-
-array-read-if1 : tie.Need-array-read-if1 Inv-loop μ-loop
-array-read-if1 c = search needs
 
 returns : tie.Need-returns Inv-loop μ-loop
 returns c =
     let l = c .before .before .loop in
     let e = lowest-here (l .k) (c .before .before .before .before .args .t1) (c .before .loop-test .taken) (c .if1 .taken) ∙ l .inv .1 in
     (e, lowest-number e)
-
-add-k : tie.Need-add-k Inv-loop μ-loop
-add-k c = search needs
-
-loop-less : tie.Need-loop-less Inv-loop μ-loop
-loop-less c = search needs
 
 loop-again : tie.Need-loop-again Inv-loop μ-loop
 loop-again c =
@@ -53,11 +41,11 @@ lowest-place-spec =
     (tie.spec
     Inv-loop
     μ-loop
-    bottom-of-requires
+    (λ c κs. search needs)
     loop-holds
-    array-read-if1
+    (λ c. search needs)
     returns
-    add-k
-    loop-less
+    (λ c. search needs)
+    (λ c. search needs)
     loop-again
     returns-2)

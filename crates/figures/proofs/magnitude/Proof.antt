@@ -25,8 +25,5 @@ cast-result-2 c =
 returns : tie.Need-returns
 returns c = ap natAbs (minus-is w64 (c .before .args .c) (omega arith)) ∙ natAbs-negℤ (c .before .args .c)
 
-returns-2 : tie.Need-returns-2
-returns-2 c = search needs
-
 pub magnitude-spec : {M : Type 1} → statement M
-magnitude-spec = tie.close (tie.spec sub-result cast-result cast-result-2 returns returns-2)
+magnitude-spec = tie.close (tie.spec sub-result cast-result cast-result-2 returns (λ c. search needs))

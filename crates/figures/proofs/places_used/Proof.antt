@@ -15,29 +15,14 @@ Inv-loop digits k₀ k = (k ≤ 40) × (placesUsed k digits ≡ placesUsed 40 di
 abbrev μ-loop : tie.MeasureT-loop
 μ-loop digits k₀ k = k
 
-top-of-requires : tie.Need-top-of-requires Inv-loop μ-loop
-top-of-requires c κs = search needs
-
 loop-holds : tie.Need-loop-holds Inv-loop μ-loop
 loop-holds c = c .top-of .ensures
-
-sub-if1 : tie.Need-sub-if1 Inv-loop μ-loop
-sub-if1 c = search needs
-
-array-read-if1 : tie.Need-array-read-if1 Inv-loop μ-loop
-array-read-if1 c = search needs
 
 returns : tie.Need-returns Inv-loop μ-loop
 returns c =
     let l = c .before .before .loop in
     let e = used-here (l .k) (c .before .before .before .before .args .t1) (c .before .loop-test .taken) (c .if1 .taken) ∙ l .inv .1 in
     (e, used-number e)
-
-sub-k : tie.Need-sub-k Inv-loop μ-loop
-sub-k c = search needs
-
-loop-less : tie.Need-loop-less Inv-loop μ-loop
-loop-less c = search needs
 
 loop-again : tie.Need-loop-again Inv-loop μ-loop
 loop-again c =
@@ -56,12 +41,12 @@ places-used-spec =
     (tie.spec
     Inv-loop
     μ-loop
-    top-of-requires
+    (λ c κs. search needs)
     loop-holds
-    sub-if1
-    array-read-if1
+    (λ c. search needs)
+    (λ c. search needs)
     returns
-    sub-k
-    loop-less
+    (λ c. search needs)
+    (λ c. search needs)
     loop-again
     returns-2)

@@ -9,21 +9,6 @@ use Rattle.figures.proofs.Rounding.{rounded-divided, rounded-exact, rou
 use Rattle.figures.proofs.round.Statement.{statement}
 use Rattle.figures.proofs.round.Tie as tie
 
-cleared-requires : tie.Need-cleared-requires
-cleared-requires c κs = search needs
-
-add-kept : tie.Need-add-kept
-add-kept c = search needs
-
-sub-divided : tie.Need-sub-divided
-sub-divided c = search needs
-
-divided-requires : tie.Need-divided-requires
-divided-requires c κs = search needs
-
-sub-spread : tie.Need-sub-spread
-sub-spread c = search needs
-
 spread-requires : tie.Need-spread-requires
 spread-requires c κs =
     let b = c .before .before in
@@ -35,12 +20,6 @@ returns c =
     let a = c .before .before .before .before .args in
     c .spread .ensures
     ∙ ap figures (ap (λ (x : ℕ). x * 10 ^ (15 - a .decimals)) (c .before .divided .ensures) ∙ sym (rounded-divided (a .m) (a .up) (a .down) (a .decimals) (omega arith) (omega arith)))
-
-add-spread : tie.Need-add-spread
-add-spread c = search needs
-
-sub-spread-2 : tie.Need-sub-spread-2
-sub-spread-2 c = search needs
 
 spread-requires-2 : tie.Need-spread-requires-2
 spread-requires-2 c κs =
@@ -56,4 +35,4 @@ returns-2 c =
 pub round-spec : {M : Type 1} → statement M
 round-spec =
     tie.close
-    (tie.spec cleared-requires add-kept sub-divided divided-requires sub-spread spread-requires returns add-spread sub-spread-2 spread-requires-2 returns-2)
+    (tie.spec (λ c κs. search needs) (λ c. search needs) (λ c. search needs) (λ c κs. search needs) (λ c. search needs) spread-requires returns (λ c. search needs) (λ c. search needs) spread-requires-2 returns-2)

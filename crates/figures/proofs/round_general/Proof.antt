@@ -12,9 +12,6 @@ use Rattle.figures.proofs.General.{decimals-most}
 use Rattle.figures.proofs.round_general.Statement.{statement}
 use Rattle.figures.proofs.round_general.Tie as tie
 
-general-decimals-requires : tie.Need-general-decimals-requires
-general-decimals-requires c κs = search needs
-
 round-requires : tie.Need-round-requires
 round-requires c κs =
     let a = c .before .args in
@@ -25,4 +22,4 @@ unfolding generalRounded
 returns c = let a = c .before .before .args in c .round .ensures ∙ ap (λ (d : ℕ). figures (rounded (powered (a .m) 0 (a .scale)) d)) (c .before .general-decimals .ensures)
 
 pub round-general-spec : {M : Type 1} → statement M
-round-general-spec = tie.close (tie.spec general-decimals-requires round-requires returns)
+round-general-spec = tie.close (tie.spec (λ c κs. search needs) round-requires returns)

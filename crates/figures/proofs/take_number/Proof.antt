@@ -21,9 +21,6 @@ back c = toZ-ofZ {w = w64} {z = c .before .args .x .coefficient} (record { sfits
 told : (c : tie.After-is-coefficient) (b : Bool) → c .is-coefficient .result ≡ b → ltb (natAbs (c .before .before .args .x .coefficient)) (10 ^ 15) ≡ b
 told c b e = rw (back (c .before)) at (sym (c .is-coefficient .ensures) ∙ e)
 
-is-coefficient-requires : tie.Need-is-coefficient-requires
-is-coefficient-requires c κs = search needs
-
 magnitude-requires : tie.Need-magnitude-requires
 magnitude-requires c κs =
     rw (back (c .before .before .before)) (ltb-true _ (10 ^ 15) (told (c .before .before) true (c .before .if1 .taken)))
@@ -41,4 +38,4 @@ returns-3 c = coefficient-out _ (told (c .before) false (c .if1 .left))
 
 pub take-number-spec : {M : Type 1} → statement M
 take-number-spec =
-    tie.close (tie.spec is-coefficient-requires magnitude-requires returns returns-2 returns-3)
+    tie.close (tie.spec (λ c κs. search needs) magnitude-requires returns returns-2 returns-3)

@@ -19,14 +19,8 @@ loop-holds c = wider-start _
 returns : tie.Need-returns Inv-loop μ-loop
 returns c = wider-most (c .before .before .loop .inv) (search needs) (c .if1 .taken) (c .before .loop-test .taken)
 
-add-w : tie.Need-add-w Inv-loop μ-loop
-add-w c = search needs
-
 mul-p : tie.Need-mul-p Inv-loop μ-loop
 mul-p c = omega (arith, wider-fits (c .before .before .loop .inv) (c .if1 .left))
-
-loop-less : tie.Need-loop-less Inv-loop μ-loop
-loop-less c = search needs
 
 loop-again : tie.Need-loop-again Inv-loop μ-loop
 loop-again c = wider-next (c .before .before .loop .inv) (c .if1 .left) (c .before .loop-test .taken)
@@ -37,4 +31,4 @@ returns-2 c = wider-done (c .before .loop .inv) (c .loop-test .left)
 pub width-of-spec : {M : Type 1} → statement M
 width-of-spec =
     tie.close
-    (tie.spec Inv-loop μ-loop loop-holds returns add-w mul-p loop-less loop-again returns-2)
+    (tie.spec Inv-loop μ-loop loop-holds returns (λ c. search needs) mul-p (λ c. search needs) loop-again returns-2)
