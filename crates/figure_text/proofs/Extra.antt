@@ -1,32 +1,44 @@
 -- Laws of the digits beyond the places: from the highest one used down.
 -- Assumes nothing.
 use mathlib.Core.Path.{_≡_, refl, sym, ap, ap₂, _∙_}
-use mathlib.Core.Bool.{Bool, false, _&&_}
-use mathlib.Core.Logic.{⊎-elim}
+use mathlib.Core.Bool.{Bool, false, cond, _&&_}
 use mathlib.Core.List.{List, [], _∷_, _++_}
 use Prim.Native.Nat.{ℕ, zero, suc, _+_, _-_, _≤_, _<_}
 use native.Mathlib.Nat.{add-zero, add-suc}
-use native.Mathlib.Numerals.{add-one}
 use native.Mathlib.Omega.{arith}
-use borrow.Author.Tests.{le-leb, lt-leb, lt-ltb, eq-eqb, ne-eqb, ltb-true}
-use lib.Dec.{ltb, eqb}
+use borrow.Author.Tests.{le-leb, lt-leb, lt-ltb, eq-eqb, ne-eqb}
+use lib.Dec.{ltb, eqb, eqb·suc-suc}
 use lib.ListN.{getD}
-use Rattle.lists.proofs.Bools.{by-cases, cond-both}
 use Rattle.figures.specs.Digits.{digitUnit}
-use Rattle.figures.proofs.Filling.{lt-or-le}
 use Rattle.formats.specs.Tokens.{hashPlace}
-use Rattle.formats.specs.Text.{Context, idleUnits, figureUnits, extraUnits, atFirstInteger, pointUnits}
+use Rattle.formats.specs.Text.{Context, insignificant, figureUnits, extraUnits, unitsBeyond, pointUnits}
 use Rattle.writing.specs.Put.{Put, Rest}
 use Rattle.writing.proofs.Laws.{rest-start, rest-put, rest-done}
 use Rattle.figure_text.specs.declared.Figures.{Figures}
-use Rattle.figure_text.specs.Shown.{FiguresAre, idle, separated, unitsBefore}
-use Rattle.figure_text.proofs.Digits.{nothing-shows, figure-idle, figure-digit, figures-used}
+use Rattle.figure_text.specs.Shown.{FiguresAre, firstPlace, placeOfTag, separated, unitsBefore}
+use Rattle.figure_text.proofs.Digits.{nothing-shows, integer-idle, figure-idle, figure-digit, figures-used}
 
-before-decimal : (c : Context) (q : ℕ) → q < 15 → unitsBefore c q ≡ []
-before-decimal c q h =
-    by-cases (ltb 0 (c .integerPlaces))
-    (λ t. let p : 0 < c .integerPlaces = ltb-true 0 (c .integerPlaces) t in rw (t, ne-eqb (suc q) (15 + c .integerPlaces) (λ e. omega arith)))
-    (λ t. rw t)
+-- the first integer place is told by its digit's place, and so is that there is none
+first-place : (n : ℕ) → firstPlace (suc n) ≡ 14 + suc n
+unfolding firstPlace
+first-place n = rw (ne-eqb (suc n) 0 (λ e. omega arith))
+
+first-least : (n : ℕ) → 15 ≤ firstPlace n
+unfolding firstPlace
+first-least zero = omega arith
+first-least (suc n) = omega (arith, first-place n)
+
+first-told : (n q : ℕ) → q < 40 → ltb 0 n && eqb (suc q) (15 + n) ≡ eqb q (firstPlace n)
+unfolding firstPlace
+first-told zero q h = sym (ne-eqb q 40 (λ e. omega arith))
+first-told (suc n) q h =
+    let e : 15 + suc n ≡ suc (14 + suc n) = omega arith in
+    rw (lt-ltb 0 (suc n) (omega arith), e, eqb·suc-suc q (14 + suc n)) (ap (eqb q) (sym (first-place n)))
+
+none-told : (n : ℕ) → n ≤ 25 → eqb n 0 ≡ eqb (firstPlace n) 40
+unfolding firstPlace
+none-told zero h = refl
+none-told (suc n) h = ne-eqb (suc n) 0 (λ e. omega arith) ∙ sym (ne-eqb (firstPlace (suc n)) 40 (λ e. omega (arith, first-place n)))
 
 module _ {digits : List ℕ} {f : Figures} {c : Context} (are : FiguresAre digits f c) where
   abbrev extra : ℕ → ℕ → List ℕ
@@ -34,9 +46,9 @@ module _ {digits : List ℕ} {f : Figures} {c : Context} (are : FiguresAre digit
 
   -- an integer place that is not used shows nothing under `#`
   unused-shows : (q : ℕ) → 15 ≤ q → q < 40 → f .used ≤ q → figureUnits (c .figures) (c .grouped) hashPlace q ≡ []
-  unfolding idleUnits
+  unfolding placeOfTag
   unused-shows q low h u =
-      figure-idle are hashPlace q h (rw (le-leb 15 q low) (le-leb (f .used) q u)) ∙ nothing-shows (f .grouped) q
+      figure-idle are 5 q h refl (sym (integer-idle are q low) ∙ le-leb (f .used) q u) ∙ nothing-shows (f .grouped) q
 
   -- the places above those that are used
   extra-more : (q a d : ℕ) → 15 ≤ q → q + (a + d) ≤ 40 → f .used ≤ q + a → extra q (a + d) ≡ extra q a
@@ -60,15 +72,15 @@ module _ {digits : List ℕ} {f : Figures} {c : Context} (are : FiguresAre digit
   -- the highest of them
   pub extra-next : (q k : ℕ) → 15 ≤ q → q < k → k ≤ f .used
       → extra q (k - q) ≡ separated (f .grouped) (k - 1) (digitUnit (getD digits (k - 1) 0) ∷ []) ++ extra q (k - 1 - q)
-  unfolding extraUnits
+  unfolding extraUnits placeOfTag
   extra-next q k low h u =
       let most : f .used ≤ 40 = figures-used are in
       let e : k - q ≡ suc (k - 1 - q) = omega arith in
       let i : q + (k - 1 - q) ≡ k - 1 = omega arith in
-      let t : idle (f .used) (f .lowest) (k - 1) ≡ false = rw (le-leb 15 (k - 1) (omega arith)) (lt-leb (f .used) (k - 1) (omega arith)) in
+      let t : insignificant (c .figures) (k - 1) ≡ false = sym (integer-idle are (k - 1) (omega arith)) ∙ lt-leb (f .used) (k - 1) (omega arith) in
       ap (extra q) e
       ∙ ap (λ (us : List ℕ). us ++ extra q (k - 1 - q))
-      (ap (figureUnits (c .figures) (c .grouped) hashPlace) i ∙ figure-digit are hashPlace (k - 1) (omega arith) t)
+      (ap (figureUnits (c .figures) (c .grouped) hashPlace) i ∙ figure-digit are 5 (k - 1) (omega arith) refl t)
 
   pub extra-end : (q k : ℕ) → k ≤ q → extra q (k - q) ≡ []
   unfolding extraUnits
@@ -85,41 +97,28 @@ module _ {digits : List ℕ} {f : Figures} {c : Context} (are : FiguresAre digit
       → Rest l s t m at (extraUnits (c .figures) (c .grouped) q (k - q)) → Put l s t at m
   extra-done q k h x = rest-done (rw (extra-end q k h) at x)
 
-  -- before the digit at q nothing goes in where no higher place is used, before a decimal place, and before another integer
-  -- place than the first
-  pub before-unused : (q : ℕ) → q < 40 → f .used ≤ q + 1 → unitsBefore c q ≡ []
-  before-unused q h u =
-      ⊎-elim
-      (λ (low : q < 15). before-decimal c q low)
-      (λ (low : 15 ≤ q).
-      let e : 39 - q ≡ 40 - suc q = omega arith in
-      let none : extra (suc q) (39 - q) ≡ [] =
-      ap (extra (suc q)) e ∙ extra-used (suc q) (omega arith) (omega arith) ∙ extra-end (suc q) (f .used) (omega arith) in
-      cond-both (λ (us : List ℕ). us ≡ []) (atFirstInteger c q) none refl)
-      (lt-or-le q 15)
+  -- before the digit at q the digits from the next higher place on where it is the first integer place's, else nothing
+  before-is : (q : ℕ) → q < 40 → unitsBefore c q ≡ cond (eqb q (f .first)) (unitsBeyond c q) []
+  before-is q h =
+      ap (λ (b : Bool). cond b (unitsBeyond c q) []) (first-told (c .integerPlaces) q h ∙ ap (eqb q) (sym (are .first)))
 
-  pub before-decimals : (q : ℕ) → q < 15 → unitsBefore c q ≡ []
-  before-decimals q h = before-decimal c q h
+  pub before-others : (q : ℕ) → q < 40 → (q ≡ f .first → ⊥) → unitsBefore c q ≡ []
+  before-others q h d = before-is q h ∙ rw (ne-eqb q (f .first) d)
 
-  pub before-others : (q : ℕ) → (q - 14 ≡ f .integers → ⊥) → unitsBefore c q ≡ []
-  before-others q d =
-      by-cases (ltb 0 (c .integerPlaces))
-      (λ t. rw (t, ne-eqb (suc q) (15 + c .integerPlaces) (λ e. d (omega (arith, are .integers)))))
-      (λ t. rw t)
+  pub before-first : (q s : ℕ) → q < 40 → q ≡ f .first → s ≡ suc q → unitsBefore c q ≡ extra s (40 - s)
+  before-first q s h e es = before-is q h ∙ rw (eq-eqb q (f .first) e) (ap₂ extra (sym es) (omega arith))
 
-  -- before the first integer place the digits from the next higher place on
-  pub before-first : (q : ℕ) → 15 ≤ q → q - 14 ≡ f .integers → unitsBefore c q ≡ extra (q + 1) (40 - (q + 1))
-  before-first q low e =
-      let i : q - 14 ≡ c .integerPlaces = e ∙ are .integers in
-      let a : 39 - q ≡ 40 - (q + 1) = omega arith in
-      rw (lt-ltb 0 (c .integerPlaces) (omega arith), eq-eqb (suc q) (15 + c .integerPlaces) (omega arith))
-      (ap₂ extra (sym (add-one q)) a)
+  pub place-first : (q : ℕ) → q ≡ f .first → 15 ≤ q
+  place-first q e = omega (arith, are .first, first-least (c .integerPlaces))
 
   -- the point, with the integer digits before it and without
-  pub point-first : f .integers ≡ 0 → pointUnits c ≡ extra 15 25 ++ (46 ∷ [])
-  unfolding pointUnits
-  point-first e = rw (eq-eqb (c .integerPlaces) 0 (sym (are .integers) ∙ e))
+  none-is : eqb (c .integerPlaces) 0 ≡ eqb (f .first) 40
+  none-is = none-told (c .integerPlaces) (are .places) ∙ ap (λ (q : ℕ). eqb q 40) (sym (are .first))
 
-  pub point-behind : (f .integers ≡ 0 → ⊥) → pointUnits c ≡ 46 ∷ []
+  pub point-first : f .first ≡ 40 → pointUnits c ≡ extra 15 25 ++ (46 ∷ [])
   unfolding pointUnits
-  point-behind d = rw (ne-eqb (c .integerPlaces) 0 (λ e. d (are .integers ∙ e)))
+  point-first e = rw (none-is ∙ eq-eqb (f .first) 40 e)
+
+  pub point-behind : (f .first ≡ 40 → ⊥) → pointUnits c ≡ 46 ∷ []
+  unfolding pointUnits
+  point-behind d = rw (none-is ∙ ne-eqb (f .first) 40 d)

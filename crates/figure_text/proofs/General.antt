@@ -9,14 +9,16 @@ use native.Mathlib.Omega.{arith}
 use lib.ListN.{getD, take}
 use lib.Seq.{take-nil}
 use Rattle.figures.specs.Digits.{digit, digitUnit, digitUnits, figures}
-use Rattle.figures.specs.Places.{placesUsed}
+use Rattle.figures.specs.Places.{placesUsed, lowestPlace}
 use Rattle.figures.specs.General.{pointed, generalUnits}
-use Rattle.figures.proofs.Digits.{digit-shift, figures-at}
+use Rattle.figures.proofs.Digits.{digit-shift}
 use Rattle.figures.proofs.General.{general-text}
+use Rattle.formats.specs.Text.{Context}
 use Rattle.writing.specs.Put.{Put, Rest}
 use Rattle.writing.proofs.Laws.{rest-put, rest-done}
 use Rattle.figure_text.specs.declared.Figures.{Figures}
-use Rattle.figure_text.specs.Shown.{DigitsAre}
+use Rattle.figure_text.specs.Shown.{FiguresAre}
+use Rattle.figure_text.proofs.Digits.{digit-is}
 
 -- the digits of n from below 10^high down to 10^low
 abbrev run : ℕ → ℕ → ℕ → List ℕ
@@ -29,7 +31,7 @@ run-next n k low l e h g =
     let s : k - low ≡ suc (k - 1 - low) = omega arith in
     let i : low + (k - 1 - low) ≡ k - 1 = omega arith in
     let d : digit (n / 10 ^ low) (k - 1 - low) ≡ getD l (k - 1) 0 =
-    digit-shift n low (k - 1 - low) ∙ ap (digit n) i ∙ sym (figures-at n (k - 1) (omega arith)) ∙ ap (λ (x : List ℕ). getD x (k - 1) 0) (sym e) in
+    digit-shift n low (k - 1 - low) ∙ ap (digit n) i ∙ sym (digit-is n e (k - 1) (omega arith)) in
     ap (λ (m : ℕ). digitUnits m (n / 10 ^ low)) s ∙ ap (λ (x : ℕ). digitUnit x ∷ run n (k - 1) low) d
 
 pub run-end : (n k low : ℕ) → k ≤ low → run n k low ≡ []
@@ -78,9 +80,10 @@ unfolding pointed
 decimals-none n low h = let e : 15 - low ≡ 0 = omega arith in ap (λ (k : ℕ). pointed (take k (digitUnits 15 n))) e
 
 -- what General shows, in the code's words
-pub general-runs : {digits : List ℕ} {f : Figures} {n : ℕ} → DigitsAre digits f n
-    → generalUnits n ≡ run n (max 16 (f .used)) 15 ++ pointed (take (15 - f .lowest) (digitUnits 15 n))
-general-runs {digits} {f} {n} are =
+pub general-runs : {digits : List ℕ} {f : Figures} {c : Context} {low : ℕ} → FiguresAre digits f c → low ≡ lowestPlace digits
+    → generalUnits (c .figures) ≡ run (c .figures) (max 16 (f .used)) 15 ++ pointed (take (15 - low) (digitUnits 15 (c .figures)))
+general-runs {f = f} {c = c} are e =
+    let n : ℕ = c .figures in
     let w : max 1 (placesUsed 40 (figures n) - 15) ≡ max 16 (f .used) - 15 = omega (arith, are .used) in
     general-text n (are .small)
-    ∙ ap₂ (λ (k l : ℕ). digitUnits k (n / 10 ^ 15) ++ pointed (take (15 - l) (digitUnits 15 n))) w (sym (are .lowest))
+    ∙ ap₂ (λ (k l : ℕ). digitUnits k (n / 10 ^ 15) ++ pointed (take (15 - l) (digitUnits 15 n))) w (sym (e ∙ ap lowestPlace (are .number)))

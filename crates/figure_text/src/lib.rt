@@ -1,15 +1,15 @@
 // Writes a number's figures into a lent room, placeholder by placeholder. A store past the room's end is dropped.
 ghost use mathlib.Core.Path.{_≡_};
-ghost use mathlib.Core.Bool.{cond, _&&_};
+ghost use mathlib.Core.Bool.{cond, not, _&&_};
 ghost use mathlib.Core.List.{[], _∷_};
-ghost use Prim.Native.Nat.{ℕ, _+_, _-_, _/_, _^_, _≤_, _<_};
+ghost use Prim.Native.Nat.{ℕ, suc, _+_, _-_, _/_, _%_, _^_, _≤_, _<_};
 ghost use lib.Dec.{eqb};
 ghost use lib.ListN.{take};
 ghost use Rattle.figures.specs.Digits.{figures, digitUnits};
 ghost use Rattle.figures.specs.General.{pointed, generalUnits};
-ghost use Rattle.formats.specs.Text.{Context, endsGroup, idleUnits, figureUnits, extraUnits, placeUnits, pointUnits};
+ghost use Rattle.formats.specs.Text.{Context, insignificant, endsGroup, figureUnits, extraUnits, placeUnits, pointUnits};
 ghost use Rattle.writing.specs.Put.{Put};
-ghost use Rattle.figure_text.specs.Shown.{DigitsAre, FiguresAre, placeOfTag, idle, separated, figuresWith, unitsBefore};
+ghost use Rattle.figure_text.specs.Shown.{FiguresAre, placeOfTag, separated, firstPlace, figuresWith, unitsBefore};
 use tables::tags;
 use values::integers;
 use writing::digit_unit;
@@ -19,14 +19,26 @@ use writing::units;
 // The place of 10^0 among the forty digits: the decimals stand below it.
 const UNITS_PLACE: usize = 15;
 
-// How a rounded number's digits, that of 10^-15 first, are shown: how many places are used, the lowest place whose digit is
-// not 0, the section's integer places, and whether it groups. The digits are lent beside it: copied, they would be copied at
+// No digit has this place.
+const NO_PLACE: usize = 40;
+
+// How a rounded number's digits, that of 10^-15 first, are shown: how many places are used, the place of the digit that the
+// section's first integer place shows, and whether it groups. The digits are lent beside it: copied, they would be copied at
 // each place.
 pub struct Figures {
     pub used: usize,
-    pub lowest: usize,
-    pub integers: u32,
+    pub first: usize,
     pub grouped: bool,
+}
+
+// The place of the digit that the first of so many integer places shows.
+fn first_place(integers: u32) -> usize
+    ensures { λ r. ⌜ r ≡ firstPlace integers ⌝ }
+{
+    if integers == 0 {
+        return NO_PLACE;
+    }
+    14 + integers as usize
 }
 
 // The figures of a section: those of every context with this number, these integer places and this grouping (`figures-are`).
@@ -36,33 +48,56 @@ pub fn figures_of(digits: [u8; 40], integers: u32, grouped: bool) -> Figures
 {
     Figures {
         used: figures::places_used(digits),
-        lowest: figures::lowest_place(digits),
-        integers,
+        first: first_place(integers),
         grouped,
     }
 }
 
-// Whether the digit at q is an insignificant zero.
-fn is_idle(used: usize, lowest: usize, q: usize) -> bool
-    ensures { λ r. ⌜ r ≡ idle used lowest q ⌝ }
+// Whether the digits from the lowest up to q are 0.
+fn is_spent(digits: &[u8; 40], q: usize) -> bool
+    requires { ⌜ q < 40 ⌝ }
+    ensures { λ r. ⌜ ((n : ℕ) → now (digits .entry) ≡ figures n → r ≡ eqb (n % 10 ^ suc q) 0) ⌝ }
 {
-    if UNITS_PLACE <= q {
-        return used <= q;
+    let mut k = 0;
+    while k <= q {
+        if digits[k] != 0 {
+            return false;
+        }
+        k += 1;
     }
-    q < lowest
+    true
 }
 
-// Whether a separator follows the digit at q.
-fn ends_group(grouped: bool, q: usize) -> bool
-    ensures { λ r. ⌜ r ≡ grouped && endsGroup q ⌝ }
+// Whether a place, told by its tag, shows the digit at q as an insignificant zero; `0` shows each digit as it is.
+fn is_idle(digits: &[u8; 40], f: Figures, place: u16, q: usize) -> bool
+    requires { ⌜ q < 40 ⌝ }
+    ensures { λ r. ⌜ ((c : Context) → FiguresAre (now (digits .entry)) f c → r ≡ not (eqb place 4) && insignificant (c .figures) q) ⌝ }
 {
-    if q <= UNITS_PLACE {
+    if place == tags::ZERO_PLACE {
         return false;
     }
-    if grouped {
-        return q % 3 == 0;
+    if UNITS_PLACE <= q {
+        return f.used <= q;
     }
-    false
+    is_spent(digits, q)
+}
+
+// Whether the digit at q is that of 10^3, 10^6 and so on. (An arm for each: the test is then of one bit.)
+fn ends_group(q: usize) -> bool
+    requires { ⌜ q < 40 ⌝ }
+    ensures { λ r. ⌜ r ≡ endsGroup q ⌝ }
+{
+    match q {
+        18 => true,
+        21 => true,
+        24 => true,
+        27 => true,
+        30 => true,
+        33 => true,
+        36 => true,
+        39 => true,
+        _ => false,
+    }
 }
 
 // What follows a unit at the end of a group.
@@ -77,24 +112,23 @@ fn separator(u: u16) -> u16
 
 // Puts a unit of the digit at q, with the separator behind it where one is due.
 fn put_shown(room: &mut [u16], at: usize, u: u16, grouped: bool, q: usize) -> usize
-    requires { ⌜ at + 2 < 2 ^ 63 ⌝ }
-    ensures { λ r. ⌜ Put (now (room .entry)) at (separated grouped q (u ∷ [])) r (now (room .exit)) ⌝ }
+    requires { ⌜ (at + 2 < 2 ^ 63) × (q < 40) ⌝ }
+    ensures within { λ r. ⌜ r ≤ at + 2 ⌝ }
+    ensures put { λ r. ⌜ Put (now (room .entry)) at (separated grouped q (u ∷ [])) r (now (room .exit)) ⌝ }
 {
     let a = put_unit(room, at, u);
-    if ends_group(grouped, q) {
+    if grouped & ends_group(q) {
         return put_unit(room, a, separator(u));
     }
     a
 }
 
-// Puts what an insignificant zero at q shows.
+// Puts what an insignificant zero at q shows: nothing under `#`, a space under `?`.
 fn put_idle(room: &mut [u16], at: usize, place: u16, grouped: bool, q: usize) -> usize
-    requires { ⌜ at + 2 < 2 ^ 63 ⌝ }
-    ensures { λ r. ⌜ Put (now (room .entry)) at (separated grouped q (idleUnits (placeOfTag place))) r (now (room .exit)) ⌝ }
+    requires { ⌜ (at + 2 < 2 ^ 63) × (q < 40) ⌝ }
+    ensures within { λ r. ⌜ r ≤ at + 2 ⌝ }
+    ensures put { λ r. ⌜ Put (now (room .entry)) at (separated grouped q (cond (eqb place 5) [] (32 ∷ []))) r (now (room .exit)) ⌝ }
 {
-    if place == tags::ZERO_PLACE {
-        return put_shown(room, at, units::ZERO, grouped, q);
-    }
     if place == tags::HASH_PLACE {
         return at;
     }
@@ -115,7 +149,7 @@ fn put_figure(
     ensures put { λ r. ⌜ ((c : Context) → FiguresAre (now (digits .entry)) f c
         → Put (now (room .entry)) at (figureUnits (c .figures) (c .grouped) (placeOfTag place) q) r (now (room .exit))) ⌝ }
 {
-    if is_idle(f.used, f.lowest, q) {
+    if is_idle(digits, f, place, q) {
         return put_idle(room, at, place, f.grouped, q);
     }
     put_shown(room, at, digit_unit(digits[q]), f.grouped, q)
@@ -123,9 +157,9 @@ fn put_figure(
 
 // Puts the digits beyond the places: from the highest one used down to q.
 fn put_extra(room: &mut [u16], at: usize, digits: &[u8; 40], f: Figures, q: usize) -> usize
-    requires { ⌜ (at < 2 ^ 62) × (f .used ≤ 40) × (15 ≤ q) × (q ≤ 40) ⌝ }
+    requires { ⌜ (at < 2 ^ 62) × (f .used ≤ 40) ⌝ }
     ensures within { λ r. ⌜ r ≤ at + 80 ⌝ }
-    ensures put { λ r. ⌜ ((c : Context) → FiguresAre (now (digits .entry)) f c
+    ensures put { λ r. ⌜ ((c : Context) → FiguresAre (now (digits .entry)) f c → 15 ≤ q → q ≤ 40
         → Put (now (room .entry)) at (extraUnits (c .figures) (c .grouped) q (40 - q)) r (now (room .exit))) ⌝ }
 {
     let mut k = f.used;
@@ -143,16 +177,10 @@ fn put_before(room: &mut [u16], at: usize, digits: &[u8; 40], f: Figures, q: usi
     ensures within { λ r. ⌜ r ≤ at + 80 ⌝ }
     ensures put { λ r. ⌜ ((c : Context) → FiguresAre (now (digits .entry)) f c → Put (now (room .entry)) at (unitsBefore c q) r (now (room .exit))) ⌝ }
 {
-    if f.used <= q + 1 {
-        return at;
+    if q == f.first {
+        return put_extra(room, at, digits, f, q + 1);
     }
-    if q < UNITS_PLACE {
-        return at;
-    }
-    if q - 14 != f.integers as usize {
-        return at;
-    }
-    put_extra(room, at, digits, f, q + 1)
+    at
 }
 
 // Puts what a place, told by its tag, shows of the digit at q, with the digits beyond the places where they go in.
@@ -179,7 +207,7 @@ pub fn put_point(room: &mut [u16], at: usize, digits: &[u8; 40], f: Figures) -> 
     ensures within { λ r. ⌜ r ≤ at + 81 ⌝ }
     ensures put { λ r. ⌜ ((c : Context) → FiguresAre (now (digits .entry)) f c → Put (now (room .entry)) at (pointUnits c) r (now (room .exit))) ⌝ }
 {
-    if f.integers == 0 {
+    if f.first == NO_PLACE {
         let a = put_extra(room, at, digits, f, UNITS_PLACE);
         return put_unit(room, a, units::POINT);
     }
@@ -220,7 +248,7 @@ fn put_decimals(room: &mut [u16], at: usize, digits: &[u8; 40], lowest: usize) -
 pub fn put_general(room: &mut [u16], at: usize, digits: &[u8; 40], f: Figures) -> usize
     requires { ⌜ (at < 2 ^ 62) × (f .used ≤ 40) ⌝ }
     ensures within { λ r. ⌜ r ≤ at + 81 ⌝ }
-    ensures put { λ r. ⌜ ((n : ℕ) → DigitsAre (now (digits .entry)) f n → Put (now (room .entry)) at (generalUnits n) r (now (room .exit))) ⌝ }
+    ensures put { λ r. ⌜ ((c : Context) → FiguresAre (now (digits .entry)) f c → Put (now (room .entry)) at (generalUnits (c .figures)) r (now (room .exit))) ⌝ }
 {
     let a = put_run(
         room,
@@ -229,5 +257,5 @@ pub fn put_general(room: &mut [u16], at: usize, digits: &[u8; 40], f: Figures) -
         integers::greatest(16, f.used),
         UNITS_PLACE,
     );
-    put_decimals(room, a, digits, f.lowest)
+    put_decimals(room, a, digits, figures::lowest_place(*digits))
 }

@@ -1,18 +1,21 @@
--- `figure_text::ends_group` meets its contract.
+-- `figure_text::ends_group` meets its contract: each arm is computed.
 -- Assumes nothing.
-use native.Mathlib.Omega.{arith}
-use Rattle.figure_text.proofs.Digits.{group-below, group-above}
+use Rattle.formats.specs.Text.{endsGroup}
+use Rattle.figure_text.proofs.Digits.{no-end}
 use Rattle.figure_text.proofs.ends_group.Statement.{statement}
 use Rattle.figure_text.proofs.ends_group.Tie as tie
 
-returns : tie.Need-returns
-returns c = let a = c .before .args in group-below (a .grouped) (a .q) (omega arith)
-
-returns-2 : tie.Need-returns-2
-returns-2 c = rw (c .if2 .taken) (group-above (c .before .before .args .q) (omega arith))
-
-returns-3 : tie.Need-returns-3
-returns-3 c = rw (c .if2 .left)
-
 pub ends-group-spec : {M : Type 1} → statement M
-ends-group-spec = tie.close (tie.spec returns returns-2 returns-3)
+unfolding endsGroup
+ends-group-spec =
+    tie.close
+    (tie.spec
+    (λ c. rw (c .match .keys1))
+    (λ c. rw (c .match .keys2))
+    (λ c. rw (c .match .keys3))
+    (λ c. rw (c .match .keys4))
+    (λ c. rw (c .match .keys5))
+    (λ c. rw (c .match .keys6))
+    (λ c. rw (c .match .keys7))
+    (λ c. rw (c .match .keys8))
+    (λ c. no-end (c .before .args .q) (c .before .pre) (c .match .rest)))

@@ -8,15 +8,6 @@ use Rattle.figure_text.proofs.General.{decimals-some, decimals-none}
 use Rattle.figure_text.proofs.put_decimals.Statement.{statement}
 use Rattle.figure_text.proofs.put_decimals.Tie as tie
 
-put-unit-requires : tie.Need-put-unit-requires
-put-unit-requires c κs = search needs
-
-put-run-requires : tie.Need-put-run-requires
-put-run-requires c κs = search needs
-
-same-length : tie.Need-same-length
-same-length c = search needs
-
 returns : tie.Need-returns
 returns c =
     let p = c .before .before in
@@ -29,4 +20,4 @@ returns-2 c = (omega arith, λ n e. put-as (decimals-none n (c .before .before .
 
 pub put-decimals-spec : {M : Type 1} → statement M
 put-decimals-spec =
-    tie.close (tie.spec put-unit-requires put-run-requires same-length returns returns-2)
+    tie.close (tie.spec (λ c κs. search needs) (λ c κs. search needs) (λ c. search needs) returns returns-2)

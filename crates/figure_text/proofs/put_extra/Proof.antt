@@ -10,7 +10,6 @@ use Rattle.writing.proofs.Laws.{put-size}
 use Rattle.writing.specs.Put.{Rest}
 use Rattle.figure_text.specs.Shown.{FiguresAre}
 use Rattle.figure_text.proofs.Extra.{extra-start, extra-turn, extra-done}
-use Rattle.figure_text.proofs.Digits.{shown-within}
 use Rattle.figure_text.proofs.put_extra.Statement.{statement}
 use Rattle.figure_text.proofs.put_extra.Tie as tie
 
@@ -19,29 +18,11 @@ Inv-loop room₀ at digits f q k₀ o₀ room k o =
     (k ≤ f .used)
     × (o + 2 * k ≤ at + 80)
     × (length room ≡ length room₀)
-    × ((c : Context) → FiguresAre digits f c
+    × ((c : Context) → FiguresAre digits f c → 15 ≤ q → q ≤ 40
     → Rest room₀ at (extraUnits (c .figures) (c .grouped) q (40 - q)) room o (extraUnits (c .figures) (c .grouped) q (k - q)))
 
 abbrev μ-loop : tie.MeasureT-loop
 μ-loop room₀ at digits f q k₀ o₀ room k o = k
-
-loop-holds : tie.Need-loop-holds Inv-loop μ-loop
-loop-holds c = (omega arith, omega arith, refl, λ x are. extra-start are _ _ _ (omega arith) (omega arith))
-
-sub-k : tie.Need-sub-k Inv-loop μ-loop
-sub-k c = search needs
-
-element-copy-out-digit-unit : tie.Need-element-copy-out-digit-unit Inv-loop μ-loop
-element-copy-out-digit-unit c = search needs
-
-digit-unit-requires : tie.Need-digit-unit-requires Inv-loop μ-loop
-digit-unit-requires c κs = search needs
-
-put-shown-requires : tie.Need-put-shown-requires Inv-loop μ-loop
-put-shown-requires c κs = search needs
-
-loop-less : tie.Need-loop-less Inv-loop μ-loop
-loop-less c = search needs
 
 loop-again : tie.Need-loop-again Inv-loop μ-loop
 loop-again c =
@@ -49,20 +30,17 @@ loop-again c =
     let t = p .before .before .before .before in
     let l = t .before .loop in
     let a = t .before .before .before .args in
-    let put = p .put-shown .ensures in (
+    let put = p .put-shown .ensures .1 in (
       omega arith,
-      omega (arith, shown-within (a .f .grouped) (l .k - 1) (p .before .digit-unit .result) put),
+      omega arith,
       put-size put ∙ l .inv .2,
-      λ x are. extra-turn are (a .q) (l .k) (omega arith) (t .loop-test .taken) (omega arith) (p .before .digit-unit .ensures) (l .inv .3 x are) put,
+      λ x are low h. extra-turn are (a .q) (l .k) low (t .loop-test .taken) (omega arith) (p .before .digit-unit .ensures) (l .inv .3 x are low h) put,
     )
-
-same-length : tie.Need-same-length Inv-loop μ-loop
-same-length c = search needs
 
 returns : tie.Need-returns Inv-loop μ-loop
 returns c =
     let l = c .before .loop in
-    (omega arith, λ x are. extra-done are (c .before .before .before .args .q) (l .k) (c .loop-test .left) (l .inv .3 x are))
+    (omega arith, λ x are low h. extra-done are (c .before .before .before .args .q) (l .k) (c .loop-test .left) (l .inv .3 x are low h))
 
 pub put-extra-spec : {M : Type 1} → statement M
 put-extra-spec =
@@ -70,12 +48,12 @@ put-extra-spec =
     (tie.spec
     Inv-loop
     μ-loop
-    loop-holds
-    sub-k
-    element-copy-out-digit-unit
-    digit-unit-requires
-    put-shown-requires
-    loop-less
+    (λ c. (omega arith, omega arith, refl, λ x are low h. extra-start are _ _ _ low h))
+    (λ c. search needs)
+    (λ c. search needs)
+    (λ c κs. search needs)
+    (λ c κs. search needs)
+    (λ c. search needs)
     loop-again
-    same-length
+    (λ c. search needs)
     returns)

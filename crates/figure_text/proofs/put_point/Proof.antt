@@ -8,26 +8,11 @@ use Rattle.figure_text.proofs.Extra.{point-first, point-behind}
 use Rattle.figure_text.proofs.put_point.Statement.{statement}
 use Rattle.figure_text.proofs.put_point.Tie as tie
 
-put-extra-requires : tie.Need-put-extra-requires
-put-extra-requires c κs = search needs
-
-put-unit-requires : tie.Need-put-unit-requires
-put-unit-requires c κs = search needs
-
-same-length : tie.Need-same-length
-same-length c = search needs
-
 returns : tie.Need-returns
 returns c =
     let p = c .before .before in
     let e = p .before .before .before .before in
-    (omega (arith, p .put-unit .ensures .next), λ x are. put-as (point-first are (e .before .before .if1 .taken)) (put-put (e .put-extra .ensures .1 x are) (p .put-unit .ensures)))
-
-put-unit-requires-2 : tie.Need-put-unit-requires-2
-put-unit-requires-2 c κs = search needs
-
-same-length-2 : tie.Need-same-length-2
-same-length-2 c = search needs
+    (omega (arith, p .put-unit .ensures .next), λ x are. put-as (point-first are (e .before .before .if1 .taken)) (put-put (e .put-extra .ensures .1 x are (omega arith) (omega arith)) (p .put-unit .ensures)))
 
 returns-2 : tie.Need-returns-2
 returns-2 c =
@@ -38,10 +23,10 @@ pub put-point-spec : {M : Type 1} → statement M
 put-point-spec =
     tie.close
     (tie.spec
-    put-extra-requires
-    put-unit-requires
-    same-length
+    (λ c κs. search needs)
+    (λ c κs. search needs)
+    (λ c. search needs)
     returns
-    put-unit-requires-2
-    same-length-2
+    (λ c κs. search needs)
+    (λ c. search needs)
     returns-2)

@@ -26,21 +26,6 @@ abbrev μ-loop : tie.MeasureT-loop
 loop-holds : tie.Need-loop-holds Inv-loop μ-loop
 loop-holds c = (omega arith, omega arith, refl, λ n e. rest-start _ _ _)
 
-sub-k : tie.Need-sub-k Inv-loop μ-loop
-sub-k c = search needs
-
-element-copy-out-digit-unit : tie.Need-element-copy-out-digit-unit Inv-loop μ-loop
-element-copy-out-digit-unit c = search needs
-
-digit-unit-requires : tie.Need-digit-unit-requires Inv-loop μ-loop
-digit-unit-requires c κs = search needs
-
-put-unit-requires : tie.Need-put-unit-requires Inv-loop μ-loop
-put-unit-requires c κs = search needs
-
-loop-less : tie.Need-loop-less Inv-loop μ-loop
-loop-less c = search needs
-
 loop-again : tie.Need-loop-again Inv-loop μ-loop
 loop-again c =
     let p = c .before .before in
@@ -54,9 +39,6 @@ loop-again c =
       λ n e. run-turn n (l .k) (a .low) _ e (omega arith) (t .loop-test .taken) (p .before .digit-unit .ensures) (l .inv .3 n e) put,
     )
 
-same-length : tie.Need-same-length Inv-loop μ-loop
-same-length c = search needs
-
 returns : tie.Need-returns Inv-loop μ-loop
 returns c =
     let l = c .before .loop in
@@ -69,11 +51,11 @@ put-run-spec =
     Inv-loop
     μ-loop
     loop-holds
-    sub-k
-    element-copy-out-digit-unit
-    digit-unit-requires
-    put-unit-requires
-    loop-less
+    (λ c. search needs)
+    (λ c. search needs)
+    (λ c κs. search needs)
+    (λ c κs. search needs)
+    (λ c. search needs)
     loop-again
-    same-length
+    (λ c. search needs)
     returns)
