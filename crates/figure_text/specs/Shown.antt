@@ -15,7 +15,7 @@ use Rattle.figure_text.specs.declared.Figures.{Figures}
 unfoldable pub firstPlace : ℕ → ℕ
 firstPlace integers = cond (eqb integers 0) 40 (14 + integers)
 
--- the digits, and the figures beside them, are those of a context
+-- the digits, and the figures beside them, are those of a context; with more integer places, 40 would not tell that there is none
 pub record FiguresAre (digits : List ℕ) (f : Figures) (c : Context) : Type 0 where
   pub number : digits ≡ figures (c .figures)
   pub small : c .figures < 10 ^ 40
