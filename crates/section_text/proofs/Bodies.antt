@@ -6,35 +6,21 @@ use mathlib.Core.Bool.{Bool}
 use mathlib.Core.List.{List, _++_}
 use lib.ListN.{length}
 use Rattle.answers.specs.declared.Shown.{Shown}
-use Rattle.formats.specs.Items.{Item, Section, Kind, dateKind, kindOf, integerPlaces}
+use Rattle.formats.specs.Items.{Item, Section, Kind, kindOf, integerPlaces}
 use Rattle.formats.specs.Text.{Context, itemsUnits, sectionUnits}
 use Rattle.formats.specs.Reading.{Reading, lookOf, within}
 use Rattle.tables.specs.Words.{entriesIn}
 use Rattle.tables.specs.Decode.{itemsAt}
 use Rattle.table_words.specs.Sections.{ItemsOf}
-use Rattle.date_text.specs.declared.Moment.{Moment}
-use Rattle.section_text.specs.declared.Subject.{Subject}
-use Rattle.section_text.specs.Walk.{EntriesFit, Ready, DatedReady, Known, DatedKnown}
+use Rattle.section_text.specs.Walk.{EntriesFit, Ready}
 use Rattle.section_text.specs.Show.{signText, sectionReading, Shows}
 
 module _ {z : Section} {words : List ℕ} (o : ItemsOf z words) where
   pub items-fit : EntriesFit (kindOf z) (14 + integerPlaces (z .items)) (entriesIn words)
   items-fit = record { inRange = o .inRange; allowed = o .allowed; powers = o .powers }
 
-  pub items-ready : {digits : List ℕ} {s : Subject} {text : List ℕ} → Known (kindOf z) digits s text → Ready words digits s text
-  items-ready k = record {
-    context = k .context;
-    kind = kindOf z;
-    power = 14 + integerPlaces (z .items);
-    subject = k .is;
-    fit = items-fit;
-  }
-
-  pub dated-fit : kindOf z ≡ dateKind → EntriesFit dateKind (14 + integerPlaces (z .items)) (entriesIn words)
-  dated-fit e = subst (λ (x : Kind). EntriesFit x (14 + integerPlaces (z .items)) (entriesIn words)) e items-fit
-
-  pub dated-ready : {m : Moment} → kindOf z ≡ dateKind → DatedKnown m → DatedReady words m
-  dated-ready e k = record { context = k .context; power = 14 + integerPlaces (z .items); moment = k .is; fit = dated-fit e }
+  pub items-ready : {P : Kind → Context → Type 0} (c : Context) → P (kindOf z) c → Ready P words
+  items-ready c i = record { context = c; kind = kindOf z; power = 14 + integerPlaces (z .items); subject = i; fit = items-fit }
 
   -- what is shown of the words is what is shown of the section
   pub items-shows : {old out : List ℕ} {r : Shown} {colour : ℕ} (i : ℕ) (minus : Bool) (c : Context)

@@ -1,19 +1,19 @@
 -- A text is shown where the room holds it, and refused where it does not.
 -- Assumes nothing.
-use Prim.Native.Nat.{ℕ, _+_, _*_, _≤_, _<_}
+use Prim.Native.Nat.{ℕ, _+_, _*_, _≤_}
 use native.Mathlib.Omega.{arith}
 use mathlib.Core.Path.{_≡_, refl, sym, _∙_}
-use mathlib.Core.Bool.{Bool, true, false, not, _&&_, true≢false}
+use mathlib.Core.Bool.{Bool, true, false, not, _&&_}
 use mathlib.Core.List.{List, [], _∷_, _++_}
 use lib.ListN.{length}
 use lib.Dec.{leb, leb→le}
-use borrow.Author.Tests.{le-leb, lt-leb}
+use borrow.Author.Tests.{leb-true}
 use Rattle.answers.specs.declared.Answer.{Answer}
 use Rattle.answers.specs.declared.Answer.the-variants as answer
 use Rattle.answers.specs.declared.Shown.{Shown}
-use Rattle.answers.specs.Number.{refusedShown}
+use Rattle.answers.specs.Number.{doneShown, refusedShown}
 use Rattle.lists.specs.Lists.{overlay}
-use Rattle.lists.proofs.Bools.{true-T}
+use Rattle.lists.proofs.Bools.{no, true-T}
 use Rattle.formats.specs.Reading.{refused, lookOf, within}
 use Rattle.tables.specs.Calls.{shownAs, textAs}
 use Rattle.writing.specs.Put.{Put}
@@ -29,6 +29,11 @@ pub sign-none : (old : List ℕ) (minus : Bool) → minus ≡ false → (0 ≤ 1
 unfolding signText
 sign-none old minus e = (omega arith, rw e (put-none old 0))
 
+pub sign-length : (minus : Bool) (us : List ℕ) → length (signText minus ++ us) ≤ 1 + length us
+unfolding signText
+sign-length true us = omega arith
+sign-length false us = omega arith
+
 -- a refusal leaves the room alone
 pub shows-refused : (old : List ℕ) (a : Answer) → Shows (refused a) old (refusedShown a) old
 unfolding shownAs textAs overlay
@@ -36,29 +41,26 @@ shows-refused old a = record { result = refl; room = refl }
 
 -- a room that surely takes a text: no text is lent, and it has 82 units for each two words and one for a minus
 pub sure : (lent : Bool) (words size : ℕ) → (not lent && leb (41 * words + 1) size) ≡ true → (lent ≡ false) × (41 * words + 1 ≤ size)
-sure true words size e = absurd (true≢false (sym e))
+sure true words size e = no e
 sure false words size e = (refl, leb→le (41 * words + 1) size (true-T e))
 
--- no room: a list of no length
-pub none : (l : List ℕ) → length l ≡ 0 → l ≡ []
-none [] e = refl
-none (x ∷ l) e = absurd (omega arith)
+-- a text that was measured: put into no room
+pub measured : {old out text : List ℕ} {n : ℕ} (size : ℕ) → Put old 0 text n out → leb n size ≡ leb (length text) size
+measured {text = text} {n} size p = let e : n ≡ length text = omega (arith, p .next) in rw e
 
-module _ (old text : List ℕ) (colour i : ℕ) where
-  pub shows-none : {n : ℕ} {small out : List ℕ} → Put small 0 text n out → length old < n
-      → Shows (within (length old) (lookOf text colour i)) old (refusedShown answer.TextRoom) old
+-- whether a room takes a text, as it was told: it is refused, or shown
+module _ (old text : List ℕ) (colour i : ℕ) {takes : Bool} (e : takes ≡ leb (length text) (length old)) where
+  pub shows-none : takes ≡ false → Shows (within (length old) (lookOf text colour i)) old (refusedShown answer.TextRoom) old
   unfolding within
-  shows-none p h =
-      let l : length old < length text = omega (arith, p .next) in
-      rw (lt-leb (length text) (length old) l) (shows-refused old answer.TextRoom)
+  shows-none f = rw (sym e ∙ f) (shows-refused old answer.TextRoom)
 
-  pub shows-all : {n r : ℕ} {small after out : List ℕ} → Put small 0 text n after → n ≤ length old → Put old 0 text r out
-      → Shows (within (length old) (lookOf text colour i)) old (record { answer = answer.Done; length = n; colour = colour; section = i }) out
+  pub shows-all : {n : ℕ} {out : List ℕ} → takes ≡ true → Put old 0 text n out
+      → Shows (within (length old) (lookOf text colour i)) old (doneShown n colour i) out
   unfolding within shownAs textAs
-  shows-all {n} p h q =
-      let e : n ≡ length text = omega (arith, p .next) in
-      let l : length text ≤ length old = omega arith in
-      rw (le-leb (length text) (length old) l) (record { result = rw e; room = q .room ∙ sets-overlay old text l })
+  shows-all {n} t p =
+      let m : n ≡ length text = omega (arith, p .next) in
+      let f = sym e ∙ t in
+      rw f (record { result = rw m; room = p .room ∙ sets-overlay old text (leb-true (length text) (length old) f) })
 
 -- no minus is no text
 pub unsigned : {old out : List ℕ} {r : Shown} (text : List ℕ) (colour i : ℕ) → Shows (within (length old) (lookOf text colour i)) old r out

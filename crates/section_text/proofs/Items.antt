@@ -6,10 +6,10 @@ use mathlib.Core.Path.{_≡_, refl, sym}
 use mathlib.Core.Logic.{⊎-elim}
 use mathlib.Core.Bool.{Bool, true, false, _||_, true≢false}
 use mathlib.Core.List.{List, [], _∷_}
-use lib.Dec.{T, eqb, eqb→eq}
-use borrow.Author.Tests.{eqb-true}
+use lib.Dec.{T, leb, eqb, eqb→eq}
+use borrow.Author.Tests.{eqb-true, le-leb, leb-false}
 use Rattle.calendar.specs.Names.{units}
-use Rattle.lists.proofs.Bools.{by-cases}
+use Rattle.lists.proofs.Bools.{no, by-cases}
 use Rattle.values.specs.Ranges.{between}
 use Rattle.formats.specs.Tokens.{runAllowed}
 use Rattle.formats.specs.Items.{Kind, dateKind, numberKind, sameKind, itemAllowed, isPlace}
@@ -25,9 +25,9 @@ use Rattle.figure_text.specs.declared.Figures.{Figures}
 use Rattle.figure_text.specs.Shown.{DigitsAre, FiguresAre, placeOfTag}
 use Rattle.figures.proofs.Past.{Apart, past}
 use Rattle.writing.specs.Put.{Put}
-use Rattle.date_text.proofs.Lengths.{item-length}
 use Rattle.section_text.specs.declared.Subject.{Subject}
-use Rattle.section_text.specs.Subject.{GeneralOf, StandsFor, SubjectIs, EntryFits, ItemPut}
+use Rattle.section_text.specs.Subject.{GeneralOf, StandsFor, SubjectIs}
+use Rattle.section_text.specs.Walk.{EntryFits}
 
 -- a place's argument, and a date item's
 pub place-argument : (tag a : ℕ) → (4 ≤ tag) × (tag ≤ 6) → T (entryInRange (entry tag a)) → (1 ≤ a) × (a ≤ 40)
@@ -116,40 +116,29 @@ pub place-put : {old out : List ℕ} {at r : ℕ} (c : Context) (p : Place) (a q
     → Put old at (placeUnits c p (a - 1)) r out → Put old at (placeUnits c p q) r out
 place-put c p a q e h = let z : a - 1 ≡ q = omega arith in rw z at h
 
-module _ (lent : Bool) {old out us : List ℕ} {at r : ℕ} where
-  pub piece-put : {piece : List ℕ} → us ≡ piece → r ≤ at + 82 → Put old at piece r out → ItemPut lent old at us r out
-  piece-put e h p = record { short = omega arith; near = λ _. h; put = rw e p }
-
-  pub standing-put : {piece : List ℕ} → us ≡ piece → (r ≤ at + 1024) × (lent ≡ false → r ≤ at + 82) → Put old at piece r out
-      → ItemPut lent old at us r out
-  standing-put e h p = record { short = h .0; near = h .1; put = rw e p }
-
-  pub unit-put : {u : ℕ} → us ≡ u ∷ [] → Put old at (u ∷ []) r out → ItemPut lent old at us r out
-  unit-put e p = piece-put e (omega (arith, p .next)) p
+pub as-put : {old out us piece : List ℕ} {at r : ℕ} → us ≡ piece → Put old at piece r out → Put old at us r out
+as-put e p = rw e p
 
 -- a place, and General or `@`, in a section that holds it
 module _ {old out digits text : List ℕ} {at r : ℕ} {s : Subject} {c : Context} (k : Kind) (q tag a : ℕ)
     (i : SubjectIs k digits s text c) (f : EntryFits k q (entry tag a)) where
-  pub digit-put : (4 ≤ tag) × (tag ≤ 6) → (r ≤ at + 82)
-      × ((x : Context) (p : ℕ) → FiguresAre digits (s .figures) x → a ≡ p + 1 → Put old at (placeUnits x (placeOfTag tag) p) r out)
-      → ItemPut (s .lent) old at (itemUnits c q (itemAt (entry tag a))) r out
+  pub digit-put : (4 ≤ tag) × (tag ≤ 6)
+      → ((x : Context) (p : ℕ) → FiguresAre digits (s .figures) x → a ≡ p + 1 → Put old at (placeUnits x (placeOfTag tag) p) r out)
+      → Put old at (itemUnits c q (itemAt (entry tag a))) r out
   digit-put b e =
-      piece-put (s .lent) (place-item c q tag a (b .0) (b .1)) (e .0)
-      (e .1 c q (i .numeric (number-held k q tag a f (b .0) (omega arith))) (place-power k q tag a f (b .0) (b .1)))
+      as-put (place-item c q tag a (b .0) (b .1))
+      (e c q (i .numeric (number-held k q tag a f (b .0) (omega arith))) (place-power k q tag a f (b .0) (b .1)))
 
-  pub lent-put : (9 ≤ tag) × (tag ≤ 10) → (r ≤ at + 1024) × ((s .lent ≡ false → r ≤ at + 82)
-      × ((us : List ℕ) → StandsFor (s .lent) digits (s .figures) text us → Put old at us r out))
-      → ItemPut (s .lent) old at (itemUnits c q (itemAt (entry tag a))) r out
-  lent-put b e =
-      standing-put (s .lent) (standing-item c q tag a (b .0) (b .1)) (e .0, e .1 .0)
-      (e .1 .1 (c .standing) (standing-held k q tag a f i (b .0) (b .1)))
+  pub lent-put : (9 ≤ tag) × (tag ≤ 10) → ((us : List ℕ) → StandsFor (s .lent) digits (s .figures) text us → Put old at us r out)
+      → Put old at (itemUnits c q (itemAt (entry tag a))) r out
+  lent-put b e = as-put (standing-item c q tag a (b .0) (b .1)) (e (c .standing) (standing-held k q tag a f i (b .0) (b .1)))
 
 year-argument : (a : ℕ) → T (eqb a 2 || eqb a 4) → a ≤ 9
 year-argument a t =
     by-cases (eqb a 2) (λ e. omega (arith, eqb-true a 2 e))
     (λ e. let f : T (eqb a 4) = rw e at t in omega (arith, eqb→eq a 4 f))
 
-date-argument : (tag a : ℕ) → 10 < tag → T (entryInRange (entry tag a)) → a ≤ 9
+pub date-argument : (tag a : ℕ) → 10 < tag → T (entryInRange (entry tag a)) → a ≤ 9
 unfolding entryInRange itemAt runAllowed
 date-argument tag a h t =
     span-at (λ (t : ℕ). T (entryInRange (entry t a)) → a ≤ 9) 11 11 tag
@@ -159,21 +148,24 @@ date-argument tag a h t =
     upto : (n : ℕ) → n ≤ 9 → T (between 1 n a) → a ≤ 9
     upto n l t = omega (arith, between-facts 1 n a t)
 
-pub moment-put : (lent : Bool) {old out : List ℕ} {at r : ℕ} (c : Context) (q tag a : ℕ) → 10 < tag → T (entryInRange (entry tag a))
-    → Put old at (itemUnits c q (itemAt (entry tag a))) r out → ItemPut lent old at (itemUnits c q (itemAt (entry tag a))) r out
-moment-put lent c q tag a h t p =
-    piece-put lent refl (omega (arith, p .next, item-length c q tag a h, date-argument tag a h t)) p
-
 -- of the first ten a date-time section holds three
-pub date-plain : (q tag a : ℕ) → 1 ≤ tag → tag ≤ 10 → EntryFits dateKind q (entry tag a) → tag ≤ 3
+pub date-plain : (k : Kind) (q tag a : ℕ) → k ≡ dateKind → 1 ≤ tag → tag ≤ 10 → EntryFits k q (entry tag a) → tag ≤ 3
 unfolding itemAt itemAllowed
-date-plain q tag a least most f =
+date-plain k q tag a e least most f =
     ⊎-elim (λ (h : tag < 4). omega arith)
     (λ (h : 4 ≤ tag).
     absurd (span-at (λ (t : ℕ). T (itemAllowed dateKind (itemAt (entry t a))) → ⊥) 4 7 tag
-    ((λ h. h), ((λ h. h), ((λ h. h), ((λ h. h), ((λ h. h), ((λ h. h), ((λ h. h), tt))))))) h (omega arith) (f .allowed)))
+    ((λ h. h), ((λ h. h), ((λ h. h), ((λ h. h), ((λ h. h), ((λ h. h), ((λ h. h), tt))))))) h (omega arith) (rw e at (f .allowed))))
     (lt-or-le tag 4)
 
--- a tag that is none of the first ten
-pub late : (tag a : ℕ) → T (entryInRange (entry tag a)) → Apart tag 1 10 → 10 < tag
-late tag a t apart = omega (arith, past tag 1 10 (tag-known (entry tag a) t .0) apart)
+-- a tag that is none of the first ten: no place's, and none that the arms of a `match` have beside them
+pub late : (tag a : ℕ) → T (entryInRange (entry tag a)) → between 4 6 tag ≡ false
+    → (((Apart tag 1 3 × (¬ (tag ≡ 7))) × (¬ (tag ≡ 8))) × (¬ (tag ≡ 9))) × (¬ (tag ≡ 10)) → 10 < tag
+late tag a t e o =
+    let low = past tag 1 3 (tag-known (entry tag a) t .0) (o .0 .0 .0 .0) in
+    let high : 6 < tag = by-cases (leb tag 6) (λ h. no (sym (rw (le-leb 4 tag low, h) at e))) (λ h. leb-false tag 6 h) in
+    let a7 : ¬ (tag ≡ 7) = o .0 .0 .0 .1 in
+    let a8 : ¬ (tag ≡ 8) = o .0 .0 .1 in
+    let a9 : ¬ (tag ≡ 9) = o .0 .1 in
+    let a10 : ¬ (tag ≡ 10) = o .1 in
+    omega arith

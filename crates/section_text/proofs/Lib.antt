@@ -1,4 +1,5 @@
 pub mod Items
+pub mod Lengths
 pub mod Walking
 pub mod Fitting
 pub mod Bodies

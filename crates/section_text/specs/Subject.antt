@@ -3,15 +3,11 @@
 use mathlib.Core.Path.{_≡_}
 use mathlib.Core.Bool.{Bool, true, false}
 use mathlib.Core.List.{List}
-use Prim.Native.Nat.{ℕ, suc, _+_, _≤_}
-use lib.Dec.{T, eqb}
+use Prim.Native.Nat.{ℕ}
+use lib.Dec.{T}
 use Rattle.figures.specs.General.{generalUnits}
-use Rattle.formats.specs.Items.{Kind, textKind, generalKind, dateKind, numberKind, sameKind, itemAllowed, isPlace}
-use Rattle.formats.specs.Where.{implies}
+use Rattle.formats.specs.Items.{Kind, textKind, generalKind, dateKind, numberKind, sameKind}
 use Rattle.formats.specs.Text.{Context}
-use Rattle.tables.specs.Words.{Entry}
-use Rattle.tables.specs.Decode.{itemAt}
-use Rattle.writing.specs.Put.{Put}
 use Rattle.figure_text.specs.declared.Figures.{Figures}
 use Rattle.figure_text.specs.Shown.{FiguresAre}
 use Rattle.section_text.specs.declared.Subject.{Subject}
@@ -33,14 +29,3 @@ pub record SubjectIs (k : Kind) (digits : List ℕ) (s : Subject) (text : List �
   pub general : T (sameKind generalKind k) → StandsFor (s .lent) digits (s .figures) text (c .standing)
   pub textual : T (sameKind textKind k) → StandsFor (s .lent) digits (s .figures) text (c .standing)
   pub undated : sameKind dateKind k ≡ false
-
--- a section of kind k may hold the entry's item; q + 1 is the argument of a place
-pub record EntryFits (k : Kind) (q : ℕ) (e : Entry) : Type 0 where
-  pub allowed : T (itemAllowed k (itemAt e))
-  pub power : T (implies (isPlace (itemAt e)) (eqb (e .argument) (suc q)))
-
--- an item's text is put; it has at most 1,024 units, and where no text is lent at most 82
-pub record ItemPut (lent : Bool) (old : List ℕ) (at : ℕ) (piece : List ℕ) (r : ℕ) (out : List ℕ) : Type 0 where
-  pub short : r ≤ at + 1024
-  pub near : lent ≡ false → r ≤ at + 82
-  pub put : Put old at piece r out

@@ -1,18 +1,26 @@
--- What is asked of a section's item words to show them.
+-- What is asked of a section's item words to show them, and what is said of their text.
 -- Assumes nothing.
+use mathlib.Core.Path.{_≡_}
 use mathlib.Core.List.{List}
-use Prim.Native.Nat.{ℕ}
-use lib.Dec.{T}
+use Prim.Native.Nat.{ℕ, suc}
+use lib.Dec.{T, eqb}
 use Rattle.lists.specs.Lists.{every}
-use Rattle.formats.specs.Items.{Kind, dateKind, itemAllowed}
-use Rattle.formats.specs.Text.{Context}
+use Rattle.formats.specs.Items.{Kind, dateKind, itemAllowed, isPlace}
+use Rattle.formats.specs.Where.{implies}
+use Rattle.formats.specs.Text.{Context, itemUnits, itemsUnits}
 use Rattle.tables.specs.Words.{Entry, entriesIn}
-use Rattle.tables.specs.Decode.{itemsAt}
+use Rattle.tables.specs.Decode.{itemAt, itemsAt}
 use Rattle.tables.specs.Rules.{entryInRange, powersFrom}
+use Rattle.writing.specs.Put.{Put}
 use Rattle.date_text.specs.declared.Moment.{Moment}
 use Rattle.date_text.specs.Moment.{MomentIs}
 use Rattle.section_text.specs.declared.Subject.{Subject}
 use Rattle.section_text.specs.Subject.{SubjectIs}
+
+-- a section of kind k may hold the entry's item; q + 1 is the argument of a place
+pub record EntryFits (k : Kind) (q : ℕ) (e : Entry) : Type 0 where
+  pub allowed : T (itemAllowed k (itemAt e))
+  pub power : T (implies (isPlace (itemAt e)) (eqb (e .argument) (suc q)))
 
 -- the entries are in range, a section of kind k may hold their items, and the places' powers run down from q
 pub record EntriesFit (k : Kind) (q : ℕ) (es : List Entry) : Type 0 where
@@ -20,20 +28,26 @@ pub record EntriesFit (k : Kind) (q : ℕ) (es : List Entry) : Type 0 where
   pub allowed : T (every (itemAllowed k) (itemsAt es))
   pub powers : T (powersFrom q es)
 
--- there is a context that the subject is of, and the entries fit
-pub record Ready (words digits : List ℕ) (s : Subject) (text : List ℕ) : Type 0 where
+-- an item's text is put, in every context with the property
+abbrev pub ItemPut : (Kind → Context → Type 0) → Entry → List ℕ → ℕ → ℕ → List ℕ → Type 0
+ItemPut P e old at r out = (c : Context) (k : Kind) (q : ℕ) → P k c → EntryFits k q e → Put old at (itemUnits c q (itemAt e)) r out
+
+-- something holds of the text of item words, in every context with the property
+abbrev pub OfText : (Kind → Context → Type 0) → List ℕ → (List ℕ → Type 0) → Type 0
+OfText P words Q =
+    (c : Context) (k : Kind) (q : ℕ) → P k c → EntriesFit k q (entriesIn words) → Q (itemsUnits c q (itemsAt (entriesIn words)))
+
+-- there is a context with the property, and the entries fit
+pub record Ready (P : Kind → Context → Type 0) (words : List ℕ) : Type 0 where
   pub context : Context
   pub kind : Kind
   pub power : ℕ
-  pub subject : SubjectIs kind digits s text context
+  pub subject : P kind context
   pub fit : EntriesFit kind power (entriesIn words)
 
--- there is a context that the moment is of, and the entries fit a date-time section
-pub record DatedReady (words : List ℕ) (m : Moment) : Type 0 where
-  pub context : Context
-  pub power : ℕ
-  pub moment : MomentIs m context
-  pub fit : EntriesFit dateKind power (entriesIn words)
+-- the property of a date-time section: the moment is what the context shows
+abbrev pub DatedIs : Moment → Kind → Context → Type 0
+DatedIs m k c = (k ≡ dateKind) × MomentIs m c
 
 -- there is a context that the subject is of in a section of kind k
 pub record Known (k : Kind) (digits : List ℕ) (s : Subject) (text : List ℕ) : Type 0 where

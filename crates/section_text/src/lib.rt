@@ -3,25 +3,24 @@ ghost use mathlib.Core.Path.{_≡_};
 ghost use mathlib.Core.Bool.{true, false};
 ghost use mathlib.Core.List.{List, _++_};
 ghost use Prim.Native.Nat.{ℕ, _+_, _*_, _≤_, _<_, _^_};
-ghost use lib.Dec.{T};
+ghost use lib.Dec.{T, leb};
 ghost use lib.ListN.{length, getD};
-ghost use Rattle.answers.specs.Number.{refusedShown};
-ghost use Rattle.formats.specs.Items.{Kind, dateKind, kindOf, integerPlaces};
+ghost use Rattle.formats.specs.Items.{dateKind, kindOf, integerPlaces};
 ghost use Rattle.formats.specs.Reading.{lookOf, within};
-ghost use Rattle.formats.specs.Text.{Context, itemUnits, itemsUnits, placeUnits};
-ghost use Rattle.tables.specs.Words.{entriesIn};
+ghost use Rattle.formats.specs.Text.{Context, placeUnits};
 ghost use Rattle.tables.specs.Encode.{entry};
-ghost use Rattle.tables.specs.Decode.{itemAt, itemsAt};
 ghost use Rattle.tables.specs.Rules.{entryInRange, passes};
 ghost use Rattle.table_words.specs.Sections.{sectionIn};
 ghost use Rattle.writing.specs.Put.{Put};
 ghost use Rattle.date_text.specs.Moment.{MomentIs};
 ghost use Rattle.figure_text.specs.Shown.{FiguresAre, placeOfTag};
-ghost use Rattle.section_text.specs.Subject.{StandsFor, SubjectIs, EntryFits, ItemPut};
-ghost use Rattle.section_text.specs.Walk.{EntriesFit, Ready, DatedReady, Known, DatedKnown};
+ghost use Rattle.section_text.specs.Subject.{StandsFor, SubjectIs};
+ghost use Rattle.section_text.specs.Walk.{DatedIs, Ready, ItemPut, OfText, Known, DatedKnown};
 ghost use Rattle.section_text.specs.Show.{signText, sectionReading, Shows};
 use answers::Answer;
 use answers::Shown;
+use answers::done_shown;
+use answers::refused_shown;
 use date_text::Moment;
 use figure_text::Figures;
 use table_words::head_of;
@@ -38,9 +37,7 @@ pub struct Subject {
 // Puts what General and `@` stand for.
 fn put_standing(room: &mut [u16], at: usize, digits: &[u8; 40], s: Subject, text: &[u16]) -> usize
     requires { ⌜ (at < 2 ^ 61) × (s .figures .used ≤ 40) × (s .lent ≡ true → length (now text) ≤ 1024) ⌝ }
-    ensures within { λ r. ⌜ r ≤ at + 1024 ⌝ }
-    ensures near { λ r. ⌜ (s .lent ≡ false → r ≤ at + 82) ⌝ }
-    ensures put { λ r. ⌜ ((us : List ℕ) → StandsFor (s .lent) (now (digits .entry)) (s .figures) (now (text .entry)) us
+    ensures { λ r. ⌜ ((us : List ℕ) → StandsFor (s .lent) (now (digits .entry)) (s .figures) (now (text .entry)) us
         → Put (now (room .entry)) at us r (now (room .exit))) ⌝ }
 {
     if s.lent {
@@ -59,8 +56,7 @@ fn put_digit(
     f: Figures,
 ) -> usize
     requires { ⌜ (at < 2 ^ 61) × (f .used ≤ 40) × (1 ≤ argument) × (argument ≤ 40) ⌝ }
-    ensures within { λ r. ⌜ r ≤ at + 82 ⌝ }
-    ensures put { λ r. ⌜ ((c : Context) (q : ℕ) → FiguresAre (now (digits .entry)) f c → argument ≡ q + 1
+    ensures { λ r. ⌜ ((c : Context) (q : ℕ) → FiguresAre (now (digits .entry)) f c → argument ≡ q + 1
         → Put (now (room .entry)) at (placeUnits c (placeOfTag tag) q) r (now (room .exit))) ⌝ }
 {
     let q = argument as usize - 1;
@@ -78,16 +74,15 @@ fn put_item(
     text: &[u16],
 ) -> usize
     requires { ⌜ (at < 2 ^ 61) × (s .figures .used ≤ 40) × (s .lent ≡ true → length (now text) ≤ 1024) × T (entryInRange (entry tag argument)) ⌝ }
-    ensures { λ r. ⌜ ((c : Context) (k : Kind) (q : ℕ) → SubjectIs k (now (digits .entry)) s (now (text .entry)) c → EntryFits k q (entry tag argument)
-        → ItemPut (s .lent) (now (room .entry)) at (itemUnits c q (itemAt (entry tag argument))) r (now (room .exit))) ⌝ }
+    ensures { λ r. ⌜ ItemPut (λ k. SubjectIs k (now (digits .entry)) s (now (text .entry))) (entry tag argument) (now (room .entry)) at r (now (room .exit)) ⌝ }
 {
+    if (tags::ZERO_PLACE <= tag) & (tag <= tags::SPACE_PLACE) {
+        return put_digit(room, at, tag, argument, digits, s.figures);
+    }
     match tag {
         tags::LITERAL => writing::put_unit(room, at, argument),
         tags::BLANK => writing::put_unit(room, at, 32),
         tags::FILL => at,
-        tags::ZERO_PLACE => put_digit(room, at, tag, argument, digits, s.figures),
-        tags::HASH_PLACE => put_digit(room, at, tag, argument, digits, s.figures),
-        tags::SPACE_PLACE => put_digit(room, at, tag, argument, digits, s.figures),
         tags::POINT => figure_text::put_point(room, at, digits, s.figures),
         tags::PERCENT => writing::put_unit(room, at, 37),
         tags::GENERAL => put_standing(room, at, digits, s, text),
@@ -96,8 +91,9 @@ fn put_item(
     }
 }
 
-// Puts the text of a section's items, whose words these are.
-fn put_items(
+// Puts the text of a segment, whose words these are: a part of a section's items with digits and places of its own.
+// (A section has one segment, all of its items.)
+fn put_segment(
     room: &mut [u16],
     at: usize,
     items: &[u16],
@@ -106,11 +102,10 @@ fn put_items(
     text: &[u16],
 ) -> usize
     requires { ⌜ (at ≤ 1) × (s .figures .used ≤ 40) × (s .lent ≡ true → length (now text) ≤ 1024) × (length (now items) ≤ 508)
-        × Ready (now items) (now digits) s (now text) ⌝ }
+        × Ready (λ k. SubjectIs k (now digits) s (now text)) (now items) ⌝ }
     ensures within { λ r. ⌜ r ≤ at + 260096 ⌝ }
-    ensures near { λ r. ⌜ (s .lent ≡ false → r ≤ at + 41 * length (now (items .entry))) ⌝ }
-    ensures put { λ r. ⌜ ((c : Context) (k : Kind) (q : ℕ) → SubjectIs k (now (digits .entry)) s (now (text .entry)) c → EntriesFit k q (entriesIn (now (items .entry)))
-        → Put (now (room .entry)) at (itemsUnits c q (itemsAt (entriesIn (now (items .entry))))) r (now (room .exit))) ⌝ }
+    ensures put { λ r. ⌜ OfText (λ k. SubjectIs k (now (digits .entry)) s (now (text .entry))) (now (items .entry))
+        (λ us. Put (now (room .entry)) at us r (now (room .exit))) ⌝ }
 {
     let n = items.len() / 2;
     let mut k: usize = 0;
@@ -145,26 +140,13 @@ fn put_text(
     text: &[u16],
 ) -> usize
     requires { ⌜ (s .figures .used ≤ 40) × (s .lent ≡ true → length (now text) ≤ 1024) × (length (now items) ≤ 508)
-        × Ready (now items) (now digits) s (now text) ⌝ }
+        × Ready (λ k. SubjectIs k (now digits) s (now text)) (now items) ⌝ }
     ensures within { λ r. ⌜ r ≤ 260097 ⌝ }
-    ensures near { λ r. ⌜ (s .lent ≡ false → r ≤ 41 * length (now (items .entry)) + 1) ⌝ }
-    ensures put { λ r. ⌜ ((c : Context) (k : Kind) (q : ℕ) → SubjectIs k (now (digits .entry)) s (now (text .entry)) c → EntriesFit k q (entriesIn (now (items .entry)))
-        → Put (now (room .entry)) 0 (signText minus ++ itemsUnits c q (itemsAt (entriesIn (now (items .entry))))) r (now (room .exit))) ⌝ }
+    ensures put { λ r. ⌜ OfText (λ k. SubjectIs k (now (digits .entry)) s (now (text .entry))) (now (items .entry))
+        (λ us. Put (now (room .entry)) 0 (signText minus ++ us) r (now (room .exit))) ⌝ }
 {
     let at = put_sign(room, minus);
-    put_items(room, at, items, digits, s, text)
-}
-
-// What a refusal returns.
-pub fn refuse(answer: Answer) -> Shown
-    ensures { λ r. ⌜ r ≡ refusedShown answer ⌝ }
-{
-    Shown {
-        answer,
-        length: 0,
-        colour: 0,
-        section: 0,
-    }
+    put_segment(room, at, items, digits, s, text)
 }
 
 // Whether a room of this size surely takes the text of so many item words: 82 units an item, and a minus.
@@ -175,33 +157,28 @@ fn is_roomy(size: usize, words: usize, lent: bool) -> bool
     !lent & (41 * words + 1 <= size)
 }
 
-// Shows a section's text in a room that surely takes it: in one pass.
-fn show_sure(
-    room: &mut [u16],
+// Whether a room of this size takes a section's text. Where it may not, the text is measured, by putting it into no room.
+fn takes(
+    size: usize,
     minus: bool,
     items: &[u16],
     digits: &[u8; 40],
     s: Subject,
     text: &[u16],
-    colour: u16,
-    section: u16,
-) -> Shown
+) -> bool
     requires { ⌜ (s .figures .used ≤ 40) × (s .lent ≡ true → length (now text) ≤ 1024) × (length (now items) ≤ 508)
-        × Ready (now items) (now digits) s (now text) × (s .lent ≡ false) × (41 * length (now items) + 1 ≤ length (now room)) ⌝ }
-    ensures { λ r. ⌜ ((c : Context) (k : Kind) (q : ℕ) → SubjectIs k (now (digits .entry)) s (now (text .entry)) c → EntriesFit k q (entriesIn (now (items .entry)))
-        → Shows (within (length (now (room .entry))) (lookOf (signText minus ++ itemsUnits c q (itemsAt (entriesIn (now (items .entry))))) colour section))
-        (now (room .entry)) r (now (room .exit))) ⌝ }
+        × Ready (λ k. SubjectIs k (now digits) s (now text)) (now items) ⌝ }
+    ensures { λ r. ⌜ OfText (λ k. SubjectIs k (now (digits .entry)) s (now (text .entry))) (now (items .entry))
+        (λ us. r ≡ leb (length (signText minus ++ us)) size) ⌝ }
 {
-    let end = put_text(room, minus, items, digits, s, text);
-    Shown {
-        answer: Answer::Done,
-        length: end as u32,
-        colour,
-        section,
+    if is_roomy(size, items.len(), s.lent) {
+        return true;
     }
+    let mut none = [0; 1];
+    put_text(&mut none[..0], minus, items, digits, s, text) <= size
 }
 
-// Shows a section's text where the room holds it. Where it may not, the text is measured first, into no room.
+// Shows a section's text where the room takes it.
 fn show_items(
     room: &mut [u16],
     minus: bool,
@@ -213,33 +190,21 @@ fn show_items(
     section: u16,
 ) -> Shown
     requires { ⌜ (s .figures .used ≤ 40) × (s .lent ≡ true → length (now text) ≤ 1024) × (length (now items) ≤ 508)
-        × Ready (now items) (now digits) s (now text) ⌝ }
-    ensures { λ r. ⌜ ((c : Context) (k : Kind) (q : ℕ) → SubjectIs k (now (digits .entry)) s (now (text .entry)) c → EntriesFit k q (entriesIn (now (items .entry)))
-        → Shows (within (length (now (room .entry))) (lookOf (signText minus ++ itemsUnits c q (itemsAt (entriesIn (now (items .entry))))) colour section))
-        (now (room .entry)) r (now (room .exit))) ⌝ }
+        × Ready (λ k. SubjectIs k (now digits) s (now text)) (now items) ⌝ }
+    ensures { λ r. ⌜ OfText (λ k. SubjectIs k (now (digits .entry)) s (now (text .entry))) (now (items .entry))
+        (λ us. Shows (within (length (now (room .entry))) (lookOf (signText minus ++ us) colour section)) (now (room .entry)) r (now (room .exit))) ⌝ }
 {
-    let limit = room.len();
-    if is_roomy(limit, items.len(), s.lent) {
-        return show_sure(room, minus, items, digits, s, text, colour, section);
+    if takes(room.len(), minus, items, digits, s, text) {
+        let n = put_text(room, minus, items, digits, s, text);
+        return done_shown(n as u32, colour, section);
     }
-    let n = put_text(&mut room[..0], minus, items, digits, s, text);
-    if limit < n {
-        return refuse(Answer::TextRoom);
-    }
-    put_text(room, minus, items, digits, s, text);
-    Shown {
-        answer: Answer::Done,
-        length: n as u32,
-        colour,
-        section,
-    }
+    refused_shown(Answer::TextRoom)
 }
 
 // Puts the text of a date-time section's item. (Its walker is one of its own: in the other it would slow down numbers.)
 fn put_dated_item(room: &mut [u16], at: usize, tag: u16, word: u16, m: Moment) -> usize
     requires { ⌜ (at < 2 ^ 61) × T (entryInRange (entry tag word)) ⌝ }
-    ensures { λ r. ⌜ ((c : Context) (q : ℕ) → MomentIs m c → EntryFits dateKind q (entry tag word)
-        → ItemPut false (now (room .entry)) at (itemUnits c q (itemAt (entry tag word))) r (now (room .exit))) ⌝ }
+    ensures { λ r. ⌜ ItemPut (DatedIs m) (entry tag word) (now (room .entry)) at r (now (room .exit)) ⌝ }
 {
     if tags::AT < tag {
         return date_text::put_moment_item(room, at, tag, word, m);
@@ -253,10 +218,9 @@ fn put_dated_item(room: &mut [u16], at: usize, tag: u16, word: u16, m: Moment) -
 
 // Puts the text of a date-time section's items, whose words these are.
 fn put_dated_items(room: &mut [u16], items: &[u16], m: Moment) -> usize
-    requires { ⌜ (length (now items) ≤ 508) × DatedReady (now items) m ⌝ }
-    ensures near { λ r. ⌜ r ≤ 41 * length (now (items .entry)) ⌝ }
-    ensures put { λ r. ⌜ ((c : Context) (q : ℕ) → MomentIs m c → EntriesFit dateKind q (entriesIn (now (items .entry)))
-        → Put (now (room .entry)) 0 (itemsUnits c q (itemsAt (entriesIn (now (items .entry))))) r (now (room .exit))) ⌝ }
+    requires { ⌜ (length (now items) ≤ 508) × Ready (DatedIs m) (now items) ⌝ }
+    ensures within { λ r. ⌜ r ≤ 260096 ⌝ }
+    ensures put { λ r. ⌜ OfText (DatedIs m) (now (items .entry)) (λ us. Put (now (room .entry)) 0 us r (now (room .exit))) ⌝ }
 {
     let n = items.len() / 2;
     let mut k: usize = 0;
@@ -270,34 +234,29 @@ fn put_dated_items(room: &mut [u16], items: &[u16], m: Moment) -> usize
     o
 }
 
-// Shows a date-time section's text where the room holds it, in one pass where it surely does.
-fn show_dated_items(room: &mut [u16], items: &[u16], m: Moment, colour: u16, section: u16) -> Shown
-    requires { ⌜ (length (now items) ≤ 508) × DatedReady (now items) m ⌝ }
-    ensures { λ r. ⌜ ((c : Context) (q : ℕ) → MomentIs m c → EntriesFit dateKind q (entriesIn (now (items .entry)))
-        → Shows (within (length (now (room .entry))) (lookOf (itemsUnits c q (itemsAt (entriesIn (now (items .entry))))) colour section))
-        (now (room .entry)) r (now (room .exit))) ⌝ }
+// Whether a room of this size takes a date-time section's text.
+fn takes_dated(size: usize, items: &[u16], m: Moment) -> bool
+    requires { ⌜ (length (now items) ≤ 508) × Ready (DatedIs m) (now items) ⌝ }
+    ensures { λ r. ⌜ OfText (DatedIs m) (now (items .entry)) (λ us. r ≡ leb (length us) size) ⌝ }
 {
-    let limit = room.len();
-    if is_roomy(limit, items.len(), false) {
-        let end = put_dated_items(room, items, m);
-        return Shown {
-            answer: Answer::Done,
-            length: end as u32,
-            colour,
-            section,
-        };
+    if is_roomy(size, items.len(), false) {
+        return true;
     }
-    let size = put_dated_items(&mut room[..0], items, m);
-    if limit < size {
-        return refuse(Answer::TextRoom);
+    let mut none = [0; 1];
+    put_dated_items(&mut none[..0], items, m) <= size
+}
+
+// Shows a date-time section's text where the room takes it.
+fn show_dated_items(room: &mut [u16], items: &[u16], m: Moment, colour: u16, section: u16) -> Shown
+    requires { ⌜ (length (now items) ≤ 508) × Ready (DatedIs m) (now items) ⌝ }
+    ensures { λ r. ⌜ OfText (DatedIs m) (now (items .entry))
+        (λ us. Shows (within (length (now (room .entry))) (lookOf us colour section)) (now (room .entry)) r (now (room .exit))) ⌝ }
+{
+    if takes_dated(room.len(), items, m) {
+        let n = put_dated_items(room, items, m);
+        return done_shown(n as u32, colour, section);
     }
-    put_dated_items(room, items, m);
-    Shown {
-        answer: Answer::Done,
-        length: size as u32,
-        colour,
-        section,
-    }
+    refused_shown(Answer::TextRoom)
 }
 
 // Shows section i, which is a date-time section.

@@ -3,15 +3,15 @@
 use Prim.Native.Nat.{_-_}
 use native.Mathlib.Omega.{arith}
 use mathlib.Core.Path.{refl}
-use mathlib.Core.Bool.{false}
-use Rattle.formats.specs.Items.{dateKind}
-use Rattle.section_text.proofs.Walking.{DatedOf, Walking, dated-walks, dated-puts, walking-start, walking-in-range, walking-step, walking-end, walking-short, walking-near, walking-size}
+use Rattle.section_text.specs.Walk.{DatedIs}
+use Rattle.section_text.proofs.Walking.{Walking, walking-start, walking-in-range, walking-step, walking-end, walking-within, walking-size}
+use Rattle.section_text.proofs.Lengths.{dated-short, short-within}
 use borrow.Author.Needs.{needs}
 use Rattle.section_text.proofs.put_dated_items.Statement.{statement}
 use Rattle.section_text.proofs.put_dated_items.Tie as tie
 
 abbrev Inv-loop : tie.InvT-loop
-Inv-loop room₀ items m n k₀ o₀ room k o = Walking (DatedOf m) false room₀ 0 items n k room o
+Inv-loop room₀ items m n k₀ o₀ room k o = Walking (DatedIs m) room₀ 0 items n k room o
 
 abbrev μ-loop : tie.MeasureT-loop
 μ-loop room₀ items m n k₀ o₀ room k o = n - k
@@ -19,19 +19,19 @@ abbrev μ-loop : tie.MeasureT-loop
 loop-holds : tie.Need-loop-holds Inv-loop μ-loop
 loop-holds c =
     let b = c .before .before in
-    walking-start _ _ _ _ _ _ (b .pre .0) refl (dated-walks (b .pre .1))
+    walking-start _ _ _ refl (b .pre .1) (short-within (b .pre .0) (b .pre .1) (dated-short 1024 _ (omega arith)))
 
 put-dated-item-requires : tie.Need-put-dated-item-requires Inv-loop μ-loop
 put-dated-item-requires c κs =
     let t = c .before .before .before in
     let w = t .before .loop .inv in
-    (walking-short w (omega arith), walking-in-range w (t .loop-test .taken))
+    (omega (arith, walking-within w), walking-in-range w (t .loop-test .taken))
 
 loop-again : tie.Need-loop-again Inv-loop μ-loop
 loop-again c =
     let p = c .before .before in
     let t = p .before .before .before .before in
-    walking-step (t .before .loop .inv) (t .loop-test .taken) _ _ (dated-puts _ _ (p .put-dated-item .ensures))
+    walking-step (t .before .loop .inv) (t .loop-test .taken) (p .put-dated-item .ensures)
 
 same-length : tie.Need-same-length Inv-loop μ-loop
 same-length c = walking-size (c .before .loop .inv)
@@ -39,7 +39,7 @@ same-length c = walking-size (c .before .loop .inv)
 returns : tie.Need-returns Inv-loop μ-loop
 returns c =
     let w = c .before .loop .inv in
-    (omega (arith, walking-near w refl), λ x q i f. walking-end w (c .loop-test .left) x dateKind q (refl, i) f)
+    (walking-within w, walking-end w (c .loop-test .left))
 
 pub put-dated-items-spec : {M : Type 1} → statement M
 put-dated-items-spec =

@@ -1,8 +1,5 @@
 -- `section_text::put_standing` meets its contract.
 -- Assumes nothing.
-use native.Mathlib.Omega.{arith}
-use mathlib.Core.Path.{sym, _∙_}
-use mathlib.Core.Bool.{true≢false}
 use Rattle.section_text.proofs.Items.{digits-of, stands-lent, stands-general}
 use borrow.Author.Needs.{needs}
 use Rattle.section_text.proofs.put_standing.Statement.{statement}
@@ -11,25 +8,14 @@ use Rattle.section_text.proofs.put_standing.Tie as tie
 returns : tie.Need-returns
 returns c =
     let p = c .before .before in
-    let k = p .before .before in
-    let b = k .before .before .before in (
-      omega (arith, b .pre .2 (k .if1 .taken), p .put-units .ensures .next),
-      (
-        λ z. absurd (true≢false (sym (k .if1 .taken) ∙ z)),
-        λ us h. rw (← stands-lent _ _ _ _ us (k .if1 .taken) h) (p .put-units .ensures),
-      ),
-    )
+    λ us h. rw (← stands-lent _ _ _ _ us (p .before .before .if1 .taken) h) (p .put-units .ensures)
 
 returns-2 : tie.Need-returns-2
 returns-2 c =
     let p = c .before .before in
-    let k = p .before .before in (
-      omega arith,
-      (
-        λ z. omega arith,
-        λ us h. let g = stands-general _ _ _ _ us (k .if1 .left) h in rw (g .shows) (p .put-general .ensures .1 (g .context .figures) (digits-of (g .are))),
-      ),
-    )
+    λ us h.
+    let g = stands-general _ _ _ _ us (p .before .before .if1 .left) h in
+    rw (g .shows) (p .put-general .ensures .1 (g .context .figures) (digits-of (g .are)))
 
 pub put-standing-spec : {M : Type 1} → statement M
 put-standing-spec =

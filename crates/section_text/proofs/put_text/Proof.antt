@@ -9,12 +9,9 @@ use Rattle.section_text.proofs.put_text.Tie as tie
 returns : tie.Need-returns
 returns c =
     let p = c .before .before in
-    let g = p .before .before .before .before in (
-      omega (arith, p .put-items .ensures .0, g .put-sign .ensures .0),
-      (
-        λ z. omega (arith, p .put-items .ensures .1 .0 z, g .put-sign .ensures .0),
-        λ x k q i f. put-put (g .put-sign .ensures .1) (p .put-items .ensures .1 .1 x k q i f),
-      ),
+    let g = p .before .before .before .before .put-sign .ensures in (
+      omega (arith, p .put-segment .ensures .0, g .0),
+      λ x k q i f. put-put (g .1) (p .put-segment .ensures .1 x k q i f),
     )
 
 pub put-text-spec : {M : Type 1} → statement M

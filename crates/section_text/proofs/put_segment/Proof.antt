@@ -1,14 +1,17 @@
--- `section_text::put_items` meets its contract. The invariant, `Walking`: the text of the entries that are left is what is left to put.
+-- `section_text::put_segment` meets its contract. The invariant, `Walking`: the text of the entries that are left is what is left to put.
 -- Assumes nothing.
 use Prim.Native.Nat.{_-_}
+use native.Mathlib.Omega.{arith}
 use mathlib.Core.Path.{refl}
-use Rattle.section_text.proofs.Walking.{IsOf, Walking, ready-walks, walking-start, walking-in-range, walking-step, walking-end, walking-short, walking-within, walking-near, walking-size}
+use Rattle.section_text.specs.Subject.{SubjectIs}
+use Rattle.section_text.proofs.Walking.{Walking, walking-start, walking-in-range, walking-step, walking-end, walking-within, walking-size}
+use Rattle.section_text.proofs.Lengths.{subject-short, short-within}
 use borrow.Author.Needs.{needs}
-use Rattle.section_text.proofs.put_items.Statement.{statement}
-use Rattle.section_text.proofs.put_items.Tie as tie
+use Rattle.section_text.proofs.put_segment.Statement.{statement}
+use Rattle.section_text.proofs.put_segment.Tie as tie
 
 abbrev Inv-loop : tie.InvT-loop
-Inv-loop room₀ at items digits s text n k₀ o₀ room k o = Walking (IsOf digits s text) (s .lent) room₀ at items n k room o
+Inv-loop room₀ at items digits s text n k₀ o₀ room k o = Walking (λ k. SubjectIs k digits s text) room₀ at items n k room o
 
 abbrev μ-loop : tie.MeasureT-loop
 μ-loop room₀ at items digits s text n k₀ o₀ room k o = n - k
@@ -16,20 +19,20 @@ abbrev μ-loop : tie.MeasureT-loop
 loop-holds : tie.Need-loop-holds Inv-loop μ-loop
 loop-holds c =
     let b = c .before .before .before in
-    walking-start _ _ _ _ _ _ (b .pre .3) refl (ready-walks (b .pre .4))
+    walking-start _ _ _ refl (b .pre .4) (short-within (b .pre .3) (b .pre .4) (subject-short 1024 _ (omega arith) (b .pre .2)))
 
 put-item-requires : tie.Need-put-item-requires Inv-loop μ-loop
 put-item-requires c κs =
     let t = c .before .before .before in
     let b = t .before .before .before .before .before in
     let w = t .before .loop .inv in
-    (walking-short w (b .pre .0), b .pre .1, b .pre .2, walking-in-range w (t .loop-test .taken))
+    (omega (arith, walking-within w, b .pre .0), b .pre .1, b .pre .2, walking-in-range w (t .loop-test .taken))
 
 loop-again : tie.Need-loop-again Inv-loop μ-loop
 loop-again c =
     let p = c .before .before in
     let t = p .before .before .before .before in
-    walking-step (t .before .loop .inv) (t .loop-test .taken) _ _ (p .put-item .ensures)
+    walking-step (t .before .loop .inv) (t .loop-test .taken) (p .put-item .ensures)
 
 same-length : tie.Need-same-length Inv-loop μ-loop
 same-length c = walking-size (c .before .loop .inv)
@@ -37,10 +40,10 @@ same-length c = walking-size (c .before .loop .inv)
 returns : tie.Need-returns Inv-loop μ-loop
 returns c =
     let w = c .before .loop .inv in
-    (walking-within w, (walking-near w, walking-end w (c .loop-test .left)))
+    (walking-within w, walking-end w (c .loop-test .left))
 
-pub put-items-spec : {M : Type 1} → statement M
-put-items-spec =
+pub put-segment-spec : {M : Type 1} → statement M
+put-segment-spec =
     tie.close
     (tie.spec
     Inv-loop
