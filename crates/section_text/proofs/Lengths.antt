@@ -1,39 +1,38 @@
 -- How long a section's text can be: each item has at most 82 units, General and `@` apart, which have as many as they stand for.
 -- Assumes nothing.
-use Prim.Native.Nat.{ℕ, zero, suc, _+_, _-_, _*_, _/_, _^_, _≤_}
+use Prim.Native.Nat.{ℕ, zero, suc, _+_, _-_, _*_, _/_, _%_, _^_, _≤_}
 use native.Mathlib.Nat.{mul-suc}
 use native.Mathlib.Omega.{arith}
 use mathlib.Core.Path.{_≡_, refl, sym}
 use mathlib.Core.Bool.{Bool, true, false, cond, _&&_}
 use mathlib.Core.List.{List, [], _∷_, _++_}
-use lib.ListN.{length, length-append}
+use lib.ListN.{length, take, length-append, length-take, length-map}
 use lib.Dec.{T, leb, eqb}
-use borrow.Author.Tests.{leb-true, leb-false, le-leb}
-use Rattle.lists.specs.Lists.{isEmpty}
-use Rattle.lists.proofs.Bools.{by-cases, cond-both}
+use borrow.Author.Tests.{leb-true, le-leb}
+use Rattle.values.specs.Ranges.{between}
+use Rattle.lists.specs.Lists.{isEmpty, every}
+use Rattle.lists.proofs.Bools.{cond-both, cond-case, every-head, every-tail}
 use Rattle.figures.specs.Digits.{digit, digitUnit, digitUnits, numeral}
 use Rattle.figures.specs.General.{withoutEndZeros, pointed, generalUnits}
 use Rattle.figures.proofs.Digits.{digitUnits-length}
-use Rattle.calendar.specs.Names.{units}
-use Rattle.formats.specs.Tokens.{Place, zeroPlace, hashPlace, spacePlace}
-use Rattle.formats.specs.Items.{Kind, dateKind}
-use Rattle.formats.specs.Text.{Context, insignificant, idleUnits, endsGroup, withSeparator, figureUnits, extraUnits, unitsBeyond, atFirstInteger, placeUnits, pointUnits, itemUnits, itemsUnits, digitAfter}
-use Rattle.tables.specs.Words.{Entry, entriesIn}
-use Rattle.tables.specs.Encode.{entry}
+use Rattle.calendar.specs.Clock.{afternoon}
+use Rattle.calendar.specs.Names.{units, shortName, firstLetter, monthName, weekdayName}
+use Rattle.formats.specs.Tokens.{Place, zeroPlace, hashPlace, spacePlace, HalfDay, short, long, runAllowed}
+use Rattle.formats.specs.Items.{Item, general, at, Kind, itemInRange, itemAllowed}
+use Rattle.formats.specs.Text.{Context, insignificant, idleUnits, endsGroup, withSeparator, figureUnits, extraUnits, unitsBeyond, atFirstInteger, placeUnits, pointUnits, yearUnits, namedUnits, hourShown, partUnits, elapsedCount, halfUnits, itemUnits, itemsUnits, digitAfter}
+use Rattle.formats.proofs.Each.{by-item}
+use Rattle.tables.specs.Words.{entriesIn}
 use Rattle.tables.specs.Decode.{itemAt, itemsAt}
-use Rattle.tables.specs.Rules.{entryInRange}
-use Rattle.tables.proofs.BackEntries.{span-at, tag-known}
+use Rattle.tables.proofs.BackEntries.{between-facts, items-ranged}
 use Rattle.tables.proofs.Words.{entriesAt-length}
 use Rattle.writing.proofs.Numerals.{numeral-short}
 use Rattle.figure_text.specs.declared.Figures.{Figures}
 use Rattle.date_text.specs.declared.Moment.{Moment}
-use Rattle.date_text.proofs.Lengths.{item-length}
+use Rattle.date_text.proofs.Letters.{month-spelt, weekday-spelt}
 use Rattle.section_text.specs.declared.Subject.{Subject}
 use Rattle.section_text.specs.Subject.{StandsFor, SubjectIs}
-use Rattle.section_text.specs.Walk.{EntryFits, EntriesFit, OfText, Ready, DatedIs}
+use Rattle.section_text.specs.Walk.{EntriesFit, OfText, Ready, DatedIs}
 use Rattle.section_text.specs.Show.{signText}
-use Rattle.section_text.proofs.Items.{date-argument, standing-held, date-plain}
-use Rattle.section_text.proofs.Walking.{first-in-range, first-fits, others-fit}
 use Rattle.section_text.proofs.Fitting.{sign-length}
 
 -- ---- figures
@@ -94,26 +93,75 @@ general-length n =
     rw (length-append (numeral 1 (n / 10 ^ 15)) (pointed us))
     (omega (arith, numeral-short 1 (n / 10 ^ 15) (omega arith), pointed-length us, end-zeros-length (digitUnits 15 n), digitUnits-length 15 n))
 
--- ---- items
-item-short : (c : Context) (q n : ℕ) (e : Entry) → T (entryInRange e) → 82 ≤ n → ((9 ≤ e .tag) × (e .tag ≤ 10) → length (c .standing) ≤ n)
-    → length (itemUnits c q (itemAt e)) ≤ n
-unfolding itemUnits itemAt units
-item-short c q n e r h s =
-    by-cases (leb (e .tag) 10)
-    (λ l.
-    span-at (λ (t : ℕ). ((9 ≤ t) × (t ≤ 10) → length (c .standing) ≤ n) → length (itemUnits c q (itemAt (entry t (e .argument)))) ≤ n) 1 10 (e .tag) (
-      λ _. omega arith,
-      (λ _. omega arith, (λ _. omega arith, (place zeroPlace, (place hashPlace, (place spacePlace, (point, (λ _. omega arith, (λ s. s (omega arith, omega arith), (λ s. s (omega arith, omega arith), tt))))))))),
-    ) (tag-known e r .0) (omega (arith, leb-true (e .tag) 10 l)) s)
-    (λ l.
-    let late = leb-false (e .tag) 10 l in
-    omega (arith, item-length c q (e .tag) (e .argument) late, date-argument (e .tag) (e .argument) late r))
-  where
-    place : {A : Type 0} (p : Place) → A → length (placeUnits c p q) ≤ n
-    place p _ = omega (arith, place-length c p q)
+-- ---- days
+year-length : (n y : ℕ) → length (yearUnits n y) ≤ 25
+unfolding yearUnits
+year-length n y =
+    cond-both (λ (l : List ℕ). length l ≤ 25) (eqb n 2) (numeral-short 2 (y % 100) (omega arith)) (numeral-short 4 y (omega arith))
 
-    point : {A : Type 0} → A → length (pointUnits c) ≤ n
-    point _ = omega (arith, point-length c)
+take-short : (k : ℕ) (name : List ℕ) → length name ≤ 9 → length (take k name) ≤ 25
+take-short k name h = rw (length-take k name) (omega arith)
+
+named-length : (n number : ℕ) (name : List ℕ) → length name ≤ 9 → length (namedUnits n number name) ≤ 25
+unfolding namedUnits shortName firstLetter
+named-length n number name h =
+    cond-case (λ (l : List ℕ). length l ≤ 25) (leb n 2) (λ e. numeral-short n number (omega (arith, leb-true n 2 e)))
+    (λ e. cond-both (λ (l : List ℕ). length l ≤ 25) (eqb n 3) (take-short 3 name h)
+    (cond-both (λ (l : List ℕ). length l ≤ 25) (eqb n 4) (omega arith) (take-short 1 name h)))
+
+run-short : (n most number : ℕ) → most ≤ 9 → T (between 1 most n) → length (numeral n number) ≤ 25
+run-short n most number h r = numeral-short n number (omega (arith, between-facts 1 most n r))
+
+part-length : (n t : ℕ) → T (between 1 3 n) → length (partUnits n t) ≤ 25
+unfolding partUnits
+part-length n t r = rw (digitUnits-length n (t / 10 ^ (3 - n))) (omega (arith, between-facts 1 3 n r))
+
+half-length : (h : HalfDay) (b : Bool) → length (halfUnits h b) ≤ 2
+unfolding halfUnits units
+half-length short true = omega arith
+half-length short false = omega arith
+half-length long true = omega arith
+half-length long false = omega arith
+
+-- ---- items
+-- in a section of kind k, where what General and `@` stand for is short if it may hold them
+module _ (c : Context) (k : Kind) (n : ℕ) (h : 82 ≤ n) (g : T (itemAllowed k general) → length (c .standing) ≤ n)
+    (a : T (itemAllowed k at) → length (c .standing) ≤ n) where
+  item-short : (q : ℕ) (i : Item) → T (itemInRange i) → T (itemAllowed k i) → length (itemUnits c q i) ≤ n
+  unfolding itemUnits itemInRange runAllowed units
+  item-short q =
+      by-item (λ i. T (itemInRange i) → T (itemAllowed k i) → length (itemUnits c q i) ≤ n)
+      (λ u r f. omega arith)
+      (λ u r f. omega arith)
+      (λ u r f. omega arith)
+      (λ p r f. omega (arith, place-length c p q))
+      (λ r f. omega (arith, point-length c))
+      (λ r f. omega arith)
+      (λ r f. g f)
+      (λ r f. a f)
+      (λ m r f. omega (arith, year-length m (c .date .year)))
+      (λ m r f. omega (arith, named-length m (c .date .month) (monthName (c .date .month)) (month-spelt (c .date .month) _ refl .short)))
+      (λ m r f. omega (arith, named-length m (c .date .dayOfMonth) (weekdayName (c .date .weekday)) (weekday-spelt (c .date .weekday) _ refl .short)))
+      (λ m r f. omega (arith, run-short m 2 (hourShown (c .twelve) (c .clock .hour)) (omega arith) r))
+      (λ m r f. omega (arith, run-short m 2 (c .clock .minute) (omega arith) r))
+      (λ m r f. omega (arith, run-short m 2 (c .clock .second) (omega arith) r))
+      (λ m r f. omega (arith, part-length m (c .clock .thousandth) r))
+      (λ e m r f. omega (arith, run-short m 9 (elapsedCount e (c .elapsed)) (omega arith) r))
+      (λ d r f. omega (arith, half-length d (afternoon (c .clock .hour))))
+
+  items-short : (q : ℕ) (is : List Item) → T (every itemInRange is) → T (every (itemAllowed k) is) → length (itemsUnits c q is) ≤ n * length is
+  unfolding itemsUnits
+  items-short q [] r f = omega arith
+  items-short q (i ∷ is) r f =
+      let here = item-short q i (every-head itemInRange i is r) (every-head (itemAllowed k) i is f) in
+      let later = items-short (digitAfter q i) is (every-tail itemInRange i is r) (every-tail (itemAllowed k) i is f) in
+      rw (mul-suc n (length is), length-append (itemUnits c q i) (itemsUnits c (digitAfter q i) is)) (omega (arith, here, later))
+
+  words-short : (q : ℕ) (words : List ℕ) → EntriesFit k q (entriesIn words) → length (itemsUnits c q (itemsAt (entriesIn words))) ≤ n * (length words / 2)
+  unfolding entriesIn itemsAt
+  words-short q words f =
+      rw (length-map (entriesIn words) itemAt, entriesAt-length (length words / 2) words) at
+      (items-short q (itemsAt (entriesIn words)) (items-ranged (entriesIn words) (f .inRange)) (f .allowed))
 
 -- what General and `@` stand for
 standing-short : (b : Bool) (digits : List ℕ) (f : Figures) (text us : List ℕ) (n : ℕ) → 82 ≤ n → (b ≡ true → length text ≤ n)
@@ -121,41 +169,19 @@ standing-short : (b : Bool) (digits : List ℕ) (f : Figures) (text us : List �
 standing-short true digits f text us n h l e = rw e at (l refl)
 standing-short false digits f text us n h l g = rw (g .shows) (omega (arith, general-length (g .context .figures)))
 
--- ---- all items
-items-short : (c : Context) (k : Kind) (n : ℕ)
-    → ((q : ℕ) (e : Entry) → T (entryInRange e) → EntryFits k q e → length (itemUnits c q (itemAt e)) ≤ n)
-    → (q : ℕ) (es : List Entry) → EntriesFit k q es → length (itemsUnits c q (itemsAt es)) ≤ n * length es
-unfolding itemsUnits itemsAt
-items-short c k n g q [] f = omega arith
-items-short c k n g q (e ∷ es) f =
-    let here = g q e (first-in-range k q e es f) (first-fits k q e es f) in
-    let later = items-short c k n g (digitAfter q (itemAt e)) es (others-fit k q e es f) in
-    rw (mul-suc n (length es), length-append (itemUnits c q (itemAt e)) (itemsUnits c (digitAfter q (itemAt e)) (itemsAt es)))
-    (omega (arith, here, later))
-
 module _ (n : ℕ) (words : List ℕ) (h : 82 ≤ n) where
   -- of a subject, whose text has at most n units where it is lent
   pub subject-short : {digits : List ℕ} {s : Subject} {text : List ℕ} → (s .lent ≡ true → length text ≤ n)
       → OfText (λ k. SubjectIs k digits s text) words (λ us. length us ≤ n * (length words / 2))
-  unfolding entriesIn
+  unfolding itemAllowed
   subject-short {digits} {s} {text} l c k q i f =
-      rw (entriesAt-length (length words / 2) words) at
-      (items-short c k n
-      (λ q e r g.
-      item-short c q n e r h
-      (λ b. standing-short (s .lent) digits (s .figures) text (c .standing) n h l (standing-held k q (e .tag) (e .argument) g i (b .0) (b .1))))
-      q (entriesIn words) f)
+      let short = standing-short (s .lent) digits (s .figures) text (c .standing) n h l in
+      words-short c k n h (λ g. short (i .general g)) (λ a. short (i .textual a)) q words f
 
   -- of a date-time section, which has no General and no `@`
   pub dated-short : {m : Moment} → OfText (DatedIs m) words (λ us. length us ≤ n * (length words / 2))
-  unfolding entriesIn
-  dated-short c k q i f =
-      rw (entriesAt-length (length words / 2) words) at
-      (items-short c k n
-      (λ q e r g.
-      item-short c q n e r h
-      (λ b. absurd (omega (arith, b .0, date-plain k q (e .tag) (e .argument) (i .0) (omega (arith, b .0)) (b .1) g))))
-      q (entriesIn words) f)
+  unfolding itemAllowed
+  dated-short c k q i f = words-short c k n h (λ g. absurd (rw (i .0) at g)) (λ a. absurd (rw (i .0) at a)) q words f
 
 -- a short text keeps a walk's places small, and is surely taken by a room that has 82 units for each two words and one for a minus
 pub short-within : {P : Kind → Context → Type 0} {words : List ℕ} → length words ≤ 508 → (d : Ready P words)

@@ -2,7 +2,7 @@
 ghost use mathlib.Core.Path.{_≡_};
 ghost use mathlib.Core.Bool.{true, false};
 ghost use mathlib.Core.List.{List, _++_};
-ghost use Prim.Native.Nat.{ℕ, _+_, _*_, _≤_, _<_, _^_};
+ghost use Prim.Native.Nat.{ℕ, suc, _+_, _*_, _≤_, _<_, _^_};
 ghost use lib.Dec.{T, leb};
 ghost use lib.ListN.{length, getD};
 ghost use Rattle.formats.specs.Items.{dateKind, kindOf, integerPlaces};
@@ -56,7 +56,7 @@ fn put_digit(
     f: Figures,
 ) -> usize
     requires { ⌜ (at < 2 ^ 61) × (f .used ≤ 40) × (1 ≤ argument) × (argument ≤ 40) ⌝ }
-    ensures { λ r. ⌜ ((c : Context) (q : ℕ) → FiguresAre (now (digits .entry)) f c → argument ≡ q + 1
+    ensures { λ r. ⌜ ((c : Context) (q : ℕ) → FiguresAre (now (digits .entry)) f c → argument ≡ suc q
         → Put (now (room .entry)) at (placeUnits c (placeOfTag tag) q) r (now (room .exit))) ⌝ }
 {
     let q = argument as usize - 1;
