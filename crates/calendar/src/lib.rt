@@ -266,34 +266,34 @@ pub fn twelve_hour(hour: u32) -> u32
     h
 }
 
-pub fn is_afternoon(hour: u32) -> bool
+pub fn is_afternoon(hour: u64) -> bool
     ensures { λ r. ⌜ r ≡ afternoon hour ⌝ }
 {
     12 <= hour
 }
 
 // The milliseconds since the start of day 0.
-fn since_day_zero(d: Day, m: Millisecond) -> u64
+pub fn since_day_zero(d: Day, m: Millisecond) -> u64
     ensures { λ r. ⌜ r ≡ sinceDayZero (d .0) (m .0) ⌝ }
 {
     d.0 as u64 * 86400000 + m.0 as u64
 }
 
-// "Elapsed tokens count all whole units since day 0".
-pub fn elapsed_hours(d: Day, m: Millisecond) -> u64
-    ensures { λ r. ⌜ r ≡ elapsedHours (sinceDayZero (d .0) (m .0)) ⌝ }
+// "Elapsed tokens count all whole units since day 0": the units in so many milliseconds.
+pub fn elapsed_hours(total: u64) -> u64
+    ensures { λ r. ⌜ r ≡ elapsedHours total ⌝ }
 {
-    since_day_zero(d, m) / 3600000
+    total / 3600000
 }
 
-pub fn elapsed_minutes(d: Day, m: Millisecond) -> u64
-    ensures { λ r. ⌜ r ≡ elapsedMinutes (sinceDayZero (d .0) (m .0)) ⌝ }
+pub fn elapsed_minutes(total: u64) -> u64
+    ensures { λ r. ⌜ r ≡ elapsedMinutes total ⌝ }
 {
-    since_day_zero(d, m) / 60000
+    total / 60000
 }
 
-pub fn elapsed_seconds(d: Day, m: Millisecond) -> u64
-    ensures { λ r. ⌜ r ≡ elapsedSeconds (sinceDayZero (d .0) (m .0)) ⌝ }
+pub fn elapsed_seconds(total: u64) -> u64
+    ensures { λ r. ⌜ r ≡ elapsedSeconds total ⌝ }
 {
-    since_day_zero(d, m) / 1000
+    total / 1000
 }

@@ -29,8 +29,8 @@ fn write_name(day: u32, tag: u16)
     requires { ⌜ 10 < tag ⌝ }
 {
     let mut room = [0u16; 9];
-    let moment = date_text::moment_of(false, Day(day), Millisecond(0));
-    let n = date_text::put_moment_item(&mut room, 0, tag, 4, moment);
+    let moment = date_text::moment_of(false, true, Day(day), Millisecond(0));
+    let n = date_text::put_moment_item(&mut room, 0, tag, 4, &moment);
     write_units(room, n);
 }
 
@@ -47,7 +47,7 @@ fn show_date(day: u32) {
     write_byte(b'\n');
 }
 
-fn half_day(hour: u32) -> u8 {
+fn half_day(hour: u64) -> u8 {
     if calendar::is_afternoon(hour) {
         return b'P';
     }
@@ -62,18 +62,16 @@ fn show_clock(ms: u32) {
     write_number(clock.second as u64);
     write_number(clock.thousandth as u64);
     write_number(calendar::twelve_hour(clock.hour) as u64);
-    write_byte(half_day(clock.hour));
+    write_byte(half_day(clock.hour as u64));
 }
 
 fn show_time(day: u32, ms: u32) {
     show_clock(ms);
     write_byte(b' ');
-    write_number(calendar::elapsed_hours(Day(day), Millisecond(ms)));
-    write_number(calendar::elapsed_minutes(Day(day), Millisecond(ms)));
-    io::print_decimal(
-        STDOUT_FILENO,
-        calendar::elapsed_seconds(Day(day), Millisecond(ms)),
-    );
+    let total = calendar::since_day_zero(Day(day), Millisecond(ms));
+    write_number(calendar::elapsed_hours(total));
+    write_number(calendar::elapsed_minutes(total));
+    io::print_decimal(STDOUT_FILENO, calendar::elapsed_seconds(total));
     write_byte(b'\n');
 }
 

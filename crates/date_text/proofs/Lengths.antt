@@ -12,13 +12,13 @@ use borrow.Author.Tests.{leb-true, leb-false}
 use Rattle.lists.proofs.Bools.{by-cases, cond-both}
 use Rattle.figures.specs.Digits.{width, numeral}
 use Rattle.figures.proofs.Digits.{digitUnits-length, width-most}
-use Rattle.calendar.specs.Names.{units, shortName, firstLetter, monthName, weekdayName}
+use Rattle.calendar.specs.Names.{units, shortName, firstLetter}
 use Rattle.calendar.specs.Clock.{afternoon}
 use Rattle.formats.specs.Tokens.{HalfDay, short, long}
-use Rattle.formats.specs.Text.{Context, yearUnits, namedUnits, hourShown, partUnits, halfUnits, itemUnits}
+use Rattle.formats.specs.Text.{Context, yearUnits, namedUnits, partUnits, halfUnits, itemUnits}
 use Rattle.tables.specs.Encode.{entry}
 use Rattle.tables.specs.Decode.{halfAt, itemAt}
-use Rattle.tables.proofs.BackEntries.{span-at, late-tag}
+use Rattle.tables.proofs.BackEntries.{also, span-at, late-tag}
 use Rattle.writing.proofs.Numerals.{numeral-short}
 use Rattle.date_text.proofs.Letters.{month-spelt, weekday-spelt}
 
@@ -64,37 +64,12 @@ item-length c q tag a h =
     by-cases (leb tag 20)
     (λ t.
     let l = leb-true tag 20 t in
-    span-at (λ (t : ℕ). length (itemUnits c q (itemAt (entry t a))) ≤ a + 25) 11 10 tag (
-      year-length a (c .date .year),
-      (
-        named-length a (c .date .month) (monthName (c .date .month)) (month-spelt (c .date .month) _ refl .short),
-        (
-          named-length a (c .date .dayOfMonth) (weekdayName (c .date .weekday)) (weekday-spelt (c .date .weekday) _ refl .short),
-          (
-            numeral-length a (hourShown (c .twelve) (c .clock .hour)),
-            (
-              numeral-length a (c .clock .minute),
-              (
-                numeral-length a (c .clock .second),
-                (
-                  part-length a (c .clock .thousandth),
-                  (
-                    numeral-length a _,
-                    (
-                      numeral-length a _,
-                      (
-                        numeral-length a _,
-                        tt,
-                      ),
-                    ),
-                  ),
-                ),
-              ),
-            ),
-          ),
-        ),
-      ),
-    ) h (omega arith))
+    span-at (λ (t : ℕ). length (itemUnits c q (itemAt (entry t a))) ≤ a + 25) 11 10 tag
+    (also (year-length a _)
+    (also (named-length a _ _ (month-spelt (c .date .month) _ refl .short)) (also (named-length a _ _ (weekday-spelt (c .date .weekday) _ refl .short))
+    (also (numeral-length a _) (also (numeral-length a _) (also (numeral-length a _) (also (part-length a _)
+    (also (numeral-length a _) (also (numeral-length a _) (also (numeral-length a _) tt))))))))))
+    h (omega arith))
     (λ t.
     let l = leb-false tag 20 t in
     rw (late-tag tag a l) (omega (arith, half-length (halfAt a) (afternoon (c .clock .hour)))))

@@ -4,11 +4,11 @@ use Prim.Native.Nat.{ℕ, zero, suc, pred, _+_, _-_, _*_, _/_, _%_, _≤_, _<_}
 use Prim.Native.String.{String}
 use native.Mathlib.Omega.{arith}
 use mathlib.Core.Path.{_≡_, refl, sym, _∙_}
-use mathlib.Core.Bool.{Bool, _&&_}
+use mathlib.Core.Bool.{Bool, true, false, cond, _&&_}
 use mathlib.Core.List.{List, [], _∷_, _++_}
 use lib.ListN.{length, take, List·getD-eq-default}
 use lib.Seq.{take-all}
-use lib.Dec.{T, leb, leb→le}
+use lib.Dec.{T, leb, eqb, leb→le}
 use borrow.Author.Tests.{ne-eqb, le-leb, lt-leb}
 use Rattle.values.specs.Ranges.{between}
 use Rattle.lists.specs.Lists.{every}
@@ -17,7 +17,7 @@ use Rattle.lists.proofs.Tables.{each-passes}
 use Rattle.figures.specs.Digits.{numeral}
 use Rattle.calendar.specs.Names.{units, monthNames, weekdayNames, monthName, weekdayName, shortName, firstLetter}
 use Rattle.formats.specs.Text.{namedUnits}
-use Rattle.date_text.specs.Letters.{packed, lettersUpTo, Spells}
+use Rattle.date_text.specs.Letters.{packed, lettersUpTo, mostLetters, Spells}
 
 -- the first letter, and those behind it; no letter is left
 letters-next : (k n : ℕ) → ¬ (n ≡ 0) → lettersUpTo (suc k) n ≡ (n % 128 ∷ []) ++ lettersUpTo k (n / 128)
@@ -87,15 +87,12 @@ pub named-digits : (n number : ℕ) (name : List ℕ) → n ≤ 2 → namedUnits
 unfolding namedUnits
 named-digits n number name h = simp (le-leb n 2 h)
 
-module _ (n number : ℕ) {letters : ℕ} {name : List ℕ} (s : Spells letters name) where
-  pub named-short : n ≡ 3 → namedUnits n number name ≡ lettersUpTo 3 letters
-  unfolding namedUnits shortName
-  named-short e = rw e (sym (s .first 3))
-
-  pub named-whole : n ≡ 4 → namedUnits n number name ≡ lettersUpTo 9 letters
-  unfolding namedUnits
-  named-whole e = rw e (sym (s .first 9 ∙ take-all 9 name (s .short)))
-
-  pub named-first : 2 < n → ¬ (n ≡ 3) → ¬ (n ≡ 4) → namedUnits n number name ≡ lettersUpTo 1 letters
-  unfolding namedUnits firstLetter
-  named-first h f g = simp (lt-leb n 2 h, ne-eqb n 3 f, ne-eqb n 4 g) (sym (s .first 1))
+pub named-letters : (n number : ℕ) {letters : ℕ} {name : List ℕ} → Spells letters name → 2 < n
+    → namedUnits n number name ≡ lettersUpTo (mostLetters n) letters
+unfolding namedUnits shortName firstLetter
+named-letters n number {letters} {name} s h = simp (lt-leb n 2 h) (shown (eqb n 3) (eqb n 4))
+  where
+    shown : (a b : Bool) → cond a (take 3 name) (cond b name (take 1 name)) ≡ lettersUpTo (cond a 3 (cond b 9 1)) letters
+    shown true b = sym (s .first 3)
+    shown false true = sym (s .first 9 ∙ take-all 9 name (s .short))
+    shown false false = sym (s .first 1)

@@ -17,6 +17,10 @@ unfoldable pub lettersUpTo : ℕ → ℕ → List ℕ
 lettersUpTo zero n = []
 lettersUpTo (suc k) n = let r = lettersUpTo k (n / 128) in cond (eqb n 0) [] (n % 128 ∷ r)
 
+-- how many letters of a name a run of n shows, from three on
+abbrev pub mostLetters : ℕ → ℕ
+mostLetters n = cond (eqb n 3) 3 (cond (eqb n 4) 9 1)
+
 -- a number has the letters of a name, which are at most nine
 pub record Spells (letters : ℕ) (name : List ℕ) : Type 0 where
   pub first : (k : ℕ) → lettersUpTo k letters ≡ take k name

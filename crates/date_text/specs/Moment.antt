@@ -1,33 +1,57 @@
--- What the code finds once of an instant, and that it is what a context shows.
+-- The numbers that the code finds once of an instant, and that they are what a context shows.
 -- Assumes nothing.
 use Prim.Native.Nat.{ℕ}
 use mathlib.Core.Path.{_≡_}
-use mathlib.Core.Bool.{Bool, cond}
+use mathlib.Core.Bool.{Bool, cond, _&&_, _||_}
+use mathlib.Core.List.{List, [], _∷_}
+use lib.ListN.{getD}
+use lib.Dec.{eqb, ltb}
 use Rattle.values.specs.declared.Day.{Day}
 use Rattle.values.specs.declared.Millisecond.{Millisecond}
-use Rattle.calendar.specs.Date.{dateOf}
+use Rattle.values.specs.Ranges.{between}
+use Rattle.calendar.specs.Date.{Date, dateOf}
 use Rattle.calendar.specs.Clock.{clockOf, sinceDayZero}
-use Rattle.calendar.specs.Made.{madeDate, madeClock}
-use Rattle.formats.specs.Text.{Context}
-use Rattle.date_text.specs.declared.Moment.{Moment}
+use Rattle.calendar.specs.Names.{monthName, weekdayName}
+use Rattle.formats.specs.Text.{Context, hourShown}
+use Rattle.tables.specs.Words.{Entry}
 
--- the moment of a day and a millisecond of it
-abbrev pub momentOf : Bool → Day → Millisecond → Moment
-momentOf twelve d m =
-    record {
-      date = madeDate (dateOf (d .0));
-      clock = madeClock (clockOf (m .0));
-      twelve = twelve;
-      day = d;
-      millisecond = m;
-    }
+-- the entry is that of a year, a month or a day
+abbrev pub datedEntry : Entry → Bool
+datedEntry e = between 11 13 (e .tag)
 
--- a moment is the one that a context shows
-pub record MomentIs (m : Moment) (c : Context) : Type 0 where
-  pub date : m .date ≡ madeDate (c .date)
-  pub clock : m .clock ≡ madeClock (c .clock)
-  pub twelve : m .twelve ≡ c .twelve
-  pub elapsed : sinceDayZero (m .day .0) (m .millisecond .0) ≡ c .elapsed
+-- the date of a day where it is shown, else noughts
+abbrev pub dateShown : Bool → ℕ → Date
+dateShown dated day = cond dated (dateOf day) (record { year = 0; month = 0; dayOfMonth = 0; weekday = 0 })
+
+-- a moment: the numbers of a day and a millisecond of it that items show. The first six are at the tags of their items less 11.
+abbrev pub momentOf : Bool → Bool → Day → Millisecond → List ℕ
+momentOf twelve dated d m =
+    let date = dateShown dated (d .0) in
+    let clock = clockOf (m .0) in
+    date .year ∷ date .month ∷ date .dayOfMonth ∷ hourShown twelve (clock .hour) ∷ clock .minute ∷ clock .second
+    ∷ date .weekday ∷ m .0 ∷ sinceDayZero (d .0) (m .0) ∷ []
+
+-- a moment's date is the one that a context shows
+pub record DateIs (m : List ℕ) (c : Context) : Type 0 where
+  pub year : getD m 0 0 ≡ c .date .year
+  pub month : getD m 1 0 ≡ c .date .month
+  pub dayOfMonth : getD m 2 0 ≡ c .date .dayOfMonth
+  pub weekday : getD m 6 0 ≡ c .date .weekday
+
+-- its clock and its count since day 0 are
+pub record ClockIs (m : List ℕ) (c : Context) : Type 0 where
+  pub hour : getD m 3 0 ≡ hourShown (c .twelve) (c .clock .hour)
+  pub minute : getD m 4 0 ≡ c .clock .minute
+  pub second : getD m 5 0 ≡ c .clock .second
+  pub clock : clockOf (getD m 7 0) ≡ c .clock
+  pub elapsed : getD m 8 0 ≡ c .elapsed
+
+-- a month or a day is shown by its name, and which name
+abbrev pub isNamed : ℕ → ℕ → Bool
+isNamed tag n = (eqb tag 12 || eqb tag 13) && ltb 2 n
+
+abbrev pub nameShown : ℕ → List ℕ → List ℕ
+nameShown tag m = cond (eqb tag 12) (monthName (getD m 1 0)) (weekdayName (getD m 6 0))
 
 -- the first letter of a half-day mark
 unfoldable pub halfLetter : Bool → ℕ

@@ -1,22 +1,28 @@
 // Writes what the items of a date section show of an instant. Their texts are defined in formats/specs/Text.antt.
-use calendar::Clock;
+pub mod numbers;
+
 use calendar::Date;
 use tables::tags;
 use values::Day;
 use values::Millisecond;
+use writing::put_numeral;
+use writing::put_unit;
 use writing::units;
 ghost use mathlib.Core.Path.{_≡_};
-ghost use mathlib.Core.List.{List};
+ghost use mathlib.Core.Bool.{true, _&&_, _||_};
 ghost use Prim.Native.Nat.{ℕ, _-_, _/_, _<_, _^_};
-ghost use Rattle.formats.specs.Text.{Context, yearUnits, namedUnits, hourShown, partUnits, halfUnits, itemUnits};
+ghost use lib.Dec.{eqb, ltb};
+ghost use Rattle.formats.specs.Text.{Context, yearUnits, hourShown, partUnits, halfUnits, itemUnits};
+ghost use Rattle.lists.specs.Lists.{any};
 ghost use Rattle.calendar.specs.Clock.{afternoon};
+ghost use Rattle.calendar.specs.Made.{madeDate};
 ghost use Rattle.calendar.specs.Names.{monthName, weekdayName};
+ghost use Rattle.tables.specs.Words.{entriesIn};
 ghost use Rattle.tables.specs.Encode.{entry};
 ghost use Rattle.tables.specs.Decode.{halfAt, itemAt};
-ghost use Rattle.figures.specs.Digits.{numeral};
 ghost use Rattle.writing.specs.Put.{Put};
-ghost use Rattle.date_text.specs.Letters.{packed, lettersUpTo, Spells};
-ghost use Rattle.date_text.specs.Moment.{halfLetter, momentOf, MomentIs};
+ghost use Rattle.date_text.specs.Letters.{packed, lettersUpTo, mostLetters};
+ghost use Rattle.date_text.specs.Moment.{datedEntry, dateShown, momentOf, nameShown, isNamed, DateIs, ClockIs, halfLetter};
 
 const LETTER_A: u16 = 65;
 
@@ -24,42 +30,81 @@ const LETTER_M: u16 = 77;
 
 const LETTER_P: u16 = 80;
 
-// All that the items of a date section show of an instant, found once. `twelve`: the hours are those of a 12-hour clock.
-pub struct Moment {
-    pub date: Date,
-    pub clock: Clock,
-    pub twelve: bool,
-    pub day: Day,
-    pub millisecond: Millisecond,
+// Whether an item among these words shows the date: a year, a month or a day.
+pub fn shows_date(items: &[u16]) -> bool
+    ensures { λ r. ⌜ r ≡ any datedEntry (entriesIn (now (items .entry))) ⌝ }
+{
+    let n = items.len() / 2;
+    let mut k: usize = 0;
+    while k < n {
+        let tag = items[2 * k];
+        if (tags::YEAR <= tag) & (tag <= tags::DAY) {
+            return true;
+        }
+        k += 1;
+    }
+    false
 }
 
-// The moment of a day and a millisecond of it.
-pub fn moment_of(twelve: bool, d: Day, m: Millisecond) -> Moment
-    ensures { λ r. ⌜ r ≡ momentOf twelve d m ⌝ }
+// The date of a day where it is shown. Where it is not the calendar is not asked.
+fn date_shown(dated: bool, d: Day) -> Date
+    ensures { λ r. ⌜ r ≡ madeDate (dateShown dated (d .0)) ⌝ }
 {
-    Moment {
-        date: calendar::date_of(d),
-        clock: calendar::clock_of(m),
-        twelve: twelve,
-        day: d,
-        millisecond: m,
+    if dated {
+        return calendar::date_of(d);
+    }
+    Date {
+        year: 0,
+        month: 0,
+        day: 0,
+        weekday: 0,
     }
 }
 
+fn hour_shown(twelve: bool, hour: u32) -> u32
+    ensures { λ r. ⌜ r ≡ hourShown twelve hour ⌝ }
+{
+    if twelve {
+        return calendar::twelve_hour(hour);
+    }
+    hour
+}
+
+// All that items show of a day and a millisecond of it, at the places that `numbers` names, found once: the hour as a 12-hour clock
+// has it where `twelve` says so, the date where `dated` does.
+pub fn moment_of(twelve: bool, dated: bool, d: Day, m: Millisecond) -> [u64; 9]
+    ensures { λ r. ⌜ r ≡ momentOf twelve dated d m ⌝ }
+{
+    let date = date_shown(dated, d);
+    let clock = calendar::clock_of(m);
+    let hour = hour_shown(twelve, clock.hour);
+    [
+        date.year as u64,
+        date.month as u64,
+        date.day as u64,
+        hour as u64,
+        clock.minute as u64,
+        clock.second as u64,
+        date.weekday as u64,
+        m.0 as u64,
+        calendar::since_day_zero(d, m),
+    ]
+}
+
 // Two digits of the year, or four.
-fn put_year(room: &mut [u16], at: usize, n: u32, year: u32) -> usize
+fn put_year(room: &mut [u16], at: usize, n: u32, year: u64) -> usize
     requires { ⌜ at < 2 ^ 62 ⌝ }
     ensures { λ r. ⌜ Put (now (room .entry)) at (yearUnits n year) r (now (room .exit)) ⌝ }
 {
     if n == 2 {
-        return writing::put_numeral(room, at, 2, (year % 100) as u64);
+        return put_numeral(room, at, 2, year % 100);
     }
-    writing::put_numeral(room, at, 4, year as u64)
+    put_numeral(room, at, 4, year)
 }
 
 // The letters of a month's name in one number; none from month 13 on, and month 0 is named as month 1.
 // (No table: a constant array would be built anew at each reading.)
-fn month_letters(month: u32) -> u64
+fn month_letters(month: u64) -> u64
     ensures { λ r. ⌜ r ≡ packed (monthName month) ⌝ }
 {
     match month {
@@ -81,7 +126,7 @@ fn month_letters(month: u32) -> u64
 }
 
 // The letters of a weekday's name in one number, Saturday being 0; none from weekday 7 on.
-fn weekday_letters(weekday: u32) -> u64
+fn weekday_letters(weekday: u64) -> u64
     ensures { λ r. ⌜ r ≡ packed (weekdayName weekday) ⌝ }
 {
     match weekday {
@@ -108,48 +153,45 @@ fn put_letters(room: &mut [u16], at: usize, most: u32, letters: u64) -> usize
         if rest == 0 {
             return o;
         }
-        o = writing::put_unit(room, o, (rest % 128) as u16);
+        o = put_unit(room, o, (rest % 128) as u16);
         rest /= 128;
         left -= 1;
     }
     o
 }
 
-// A month or a day: one or two digits, the short name, the name, or its first letter.
-fn put_named(room: &mut [u16], at: usize, n: u32, number: u32, letters: u64) -> usize
-    requires { ⌜ at < 2 ^ 62 ⌝ }
-    ensures { λ r. ⌜ ((name : List ℕ) → Spells letters name → Put (now (room .entry)) at (namedUnits n number name) r (now (room .exit))) ⌝ }
+// How many letters of a name a run of n shows, from three on: three, all of them, or the first.
+fn most_letters(n: u32) -> u32
+    ensures { λ r. ⌜ r ≡ mostLetters n ⌝ }
 {
-    if n <= 2 {
-        return writing::put_numeral(room, at, n, number as u64);
-    }
     if n == 3 {
-        return put_letters(room, at, 3, letters);
+        return 3;
     }
     if n == 4 {
-        return put_letters(room, at, 9, letters);
+        return 9;
     }
-    put_letters(room, at, 1, letters)
+    1
 }
 
-fn hour_shown(twelve: bool, hour: u32) -> u32
-    ensures { λ r. ⌜ r ≡ hourShown twelve hour ⌝ }
+// Whether an item is a month or a day that is shown by its name.
+fn is_named(tag: u16, n: u32) -> bool
+    ensures { λ r. ⌜ r ≡ isNamed tag n ⌝ }
 {
-    if twelve {
-        return calendar::twelve_hour(hour);
-    }
-    hour
+    ((tag == tags::MONTH) | (tag == tags::DAY)) & (2 < n)
 }
 
-fn put_hour(room: &mut [u16], at: usize, n: u32, twelve: bool, hour: u32) -> usize
-    requires { ⌜ at < 2 ^ 62 ⌝ }
-    ensures { λ r. ⌜ Put (now (room .entry)) at (numeral n (hourShown twelve hour)) r (now (room .exit)) ⌝ }
+// The letters of the name of a moment's month, or of its day.
+fn name_letters(tag: u16, m: &[u64; 9]) -> u64
+    ensures { λ r. ⌜ r ≡ packed (nameShown tag (now (m .entry))) ⌝ }
 {
-    writing::put_numeral(room, at, n, hour_shown(twelve, hour) as u64)
+    if tag == tags::MONTH {
+        return month_letters(m[numbers::MONTH]);
+    }
+    weekday_letters(m[numbers::WEEKDAY])
 }
 
 // The thousandths cut to n digits.
-fn cut_part(n: u32, thousandth: u32) -> u32
+fn cut_part(n: u32, thousandth: u64) -> u64
     ensures { λ r. ⌜ r ≡ thousandth / 10 ^ (3 - n) ⌝ }
 {
     match n {
@@ -160,16 +202,16 @@ fn cut_part(n: u32, thousandth: u32) -> u32
     }
 }
 
-fn put_part(room: &mut [u16], at: usize, n: u32, thousandth: u32) -> usize
+fn put_part(room: &mut [u16], at: usize, n: u32, thousandth: u64) -> usize
     requires { ⌜ at < 2 ^ 62 ⌝ }
     ensures { λ r. ⌜ Put (now (room .entry)) at (partUnits n thousandth) r (now (room .exit)) ⌝ }
 {
-    let a = writing::put_unit(room, at, units::POINT);
-    writing::put_digits(room, a, n, cut_part(n, thousandth) as u64)
+    let a = put_unit(room, at, units::POINT);
+    writing::put_digits(room, a, n, cut_part(n, thousandth))
 }
 
 // The first letter of a half-day mark.
-fn half_letter(hour: u32) -> u16
+fn half_letter(hour: u64) -> u16
     ensures { λ r. ⌜ r ≡ halfLetter (afternoon hour) ⌝ }
 {
     if calendar::is_afternoon(hour) {
@@ -181,50 +223,50 @@ fn half_letter(hour: u32) -> u16
 // What a half-day mark's item has in a table for A or P; else it is AM or PM.
 const SHORT_MARK: u32 = 1;
 
-fn put_half(room: &mut [u16], at: usize, mark: u32, hour: u32) -> usize
+fn put_half(room: &mut [u16], at: usize, mark: u32, hour: u64) -> usize
     requires { ⌜ at < 2 ^ 62 ⌝ }
     ensures { λ r. ⌜ Put (now (room .entry)) at (halfUnits (halfAt mark) (afternoon hour)) r (now (room .exit)) ⌝ }
 {
-    let a = writing::put_unit(room, at, half_letter(hour));
+    let a = put_unit(room, at, half_letter(hour));
     if mark == SHORT_MARK {
         return a;
     }
-    writing::put_unit(room, a, LETTER_M)
+    put_unit(room, a, LETTER_M)
+}
+
+// Puts the text of an item from a part of a second on, by its tag: few codes have one.
+fn put_rare_item(room: &mut [u16], at: usize, tag: u16, n: u32, m: &[u64; 9]) -> usize
+    requires { ⌜ (at < 2 ^ 62) × (16 < tag) ⌝ }
+    ensures { λ r. ⌜ ((c : Context) (q : ℕ) → ClockIs (now (m .entry)) c
+        → Put (now (room .entry)) at (itemUnits c q (itemAt (entry tag n))) r (now (room .exit))) ⌝ }
+{
+    let ms = m[numbers::MILLISECOND];
+    let total = m[numbers::ELAPSED];
+    match tag {
+        tags::PART => put_part(room, at, n, ms % 1000),
+        tags::ELAPSED_HOURS => put_numeral(room, at, n, calendar::elapsed_hours(total)),
+        tags::ELAPSED_MINUTES => put_numeral(room, at, n, calendar::elapsed_minutes(total)),
+        tags::ELAPSED_SECONDS => put_numeral(room, at, n, calendar::elapsed_seconds(total)),
+        _ => put_half(room, at, n, ms / 3600000),
+    }
 }
 
 // Puts the text of a date section's item that a table has under a tag above that of `@`.
-pub fn put_moment_item(room: &mut [u16], at: usize, tag: u16, argument: u16, m: Moment) -> usize
+pub fn put_moment_item(room: &mut [u16], at: usize, tag: u16, argument: u16, m: &[u64; 9]) -> usize
     requires { ⌜ (at < 2 ^ 62) × (10 < tag) ⌝ }
-    ensures { λ r. ⌜ ((c : Context) (q : ℕ) → MomentIs m c →
-        Put (now (room .entry)) at (itemUnits c q (itemAt (entry tag argument))) r (now (room .exit))) ⌝ }
+    ensures { λ r. ⌜ ((c : Context) (q : ℕ) → ClockIs (now (m .entry)) c → (datedEntry (entry tag argument) ≡ true → DateIs (now (m .entry)) c)
+        → Put (now (room .entry)) at (itemUnits c q (itemAt (entry tag argument))) r (now (room .exit))) ⌝ }
 {
     let n = argument as u32;
-    match tag {
-        tags::YEAR => put_year(room, at, n, m.date.year),
-        tags::MONTH => put_named(room, at, n, m.date.month, month_letters(m.date.month)),
-        tags::DAY => put_named(room, at, n, m.date.day, weekday_letters(m.date.weekday)),
-        tags::HOUR => put_hour(room, at, n, m.twelve, m.clock.hour),
-        tags::MINUTE => writing::put_numeral(room, at, n, m.clock.minute as u64),
-        tags::SECOND => writing::put_numeral(room, at, n, m.clock.second as u64),
-        tags::PART => put_part(room, at, n, m.clock.thousandth),
-        tags::ELAPSED_HOURS => writing::put_numeral(
-            room,
-            at,
-            n,
-            calendar::elapsed_hours(m.day, m.millisecond),
-        ),
-        tags::ELAPSED_MINUTES => writing::put_numeral(
-            room,
-            at,
-            n,
-            calendar::elapsed_minutes(m.day, m.millisecond),
-        ),
-        tags::ELAPSED_SECONDS => writing::put_numeral(
-            room,
-            at,
-            n,
-            calendar::elapsed_seconds(m.day, m.millisecond),
-        ),
-        _ => put_half(room, at, n, m.clock.hour),
+    if tags::PART <= tag {
+        return put_rare_item(room, at, tag, n, m);
     }
+    if is_named(tag, n) {
+        return put_letters(room, at, most_letters(n), name_letters(tag, m));
+    }
+    let number = m[(tag - tags::YEAR) as usize];
+    if tag == tags::YEAR {
+        return put_year(room, at, n, number);
+    }
+    put_numeral(room, at, n, number)
 }

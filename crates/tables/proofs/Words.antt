@@ -2,7 +2,7 @@
 -- Assumes nothing.
 use Prim.Native.Nat.{ℕ, zero, suc, _+_, _-_, _*_, _/_, _≤_, _<_}
 use native.Mathlib.Omega.{arith}
-use native.Mathlib.Nat.{mul-suc}
+use native.Mathlib.Nat.{mul-suc, sub-zero}
 use mathlib.Core.Path.{_≡_, refl, sym, _∙_, ap, ap₂}
 use mathlib.Core.Bool.{Bool, true, false, _&&_}
 use mathlib.Core.List.{List, [], _∷_, _++_, map}
@@ -105,6 +105,28 @@ entries-front words n k h =
     let two : 2 * (k + 1) ≡ 2 * k + 2 = omega arith in
     let nought : 2 * k + 0 ≡ 2 * k = omega arith in
     rw (one, two, getD-drop (2 * k) words 0 0, getD-drop (2 * k) words 1 0, drop-drop 2 (2 * k) words, nought)
+
+-- a loop over the entries in words, before the k-th of n: f tells of all what it tells of those that are left
+pub record Seeking {A : Type 0} (f : List Entry → A) (words : List ℕ) (n k : ℕ) : Type 0 where
+  pub items : n ≡ length words / 2
+  pub inside : k ≤ n
+  pub same : f (entriesIn words) ≡ f (entriesLeft words n k)
+
+pub seeking-start : {A : Type 0} (f : List Entry → A) (words : List ℕ) (n : ℕ) → n ≡ length words / 2 → Seeking f words n 0
+unfolding entriesIn
+seeking-start f words n e = record { items = e; inside = omega arith; same = rw (sub-zero n, e) }
+
+module _ {A : Type 0} {f : List Entry → A} {words : List ℕ} {n k : ℕ} (s : Seeking f words n k) where
+  pub seeking-front : k < n
+      → f (entriesIn words) ≡ f (record { tag = getD words (2 * k) 0; argument = getD words (2 * k + 1) 0 } ∷ entriesLeft words n (k + 1))
+  seeking-front h = s .same ∙ ap f (entries-front words n k h)
+
+  pub seeking-step : k < n → f (entriesIn words) ≡ f (entriesLeft words n (k + 1)) → Seeking f words n (k + 1)
+  seeking-step h e = record { items = s .items; inside = omega arith; same = e }
+
+  pub seeking-end : n ≤ k → f (entriesIn words) ≡ f []
+  unfolding entriesAt
+  seeking-end h = let none : n - k ≡ 0 = omega arith in s .same ∙ rw none
 
 length-bodies : (rs : List Row) (ws : List ℕ) → Counted rs → length (bodiesWords rs ws) ≡ 2 * itemsSaid (headsOf rs) + length ws
 unfolding bodiesWords itemsSaid headsOf

@@ -6,25 +6,10 @@ use borrow.Author.Needs.{needs}
 use Rattle.date_text.proofs.put_half.Statement.{statement}
 use Rattle.date_text.proofs.put_half.Tie as tie
 
-half-letter-requires : tie.Need-half-letter-requires
-half-letter-requires c κs = search needs
-
-put-unit-requires : tie.Need-put-unit-requires
-put-unit-requires c κs = search needs
-
-same-length : tie.Need-same-length
-same-length c = search needs
-
 returns : tie.Need-returns
 returns c =
     let p = c .before .before .before in
     rw (half-short _ _ (c .if1 .taken), ← p .before .half-letter .ensures) (p .put-unit .ensures)
-
-put-unit-requires-2 : tie.Need-put-unit-requires-2
-put-unit-requires-2 c κs = search needs
-
-same-length-2 : tie.Need-same-length-2
-same-length-2 c = search needs
 
 returns-2 : tie.Need-returns-2
 returns-2 c =
@@ -37,10 +22,10 @@ pub put-half-spec : {M : Type 1} → statement M
 put-half-spec =
     tie.close
     (tie.spec
-    half-letter-requires
-    put-unit-requires
-    same-length
+    (λ c κs. search needs)
+    (λ c κs. search needs)
+    (λ c. search needs)
     returns
-    put-unit-requires-2
-    same-length-2
+    (λ c κs. search needs)
+    (λ c. search needs)
     returns-2)

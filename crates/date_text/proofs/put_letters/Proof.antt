@@ -18,28 +18,10 @@ Inv-loop room₀ at most letters left₀ rest₀ o₀ room left rest o =
 abbrev μ-loop : tie.MeasureT-loop
 μ-loop room₀ at most letters left₀ rest₀ o₀ room left rest o = left
 
-loop-holds : tie.Need-loop-holds Inv-loop μ-loop
-loop-holds c = search needs
-
-same-length : tie.Need-same-length Inv-loop μ-loop
-same-length c = search needs
-
 returns : tie.Need-returns Inv-loop μ-loop
 returns c =
     let l = c .before .before .loop in
     rest-done (rw (c .if1 .taken, letters-none) at (l .inv .0))
-
-cast-put-unit : tie.Need-cast-put-unit Inv-loop μ-loop
-cast-put-unit c = search needs
-
-put-unit-requires : tie.Need-put-unit-requires Inv-loop μ-loop
-put-unit-requires c κs = search needs
-
-sub-left : tie.Need-sub-left Inv-loop μ-loop
-sub-left c = search needs
-
-loop-less : tie.Need-loop-less Inv-loop μ-loop
-loop-less c = search needs
 
 loop-again : tie.Need-loop-again Inv-loop μ-loop
 loop-again c =
@@ -47,9 +29,6 @@ loop-again c =
     let t = p .before .before in
     let l = t .before .before .loop in
     (rest-put (rw (letters-step _ _ (t .before .loop-test .taken) (t .if1 .left)) at (l .inv .0)) (p .put-unit .ensures), search needs)
-
-same-length-2 : tie.Need-same-length-2 Inv-loop μ-loop
-same-length-2 c = search needs
 
 returns-2 : tie.Need-returns-2 Inv-loop μ-loop
 returns-2 c =
@@ -63,13 +42,13 @@ put-letters-spec =
     (tie.spec
     Inv-loop
     μ-loop
-    loop-holds
-    same-length
+    (λ c. search needs)
+    (λ c. search needs)
     returns
-    cast-put-unit
-    put-unit-requires
-    sub-left
-    loop-less
+    (λ c. search needs)
+    (λ c κs. search needs)
+    (λ c. search needs)
+    (λ c. search needs)
     loop-again
-    same-length-2
+    (λ c. search needs)
     returns-2)

@@ -6,21 +6,6 @@ use borrow.Author.Needs.{needs}
 use Rattle.date_text.proofs.put_part.Statement.{statement}
 use Rattle.date_text.proofs.put_part.Tie as tie
 
-put-unit-requires : tie.Need-put-unit-requires
-put-unit-requires c κs = search needs
-
-cut-part-requires : tie.Need-cut-part-requires
-cut-part-requires c κs = search needs
-
-cast-put-digits : tie.Need-cast-put-digits
-cast-put-digits c = search needs
-
-put-digits-requires : tie.Need-put-digits-requires
-put-digits-requires c κs = search needs
-
-same-length : tie.Need-same-length
-same-length c = search needs
-
 returns : tie.Need-returns
 unfolding partUnits
 returns c =
@@ -30,10 +15,4 @@ returns c =
 pub put-part-spec : {M : Type 1} → statement M
 put-part-spec =
     tie.close
-    (tie.spec
-    put-unit-requires
-    cut-part-requires
-    cast-put-digits
-    put-digits-requires
-    same-length
-    returns)
+    (tie.spec (λ c κs. search needs) (λ c κs. search needs) (λ c κs. search needs) (λ c. search needs) returns)
