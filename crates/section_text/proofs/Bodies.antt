@@ -5,22 +5,49 @@ use mathlib.Core.Path.{_≡_, sym, ap, subst, _∙_}
 use mathlib.Core.Bool.{Bool}
 use mathlib.Core.List.{List, _++_}
 use lib.ListN.{length}
+use Rattle.lists.specs.Lists.{any}
 use Rattle.answers.specs.declared.Shown.{Shown}
-use Rattle.formats.specs.Items.{Item, Section, Kind, kindOf, integerPlaces}
+use Rattle.formats.specs.Items.{Item, Section, dateKind, kindOf, integerPlaces}
 use Rattle.formats.specs.Text.{Context, itemsUnits, sectionUnits}
 use Rattle.formats.specs.Reading.{Reading, lookOf, within}
 use Rattle.tables.specs.Words.{entriesIn}
+use Rattle.tables.specs.Encode.{entriesFrom, entriesOf}
 use Rattle.tables.specs.Decode.{itemsAt}
+use Rattle.tables.proofs.BackEntries.{entries-back}
 use Rattle.table_words.specs.Sections.{ItemsOf}
-use Rattle.section_text.specs.Walk.{EntriesFit, Ready}
+use Rattle.date_text.specs.Moment.{datedEntry}
+use Rattle.section_text.specs.declared.Subject.{Subject}
+use Rattle.section_text.specs.Subject.{SubjectIs}
+use Rattle.section_text.specs.Walk.{EntriesFit, Ready, MomentIs, DatedIs, Known, DatedKnown}
 use Rattle.section_text.specs.Show.{signText, sectionReading, Shows}
 
 module _ {z : Section} {words : List ℕ} (o : ItemsOf z words) where
   pub items-fit : EntriesFit (kindOf z) (14 + integerPlaces (z .items)) (entriesIn words)
   items-fit = record { inRange = o .inRange; allowed = o .allowed; powers = o .powers }
 
-  pub items-ready : {P : Kind → Context → Type 0} (c : Context) → P (kindOf z) c → Ready P words
-  items-ready c i = record { context = c; kind = kindOf z; power = 14 + integerPlaces (z .items); subject = i; fit = items-fit }
+  -- their entries are those of the section
+  pub items-entries : entriesIn words ≡ entriesOf (z .items)
+  unfolding entriesOf
+  items-entries = sym (ap (entriesFrom (14 + integerPlaces (z .items))) (o .items) ∙ entries-back (14 + integerPlaces (z .items)) (entriesIn words) (o .inRange) (o .powers))
+
+  -- so a moment that is what a context shows of the section is what it shows of the words
+  pub items-moment : {m : List ℕ} {c : Context} → kindOf z ≡ dateKind → MomentIs m (any datedEntry (entriesOf (z .items))) c
+      → DatedIs m (any datedEntry (entriesIn words)) (kindOf z) c
+  items-moment e i = (e, rw items-entries i)
+
+  -- words that are ready for a subject, and for a moment
+  pub items-ready : {digits : List ℕ} {s : Subject} {text : List ℕ} → Known (kindOf z) digits s text → Ready (λ k. SubjectIs k digits s text) words
+  items-ready k = record { context = k .context; kind = kindOf z; power = 14 + integerPlaces (z .items); subject = k .is; fit = items-fit }
+
+  pub dated-ready : {m : List ℕ} → kindOf z ≡ dateKind → DatedKnown m (any datedEntry (entriesOf (z .items)))
+      → Ready (DatedIs m (any datedEntry (entriesIn words))) words
+  dated-ready e k = record {
+    context = k .context;
+    kind = kindOf z;
+    power = 14 + integerPlaces (z .items);
+    subject = items-moment e (k .is);
+    fit = items-fit;
+  }
 
   -- what is shown of the words is what is shown of the section
   pub items-shows : {old out : List ℕ} {r : Shown} {colour : ℕ} (i : ℕ) (minus : Bool) (c : Context)

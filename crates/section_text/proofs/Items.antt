@@ -12,6 +12,7 @@ use Rattle.values.specs.Ranges.{between}
 use Rattle.formats.specs.Items.{Kind, dateKind, sameKind, itemAllowed}
 use Rattle.formats.specs.Tokens.{Place}
 use Rattle.formats.specs.Text.{Context, itemUnits, placeUnits}
+use Rattle.tables.specs.Words.{Entry}
 use Rattle.tables.specs.Encode.{entry}
 use Rattle.tables.specs.Decode.{itemAt}
 use Rattle.tables.specs.Rules.{entryInRange}
@@ -20,9 +21,10 @@ use Rattle.figures.proofs.Past.{Apart, past}
 use Rattle.figure_text.specs.declared.Figures.{Figures}
 use Rattle.figure_text.specs.Shown.{DigitsAre, FiguresAre, placeOfTag}
 use Rattle.writing.specs.Put.{Put}
+use Rattle.date_text.specs.Moment.{datedEntry}
 use Rattle.section_text.specs.declared.Subject.{Subject}
 use Rattle.section_text.specs.Subject.{GeneralOf, StandsFor, SubjectIs}
-use Rattle.section_text.specs.Walk.{EntryFits}
+use Rattle.section_text.specs.Walk.{EntryFits, ItemPut, DatedIs}
 
 -- the figures of a context are digits of its number
 pub digits-of : {digits : List ℕ} {f : Figures} {c : Context} → FiguresAre digits f c → DigitsAre digits f (c .figures)
@@ -60,6 +62,11 @@ module _ (tag a : ℕ) (b : (4 ≤ tag) × (tag ≤ 6)) where
       (also (λ f put. put c q (i .numeric (f .allowed)) (eqb→eq a (suc q) (f .power)))
       (also (λ f put. put c q (i .numeric (f .allowed)) (eqb→eq a (suc q) (f .power)))
       (also (λ f put. put c q (i .numeric (f .allowed)) (eqb→eq a (suc q) (f .power))) tt))) (b .0) (omega arith)
+
+-- an item that is put where the date is known if the item shows it, is put where it is known if some item does
+pub dated-put : {m old out : List ℕ} {at r : ℕ} {dated : Bool} (e : Entry) → (datedEntry e ≡ true → dated ≡ true)
+    → ItemPut (DatedIs m (datedEntry e)) e old at r out → ItemPut (DatedIs m dated) e old at r out
+dated-put e h p c k q i f = p c k q (i .0, record { clock = i .1 .clock; date = λ t. i .1 .date (h t) }) f
 
 -- of the tags from a fill's up to that of `@` a date-time section holds the fill's
 pub dated-fill : (k : Kind) (q tag a : ℕ) → k ≡ dateKind → 3 ≤ tag → tag ≤ 10 → EntryFits k q (entry tag a) → tag ≡ 3

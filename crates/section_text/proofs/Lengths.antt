@@ -27,7 +27,6 @@ use Rattle.tables.proofs.BackEntries.{between-facts, items-ranged}
 use Rattle.tables.proofs.Words.{entriesAt-length}
 use Rattle.writing.proofs.Numerals.{numeral-short}
 use Rattle.figure_text.specs.declared.Figures.{Figures}
-use Rattle.date_text.specs.declared.Moment.{Moment}
 use Rattle.date_text.proofs.Letters.{month-spelt, weekday-spelt}
 use Rattle.section_text.specs.declared.Subject.{Subject}
 use Rattle.section_text.specs.Subject.{StandsFor, SubjectIs}
@@ -179,7 +178,7 @@ module _ (n : ℕ) (words : List ℕ) (h : 82 ≤ n) where
       words-short c k n h (λ g. short (i .general g)) (λ a. short (i .textual a)) q words f
 
   -- of a date-time section, which has no General and no `@`
-  pub dated-short : {m : Moment} → OfText (DatedIs m) words (λ us. length us ≤ n * (length words / 2))
+  pub dated-short : {m : List ℕ} {dated : Bool} → OfText (DatedIs m dated) words (λ us. length us ≤ n * (length words / 2))
   unfolding itemAllowed
   dated-short c k q i f = words-short c k n h (λ g. absurd (rw (i .0) at g)) (λ a. absurd (rw (i .0) at a)) q words f
 

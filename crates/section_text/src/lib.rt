@@ -5,23 +5,24 @@ ghost use mathlib.Core.List.{List, _++_};
 ghost use Prim.Native.Nat.{ℕ, suc, _+_, _*_, _≤_, _<_, _^_};
 ghost use lib.Dec.{T, leb};
 ghost use lib.ListN.{length, getD};
+ghost use Rattle.lists.specs.Lists.{any};
 ghost use Rattle.formats.specs.Items.{dateKind, kindOf, integerPlaces};
 ghost use Rattle.formats.specs.Reading.{lookOf, within};
 ghost use Rattle.formats.specs.Text.{Context, placeUnits};
-ghost use Rattle.tables.specs.Encode.{entry};
+ghost use Rattle.tables.specs.Words.{entriesIn};
+ghost use Rattle.tables.specs.Encode.{entry, entriesOf};
 ghost use Rattle.tables.specs.Rules.{entryInRange, passes};
 ghost use Rattle.table_words.specs.Sections.{sectionIn};
 ghost use Rattle.writing.specs.Put.{Put};
-ghost use Rattle.date_text.specs.Moment.{MomentIs};
+ghost use Rattle.date_text.specs.Moment.{datedEntry};
 ghost use Rattle.figure_text.specs.Shown.{FiguresAre, placeOfTag};
 ghost use Rattle.section_text.specs.Subject.{StandsFor, SubjectIs};
-ghost use Rattle.section_text.specs.Walk.{DatedIs, Ready, ItemPut, OfText, Known, DatedKnown};
+ghost use Rattle.section_text.specs.Walk.{MomentIs, DatedIs, Ready, ItemPut, OfText, Known, DatedKnown};
 ghost use Rattle.section_text.specs.Show.{signText, sectionReading, Shows};
 use answers::Answer;
 use answers::Shown;
 use answers::done_shown;
 use answers::refused_shown;
-use date_text::Moment;
 use figure_text::Figures;
 use table_words::head_of;
 use table_words::items_of;
@@ -202,9 +203,9 @@ fn show_items(
 }
 
 // Puts the text of a date-time section's item. (Its walker is one of its own: in the other it would slow down numbers.)
-fn put_dated_item(room: &mut [u16], at: usize, tag: u16, word: u16, m: Moment) -> usize
+fn put_dated_item(room: &mut [u16], at: usize, tag: u16, word: u16, m: &[u64; 9]) -> usize
     requires { ⌜ (at < 2 ^ 61) × T (entryInRange (entry tag word)) ⌝ }
-    ensures { λ r. ⌜ ItemPut (DatedIs m) (entry tag word) (now (room .entry)) at r (now (room .exit)) ⌝ }
+    ensures { λ r. ⌜ ItemPut (DatedIs (now (m .entry)) (datedEntry (entry tag word))) (entry tag word) (now (room .entry)) at r (now (room .exit)) ⌝ }
 {
     if tags::AT < tag {
         return date_text::put_moment_item(room, at, tag, word, m);
@@ -217,10 +218,10 @@ fn put_dated_item(room: &mut [u16], at: usize, tag: u16, word: u16, m: Moment) -
 }
 
 // Puts the text of a date-time section's items, whose words these are.
-fn put_dated_items(room: &mut [u16], items: &[u16], m: Moment) -> usize
-    requires { ⌜ (length (now items) ≤ 508) × Ready (DatedIs m) (now items) ⌝ }
+fn put_dated_items(room: &mut [u16], items: &[u16], m: &[u64; 9]) -> usize
+    requires { ⌜ (length (now items) ≤ 508) × Ready (DatedIs (now m) (any datedEntry (entriesIn (now items)))) (now items) ⌝ }
     ensures within { λ r. ⌜ r ≤ 260096 ⌝ }
-    ensures put { λ r. ⌜ OfText (DatedIs m) (now (items .entry)) (λ us. Put (now (room .entry)) 0 us r (now (room .exit))) ⌝ }
+    ensures put { λ r. ⌜ OfText (DatedIs (now (m .entry)) (any datedEntry (entriesIn (now (items .entry))))) (now (items .entry)) (λ us. Put (now (room .entry)) 0 us r (now (room .exit))) ⌝ }
 {
     let n = items.len() / 2;
     let mut k: usize = 0;
@@ -235,9 +236,9 @@ fn put_dated_items(room: &mut [u16], items: &[u16], m: Moment) -> usize
 }
 
 // Whether a room of this size takes a date-time section's text.
-fn takes_dated(size: usize, items: &[u16], m: Moment) -> bool
-    requires { ⌜ (length (now items) ≤ 508) × Ready (DatedIs m) (now items) ⌝ }
-    ensures { λ r. ⌜ OfText (DatedIs m) (now (items .entry)) (λ us. r ≡ leb (length us) size) ⌝ }
+fn takes_dated(size: usize, items: &[u16], m: &[u64; 9]) -> bool
+    requires { ⌜ (length (now items) ≤ 508) × Ready (DatedIs (now m) (any datedEntry (entriesIn (now items)))) (now items) ⌝ }
+    ensures { λ r. ⌜ OfText (DatedIs (now (m .entry)) (any datedEntry (entriesIn (now (items .entry))))) (now (items .entry)) (λ us. r ≡ leb (length us) size) ⌝ }
 {
     if is_roomy(size, items.len(), false) {
         return true;
@@ -247,22 +248,30 @@ fn takes_dated(size: usize, items: &[u16], m: Moment) -> bool
 }
 
 // Shows a date-time section's text where the room takes it.
-fn show_dated_items(room: &mut [u16], items: &[u16], m: Moment, colour: u16, section: u16) -> Shown
-    requires { ⌜ (length (now items) ≤ 508) × Ready (DatedIs m) (now items) ⌝ }
-    ensures { λ r. ⌜ OfText (DatedIs m) (now (items .entry))
+fn show_dated_items(
+    room: &mut [u16],
+    items: &[u16],
+    m: &[u64; 9],
+    colour: u16,
+    section: u16,
+) -> Shown
+    requires { ⌜ (length (now items) ≤ 508) × Ready (DatedIs (now m) (any datedEntry (entriesIn (now items)))) (now items) ⌝ }
+    ensures { λ r. ⌜ OfText (DatedIs (now (m .entry)) (any datedEntry (entriesIn (now (items .entry))))) (now (items .entry))
         (λ us. Shows (within (length (now (room .entry))) (lookOf us colour section)) (now (room .entry)) r (now (room .exit))) ⌝ }
 {
     if takes_dated(room.len(), items, m) {
-        let n = put_dated_items(room, items, m);
-        return done_shown(n as u32, colour, section);
+        let end = put_dated_items(room, items, m);
+        return done_shown(end as u32, colour, section);
     }
     refused_shown(Answer::TextRoom)
 }
 
 // Shows section i, which is a date-time section.
-pub fn show_dated_section(room: &mut [u16], table: &[u16], i: u16, m: Moment) -> Shown
-    requires { ⌜ T (passes (now table)) × (i < getD (now table) 0 0) × (kindOf (sectionIn (now table) i) ≡ dateKind) × DatedKnown m ⌝ }
-    ensures { λ r. ⌜ ((c : Context) → MomentIs m c → c .integerPlaces ≡ integerPlaces (sectionIn (now (table .entry)) i .items)
+pub fn show_dated_section(room: &mut [u16], table: &[u16], i: u16, m: &[u64; 9]) -> Shown
+    requires { ⌜ T (passes (now table)) × (i < getD (now table) 0 0) × (kindOf (sectionIn (now table) i) ≡ dateKind)
+        × DatedKnown (now m) (any datedEntry (entriesOf (sectionIn (now table) i .items))) ⌝ }
+    ensures { λ r. ⌜ ((c : Context) → MomentIs (now (m .entry)) (any datedEntry (entriesOf (sectionIn (now (table .entry)) i .items))) c
+        → c .integerPlaces ≡ integerPlaces (sectionIn (now (table .entry)) i .items)
         → Shows (sectionReading (length (now (room .entry))) (sectionIn (now (table .entry)) i) i false c) (now (room .entry)) r (now (room .exit))) ⌝ }
 {
     let h = head_of(table, i as usize);

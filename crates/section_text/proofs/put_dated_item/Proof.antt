@@ -25,7 +25,7 @@ put-dated-item-spec =
     (tie.spec
     (λ c κs. search needs)
     (λ c. search needs)
-    (λ c x k q i f. c .before .before .put-moment-item .ensures x q (i .1))
+    (λ c x k q i f. c .before .before .put-moment-item .ensures x q (i .1 .clock) (i .1 .date))
     (λ c κs. search needs)
     (λ c κs. search needs)
     (λ c. search needs)

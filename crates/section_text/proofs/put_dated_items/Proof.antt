@@ -3,7 +3,12 @@
 use Prim.Native.Nat.{_-_}
 use native.Mathlib.Omega.{arith}
 use mathlib.Core.Path.{refl}
+use Rattle.lists.specs.Lists.{any}
+use Rattle.tables.specs.Words.{entriesIn}
+use Rattle.date_text.specs.Moment.{datedEntry}
+use Rattle.date_text.proofs.Moments.{dated-at}
 use Rattle.section_text.specs.Walk.{DatedIs}
+use Rattle.section_text.proofs.Items.{dated-put}
 use Rattle.section_text.proofs.Walking.{Walking, walking-start, walking-in-range, walking-step, walking-end, walking-within, walking-size}
 use Rattle.section_text.proofs.Lengths.{dated-short, short-within}
 use borrow.Author.Needs.{needs}
@@ -11,7 +16,7 @@ use Rattle.section_text.proofs.put_dated_items.Statement.{statement}
 use Rattle.section_text.proofs.put_dated_items.Tie as tie
 
 abbrev Inv-loop : tie.InvT-loop
-Inv-loop room₀ items m n k₀ o₀ room k o = Walking (DatedIs m) room₀ 0 items n k room o
+Inv-loop room₀ items m n k₀ o₀ room k o = Walking (DatedIs m (any datedEntry (entriesIn items))) room₀ 0 items n k room o
 
 abbrev μ-loop : tie.MeasureT-loop
 μ-loop room₀ items m n k₀ o₀ room k o = n - k
@@ -31,7 +36,9 @@ loop-again : tie.Need-loop-again Inv-loop μ-loop
 loop-again c =
     let p = c .before .before in
     let t = p .before .before .before .before in
-    walking-step (t .before .loop .inv) (t .loop-test .taken) (p .put-dated-item .ensures)
+    let w = t .before .loop .inv in
+    let h = t .loop-test .taken in
+    walking-step w h (dated-put _ (dated-at _ _ _ (w .items) h) (p .put-dated-item .ensures))
 
 same-length : tie.Need-same-length Inv-loop μ-loop
 same-length c = walking-size (c .before .loop .inv)

@@ -13,7 +13,7 @@ show-items-requires c κs =
     let o = c .before in
     let p = o .before .before .before .before .before .pre in
     let e = o .items-of .ensures in
-    (p .2, p .3, e .few, items-ready e (p .4 .context) (p .4 .is))
+    (p .2, p .3, e .few, items-ready e (p .4))
 
 returns : tie.Need-returns
 unfolding headOf

@@ -14,7 +14,7 @@ returns : tie.Need-returns
 returns c =
     let e = c .before .is-roomy .ensures (c .if1 .taken) in
     let words = now (c .before .before .before .before .args .items) in
-    short-taken words (e .1) (subject-short 82 words (omega arith) (λ t. no (sym (e .0) ∙ t))) _
+    short-taken words (omega (arith, e .1)) (subject-short 82 words (omega arith) (λ t. no (sym (e .0) ∙ t))) _
 
 returns-2 : tie.Need-returns-2
 returns-2 c = λ x k q i f. measured _ (c .before .put-text .ensures .1 x k q i f)

@@ -15,7 +15,7 @@ unfolding signText
 returns c =
     let e = c .before .is-roomy .ensures (c .if1 .taken) in
     let words = now (c .before .before .before .args .items) in
-    short-taken words (e .1) (dated-short 82 words (omega arith)) false
+    short-taken words (omega (arith, e .1)) (dated-short 82 words (omega arith)) false
 
 returns-2 : tie.Need-returns-2
 returns-2 c = λ x k q i f. measured _ (c .before .put-dated-items .ensures .1 x k q i f)
