@@ -29,10 +29,10 @@ pub sign-none : (old : List ℕ) (minus : Bool) → minus ≡ false → (0 ≤ 1
 unfolding signText
 sign-none old minus e = (omega arith, rw e (put-none old 0))
 
-pub sign-length : (minus : Bool) (us : List ℕ) → length (signText minus ++ us) ≤ 1 + length us
+pub sign-short : (minus : Bool) (us : List ℕ) (size : ℕ) → length us + 1 ≤ size → length (signText minus ++ us) ≤ size
 unfolding signText
-sign-length true us = omega arith
-sign-length false us = omega arith
+sign-short true us size h = omega arith
+sign-short false us size h = omega arith
 
 -- a refusal leaves the room alone
 pub shows-refused : (old : List ℕ) (a : Answer) → Shows (refused a) old (refusedShown a) old

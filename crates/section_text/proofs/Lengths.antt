@@ -31,8 +31,6 @@ use Rattle.date_text.proofs.Letters.{month-spelt, weekday-spelt}
 use Rattle.section_text.specs.declared.Subject.{Subject}
 use Rattle.section_text.specs.Subject.{StandsFor, SubjectIs}
 use Rattle.section_text.specs.Walk.{EntriesFit, OfText, Ready, DatedIs}
-use Rattle.section_text.specs.Show.{signText}
-use Rattle.section_text.proofs.Fitting.{sign-length}
 
 -- ---- figures
 idle-length : (p : Place) → length (idleUnits p) ≤ 1
@@ -182,14 +180,12 @@ module _ (n : ℕ) (words : List ℕ) (h : 82 ≤ n) where
   unfolding itemAllowed
   dated-short c k q i f = words-short c k n h (λ g. absurd (rw (i .0) at g)) (λ a. absurd (rw (i .0) at a)) q words f
 
--- a short text keeps a walk's places small, and is surely taken by a room that has 82 units for each two words and one for a minus
+-- a short text keeps a walk's places small, and is taken by a room of its length
 pub short-within : {P : Kind → Context → Type 0} {words : List ℕ} → length words ≤ 508 → (d : Ready P words)
     → OfText P words (λ us. length us ≤ 1024 * (length words / 2))
     → length (itemsUnits (d .context) (d .power) (itemsAt (entriesIn words))) ≤ 260096
 short-within h d l = omega (arith, l (d .context) (d .kind) (d .power) (d .subject) (d .fit))
 
-pub short-taken : {P : Kind → Context → Type 0} {size : ℕ} (words : List ℕ) → 41 * length words + 1 ≤ size
-    → OfText P words (λ us. length us ≤ 82 * (length words / 2)) → (minus : Bool) → OfText P words (λ us. true ≡ leb (length (signText minus ++ us)) size)
-short-taken {size = size} words h l minus c k q i f =
-    let us = itemsUnits c q (itemsAt (entriesIn words)) in
-    sym (le-leb (length (signText minus ++ us)) size (omega (arith, sign-length minus us, l c k q i f)))
+pub short-taken : {P : Kind → Context → Type 0} {size : ℕ} (words : List ℕ) → OfText P words (λ us. length us ≤ size)
+    → OfText P words (λ us. true ≡ leb (length us) size)
+short-taken {size = size} words l c k q i f = sym (le-leb (length (itemsUnits c q (itemsAt (entriesIn words)))) size (l c k q i f))

@@ -1,8 +1,6 @@
 -- `section_text::takes_dated` meets its contract.
 -- Assumes nothing.
 use native.Mathlib.Omega.{arith}
-use mathlib.Core.Bool.{false}
-use Rattle.section_text.specs.Show.{signText}
 use Rattle.section_text.proofs.Lengths.{dated-short, short-taken}
 use Rattle.section_text.proofs.Fitting.{measured}
 use denote.Ref.{now}
@@ -11,11 +9,10 @@ use Rattle.section_text.proofs.takes_dated.Statement.{statement}
 use Rattle.section_text.proofs.takes_dated.Tie as tie
 
 returns : tie.Need-returns
-unfolding signText
 returns c =
     let e = c .before .is-roomy .ensures (c .if1 .taken) in
     let words = now (c .before .before .before .args .items) in
-    short-taken words (omega (arith, e .1)) (dated-short 82 words (omega arith)) false
+    short-taken words (λ x k q i f. omega (arith, e .1, dated-short 82 words (omega arith) x k q i f))
 
 returns-2 : tie.Need-returns-2
 returns-2 c = λ x k q i f. measured _ (c .before .put-dated-items .ensures .1 x k q i f)
