@@ -1,4 +1,3 @@
 pub mod Letters
 pub mod Items
 pub mod Moments
-pub mod Lengths
