@@ -4,7 +4,7 @@
 use Prim.Native.Nat.{ℕ, suc, _-_, _≤_, _<_}
 use native.Mathlib.Omega.{arith}
 use mathlib.Core.Path.{_≡_, refl, sym, ap, _∙_}
-use mathlib.Core.Bool.{Bool, true, false, cond, not, _&&_, _||_, true≢false}
+use mathlib.Core.Bool.{Bool, true, false, cond, not, _||_, true≢false}
 use mathlib.Core.List.{List, [], _∷_}
 use lib.ListN.{length, getD}
 use lib.Dec.{T, eqb, ltb, eqb→eq, ltb→lt}
@@ -12,7 +12,7 @@ use borrow.Author.Tests.{eq-eqb, ne-eqb, not-true}
 use Rattle.lists.proofs.Bools.{and-left, and-right, implied, true-T, T-true, by-cases}
 use Rattle.formats.specs.Items.{Section}
 use Rattle.formats.specs.Where.{implies, hasCondition, isText, standsAt}
-use Rattle.formats.specs.Choice.{Exact, countedFrom, counted, Reason, fallback, reasonFor, reasonHolds, Choice, nothing, chosen, chooseFrom, chooseFirst, choose, fourthFrom, textFrom, chooseText}
+use Rattle.formats.specs.Choice.{Exact, countedFrom, counted, Reason, fallback, reasonFor, reasonHolds, Choice, chosen, chooseFrom, chooseFirst, choose, fourthFrom, textFrom, chooseText}
 use Rattle.tables.specs.Decode.{decode}
 use Rattle.tables.specs.Rules.{passes}
 use Rattle.table_words.specs.Sections.{noSection, sectionIn}
@@ -101,20 +101,17 @@ three a b c ss x n ta tb tc hc =
     ∙ ap (cond (takes 3 0 a x) (found.At 0)) (next 3 1 b (c ∷ ss) x tb (λ f. omega arith) ∙ ap (cond (takes 3 1 b x) (found.At 1)) (third c ss x tc hc)))
 
 -- a section alone that has a condition
-has : (a : Section) → (eqb (length (a ∷ [])) 1 && not (hasCondition a)) ≡ false → hasCondition a ≡ true
-has a p = by-cases (hasCondition a) (λ e. e) (λ e. absurd (true≢false (rw e at p)))
-
-alone : (a : Section) → Stand (a ∷ []) → (eqb (length (a ∷ [])) 1 && not (hasCondition a)) ≡ false → counted (a ∷ []) ≡ 1
-alone a st p = counted-is (a ∷ []) st (omega arith) (omega arith) ∙ rw (conditional 1 0 a (st 0 (omega arith)) (has a p))
+alone : (a : Section) → Stand (a ∷ []) → hasCondition a ≡ true → counted (a ∷ []) ≡ 1
+alone a st h = counted-is (a ∷ []) st (omega arith) (omega arith) ∙ rw (conditional 1 0 a (st 0 (omega arith)) h)
 
 -- the choice, unless a section stands alone and has no condition
-choice-is : (ss : List Section) → Stand ss → length ss ≤ 4 → (x : Exact) → (eqb (length ss) 1 && not (hasCondition (getD ss 0 noSection))) ≡ false → 1 ≤ length ss
+choice-is : (ss : List Section) → Stand ss → length ss ≤ 4 → (x : Exact) → (length ss ≡ 1 → hasCondition (getD ss 0 noSection) ≡ true) → 1 ≤ length ss
     → foundOf (choose ss x) ≡ answer (counted ss) (getD ss 0 noSection) (getD ss 1 noSection) x
 unfolding foundOf chooseFrom
 choice-is [] st m x p l = absurd (omega arith)
 choice-is (a ∷ []) st m x p l =
-    let n : counted (a ∷ []) ≡ 1 = alone a st p in
-    rw n (counting (a ∷ []) 1 x (λ z. omega arith) n (next 1 0 a [] x (conditional 1 0 a (st 0 (omega arith)) (has a p)) (λ e. omega arith)))
+    let n : counted (a ∷ []) ≡ 1 = alone a st (p refl) in
+    rw n (counting (a ∷ []) 1 x (λ z. omega arith) n (next 1 0 a [] x (conditional 1 0 a (st 0 (omega arith)) (p refl)) (λ e. omega arith)))
 choice-is (a ∷ b ∷ []) st m x p l =
     let ta = not-text 2 0 a (st 0 (omega arith)) (λ e. omega arith) in
     by-cases (isText b)
@@ -139,10 +136,10 @@ choice-is (a ∷ b ∷ c ∷ d ∷ []) st m x p l =
     rw n (three a b c (d ∷ []) x n ta tb tc (unconditional 4 2 c (st 2 (omega arith)) (omega arith)))
 choice-is (a ∷ b ∷ c ∷ d ∷ e ∷ ss) st m x p l = absurd (omega arith)
 
-many : (ss : List Section) → Stand ss → (eqb (length ss) 1 && not (hasCondition (getD ss 0 noSection))) ≡ false → 1 ≤ length ss → (counted ss ≡ 1 → ⊥)
+many : (ss : List Section) → Stand ss → (length ss ≡ 1 → hasCondition (getD ss 0 noSection) ≡ true) → 1 ≤ length ss → (counted ss ≡ 1 → ⊥)
     → 2 ≤ length ss
 many [] st p l apart = absurd (omega arith)
-many (a ∷ []) st p l apart = absurd (apart (alone a st p))
+many (a ∷ []) st p l apart = absurd (apart (alone a st (p refl)))
 many (a ∷ b ∷ ss) st p l apart = omega arith
 
 single : (ss : List Section) (x : Exact) → length ss ≡ 1 → hasCondition (getD ss 0 noSection) ≡ false → foundOf (choose ss x) ≡ found.At 0
@@ -168,59 +165,58 @@ text-is (a ∷ b ∷ c ∷ d ∷ []) st l m = refl
 text-is (a ∷ b ∷ c ∷ d ∷ e ∷ ss) st l m = absurd (omega arith)
 
 -- ---- of a table
-module _ (ws : List ℕ) (t : T (passes ws)) {n : ℕ} (en : n ≡ getD ws 0 0) where
-  size : length (decode ws) ≡ n
-  size = sections-length ws ∙ sym en
-
-  pub bounds : (1 ≤ n) × (n ≤ 4)
-  bounds = let x : Long ws = long ws t in (omega (arith, en), omega (arith, en))
+module _ (ws : List ℕ) (t : T (passes ws)) where
+  few : (1 ≤ length (decode ws)) × (length (decode ws) ≤ 4)
+  few = let x : Long ws = long ws t in (omega (arith, sections-length ws), omega (arith, sections-length ws))
 
   stand : Stand (decode ws)
   unfolding sectionIn
-  stand i h = true-T (section-stands ws i t (omega (arith, size, en)))
+  stand i h = true-T (section-stands ws i t (omega (arith, sections-length ws)))
 
-  pub counted-told : counted (decode ws) ≡ cond (ltb 3 n) 3 (cond (isText (sectionIn ws (n - 1))) (n - 1) n)
-  unfolding sectionIn
-  counted-told = rw size at (counted-is (decode ws) stand (omega (arith, size, bounds)) (omega (arith, size, bounds)))
+  module _ {n : ℕ} (en : n ≡ getD ws 0 0) where
+    size : length (decode ws) ≡ n
+    size = sections-length ws ∙ sym en
 
-  pub text-told : textFoundOf (chooseText (decode ws)) ≡ cond (eqb n 4) (text.At 3) (cond (isText (sectionIn ws (n - 1))) (text.At (n - 1)) text.Itself)
-  unfolding sectionIn
-  text-told = rw size at (text-is (decode ws) stand (omega (arith, size, bounds)) (omega (arith, size, bounds)))
+    pub bounds : (1 ≤ n) × (n ≤ 4)
+    bounds = rw (← size) few
 
-  -- a section alone without a condition, or not
-  module _ {first : Bool} (ef : first ≡ hasCondition (sectionIn ws 0)) where
-    pub single-told : (x : Exact) → (eqb n 1 && not first) ≡ true → foundOf (choose (decode ws) x) ≡ found.At 0
+    pub counted-told : counted (decode ws) ≡ cond (ltb 3 n) 3 (cond (isText (sectionIn ws (n - 1))) (n - 1) n)
     unfolding sectionIn
-    single-told x h =
-        single (decode ws) x (size ∙ eqb→eq n 1 (and-left (eqb n 1) (not first) (true-T h)))
-        (sym ef ∙ not-true first (T-true (not first) (and-right (eqb n 1) (not first) (true-T h))))
+    counted-told = rw size at (counted-is (decode ws) stand (few .0) (few .1))
 
-    module _ (h : (eqb n 1 && not first) ≡ false) {m : ℕ} (em : m ≡ counted (decode ws)) where
-      plain : (eqb (length (decode ws)) 1 && not (hasCondition (getD (decode ws) 0 noSection))) ≡ false
-      unfolding sectionIn
-      plain = rw (size, ← ef) h
+    pub text-told : textFoundOf (chooseText (decode ws)) ≡ cond (eqb n 4) (text.At 3) (cond (isText (sectionIn ws (n - 1))) (text.At (n - 1)) text.Itself)
+    unfolding sectionIn
+    text-told = rw size at (text-is (decode ws) stand (few .0) (few .1))
 
-      choice-told : (x : Exact) → foundOf (choose (decode ws) x) ≡ answer m (sectionIn ws 0) (sectionIn ws 1) x
-      unfolding sectionIn
-      choice-told x = rw em (choice-is (decode ws) stand (omega (arith, size, bounds)) x plain (omega (arith, size, bounds)))
+    pub single-told : (x : Exact) → n ≡ 1 → hasCondition (sectionIn ws 0) ≡ false → found.At 0 ≡ foundOf (choose (decode ws) x)
+    unfolding sectionIn
+    single-told x e h = sym (single (decode ws) x (size ∙ e) h)
 
-      pub second-there : (m ≡ 1 → ⊥) → 1 < getD ws 0 0
-      second-there apart = omega (arith, size, en, many (decode ws) stand plain (omega (arith, size, bounds)) (λ e. apart (em ∙ e)))
+  -- no section stands alone without a condition
+  module _ (alone : getD ws 0 0 ≡ 1 → hasCondition (sectionIn ws 0) ≡ true) {m : ℕ} (em : m ≡ counted (decode ws)) where
+    choice-told : (x : Exact) → foundOf (choose (decode ws) x) ≡ answer m (sectionIn ws 0) (sectionIn ws 1) x
+    unfolding sectionIn
+    choice-told x = rw em (choice-is (decode ws) stand (few .1) x (λ e. alone (sym (sections-length ws) ∙ e)) (few .0))
 
-      -- the five answers
-      module _ (x : Exact) {one : Bool} (eo : one ≡ takes m 0 (sectionIn ws 0) x) where
-        pub found-first : one ≡ true → found.At 0 ≡ foundOf (choose (decode ws) x)
-        found-first a = sym (choice-told x ∙ rw (← eo, a))
+    pub second-there : (m ≡ 1 → ⊥) → 1 < getD ws 0 0
+    unfolding sectionIn
+    second-there apart =
+        rw (sections-length ws) at (many (decode ws) stand (λ e. alone (sym (sections-length ws) ∙ e)) (few .0) (λ e. apart (em ∙ e)))
 
-        pub found-none-of-one : one ≡ false → m ≡ 1 → found.Nothing ≡ foundOf (choose (decode ws) x)
-        found-none-of-one a e = sym (choice-told x ∙ rw (← eo, a, eq-eqb m 1 e))
+    -- the five answers
+    module _ (x : Exact) {one : Bool} (eo : one ≡ takes m 0 (sectionIn ws 0) x) where
+      pub found-first : one ≡ true → found.At 0 ≡ foundOf (choose (decode ws) x)
+      found-first a = sym (choice-told x ∙ rw (← eo, a))
 
-        module _ (a : one ≡ false) (apart : m ≡ 1 → ⊥) {two : Bool} (et : two ≡ takes m 1 (sectionIn ws 1) x) where
-          pub found-second : two ≡ true → found.At 1 ≡ foundOf (choose (decode ws) x)
-          found-second b = sym (choice-told x ∙ rw (← eo, a, ne-eqb m 1 apart, ← et, b))
+      pub found-none-of-one : one ≡ false → m ≡ 1 → found.Nothing ≡ foundOf (choose (decode ws) x)
+      found-none-of-one a e = sym (choice-told x ∙ rw (← eo, a, eq-eqb m 1 e))
 
-          pub found-none-of-two : two ≡ false → m ≡ 2 → found.Nothing ≡ foundOf (choose (decode ws) x)
-          found-none-of-two b e = sym (choice-told x ∙ rw (← eo, a, ne-eqb m 1 apart, ← et, b, eq-eqb m 2 e))
+      module _ (a : one ≡ false) (apart : m ≡ 1 → ⊥) {two : Bool} (et : two ≡ takes m 1 (sectionIn ws 1) x) where
+        pub found-second : two ≡ true → found.At 1 ≡ foundOf (choose (decode ws) x)
+        found-second b = sym (choice-told x ∙ rw (← eo, a, ne-eqb m 1 apart, ← et, b))
 
-          pub found-third : two ≡ false → (m ≡ 2 → ⊥) → found.At 2 ≡ foundOf (choose (decode ws) x)
-          found-third b e = sym (choice-told x ∙ rw (← eo, a, ne-eqb m 1 apart, ← et, b, ne-eqb m 2 e))
+        pub found-none-of-two : two ≡ false → m ≡ 2 → found.Nothing ≡ foundOf (choose (decode ws) x)
+        found-none-of-two b e = sym (choice-told x ∙ rw (← eo, a, ne-eqb m 1 apart, ← et, b, eq-eqb m 2 e))
+
+        pub found-third : two ≡ false → (m ≡ 2 → ⊥) → found.At 2 ≡ foundOf (choose (decode ws) x)
+        found-third b e = sym (choice-told x ∙ rw (← eo, a, ne-eqb m 1 apart, ← et, b, ne-eqb m 2 e))

@@ -257,17 +257,12 @@ fn counted(table: &[u16], n: usize) -> u16
     n as u16
 }
 
-// The section of a number or an instant. The first N count, and only the first two may have a condition.
-pub fn choose(table: &[u16], v: Sought) -> Found
-    requires { ⌜ T (passes (now table)) × (v .scale ≤ 15) ⌝ }
+// The section among several, or of one with a condition. The first N count, and only the first two may have a condition.
+fn choose_among(table: &[u16], v: Sought) -> Found
+    requires { ⌜ T (passes (now table)) × (v .scale ≤ 15) × (getD (now table) 0 0 ≡ 1 → hasCondition (sectionIn (now table) 0) ≡ true) ⌝ }
     ensures { λ r. ⌜ r ≡ foundOf (choose (decode (now (table .entry))) (exactOf v)) ⌝ }
 {
-    let n = section_count(table);
-    let first = has_condition(table, 0);
-    if (n == 1) & !first {
-        return Found::At(0);
-    }
-    let counted = counted(table, n);
+    let counted = counted(table, section_count(table));
     if takes(table, counted, 0, v) {
         return Found::At(0);
     }
@@ -281,6 +276,20 @@ pub fn choose(table: &[u16], v: Sought) -> Found
         return Found::Nothing;
     }
     Found::At(2)
+}
+
+// The section of a number or an instant. One that stands alone without a condition, as in most tables, takes every value.
+pub fn choose(table: &[u16], v: Sought) -> Found
+    requires { ⌜ T (passes (now table)) × (v .scale ≤ 15) ⌝ }
+    ensures { λ r. ⌜ r ≡ foundOf (choose (decode (now (table .entry))) (exactOf v)) ⌝ }
+{
+    if has_condition(table, 0) {
+        return choose_among(table, v);
+    }
+    if section_count(table) == 1 {
+        return Found::At(0);
+    }
+    choose_among(table, v)
 }
 
 // The section of a text.

@@ -9,26 +9,6 @@ use borrow.Author.Needs.{needs}
 use Rattle.choosing.proofs.holds.Statement.{statement}
 use Rattle.choosing.proofs.holds.Tie as tie
 
-returns : tie.Need-returns
-unfolding holdsFor comparisonAt
-returns c = rw (c .match .keys1) (c .before .before .is-equal .ensures)
-
-returns-2 : tie.Need-returns-2
-unfolding holdsFor comparisonAt
-returns-2 c = rw (c .match .keys2) (c .before .before .before .is-less .ensures)
-
-returns-3 : tie.Need-returns-3
-unfolding holdsFor comparisonAt
-returns-3 c = rw (c .match .keys3) (c .before .is-greater .ensures)
-
-returns-4 : tie.Need-returns-4
-unfolding holdsFor comparisonAt
-returns-4 c = rw (c .match .keys4) (ap not (c .before .is-greater .ensures))
-
-returns-5 : tie.Need-returns-5
-unfolding holdsFor comparisonAt
-returns-5 c = rw (c .match .keys5) (ap not (c .before .before .before .is-less .ensures))
-
 returns-6 : tie.Need-returns-6
 unfolding holdsFor comparisonAt
 returns-6 c =
@@ -37,15 +17,16 @@ returns-6 c =
     (ap not (c .before .before .is-equal .ensures))
 
 pub holds-spec : {M : Type 1} → statement M
+unfolding holdsFor comparisonAt
 holds-spec =
     tie.close
     (tie.spec
     (λ c κs. search needs)
     (λ c κs. search needs)
     (λ c κs. search needs)
-    returns
-    returns-2
-    returns-3
-    returns-4
-    returns-5
+    (λ c. rw (c .match .keys1) (c .before .before .is-equal .ensures))
+    (λ c. rw (c .match .keys2) (c .before .before .before .is-less .ensures))
+    (λ c. rw (c .match .keys3) (c .before .is-greater .ensures))
+    (λ c. rw (c .match .keys4) (ap not (c .before .is-greater .ensures)))
+    (λ c. rw (c .match .keys5) (ap not (c .before .before .before .is-less .ensures)))
     returns-6)
