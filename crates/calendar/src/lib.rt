@@ -14,7 +14,7 @@ ghost use Rattle.searching.specs.Machine.{started};
 ghost use Rattle.searching.specs.Search.{driven, answered};
 ghost use Rattle.calendar.specs.Year.{leap, firstDay, yearDayOf};
 ghost use Rattle.calendar.specs.Date.{monthDays, monthDayFrom, dateOf};
-ghost use Rattle.calendar.specs.Clock.{clockOf, twelveHour, afternoon, sinceDayZero, elapsedHours, elapsedMinutes, elapsedSeconds};
+ghost use Rattle.calendar.specs.Clock.{clockOf, twelveHour, afternoon, sinceDayZero};
 ghost use Rattle.calendar.specs.Tables.{firstDays};
 ghost use Rattle.calendar.specs.Moved.{movedBy};
 ghost use Rattle.calendar.specs.Made.{madeYearDay, madeMonthDay, madeDate, madeClock};
@@ -272,28 +272,9 @@ pub fn is_afternoon(hour: u64) -> bool
     12 <= hour
 }
 
-// The milliseconds since the start of day 0.
+// The milliseconds since the start of day 0, of which "elapsed tokens count all whole units".
 pub fn since_day_zero(d: Day, m: Millisecond) -> u64
     ensures { λ r. ⌜ r ≡ sinceDayZero (d .0) (m .0) ⌝ }
 {
     d.0 as u64 * 86400000 + m.0 as u64
-}
-
-// "Elapsed tokens count all whole units since day 0": the units in so many milliseconds.
-pub fn elapsed_hours(total: u64) -> u64
-    ensures { λ r. ⌜ r ≡ elapsedHours total ⌝ }
-{
-    total / 3600000
-}
-
-pub fn elapsed_minutes(total: u64) -> u64
-    ensures { λ r. ⌜ r ≡ elapsedMinutes total ⌝ }
-{
-    total / 60000
-}
-
-pub fn elapsed_seconds(total: u64) -> u64
-    ensures { λ r. ⌜ r ≡ elapsedSeconds total ⌝ }
-{
-    total / 1000
 }

@@ -15,22 +15,22 @@ fn write_number(n: u64) {
     write_byte(b' ');
 }
 
-// The first n units, of which nine are looked at.
-fn write_units(units: [u16; 9], n: usize) {
-    for i in 0..9usize {
+// The first n units, of which twelve are looked at.
+fn write_units(units: [u16; 12], n: usize) {
+    for i in 0..12usize {
         if i < n {
             write_byte((units[i] % 256) as u8);
         }
     }
 }
 
-// The name of a day's weekday or month, as a run of four letters shows it.
-fn write_name(day: u32, tag: u16)
+// What an item shows of an instant.
+fn write_item(day: u32, ms: u32, tag: u16, argument: u16)
     requires { ⌜ 10 < tag ⌝ }
 {
-    let mut room = [0u16; 9];
-    let moment = date_text::moment_of(false, true, Day(day), Millisecond(0));
-    let n = date_text::put_moment_item(&mut room, 0, tag, 4, &moment);
+    let mut room = [0u16; 12];
+    let moment = date_text::moment_of(false, true, Day(day), Millisecond(ms));
+    let n = date_text::put_moment_item(&mut room, 0, tag, argument, &moment);
     write_units(room, n);
 }
 
@@ -41,9 +41,9 @@ fn show_date(day: u32) {
     write_number(date.month as u64);
     write_number(date.day as u64);
     write_number(date.weekday as u64);
-    write_name(day, tags::DAY);
+    write_item(day, 0, tags::DAY, 4);
     write_byte(b' ');
-    write_name(day, tags::MONTH);
+    write_item(day, 0, tags::MONTH, 4);
     write_byte(b'\n');
 }
 
@@ -68,10 +68,11 @@ fn show_clock(ms: u32) {
 fn show_time(day: u32, ms: u32) {
     show_clock(ms);
     write_byte(b' ');
-    let total = calendar::since_day_zero(Day(day), Millisecond(ms));
-    write_number(calendar::elapsed_hours(total));
-    write_number(calendar::elapsed_minutes(total));
-    io::print_decimal(STDOUT_FILENO, calendar::elapsed_seconds(total));
+    write_item(day, ms, tags::ELAPSED_HOURS, 1);
+    write_byte(b' ');
+    write_item(day, ms, tags::ELAPSED_MINUTES, 1);
+    write_byte(b' ');
+    write_item(day, ms, tags::ELAPSED_SECONDS, 1);
     write_byte(b'\n');
 }
 

@@ -22,7 +22,7 @@ use Rattle.tables.specs.Words.{Entry, entriesIn}
 use Rattle.tables.specs.Encode.{entry}
 use Rattle.tables.specs.Decode.{itemAt}
 use Rattle.tables.proofs.Words.{entriesLeft, entries-front}
-use Rattle.tables.proofs.BackEntries.{span-at}
+use Rattle.tables.proofs.BackEntries.{also, span-at}
 use Rattle.date_text.specs.Letters.{packed, lettersUpTo, mostLetters}
 use Rattle.date_text.specs.Moment.{datedEntry, momentOf, isNamed, nameShown, DateIs, ClockIs}
 use Rattle.date_text.proofs.Letters.{month-spelt, weekday-spelt, named-digits, named-letters}
@@ -90,19 +90,11 @@ module _ (m : List ℕ) (c : Context) (q n : ℕ) where
       → itemUnits c q (itemAt (entry tag n)) ≡ numeral n (getD m (tag - 11) 0)
   unfolding itemUnits itemAt
   number-item tag b k d l g =
-      span-at P 12 5 tag (
-        λ b d. named-digits n _ _ (ltb-false 2 n b) ∙ ap (numeral n) (sym (d refl .month)),
-        (
-          λ b d. named-digits n _ _ (ltb-false 2 n b) ∙ ap (numeral n) (sym (d refl .dayOfMonth)),
-          (
-            λ b d. ap (numeral n) (sym (k .hour)),
-            (
-              λ b d. ap (numeral n) (sym (k .minute)),
-              (λ b d. ap (numeral n) (sym (k .second)), tt),
-            ),
-          ),
-        ),
-      ) l g b d
+      span-at P 12 5 tag
+      (also (λ b d. named-digits n _ _ (ltb-false 2 n b) ∙ ap (numeral n) (sym (d refl .month)))
+      (also (λ b d. named-digits n _ _ (ltb-false 2 n b) ∙ ap (numeral n) (sym (d refl .dayOfMonth)))
+      (also (λ b d. ap (numeral n) (sym (k .hour))) (also (λ b d. ap (numeral n) (sym (k .minute))) (also (λ b d. ap (numeral n) (sym (k .second))) tt)))))
+      l g b d
     where
       P : ℕ → Type 0
       P t = isNamed t n ≡ false → (datedEntry (entry t n) ≡ true → DateIs m c) → itemUnits c q (itemAt (entry t n)) ≡ numeral n (getD m (t - 11) 0)

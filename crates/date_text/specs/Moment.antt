@@ -52,7 +52,3 @@ isNamed tag n = (eqb tag 12 || eqb tag 13) && ltb 2 n
 
 abbrev pub nameShown : ℕ → List ℕ → List ℕ
 nameShown tag m = cond (eqb tag 12) (monthName (getD m 1 0)) (weekdayName (getD m 6 0))
-
--- the first letter of a half-day mark
-unfoldable pub halfLetter : Bool → ℕ
-halfLetter afternoon = cond afternoon 80 65

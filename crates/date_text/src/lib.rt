@@ -9,9 +9,8 @@ use writing::put_numeral;
 use writing::put_unit;
 use writing::units;
 ghost use mathlib.Core.Path.{_≡_};
-ghost use mathlib.Core.Bool.{true, _&&_, _||_};
+ghost use mathlib.Core.Bool.{true, cond};
 ghost use Prim.Native.Nat.{ℕ, _-_, _/_, _<_, _^_};
-ghost use lib.Dec.{eqb, ltb};
 ghost use Rattle.formats.specs.Text.{Context, yearUnits, hourShown, partUnits, halfUnits, itemUnits};
 ghost use Rattle.lists.specs.Lists.{any};
 ghost use Rattle.calendar.specs.Clock.{afternoon};
@@ -22,7 +21,7 @@ ghost use Rattle.tables.specs.Encode.{entry};
 ghost use Rattle.tables.specs.Decode.{halfAt, itemAt};
 ghost use Rattle.writing.specs.Put.{Put};
 ghost use Rattle.date_text.specs.Letters.{packed, lettersUpTo, mostLetters};
-ghost use Rattle.date_text.specs.Moment.{datedEntry, dateShown, momentOf, nameShown, isNamed, DateIs, ClockIs, halfLetter};
+ghost use Rattle.date_text.specs.Moment.{datedEntry, dateShown, momentOf, nameShown, isNamed, DateIs, ClockIs};
 
 const LETTER_A: u16 = 65;
 
@@ -212,7 +211,7 @@ fn put_part(room: &mut [u16], at: usize, n: u32, thousandth: u64) -> usize
 
 // The first letter of a half-day mark.
 fn half_letter(hour: u64) -> u16
-    ensures { λ r. ⌜ r ≡ halfLetter (afternoon hour) ⌝ }
+    ensures { λ r. ⌜ r ≡ cond (afternoon hour) 80 65 ⌝ }
 {
     if calendar::is_afternoon(hour) {
         return LETTER_P;
@@ -244,9 +243,9 @@ fn put_rare_item(room: &mut [u16], at: usize, tag: u16, n: u32, m: &[u64; 9]) ->
     let total = m[numbers::ELAPSED];
     match tag {
         tags::PART => put_part(room, at, n, ms % 1000),
-        tags::ELAPSED_HOURS => put_numeral(room, at, n, calendar::elapsed_hours(total)),
-        tags::ELAPSED_MINUTES => put_numeral(room, at, n, calendar::elapsed_minutes(total)),
-        tags::ELAPSED_SECONDS => put_numeral(room, at, n, calendar::elapsed_seconds(total)),
+        tags::ELAPSED_HOURS => put_numeral(room, at, n, total / 3600000),
+        tags::ELAPSED_MINUTES => put_numeral(room, at, n, total / 60000),
+        tags::ELAPSED_SECONDS => put_numeral(room, at, n, total / 1000),
         _ => put_half(room, at, n, ms / 3600000),
     }
 }

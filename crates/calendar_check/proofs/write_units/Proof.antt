@@ -6,10 +6,10 @@ use Rattle.calendar_check.proofs.write_units.Statement.{statement}
 use Rattle.calendar_check.proofs.write_units.Tie as tie
 
 abbrev Inv-loop : tie.InvT-loop
-Inv-loop n units i₀ i = i ≤ 9
+Inv-loop n units i₀ i = i ≤ 12
 
 abbrev μ-loop : tie.MeasureT-loop
-μ-loop n units i₀ i = 9 - i
+μ-loop n units i₀ i = 12 - i
 
 pub write-units-spec : {M : Type 1} → statement M
 write-units-spec =

@@ -1,12 +1,10 @@
 -- `date_text::half_letter` meets its contract.
 -- Assumes nothing.
-use Rattle.date_text.specs.Moment.{halfLetter}
 use borrow.Author.Needs.{needs}
 use Rattle.date_text.proofs.half_letter.Statement.{statement}
 use Rattle.date_text.proofs.half_letter.Tie as tie
 
 pub half-letter-spec : {M : Type 1} → statement M
-unfolding halfLetter
 half-letter-spec =
     tie.close
     (tie.spec
