@@ -233,7 +233,8 @@ fn put_half(room: &mut [u16], at: usize, mark: u32, hour: u64) -> usize
     put_unit(room, a, LETTER_M)
 }
 
-// Puts the text of an item from a part of a second on, by its tag: few codes have one.
+// Puts the text of an item whose tag is that of a part of a second or above. (Few codes have one: beside the others it would slow
+// those down.)
 fn put_rare_item(room: &mut [u16], at: usize, tag: u16, n: u32, m: &[u64; 9]) -> usize
     requires { ⌜ (at < 2 ^ 62) × (16 < tag) ⌝ }
     ensures { λ r. ⌜ ((c : Context) (q : ℕ) → ClockIs (now (m .entry)) c
@@ -250,7 +251,8 @@ fn put_rare_item(room: &mut [u16], at: usize, tag: u16, n: u32, m: &[u64; 9]) ->
     }
 }
 
-// Puts the text of a date section's item that a table has under a tag above that of `@`.
+// Puts the text of a date section's item that a table has under a tag above that of `@`: but for names and the rarer items, the
+// number at the place that its tag tells.
 pub fn put_moment_item(room: &mut [u16], at: usize, tag: u16, argument: u16, m: &[u64; 9]) -> usize
     requires { ⌜ (at < 2 ^ 62) × (10 < tag) ⌝ }
     ensures { λ r. ⌜ ((c : Context) (q : ℕ) → ClockIs (now (m .entry)) c → (datedEntry (entry tag argument) ≡ true → DateIs (now (m .entry)) c)
@@ -263,7 +265,7 @@ pub fn put_moment_item(room: &mut [u16], at: usize, tag: u16, argument: u16, m: 
     if is_named(tag, n) {
         return put_letters(room, at, most_letters(n), name_letters(tag, m));
     }
-    let number = m[(tag - tags::YEAR) as usize];
+    let number = m[tag as usize - tags::YEAR as usize];
     if tag == tags::YEAR {
         return put_year(room, at, n, number);
     }
