@@ -5,19 +5,15 @@ use mathlib.Core.Path.{_≡_, refl, sym, ap, _∙_}
 use mathlib.Core.Bool.{false}
 use mathlib.Core.List.{List}
 use lib.Dec.{T}
-use lib.ListN.{length}
 use Rattle.answers.specs.declared.Answer.the-variants as answer
-use Rattle.answers.specs.Number.{refusedShown}
 use Rattle.values.specs.declared.Number.{Number}
 use Rattle.formats.specs.Items.{Section, Kind, textKind, generalKind, dateKind, numberKind, literalKind, kindOf}
 use Rattle.formats.specs.Choice.{Reason, chosen}
-use Rattle.formats.specs.Reading.{takesNumber, takesInstant, showsGeneral, readNumber}
+use Rattle.formats.specs.Reading.{refused, takesNumber, takesInstant, showsGeneral, readNumber}
 use Rattle.tables.specs.Words.{Head}
 use Rattle.tables.specs.Encode.{kindWord, headOf}
 use Rattle.formats.proofs.Each.{by-kind}
 use Rattle.table_words.specs.Sections.{sectionIn, headIn}
-use Rattle.section_text.specs.Show.{Shows}
-use Rattle.section_text.proofs.Fitting.{shows-refused}
 
 -- the kind with this word
 abbrev pub kindWith : ℕ → Kind
@@ -58,7 +54,7 @@ module _ (ws : List ℕ) (i : ℕ) {h : Head} (e : h ≡ headIn ws i) where
   pub told-sort : (h .kind ≡ 4 → ⊥) → (h .kind ≡ 0 → ⊥) → takesInstant (kindOf (sectionIn ws i)) ≡ false
   told-sort d l = sort-word (kindOf (sectionIn ws i)) (λ f. d (kind-word ∙ f)) (λ f. l (kind-word ∙ f))
 
-pub date-refused : (old : List ℕ) (ss : List Section) (z : Section) (i : ℕ) (why : Reason) (x : Number)
-    → kindOf z ≡ dateKind → Shows (readNumber ss x (length old) (chosen i z why)) old (refusedShown answer.Sort) old
+pub date-refused : (ss : List Section) (z : Section) (i : ℕ) (why : Reason) (x : Number) → kindOf z ≡ dateKind
+    → (size : ℕ) → readNumber ss x size (chosen i z why) ≡ refused answer.Sort
 unfolding readNumber takesNumber
-date-refused old ss z i why x e = rw e (shows-refused old answer.Sort)
+date-refused ss z i why x e size = rw e

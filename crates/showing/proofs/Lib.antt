@@ -1,10 +1,10 @@
-pub mod Instants
-pub mod Texts
+pub mod KindWords
+pub mod Places
 pub mod Minus
+pub mod Subjects
 pub mod Numbers
 pub mod Generals
-pub mod Literals
-pub mod Places
 pub mod Sections
-pub mod KindWords
+pub mod Instants
+pub mod Texts
 pub mod Values

@@ -1,53 +1,80 @@
--- A number in the section that takes it: its sign and its text.
+-- A number in the section that takes it: its sign, and its reading.
 -- Assumes nothing.
-use Prim.Native.Nat.{ℕ}
-use mathlib.Core.Path.{_≡_, refl, sym, ap, ap₂, subst, _∙_}
-use mathlib.Core.Bool.{Bool}
+use Prim.Native.Nat.{ℕ, _≤_, _<_}
+use mathlib.Core.Path.{_≡_, refl, sym, ap, ap₂, _∙_}
+use mathlib.Core.Bool.{Bool, true, false, _&&_, true≢false}
 use mathlib.Core.List.{List, _++_}
 use lib.Dec.{eqb}
-use lib.IntN.{pos}
-use lib.Signed.{ltZ}
-use lib.ListN.{length}
-use Rattle.answers.specs.declared.Shown.{Shown}
+use lib.ListN.{length, getD}
 use Rattle.values.specs.declared.Number.{Number}
-use Rattle.formats.specs.Items.{Section, integerPlaces}
+use Rattle.figures.specs.declared.Signed.{Signed}
+use Rattle.figures.specs.Sign.{signedOf}
+use Rattle.figures.specs.General.{generalTooWide}
+use Rattle.formats.specs.Items.{Section, literalKind, kindOf}
 use Rattle.formats.specs.Where.{hasCondition}
 use Rattle.formats.specs.Choice.{numberExact, Reason, counted, chosen, choose}
 use Rattle.formats.specs.Minus.{isOwn, firstHasCondition, exceptionA, signUnits}
 use Rattle.formats.specs.Text.{sectionUnits}
-use Rattle.formats.specs.Reading.{lookOf, within, numberContext, showsNought, numberSign, numberUnits}
+use Rattle.formats.specs.Reading.{lookOf, within, numberContext, takesNumber, showsGeneral, showsNought, numberSign, numberUnits, readNumber}
 use Rattle.tables.specs.Words.{Head}
 use Rattle.tables.specs.Encode.{headOf}
 use Rattle.tables.specs.Decode.{decode}
 use Rattle.table_words.specs.Sections.{sectionIn, headIn}
 use Rattle.choosing.proofs.Finding.{chosen-exception}
-use Rattle.section_text.specs.Show.{signText, sectionReading, Shows}
+use Rattle.figure_text.specs.declared.Figures.{Figures}
+use Rattle.section_text.specs.Subject.{SubjectIs}
+use Rattle.section_text.specs.Show.{signText, sectionReading}
 use Rattle.showing.specs.Minus.{minusTold, minusIn}
+use Rattle.showing.specs.Plan.{SectionIs}
 use Rattle.showing.proofs.Minus.{sign-told}
-
-pub number-places : (s : Section) (x : Number) → numberContext s x .integerPlaces ≡ integerPlaces (s .items)
-unfolding numberContext
-number-places s x = refl
 
 pub minus-words : (ws : List ℕ) (i : ℕ) (negative held : Bool) {minus excepted x : Bool} {h : Head} → h ≡ headIn ws i → excepted ≡ x
     → minus ≡ minusTold negative (eqb (h .items) 0) excepted held → minus ≡ minusTold negative (eqb (length (sectionIn ws i .items)) 0) x held
 unfolding headOf
 minus-words ws i negative held eh ee em = em ∙ ap₂ (λ (k : Head) (b : Bool). minusTold negative (eqb (k .items) 0) b held) eh ee
 
--- the sign as the code finds it, from the section's count of items, exception (a) by its flag and whether it shows nought
-pub number-text : {old out : List ℕ} {r : Shown} (ws : List ℕ) (i : ℕ) (x : Number) (why : Reason) {negative minus held : Bool}
-    → minus ≡ minusIn ws i negative held → negative ≡ ltZ (x .coefficient) (pos 0)
-    → choose (decode ws) (numberExact x) ≡ chosen i (sectionIn ws i) why → held ≡ showsNought (sectionIn ws i) x
-    → Shows (sectionReading (length old) (sectionIn ws i) i minus (numberContext (sectionIn ws i) x)) old r out
-    → Shows (within (length old) (lookOf (numberUnits (decode ws) i (sectionIn ws i) why x) (sectionIn ws i .colour) i)) old r out
-unfolding sectionReading numberUnits numberSign
-number-text {old} {out} {r} ws i x why {negative} {minus} {held} em eg ec ed y =
-    let s : Section = sectionIn ws i in
-    let n : ℕ = length (s .items) in
-    let first : Bool = firstHasCondition (decode ws) in
-    let a : exceptionA (counted (decode ws)) i (hasCondition s) first ≡ exceptionA (counted (decode ws)) i (isOwn why) first =
-    chosen-exception (decode ws) (numberExact x) i s why first ec in
-    let g : signUnits (numberSign (decode ws) i s why x) ≡ signText minus =
-    sign-told x s (exceptionA (counted (decode ws)) i (isOwn why) first) (showsNought s x) n refl
-    ∙ sym (ap signText em ∙ rw (eg, ed, a)) in
-    subst (λ (us : List ℕ). Shows (within (length old) (lookOf (us ++ sectionUnits (numberContext s x) (s .items)) (s .colour) i)) old r out) (sym g) y
+-- a section shows a number, as nought or not
+pub record Takes (z : Section) (x : Number) (held : Bool) : Type 0 where
+  pub nought : held ≡ showsNought z x
+  pub number : takesNumber (kindOf z) ≡ true
+  pub narrow : showsGeneral (kindOf z) && generalTooWide (numberExact x .size) ≡ false
+
+pub literal-takes : (z : Section) (x : Number) → kindOf z ≡ literalKind → Takes z x false
+unfolding showsNought showsGeneral takesNumber
+literal-takes z x e = record { nought = rw e; number = rw e; narrow = rw e }
+
+module _ (ws : List ℕ) (i : ℕ) (v : Signed) (x : Number) (why : Reason) (ev : v ≡ signedOf x)
+    (eo : choose (decode ws) (numberExact x) ≡ chosen i (sectionIn ws i) why) {held : Bool} (t : Takes (sectionIn ws i) x held) where
+  -- the sign as the code finds it, from the section's count of items, exception (a) by its flag and whether it shows nought
+  number-sign : signUnits (numberSign (decode ws) i (sectionIn ws i) why x) ≡ signText (minusIn ws i (v .negative) held)
+  unfolding numberSign signedOf
+  number-sign =
+      let s : Section = sectionIn ws i in
+      let first : Bool = firstHasCondition (decode ws) in
+      let a : exceptionA (counted (decode ws)) i (hasCondition s) first ≡ exceptionA (counted (decode ws)) i (isOwn why) first =
+      chosen-exception (decode ws) (numberExact x) i s why first eo in
+      sign-told x s (exceptionA (counted (decode ws)) i (isOwn why) first) (showsNought s x) (length (s .items)) refl
+      ∙ sym (rw (ap (λ (w : Signed). w .negative) ev, t .nought, a))
+
+  number-reads : (size : ℕ)
+      → readNumber (decode ws) x size (choose (decode ws) (numberExact x))
+      ≡ sectionReading size (sectionIn ws i) i (minusIn ws i (v .negative) held) (numberContext (sectionIn ws i) x)
+  unfolding readNumber numberUnits sectionReading
+  number-reads size =
+      let s : Section = sectionIn ws i in
+      ap (readNumber (decode ws) x size) eo ∙ rw (t .number, t .narrow)
+      (ap (λ (us : List ℕ). within size (lookOf (us ++ sectionUnits (numberContext s x) (s .items)) (s .colour) i)) number-sign)
+
+  pub number-section : {digits text : List ℕ} {f : Figures} → i < getD ws 0 0 → f .used ≤ 40
+      → SubjectIs (kindOf (sectionIn ws i)) digits (record { figures = f; lent = false }) text (numberContext (sectionIn ws i) x)
+      → SectionIs i (minusIn ws i (v .negative) held) (record { figures = f; lent = false }) digits ws text
+      (λ size. readNumber (decode ws) x size (choose (decode ws) (numberExact x)))
+  unfolding numberContext
+  number-section h u is = record {
+    inside = h;
+    used = u;
+    short = λ e. absurd (true≢false (sym e));
+    known = record { context = numberContext (sectionIn ws i) x; is = is };
+    places = refl;
+    reads = number-reads;
+  }

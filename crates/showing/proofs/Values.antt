@@ -2,12 +2,11 @@
 -- Assumes nothing.
 use Prim.Native.Nat.{ℕ, _<_, _≤_, _^_}
 use native.Mathlib.Omega.{arith}
-use mathlib.Core.Path.{_≡_, refl, sym, ap, subst, _∙_}
-use mathlib.Core.Bool.{Bool, true, false, cond, _&&_}
+use mathlib.Core.Path.{_≡_, sym, ap, subst, _∙_}
+use mathlib.Core.Bool.{Bool, true, false}
 use mathlib.Core.List.{List}
-use lib.Dec.{leb}
-use lib.ListN.{length}
-use borrow.Author.Tests.{le-leb}
+use lib.ListN.{length, getD}
+use borrow.Author.Tests.{le-leb, lt-leb}
 use Rattle.answers.specs.declared.Answer.the-variants as answer
 use Rattle.answers.specs.declared.Shown.{Shown}
 use Rattle.answers.specs.Number.{refusedShown}
@@ -15,91 +14,71 @@ use Rattle.values.specs.declared.Number.{Number}
 use Rattle.values.specs.declared.Day.{Day}
 use Rattle.values.specs.declared.Millisecond.{Millisecond}
 use Rattle.values.specs.declared.Value.{Value}
-use Rattle.values.specs.declared.Value.the-variants as value
 use Rattle.values.specs.declared.Ask.{Ask}
-use Rattle.values.specs.Ranges.{dayGreatest, millisecondGreatest, numberInRange, instantInRange, textInRange, valueInRange}
+use Rattle.values.specs.Ranges.{dayGreatest, millisecondGreatest, instantInRange}
 use Rattle.figures.specs.declared.Signed.{Signed}
 use Rattle.figures.specs.declared.Taken.the-variants as taken
 use Rattle.figures.specs.Sign.{signedOf, takenOf}
 use Rattle.figures.proofs.Sign.{in-says, range-says}
-use Rattle.formats.specs.Items.{Section}
-use Rattle.formats.specs.Choice.{numberExact, instantExact, Choice, choose, chooseText}
-use Rattle.formats.specs.Reading.{Reading, refused, readNumber, readInstant, readText, readValue, reading}
+use Rattle.formats.specs.Choice.{Exact, numberExact, instantExact, Reason, nothing, chosen, choose}
+use Rattle.formats.specs.Reading.{Reading, reading}
 use Rattle.tables.specs.Decode.{decode}
 use Rattle.tables.specs.Rules.{passes}
 use Rattle.tables.specs.Calls.{tableReading, showing, roomAfter}
+use Rattle.table_words.specs.Sections.{sectionIn}
 use Rattle.choosing.specs.declared.Sought.{Sought}
 use Rattle.choosing.specs.declared.Found.the-variants as found
-use Rattle.choosing.specs.Seeking.{partsOfOne, exactOf, foundOf}
+use Rattle.choosing.specs.Seeking.{partsOfOne, exactOf, instantSought, foundOf}
+use Rattle.choosing.proofs.Asking.{instant-exact}
 use Rattle.choosing.proofs.Finding.{found-nothing, found-at}
 use Rattle.section_text.specs.Show.{Shows}
 use Rattle.section_text.proofs.Fitting.{shows-refused}
-use Rattle.showing.specs.Number.{ShowsNumber}
+use Rattle.showing.specs.Plan.{valueReading}
 use Rattle.showing.specs.Sought.{signedSought}
+
+-- what is asked for is read by its value
+pub value-reading : (ws text : List ℕ) (v : Value) (ask : Ask) → ask .value ≡ v → reading (decode ws) ask text ≡ valueReading ws v text
+unfolding reading
+value-reading ws text v ask e = ap {B = ℕ → Reading} (λ (u : Value) size. valueReading ws u text size) e
+
+-- the range of an instant
+module _ (d : Day) (m : Millisecond) where
+  pub day-beyond : dayGreatest < d .0 → instantInRange d m ≡ false
+  day-beyond h = rw (le-leb 0 (d .0) (omega arith), lt-leb (d .0) dayGreatest h)
+
+  pub millisecond-beyond : d .0 ≤ dayGreatest → millisecondGreatest < m .0 → instantInRange d m ≡ false
+  millisecond-beyond h k = rw (le-leb 0 (d .0) (omega arith), le-leb (d .0) dayGreatest h, le-leb 0 (m .0) (omega arith), lt-leb (m .0) millisecondGreatest k)
+
+  pub instant-within : d .0 ≤ dayGreatest → m .0 ≤ millisecondGreatest → instantInRange d m ≡ true
+  instant-within h k = rw (le-leb 0 (d .0) (omega arith), le-leb (d .0) dayGreatest h, le-leb 0 (m .0) (omega arith), le-leb (m .0) millisecondGreatest k)
+
+-- the section that was found for a number or an instant
+pub found-within : (ws : List ℕ) (x : Exact) (i : ℕ) → found.At i ≡ foundOf (choose (decode ws) x) → i < getD ws 0 0
+found-within ws x i e = found-at ws x i e (λ why h l. l)
+
+module _ (ws : List ℕ) {x y : Exact} (e : x ≡ y) where
+  pub none-found : found.Nothing ≡ foundOf (choose (decode ws) y) → choose (decode ws) x ≡ nothing
+  none-found h = ap (choose (decode ws)) e ∙ found-nothing ws y h
+
+  pub some-found : {P : Type 0} (i : ℕ) → found.At i ≡ foundOf (choose (decode ws) y)
+      → ((why : Reason) → choose (decode ws) x ≡ chosen i (sectionIn ws i) why → P) → P
+  some-found i h f = found-at ws y i h (λ why g l. f why (ap (choose (decode ws)) e ∙ g))
+
+pub number-exact : {s : Sought} (v : Signed) (x : Number) → s ≡ signedSought v → v ≡ signedOf x → numberExact x ≡ exactOf s
+unfolding numberExact exactOf partsOfOne signedOf
+number-exact v x es ev = sym (ap (λ (w : Signed). exactOf (signedSought w)) ev) ∙ sym (ap exactOf es)
+
+pub sought-exact : {s : Sought} (d : Day) (m : Millisecond) → s ≡ instantSought d m → instantExact d m ≡ exactOf s
+sought-exact d m es = instant-exact d m ∙ ap exactOf (sym es)
 
 pub sought-scale : {s : Sought} (v : Signed) → s ≡ signedSought v → v .scale ≤ 15 → s .scale ≤ 15
 sought-scale v e h = rw e h
 
-signed-exact : (x : Number) → numberExact x ≡ exactOf (signedSought (signedOf x))
-unfolding numberExact exactOf partsOfOne signedOf
-signed-exact x = refl
-
--- the section that was found for a number
-module _ (ws : List ℕ) {s : Sought} (v : Signed) (es : s ≡ signedSought v) (x : Number) (e : v ≡ signedOf x) where
-  number-choice : choose (decode ws) (numberExact x) ≡ choose (decode ws) (exactOf s)
-  number-choice = ap (choose (decode ws)) (signed-exact x ∙ ap (λ (w : Signed). exactOf (signedSought w)) (sym e) ∙ ap exactOf (sym es))
-
-  pub number-nothing : (old : List ℕ) → found.Nothing ≡ foundOf (choose (decode ws) (exactOf s))
-      → Shows (readNumber (decode ws) x (length old) (choose (decode ws) (numberExact x))) old (refusedShown answer.NoSection) old
-  unfolding readNumber
-  number-nothing old h = rw (number-choice, found-nothing ws (exactOf s) h) (shows-refused old answer.NoSection)
-
-  pub number-found : {old out : List ℕ} {r : Shown} (i : ℕ) → found.At i ≡ foundOf (choose (decode ws) (exactOf s)) → ShowsNumber ws i v old r out
-      → Shows (readNumber (decode ws) x (length old) (choose (decode ws) (numberExact x))) old r out
-  number-found {old} {out} {r} i h f =
-      found-at ws (exactOf s) i h (λ why g l.
-      subst (λ (c : Choice). Shows (readNumber (decode ws) x (length old) c) old r out) (sym (number-choice ∙ g)) (f x why e (number-choice ∙ g)))
-
--- a value in its range is read, another is refused
-pub in-range : {old out : List ℕ} {r : Shown} {b : Bool} {z : Reading} → b ≡ true → Shows z old r out
-    → Shows (cond b z (refused answer.Range)) old r out
-in-range e y = rw e y
-
-pub out-of-range : (old : List ℕ) {b : Bool} (z : Reading) → b ≡ false → Shows (cond b z (refused answer.Range)) old (refusedShown answer.Range) old
-out-of-range old z e = rw e (shows-refused old answer.Range)
-
 pub taken-small : (x : Number) (v : Signed) → takenOf x ≡ taken.In v → (v .magnitude < 10 ^ 15) × (v .scale ≤ 15)
 taken-small x v e = let s = in-says x v e in rw (s .1) (range-says x (s .0))
 
-pub day-and-millisecond : (d : Day) (m : Millisecond)
-    → leb (d .0) dayGreatest && leb (m .0) millisecondGreatest ≡ instantInRange d m
-day-and-millisecond d m = rw (le-leb 0 (d .0) (omega arith), le-leb 0 (m .0) (omega arith))
-
--- the reading of a value, by its sort
-module _ {old out : List ℕ} {r : Shown} (ss : List Section) (ask : Ask) (text : List ℕ) where
-  value-shows : (v : Value) → ask .value ≡ v → Shows (cond (valueInRange v text) (readValue ss v text (length old)) (refused answer.Range)) old r out
-      → Shows (reading ss ask text (length old)) old r out
-  unfolding reading
-  value-shows v e y =
-      subst (λ (u : Value). Shows (cond (valueInRange u text) (readValue ss u text (length old)) (refused answer.Range)) old r out) (sym e) y
-
-  pub number-value : (x : Number) → ask .value ≡ value.Number x
-      → Shows (cond (numberInRange x) (readNumber ss x (length old) (choose ss (numberExact x))) (refused answer.Range)) old r out
-      → Shows (reading ss ask text (length old)) old r out
-  unfolding readValue
-  number-value x e y = value-shows (value.Number x) e y
-
-  pub instant-value : (d : Day) (m : Millisecond) → ask .value ≡ value.Instant d m
-      → Shows (cond (instantInRange d m) (readInstant d m (length old) (choose ss (instantExact d m))) (refused answer.Range)) old r out
-      → Shows (reading ss ask text (length old)) old r out
-  unfolding readValue
-  instant-value d m e y = value-shows (value.Instant d m) e y
-
-  pub text-value : ask .value ≡ value.Text
-      → Shows (cond (textInRange text) (readText text (length old) (chooseText ss)) (refused answer.Range)) old r out
-      → Shows (reading ss ask text (length old)) old r out
-  unfolding readValue
-  text-value e y = value-shows value.Text e y
+pub shows-as : {old out : List ℕ} {r : Shown} {y z : Reading} → z ≡ y → Shows y old r out → Shows z old r out
+shows-as {old} {out} {r} e x = subst (λ (z : Reading). Shows z old r out) (sym e) x
 
 -- the call, by the table's check
 module _ (ws : List ℕ) (ask : Ask) (text : List ℕ) {b : Bool} (e : b ≡ passes ws) where

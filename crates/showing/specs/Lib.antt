@@ -1,4 +1,4 @@
 pub mod Minus
-pub mod General
 pub mod Number
 pub mod Sought
+pub mod Plan

@@ -1,29 +1,31 @@
-// Shows a value through a table.
+// Shows a value through a table: one call makes a plan of what is to be shown, and one writes it.
 ghost use mathlib.Core.Path.{_≡_};
-ghost use mathlib.Core.Bool.{true, false, cond};
-ghost use Prim.Native.Nat.{_-_, _≤_, _<_, _^_};
+ghost use mathlib.Core.Bool.{true, false};
+ghost use mathlib.Core.List.{List};
+ghost use Prim.Native.Nat.{_-_, _≤_, _<_, _^_, ℕ};
 ghost use lib.Dec.{T, eqb};
 ghost use lib.ListN.{length, getD};
-ghost use Rattle.formats.specs.Items.{numberKind, literalKind, kindOf, integerPlaces};
-ghost use Rattle.formats.specs.Choice.{numberExact, instantExact, Reason, chosen, choose, chooseText};
-ghost use Rattle.formats.specs.Reading.{refused, lookOf, within, readInstant, readText, showsGeneral, readNumber, reading};
+ghost use Rattle.formats.specs.Items.{numberKind, dateKind, kindOf, integerPlaces};
+ghost use Rattle.formats.specs.Choice.{instantExact, Reason, chosen, choose};
+ghost use Rattle.formats.specs.Reading.{lookOf, within, instantContext, readInstant, showsGeneral, reading};
 ghost use Rattle.figures.specs.Digits.{figures};
-ghost use Rattle.figures.specs.Sign.{signedOf};
-ghost use Rattle.values.specs.declared.Number.{Number};
-ghost use Rattle.values.specs.Ranges.{numberInRange, instantInRange, textInRange};
-ghost use Rattle.answers.specs.declared.Answer.the-variants as answer;
+ghost use Rattle.values.specs.declared.Value.the-variants as value;
 ghost use Rattle.tables.specs.Words.{entriesIn};
 ghost use Rattle.tables.specs.Decode.{decode};
 ghost use Rattle.tables.specs.Rules.{passes};
 ghost use Rattle.tables.specs.Calls.{showing, roomAfter};
 ghost use Rattle.table_words.specs.Sections.{sectionIn};
 ghost use Rattle.choosing.specs.Seeking.{instantSought};
-ghost use Rattle.section_text.specs.Show.{Shows};
+ghost use Rattle.figure_text.specs.Shown.{figuresWith};
+ghost use Rattle.section_text.specs.Show.{sectionReading, Shows};
 ghost use Rattle.showing.specs.Minus.{minusTold, minusIn};
-ghost use Rattle.showing.specs.Number.{sectionNumber, firstArgument, ShowsNumber};
+ghost use Rattle.showing.specs.Number.{sectionNumber, firstArgument};
+ghost use Rattle.showing.specs.Plan.{PlanIs, PlansNumber, valueReading, barePlan, digitsPlan};
 ghost use Rattle.showing.specs.Sought.{signedSought};
 use answers::Answer;
 use answers::Shown;
+use answers::done_shown;
+use answers::refused_shown;
 use choosing::Found;
 use choosing::Sought;
 use choosing::TextFound;
@@ -32,7 +34,6 @@ use figure_text::figures_of;
 use figures::Signed;
 use figures::Taken;
 use section_text::Subject;
-use section_text::refuse;
 use section_text::show_dated_section;
 use section_text::show_section;
 use table_words::head_of;
@@ -48,46 +49,65 @@ use values::Millisecond;
 use values::Number;
 use values::Value;
 
-// The figures of a subject that shows no number.
-fn no_figures() -> Figures
-    ensures { λ r. ⌜ r .used ≤ 40 ⌝ }
+// What is to be shown of a value: a refusal, a text by itself, an instant in a date-time section, or another section, with an added
+// minus or without.
+enum Plan {
+    Refused(Answer),
+    Itself,
+    Dated(u16, Day, Millisecond),
+    Section(u16, bool, Subject),
+}
+
+// A plan, and the digits of the segment that a section has.
+struct Planned {
+    plan: Plan,
+    digits: [u8; 40],
+}
+
+// A plan that needs no digits.
+fn without_digits(plan: Plan) -> Planned
+    ensures { λ r. ⌜ r .plan ≡ plan ⌝ }
 {
-    Figures {
-        used: 0,
-        lowest: 40,
-        integers: 0,
-        grouped: false,
+    Planned {
+        plan,
+        digits: [0; 40],
     }
 }
 
-// Shows an instant in section i, where that takes one.
-fn show_instant_in(
-    room: &mut [u16],
-    table: &[u16],
-    i: u16,
-    d: Day,
-    m: Millisecond,
-    text: &[u16],
-) -> Shown
+// Section i, which shows no figures.
+fn bare(i: u16, minus: bool, lent: bool) -> Plan
+    ensures { λ r. ⌜ r ≡ barePlan i minus lent ⌝ }
+{
+    Plan::Section(
+        i,
+        minus,
+        Subject {
+            figures: Figures {
+                used: 0,
+                lowest: 40,
+                integers: 0,
+                grouped: false,
+            },
+            lent,
+        },
+    )
+}
+
+// The plan of an instant in section i, where that takes one.
+fn instant_in(table: &[u16], i: u16, d: Day, m: Millisecond) -> Plan
     requires { ⌜ T (passes (now table)) × (i < getD (now table) 0 0) ⌝ }
-    ensures { λ r. ⌜ ((why : Reason) → Shows (readInstant d m (length (now (room .entry))) (chosen i (sectionIn (now (table .entry)) i) why))
-        (now (room .entry)) r (now (room .exit))) ⌝ }
+    ensures { λ r. ⌜ ((digits text : List ℕ) (why : Reason) → choose (decode (now (table .entry))) (instantExact d m) ≡ chosen i (sectionIn (now (table .entry)) i) why
+        → PlanIs r digits (now (table .entry)) text (λ size. readInstant d m size (choose (decode (now (table .entry))) (instantExact d m)))) ⌝ }
 {
     let h = head_of(table, i as usize);
     let kind = h.kind;
     if kind == kinds::DATE_TIME {
-        let moment = date_text::moment_of(is_twelve_hour(table, i as usize), d, m);
-        return show_dated_section(room, table, i, moment);
+        return Plan::Dated(i, d, m);
     }
     if kind == kinds::LITERAL {
-        let digits = [0; 40];
-        let s = Subject {
-            figures: no_figures(),
-            lent: false,
-        };
-        return show_section(room, table, i, false, &digits, s, text);
+        return bare(i, false, false);
     }
-    refuse(Answer::Sort)
+    Plan::Refused(Answer::Sort)
 }
 
 // An instant as the chooser is asked for it.
@@ -102,51 +122,34 @@ fn instant_sought(d: Day, m: Millisecond) -> Sought
     }
 }
 
-// Shows an instant.
-fn show_instant(room: &mut [u16], table: &[u16], d: Day, m: Millisecond, text: &[u16]) -> Shown
+// The plan of an instant; one out of range is refused.
+fn instant_plan(table: &[u16], d: Day, m: Millisecond) -> Plan
     requires { ⌜ T (passes (now table)) ⌝ }
-    ensures { λ r. ⌜ Shows (readInstant d m (length (now (room .entry))) (choose (decode (now (table .entry))) (instantExact d m)))
-        (now (room .entry)) r (now (room .exit)) ⌝ }
+    ensures { λ r. ⌜ ((digits text : List ℕ) → PlanIs r digits (now (table .entry)) text (valueReading (now (table .entry)) (value.Instant d m) text)) ⌝ }
 {
+    if Day::GREATEST < d.0 {
+        return Plan::Refused(Answer::Range);
+    }
+    if Millisecond::GREATEST < m.0 {
+        return Plan::Refused(Answer::Range);
+    }
     match choosing::choose(table, instant_sought(d, m)) {
-        Found::Nothing => refuse(Answer::NoSection),
-        Found::At(i) => show_instant_in(room, table, i, d, m, text),
+        Found::Nothing => Plan::Refused(Answer::NoSection),
+        Found::At(i) => instant_in(table, i, d, m),
     }
 }
 
-// Shows a text by itself.
-fn show_plain(room: &mut [u16], text: &[u16]) -> Shown
-    requires { ⌜ length (now text) ≤ 1024 ⌝ }
-    ensures { λ r. ⌜ Shows (within (length (now (room .entry))) (lookOf (now (text .entry)) 0 4)) (now (room .entry)) r (now (room .exit)) ⌝ }
+// The plan of a text; one that is too long is refused.
+fn text_plan(table: &[u16], text: &[u16]) -> Plan
+    requires { ⌜ T (passes (now table)) ⌝ }
+    ensures { λ r. ⌜ ((digits : List ℕ) → PlanIs r digits (now (table .entry)) (now (text .entry)) (valueReading (now (table .entry)) value.Text (now (text .entry)))) ⌝ }
 {
-    if room.len() < text.len() {
-        return refuse(Answer::TextRoom);
+    if 1024 < text.len() {
+        return Plan::Refused(Answer::Range);
     }
-    writing::put_units(room, 0, text);
-    Shown {
-        answer: Answer::Done,
-        length: text.len() as u32,
-        colour: 0,
-        section: 4,
-    }
-}
-
-// Shows a text.
-fn show_text(room: &mut [u16], table: &[u16], text: &[u16]) -> Shown
-    requires { ⌜ T (passes (now table)) × (length (now text) ≤ 1024) ⌝ }
-    ensures { λ r. ⌜ Shows (readText (now (text .entry)) (length (now (room .entry))) (chooseText (decode (now (table .entry)))))
-        (now (room .entry)) r (now (room .exit)) ⌝ }
-{
     match choosing::choose_text(table) {
-        TextFound::Itself => show_plain(room, text),
-        TextFound::At(i) => {
-            let digits = [0; 40];
-            let s = Subject {
-                figures: no_figures(),
-                lent: true,
-            };
-            show_section(room, table, i, false, &digits, s, text)
-        }
+        TextFound::Itself => Plan::Itself,
+        TextFound::At(i) => bare(i, false, true),
     }
 }
 
@@ -175,36 +178,44 @@ fn added_minus(table: &[u16], i: u16, negative: bool, nought: bool) -> bool
     has_minus(negative, h.items, no_minus(table, i as usize), nought)
 }
 
-// Shows a number in section i, which shows General.
-fn show_general(room: &mut [u16], table: &[u16], i: u16, v: Signed, text: &[u16]) -> Shown
-    requires { ⌜ T (passes (now table)) × (i < getD (now table) 0 0) × (v .magnitude < 10 ^ 15) × (v .scale ≤ 15)
-        × T (showsGeneral (kindOf (sectionIn (now table) i))) ⌝ }
-    ensures { λ r. ⌜ ShowsNumber (now (table .entry)) i v (now (room .entry)) r (now (room .exit)) ⌝ }
+// Section i with the digits of a number.
+fn with_digits(
+    table: &[u16],
+    i: u16,
+    negative: bool,
+    digits: [u8; 40],
+    integers: u32,
+    grouped: bool,
+) -> Planned
+    requires { ⌜ T (passes (now table)) × (i < getD (now table) 0 0) ⌝ }
+    ensures { λ r. ⌜ r ≡ digitsPlan (now (table .entry)) i negative digits (figuresWith digits integers grouped) ⌝ }
 {
-    if figures::general_too_wide(v.magnitude, v.scale) {
-        return refuse(Answer::General);
+    let figures = figures_of(digits, integers, grouped);
+    let minus = added_minus(table, i, negative, figures.used == 0);
+    Planned {
+        plan: Plan::Section(
+            i,
+            minus,
+            Subject {
+                figures,
+                lent: false,
+            },
+        ),
+        digits,
     }
-    let digits = figures::round_general([0; 40], v.magnitude, v.scale);
-    let s = Subject {
-        figures: figures_of(digits, 0, false),
-        lent: false,
-    };
-    let minus = added_minus(table, i, v.negative, s.figures.used == 0);
-    show_section(room, table, i, minus, &digits, s, text)
 }
 
-// Shows a number in section i, which is a literal section.
-fn show_literal(room: &mut [u16], table: &[u16], i: u16, v: Signed, text: &[u16]) -> Shown
-    requires { ⌜ T (passes (now table)) × (i < getD (now table) 0 0) × (kindOf (sectionIn (now table) i) ≡ literalKind) ⌝ }
-    ensures { λ r. ⌜ ShowsNumber (now (table .entry)) i v (now (room .entry)) r (now (room .exit)) ⌝ }
+// The plan of a number in section i, which shows General.
+fn general_plan(table: &[u16], i: u16, v: Signed) -> Planned
+    requires { ⌜ T (passes (now table)) × (i < getD (now table) 0 0) × (v .magnitude < 10 ^ 15)
+        × T (showsGeneral (kindOf (sectionIn (now table) i))) ⌝ }
+    ensures { λ r. ⌜ PlansNumber (now (table .entry)) i v r ⌝ }
 {
-    let digits = [0; 40];
-    let minus = added_minus(table, i, v.negative, false);
-    let s = Subject {
-        figures: no_figures(),
-        lent: false,
-    };
-    show_section(room, table, i, minus, &digits, s, text)
+    if figures::general_too_wide(v.magnitude, v.scale) {
+        return without_digits(Plan::Refused(Answer::General));
+    }
+    let digits = figures::round_general([0; 40], v.magnitude, v.scale);
+    with_digits(table, i, v.negative, digits, 0, false)
 }
 
 // The argument of the first place among item words; 15 where there is none.
@@ -253,34 +264,36 @@ fn number_digits(table: &[u16], i: usize, v: Signed) -> [u8; 40]
     figures::round([0; 40], v.magnitude, up, down, decimals)
 }
 
-// Shows a number in section i, which is a number section.
-fn show_figures(room: &mut [u16], table: &[u16], i: u16, v: Signed, text: &[u16]) -> Shown
+// The plan of a number in section i, which is a number section.
+fn figures_plan(table: &[u16], i: u16, v: Signed) -> Planned
     requires { ⌜ T (passes (now table)) × (i < getD (now table) 0 0) × (v .magnitude < 10 ^ 15) × (v .scale ≤ 15)
         × (kindOf (sectionIn (now table) i) ≡ numberKind) ⌝ }
-    ensures { λ r. ⌜ ShowsNumber (now (table .entry)) i v (now (room .entry)) r (now (room .exit)) ⌝ }
+    ensures { λ r. ⌜ PlansNumber (now (table .entry)) i v r ⌝ }
 {
     let digits = number_digits(table, i as usize, v);
     let integers = integer_places(table, i as usize);
-    let s = Subject {
-        figures: figures_of(digits, integers, is_grouped(table, i as usize)),
-        lent: false,
-    };
-    let minus = added_minus(table, i, v.negative, s.figures.used == 0);
-    show_section(room, table, i, minus, &digits, s, text)
+    with_digits(
+        table,
+        i,
+        v.negative,
+        digits,
+        integers,
+        is_grouped(table, i as usize),
+    )
 }
 
-// Shows a number in section i, by the section's kind.
-fn show_number_in(room: &mut [u16], table: &[u16], i: u16, v: Signed, text: &[u16]) -> Shown
+// The plan of a number in section i, by the section's kind.
+fn number_in(table: &[u16], i: u16, v: Signed) -> Planned
     requires { ⌜ T (passes (now table)) × (i < getD (now table) 0 0) × (v .magnitude < 10 ^ 15) × (v .scale ≤ 15) ⌝ }
-    ensures { λ r. ⌜ ShowsNumber (now (table .entry)) i v (now (room .entry)) r (now (room .exit)) ⌝ }
+    ensures { λ r. ⌜ PlansNumber (now (table .entry)) i v r ⌝ }
 {
     let h = head_of(table, i as usize);
     let kind = h.kind;
     match kind {
-        kinds::LITERAL => show_literal(room, table, i, v, text),
-        kinds::NUMBER => show_figures(room, table, i, v, text),
-        kinds::DATE_TIME => refuse(Answer::Sort),
-        _ => show_general(room, table, i, v, text),
+        kinds::LITERAL => without_digits(bare(i, added_minus(table, i, v.negative, false), false)),
+        kinds::NUMBER => figures_plan(table, i, v),
+        kinds::DATE_TIME => without_digits(Plan::Refused(Answer::Sort)),
+        _ => general_plan(table, i, v),
     }
 }
 
@@ -296,63 +309,54 @@ fn number_sought(v: Signed) -> Sought
     }
 }
 
-// Shows a number that is in range.
-fn show_number_in_range(room: &mut [u16], table: &[u16], v: Signed, text: &[u16]) -> Shown
-    requires { ⌜ T (passes (now table)) × (v .magnitude < 10 ^ 15) × (v .scale ≤ 15) ⌝ }
-    ensures { λ r. ⌜ ((x : Number) → v ≡ signedOf x
-        → Shows (readNumber (decode (now (table .entry))) x (length (now (room .entry))) (choose (decode (now (table .entry))) (numberExact x)))
-        (now (room .entry)) r (now (room .exit))) ⌝ }
+// The plan of a number; one out of range is refused.
+fn number_plan(table: &[u16], x: Number) -> Planned
+    requires { ⌜ T (passes (now table)) ⌝ }
+    ensures { λ r. ⌜ ((text : List ℕ) → PlanIs (r .plan) (r .digits) (now (table .entry)) text (valueReading (now (table .entry)) (value.Number x) text)) ⌝ }
 {
+    let taken = figures::take_number(x);
+    let Taken::In(v) = taken else {
+        return without_digits(Plan::Refused(Answer::Range));
+    };
     match choosing::choose(table, number_sought(v)) {
-        Found::Nothing => refuse(Answer::NoSection),
-        Found::At(i) => show_number_in(room, table, i, v, text),
+        Found::Nothing => without_digits(Plan::Refused(Answer::NoSection)),
+        Found::At(i) => number_in(table, i, v),
     }
 }
 
-// Shows a number; one out of range is refused.
-fn show_number(room: &mut [u16], table: &[u16], x: Number, text: &[u16]) -> Shown
+// The plan of what is asked for: no room is needed to make it.
+fn plan_of(table: &[u16], ask: Ask, text: &[u16]) -> Planned
     requires { ⌜ T (passes (now table)) ⌝ }
-    ensures { λ r. ⌜ Shows (cond (numberInRange x)
-        (readNumber (decode (now (table .entry))) x (length (now (room .entry))) (choose (decode (now (table .entry))) (numberExact x)))
-        (refused answer.Range)) (now (room .entry)) r (now (room .exit)) ⌝ }
+    ensures { λ r. ⌜ PlanIs (r .plan) (r .digits) (now (table .entry)) (now (text .entry)) (reading (decode (now (table .entry))) ask (now (text .entry))) ⌝ }
 {
-    match figures::take_number(x) {
-        Taken::OutOfRange => refuse(Answer::Range),
-        Taken::In(v) => show_number_in_range(room, table, v, text),
+    let value = ask.value;
+    match value {
+        Value::Number(x) => number_plan(table, x),
+        Value::Instant(d, m) => without_digits(instant_plan(table, d, m)),
+        Value::Text => without_digits(text_plan(table, text)),
     }
 }
 
-// Whether both are in range.
-fn is_instant(d: Day, m: Millisecond) -> bool
-    ensures { λ r. ⌜ r ≡ instantInRange d m ⌝ }
+// Shows a text by itself.
+fn show_plain(room: &mut [u16], text: &[u16]) -> Shown
+    requires { ⌜ length (now text) ≤ 1024 ⌝ }
+    ensures { λ r. ⌜ Shows (within (length (now (room .entry))) (lookOf (now (text .entry)) 0 4)) (now (room .entry)) r (now (room .exit)) ⌝ }
 {
-    (d.0 <= Day::GREATEST) & (m.0 <= Millisecond::GREATEST)
+    if room.len() < text.len() {
+        return refused_shown(Answer::TextRoom);
+    }
+    writing::put_units(room, 0, text);
+    done_shown(text.len() as u32, 0, 4)
 }
 
-// Shows an instant; one out of range is refused.
-fn show_any_instant(room: &mut [u16], table: &[u16], d: Day, m: Millisecond, text: &[u16]) -> Shown
-    requires { ⌜ T (passes (now table)) ⌝ }
-    ensures { λ r. ⌜ Shows (cond (instantInRange d m)
-        (readInstant d m (length (now (room .entry))) (choose (decode (now (table .entry))) (instantExact d m)))
-        (refused answer.Range)) (now (room .entry)) r (now (room .exit)) ⌝ }
+// Shows an instant in section i, which is a date-time section.
+fn show_dated(room: &mut [u16], table: &[u16], i: u16, d: Day, m: Millisecond) -> Shown
+    requires { ⌜ T (passes (now table)) × (i < getD (now table) 0 0) × (kindOf (sectionIn (now table) i) ≡ dateKind) ⌝ }
+    ensures { λ r. ⌜ Shows (sectionReading (length (now (room .entry))) (sectionIn (now (table .entry)) i) i false
+        (instantContext (sectionIn (now (table .entry)) i) d m)) (now (room .entry)) r (now (room .exit)) ⌝ }
 {
-    if is_instant(d, m) {
-        return show_instant(room, table, d, m, text);
-    }
-    refuse(Answer::Range)
-}
-
-// Shows a text; one that is too long is refused.
-fn show_any_text(room: &mut [u16], table: &[u16], text: &[u16]) -> Shown
-    requires { ⌜ T (passes (now table)) ⌝ }
-    ensures { λ r. ⌜ Shows (cond (textInRange (now (text .entry)))
-        (readText (now (text .entry)) (length (now (room .entry))) (chooseText (decode (now (table .entry)))))
-        (refused answer.Range)) (now (room .entry)) r (now (room .exit)) ⌝ }
-{
-    if text.len() <= 1024 {
-        return show_text(room, table, text);
-    }
-    refuse(Answer::Range)
+    let moment = date_text::moment_of(is_twelve_hour(table, i as usize), d, m);
+    show_dated_section(room, table, i, moment)
 }
 
 // Shows a value through a table that passes.
@@ -361,11 +365,14 @@ fn show_value(room: &mut [u16], table: &[u16], ask: Ask, text: &[u16]) -> Shown
     ensures { λ r. ⌜ Shows (reading (decode (now (table .entry))) ask (now (text .entry)) (length (now (room .entry))))
         (now (room .entry)) r (now (room .exit)) ⌝ }
 {
-    let value = ask.value;
-    match value {
-        Value::Number(x) => show_number(room, table, x, text),
-        Value::Instant(d, m) => show_any_instant(room, table, d, m, text),
-        Value::Text => show_any_text(room, table, text),
+    let p = plan_of(table, ask, text);
+    let digits = p.digits;
+    let plan = p.plan;
+    match plan {
+        Plan::Refused(answer) => refused_shown(answer),
+        Plan::Itself => show_plain(room, text),
+        Plan::Dated(i, d, m) => show_dated(room, table, i, d, m),
+        Plan::Section(i, minus, s) => show_section(room, table, i, minus, &digits, s, text),
     }
 }
 
@@ -378,5 +385,5 @@ pub fn show(table: &[u16], ask: Ask, text: &[u16], room: &mut [u16]) -> Shown
     if checking::check(table) {
         return show_value(room, table, ask, text);
     }
-    refuse(Answer::Table)
+    refused_shown(Answer::Table)
 }

@@ -17,7 +17,7 @@ returns c =
     table-shows _ _ _ (t .before .check .ensures) (t .if1 .taken) (s .show-value .ensures)
 
 returns-2 : tie.Need-returns-2
-returns-2 c = rw (c .refuse .ensures) (table-refused _ _ _ (c .before .before .check .ensures) _ (c .before .if1 .left))
+returns-2 c = rw (c .refused-shown .ensures) (table-refused _ _ _ (c .before .before .check .ensures) _ (c .before .if1 .left))
 
 pub show-spec : {M : Type 1} → statement M
 show-spec =

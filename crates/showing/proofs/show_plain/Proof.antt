@@ -6,13 +6,21 @@ use Rattle.showing.proofs.show_plain.Statement.{statement}
 use Rattle.showing.proofs.show_plain.Tie as tie
 
 returns : tie.Need-returns
-returns c = rw (c .refuse .ensures) (plain-none _ _ (c .before .if1 .taken))
+returns c = rw (c .refused-shown .ensures) (plain-none _ _ (c .before .if1 .taken))
 
 returns-2 : tie.Need-returns-2
 returns-2 c =
-    let p = c .before .before in
-    plain-all _ _ (p .before .before .if1 .left) (p .put-units .ensures)
+    let p = c .before .before .before in
+    rw (c .done-shown .ensures) (plain-all _ _ (p .before .before .if1 .left) (p .put-units .ensures))
 
 pub show-plain-spec : {M : Type 1} → statement M
 show-plain-spec =
-    tie.close (tie.spec (λ c κs. search needs) returns (λ c κs. search needs) (λ c. search needs) (λ c. search needs) returns-2)
+    tie.close
+    (tie.spec
+    (λ c κs. search needs)
+    returns
+    (λ c κs. search needs)
+    (λ c. search needs)
+    (λ c κs. search needs)
+    (λ c. search needs)
+    returns-2)

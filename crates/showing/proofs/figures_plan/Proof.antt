@@ -1,0 +1,32 @@
+-- `showing::figures_plan` meets its contract.
+-- Assumes nothing.
+use mathlib.Core.Path.{refl}
+use Rattle.figure_text.proofs.Digits.{figures-used}
+use Rattle.showing.proofs.Subjects.{number-subject}
+use Rattle.showing.proofs.Numbers.{number-section}
+use Rattle.showing.proofs.Sections.{number-words, number-small, number-figures, number-takes}
+use borrow.Author.Needs.{needs}
+use Rattle.showing.proofs.figures_plan.Statement.{statement}
+use Rattle.showing.proofs.figures_plan.Tie as tie
+
+returns : tie.Need-returns
+returns c =
+    let w = c .before in
+    let g = w .before in
+    let n = g .before in
+    let p = n .before .before .pre in
+    let small = number-small (number-words _ _ (p .0) (p .1) (p .4) refl) _ _ (p .2) in
+    λ text x why ev eo.
+    let are = number-figures _ _ x ev small (n .number-digits .ensures) (g .integer-places .ensures) (w .is-grouped .ensures) in
+    rw (c .with-digits .ensures)
+    (number-section _ _ _ x why ev eo (number-takes _ _ x ev (p .4) are) (p .1) (figures-used are) (number-subject _ (p .4) are))
+
+pub figures-plan-spec : {M : Type 1} → statement M
+figures-plan-spec =
+    tie.close
+    (tie.spec
+    (λ c κs. search needs)
+    (λ c κs. search needs)
+    (λ c κs. search needs)
+    (λ c κs. search needs)
+    returns)

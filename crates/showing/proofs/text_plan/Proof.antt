@@ -1,0 +1,39 @@
+-- `showing::text_plan` meets its contract.
+-- Assumes nothing.
+use native.Mathlib.Omega.{arith}
+use mathlib.Core.Path.{sym, _∙_}
+use denote.Ref.{now}
+use lib.ListN.{length}
+use borrow.Author.Tests.{lt-leb}
+use Rattle.showing.proofs.Texts.{text-section, itself-reads}
+use borrow.Author.Needs.{needs}
+use Rattle.showing.proofs.text_plan.Statement.{statement}
+use Rattle.showing.proofs.text_plan.Tie as tie
+
+returns : tie.Need-returns
+returns c = let t = now (c .before .before .before .args .text) in λ digits size. rw (lt-leb (length t) 1024 (omega arith))
+
+returns-2 : tie.Need-returns-2
+returns-2 c =
+    let h = c .before .before in
+    let a = h .before .before .before .before .args in
+    λ digits. (omega arith, itself-reads _ (now (a .text)) (omega arith) (sym (c .enum-told .given .1) ∙ h .choose-text .ensures))
+
+returns-3 : tie.Need-returns-3
+returns-3 c =
+    let g = c .before .before in
+    let h = g .before .before in
+    let p = h .before .before .before .before .pre in
+    λ digits. rw (c .bare .ensures) (text-section _ _ p (sym (g .i .given .1) ∙ h .choose-text .ensures) (omega arith))
+
+pub text-plan-spec : {M : Type 1} → statement M
+text-plan-spec =
+    tie.close
+    (tie.spec
+    returns
+    (λ c κs. search needs)
+    (λ c. search needs)
+    (λ c. search needs)
+    (λ c κs. search needs)
+    returns-2
+    returns-3)

@@ -1,0 +1,68 @@
+-- What a plan says of a reading in a room of any size.
+-- Assumes nothing.
+use Prim.Native.Nat.{ℕ, _≤_, _<_}
+use mathlib.Core.Path.{_≡_}
+use mathlib.Core.Bool.{Bool, true, false, cond}
+use mathlib.Core.List.{List}
+use lib.Dec.{eqb}
+use lib.ListN.{length, getD}
+use Rattle.answers.specs.declared.Answer.the-variants as answer
+use Rattle.values.specs.declared.Number.{Number}
+use Rattle.values.specs.declared.Value.{Value}
+use Rattle.values.specs.Ranges.{valueInRange}
+use Rattle.figures.specs.declared.Signed.{Signed}
+use Rattle.figures.specs.Sign.{signedOf}
+use Rattle.formats.specs.Items.{dateKind, kindOf, integerPlaces}
+use Rattle.formats.specs.Choice.{numberExact, Reason, chosen, choose}
+use Rattle.formats.specs.Reading.{Reading, refused, lookOf, within, instantContext, readNumber, readValue}
+use Rattle.tables.specs.Decode.{decode}
+use Rattle.table_words.specs.Sections.{sectionIn}
+use Rattle.figure_text.specs.declared.Figures.{Figures}
+use Rattle.section_text.specs.declared.Subject.{Subject}
+use Rattle.section_text.specs.Walk.{Known}
+use Rattle.section_text.specs.Show.{sectionReading}
+use Rattle.showing.specs.declared.Plan.{Plan}
+use Rattle.showing.specs.declared.Plan.the-variants as plan
+use Rattle.showing.specs.declared.Planned.{Planned}
+use Rattle.showing.specs.Minus.{minusIn}
+
+-- section i is read, in a context that these digits, this subject and this text are of
+pub record SectionIs (i : ℕ) (minus : Bool) (s : Subject) (digits ws text : List ℕ) (read : ℕ → Reading) : Type 0 where
+  pub inside : i < getD ws 0 0
+  pub used : s .figures .used ≤ 40
+  pub short : s .lent ≡ true → length text ≤ 1024
+  pub known : Known (kindOf (sectionIn ws i)) digits s text
+  pub places : known .context .integerPlaces ≡ integerPlaces (sectionIn ws i .items)
+  pub reads : (size : ℕ) → read size ≡ sectionReading size (sectionIn ws i) i minus (known .context)
+
+-- a plan, with these digits beside it, is what is read through the table `ws`, beside this text
+abbrev pub PlanIs : Plan → List ℕ → List ℕ → List ℕ → (ℕ → Reading) → Type 0
+PlanIs (plan.Refused a) digits ws text read = (size : ℕ) → read size ≡ refused a
+PlanIs plan.Itself digits ws text read = (length text ≤ 1024) × ((size : ℕ) → read size ≡ within size (lookOf text 0 4))
+PlanIs (plan.Dated i d m) digits ws text read = (i < getD ws 0 0) × (kindOf (sectionIn ws i) ≡ dateKind)
+    × ((size : ℕ) → read size ≡ sectionReading size (sectionIn ws i) i false (instantContext (sectionIn ws i) d m))
+PlanIs (plan.Section i minus s) digits ws text read = SectionIs i minus s digits ws text read
+
+-- the reading of a value through a table; 9 where it is out of range
+abbrev pub valueReading : List ℕ → Value → List ℕ → ℕ → Reading
+valueReading ws v text size = cond (valueInRange v text) (readValue (decode ws) v text size) (refused answer.Range)
+
+-- a number that this magnitude and sign are of is planned in section i, where that was chosen for it
+abbrev pub PlansNumber : List ℕ → ℕ → Signed → Planned → Type 0
+PlansNumber ws i v p = (text : List ℕ) (x : Number) (why : Reason) → v ≡ signedOf x → choose (decode ws) (numberExact x) ≡ chosen i (sectionIn ws i) why
+    → PlanIs (p .plan) (p .digits) ws text (λ size. readNumber (decode ws) x size (choose (decode ws) (numberExact x)))
+
+-- no number
+abbrev pub noFigures : Figures
+noFigures = record { used = 0; lowest = 40; integers = 0; grouped = false }
+
+-- section i without figures
+abbrev pub barePlan : ℕ → Bool → Bool → Plan
+barePlan i minus lent = plan.Section i minus (record { figures = noFigures; lent = lent })
+
+-- section i with the figures of a number
+abbrev pub digitsPlan : List ℕ → ℕ → Bool → List ℕ → Figures → Planned
+digitsPlan ws i negative digits f = record {
+  plan = plan.Section i (minusIn ws i negative (eqb (f .used) 0)) (record { figures = f; lent = false });
+  digits = digits;
+}
