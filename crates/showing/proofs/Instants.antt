@@ -17,7 +17,6 @@ use Rattle.formats.specs.Reading.{refused, takesInstant, instantContext, readIn
 use Rattle.tables.specs.Encode.{hasHalf}
 use Rattle.tables.specs.Decode.{decode}
 use Rattle.tables.specs.Rules.{passes}
-use Rattle.formats.proofs.Each.{by-kind}
 use Rattle.date_text.specs.declared.Moment.{Moment}
 use Rattle.date_text.specs.Moment.{momentOf, MomentIs}
 use Rattle.date_text.proofs.Moments.{moment-instant}
@@ -28,24 +27,22 @@ use Rattle.section_text.specs.Show.{signText, sectionReading}
 use Rattle.showing.specs.Plan.{SectionIs, noFigures}
 use Rattle.showing.proofs.Subjects.{section-places, literal-subject}
 
-instant-other : (k : Kind) → takesInstant k ≡ true → sameKind numberKind k ≡ false
-unfolding takesInstant
-instant-other =
-    by-kind (λ k. takesInstant k ≡ true → sameKind numberKind k ≡ false) (λ e. refl) (λ e. refl) (λ e. refl)
-    (λ e. absurd (true≢false (sym e))) (λ e. refl)
+-- date-time sections and literal sections take instants, and are no number sections
+abbrev TakesInstant : Kind → Type 0
+TakesInstant k = (takesInstant k ≡ true) × (sameKind numberKind k ≡ false)
 
-pub date-takes : (k : Kind) → k ≡ dateKind → takesInstant k ≡ true
+pub date-takes : (k : Kind) → k ≡ dateKind → TakesInstant k
 unfolding takesInstant
-date-takes k e = rw e
+date-takes k e = rw e (refl, refl)
 
-literal-takes : (k : Kind) → k ≡ literalKind → takesInstant k ≡ true
+literal-takes : (k : Kind) → k ≡ literalKind → TakesInstant k
 unfolding takesInstant
-literal-takes k e = rw e
+literal-takes k e = rw e (refl, refl)
 
 module _ (ws : List ℕ) (i : ℕ) (t : T (passes ws)) (h : i < getD ws 0 0) (d : Day) (m : Millisecond) where
-  pub instant-places : takesInstant (kindOf (sectionIn ws i)) ≡ true → instantContext (sectionIn ws i) d m .integerPlaces ≡ integerPlaces (sectionIn ws i .items)
+  pub instant-places : TakesInstant (kindOf (sectionIn ws i)) → instantContext (sectionIn ws i) d m .integerPlaces ≡ integerPlaces (sectionIn ws i .items)
   unfolding instantContext
-  instant-places e = section-places ws i t h (instant-other (kindOf (sectionIn ws i)) e)
+  instant-places e = section-places ws i t h (e .1)
 
   -- the reading of an instant in the section, by whether its kind takes one
   module _ (why : Reason) (eo : choose (decode ws) (instantExact d m) ≡ chosen i (sectionIn ws i) why) where
@@ -54,10 +51,10 @@ module _ (ws : List ℕ) (i : ℕ) (t : T (passes ws)) (h : i < getD ws 0 0) (d 
     unfolding readInstant
     instant-refused e size = rw (eo, e)
 
-    pub instant-reads : takesInstant (kindOf (sectionIn ws i)) ≡ true → (size : ℕ) → readInstant d m size (choose (decode ws) (instantExact d m))
+    pub instant-reads : TakesInstant (kindOf (sectionIn ws i)) → (size : ℕ) → readInstant d m size (choose (decode ws) (instantExact d m))
         ≡ sectionReading size (sectionIn ws i) i false (instantContext (sectionIn ws i) d m)
     unfolding readInstant sectionReading signText
-    instant-reads e size = rw (eo, e)
+    instant-reads e size = rw (eo, e .0)
 
     pub instant-literal : {digits text : List ℕ} → kindOf (sectionIn ws i) ≡ literalKind
         → SectionIs i false (record { figures = noFigures; lent = false }) digits ws text (λ size. readInstant d m size (choose (decode ws) (instantExact d m)))

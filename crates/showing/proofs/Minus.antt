@@ -28,7 +28,10 @@ four : (negative empty excepted held : Bool)
     → signUnits (cond (not negative) notNegative (cond empty noItem (cond excepted forNegatives (cond held nought minus))))
     ≡ signText (minusTold negative empty excepted held)
 unfolding signUnits signText minusTold
-four false e a b = refl
+four false true a b = refl
+four false false true b = refl
+four false false false true = refl
+four false false false false = refl
 four true true a b = refl
 four true false true b = refl
 four true false false true = refl
@@ -40,27 +43,3 @@ pub sign-told : (x : Number) (s : Section) (excepted held : Bool) (n : ℕ) → 
 unfolding signFor numberExact
 sign-told x s a b n e =
     rw (below-zero (numberExact x), empty-told (s .items) n e) (four (ltZ (x .coefficient) (pos 0)) (eqb n 0) a b)
-
--- no minus, and the number's sign
-pub minus-empty : (n a b : Bool) (k : ℕ) → k ≡ 0 → false ≡ minusTold n (eqb k 0) a b
-unfolding minusTold
-minus-empty true a b k e = rw (eq-eqb k 0 e)
-minus-empty false a b k e = refl
-
-pub minus-excepted : (n e a b : Bool) → a ≡ true → false ≡ minusTold n e a b
-unfolding minusTold
-minus-excepted true true a b f = refl
-minus-excepted true false a b f = rw f
-minus-excepted false e a b f = refl
-
-pub minus-nought : (n e a b : Bool) → b ≡ true → false ≡ minusTold n e a b
-unfolding minusTold
-minus-nought true true a b f = refl
-minus-nought true false true b f = refl
-minus-nought true false false b f = rw f
-minus-nought false e a b f = refl
-
-pub minus-is : (n a b : Bool) (k : ℕ) → (k ≡ 0 → ⊥) → a ≡ false → b ≡ false → n ≡ minusTold n (eqb k 0) a b
-unfolding minusTold
-minus-is true a b k e f g = rw (ne-eqb k 0 e, f, g)
-minus-is false a b k e f g = refl

@@ -2,7 +2,7 @@
 -- Assumes nothing.
 use Prim.Native.Nat.{ℕ, _+_, _-_, _*_, _^_, _≤_, _<_}
 use native.Mathlib.Omega.{arith}
-use mathlib.Core.Path.{_≡_, refl, sym, ap, _∙_}
+use mathlib.Core.Path.{_≡_, refl, sym, ap, ap₂, _∙_}
 use mathlib.Core.Bool.{Bool, true, false, _||_}
 use mathlib.Core.List.{List}
 use lib.Dec.{T, eqb}
@@ -27,7 +27,6 @@ use Rattle.table_words.proofs.Bodies.{section-limits}
 use Rattle.figure_text.specs.declared.Figures.{Figures}
 use Rattle.figure_text.specs.Shown.{FiguresAre, figuresWith}
 use Rattle.figure_text.proofs.Digits.{figures-are}
-use Rattle.showing.specs.Number.{sectionNumber}
 use Rattle.showing.proofs.Numbers.{Takes}
 use Rattle.showing.proofs.Generals.{figures-nought}
 
@@ -58,21 +57,22 @@ pub number-roundable : {shift decimals m up : ℕ} {s : Section} → NumberWords
 number-roundable w hm eu = roundable hm (omega (arith, w .shiftMost)) (w .decimalsMost)
 
 -- the section's number by the net power of ten that its shift tells
-module _ {shift decimals : ℕ} {s : Section} (w : NumberWords shift decimals s) (m scale : ℕ) where
-  number-net : rounded (powered m (shift - 15) (scale + (15 - shift))) decimals ≡ sectionNumber s m scale
-  unfolding sectionNumber
+module _ {shift decimals : ℕ} {s : Section} (w : NumberWords shift decimals s) (v : Signed) (x : Number) (ev : v ≡ signedOf x) where
+  number-net : rounded (powered (v .magnitude) (shift - 15) (v .scale + (15 - shift))) decimals ≡ sectionRounded s x
+  unfolding sectionRounded signedOf
   number-net =
       let p : ℕ = count isPercent (s .items) in
       let t : ℕ = s .thousands in
-      powered-net m (shift - 15) (scale + (15 - shift)) (2 * p) (scale + 3 * t) decimals (omega (arith, w .net))
-      ∙ ap (λ x. rounded x decimals) (sym (scaled-powered m scale p t))
-      ∙ ap (rounded (scaled m scale p t)) (w .places)
+      powered-net (v .magnitude) (shift - 15) (v .scale + (15 - shift)) (2 * p) (v .scale + 3 * t) decimals (omega (arith, w .net))
+      ∙ ap (λ x. rounded x decimals) (sym (scaled-powered (v .magnitude) (v .scale) p t))
+      ∙ ap₂ (λ (u : Signed). rounded (scaled (u .magnitude) (u .scale) p t)) ev (w .places)
 
-  pub number-small : m < 10 ^ 15 → sectionNumber s m scale < 10 ^ 40
-  number-small h = rw (← number-net) (rounded-small m (shift - 15) (scale + (15 - shift)) decimals h (omega (arith, w .shiftMost)) (w .decimalsMost))
+  pub number-small : v .magnitude < 10 ^ 15 → sectionRounded s x < 10 ^ 40
+  number-small h =
+      rw (← number-net) (rounded-small (v .magnitude) (shift - 15) (v .scale + (15 - shift)) decimals h (omega (arith, w .shiftMost)) (w .decimalsMost))
 
   pub number-digits : {r : List ℕ} {up down : ℕ} → up ≡ shift - 15 → down ≡ 15 - shift
-      → r ≡ figures (rounded (powered m up (scale + down)) decimals) → r ≡ figures (sectionNumber s m scale)
+      → r ≡ figures (rounded (powered (v .magnitude) up (v .scale + down)) decimals) → r ≡ figures (sectionRounded s x)
   number-digits eu ed e = e ∙ rw (eu, ed) (ap figures number-net)
 
 or-none : (b : Bool) → b ≡ b || false
@@ -80,17 +80,12 @@ or-none true = refl
 or-none false = refl
 
 -- the figures that the section shows of a number
-module _ (z : Section) (v : Signed) (x : Number) (ev : v ≡ signedOf x) where
-  number-is : sectionNumber z (v .magnitude) (v .scale) ≡ sectionRounded z x
-  unfolding sectionNumber sectionRounded signedOf
-  number-is = ap (λ (w : Signed). sectionNumber z (w .magnitude) (w .scale)) ev
-
-  pub number-figures : {digits : List ℕ} {integers : ℕ} {grouped : Bool} → sectionNumber z (v .magnitude) (v .scale) < 10 ^ 40
-      → digits ≡ figures (sectionNumber z (v .magnitude) (v .scale)) → integers ≡ integerPlaces (z .items) → grouped ≡ z .grouped
+module _ (z : Section) (x : Number) where
+  pub number-figures : {digits : List ℕ} {integers : ℕ} {grouped : Bool} → sectionRounded z x < 10 ^ 40
+      → digits ≡ figures (sectionRounded z x) → integers ≡ integerPlaces (z .items) → grouped ≡ z .grouped
       → FiguresAre digits (figuresWith digits integers grouped) (numberContext z x)
   unfolding numberContext
-  number-figures {digits} small ed ei eg =
-      figures-are digits (numberContext z x) (rw (ei, eg)) (ed ∙ ap figures number-is) (rw number-is at small)
+  number-figures {digits} small ed ei eg = figures-are digits (numberContext z x) (rw (ei, eg)) ed small
 
   pub number-takes : {digits : List ℕ} {f : Figures} → kindOf z ≡ numberKind → FiguresAre digits f (numberContext z x) → Takes z x (eqb (f .used) 0)
   unfolding showsNought showsGeneral takesNumber numberContext

@@ -34,7 +34,7 @@ use Rattle.choosing.proofs.Finding.{found-nothing, found-at}
 use Rattle.section_text.specs.Show.{Shows}
 use Rattle.section_text.proofs.Fitting.{shows-refused}
 use Rattle.showing.specs.Plan.{valueReading}
-use Rattle.showing.specs.Sought.{signedSought}
+use Rattle.showing.specs.Number.{signedSought}
 
 -- what is asked for is read by its value
 pub value-reading : (ws text : List ℕ) (v : Value) (ask : Ask) → ask .value ≡ v → reading (decode ws) ask text ≡ valueReading ws v text

@@ -1,4 +1,3 @@
 pub mod Minus
 pub mod Number
-pub mod Sought
 pub mod Plan

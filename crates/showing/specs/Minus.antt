@@ -1,6 +1,6 @@
 -- The added minus, as the code finds it.
 -- Assumes nothing.
-use mathlib.Core.Bool.{Bool, false, cond, not}
+use mathlib.Core.Bool.{Bool, false, cond}
 use mathlib.Core.List.{List}
 use Prim.Native.Nat.{ℕ}
 use lib.Dec.{eqb}
@@ -13,7 +13,7 @@ use Rattle.table_words.specs.Sections.{sectionIn}
 
 -- the added minus of a number: below 0, in a section that has an item, where no exception holds it back
 unfoldable pub minusTold : Bool → Bool → Bool → Bool → Bool
-minusTold negative empty excepted nought = cond negative (cond empty false (cond excepted false (not nought))) false
+minusTold negative empty excepted nought = cond empty false (cond excepted false (cond nought false negative))
 
 -- in a table's section i
 abbrev pub minusIn : List ℕ → ℕ → Bool → Bool → Bool

@@ -1,17 +1,15 @@
--- The number that a number section shows, and the argument of its first place.
+-- A number as the chooser is asked for it, and the argument of a section's first place.
 -- Assumes nothing.
 use Prim.Native.Nat.{ℕ}
-use mathlib.Core.Bool.{cond}
+use mathlib.Core.Bool.{false, cond}
 use mathlib.Core.List.{List, [], _∷_}
 use Rattle.values.specs.Ranges.{between}
-use Rattle.lists.specs.Lists.{count}
-use Rattle.figures.specs.Rounding.{scaled, rounded}
-use Rattle.formats.specs.Items.{Section, isPercent, decimalPlaces}
+use Rattle.figures.specs.declared.Signed.{Signed}
 use Rattle.tables.specs.Words.{Entry}
+use Rattle.choosing.specs.declared.Sought.{Sought}
 
--- a section's number of a magnitude: "the exact scaled number", rounded to its decimals
-unfoldable pub sectionNumber : Section → ℕ → ℕ → ℕ
-sectionNumber s m scale = rounded (scaled m scale (count isPercent (s .items)) (s .thousands)) (decimalPlaces (s .items))
+abbrev pub signedSought : Signed → Sought
+signedSought v = record { negative = v .negative; instant = false; above = v .magnitude; scale = v .scale }
 
 -- the argument of the first place; 15 where there is none
 unfoldable pub firstArgument : List Entry → ℕ

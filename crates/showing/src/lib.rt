@@ -7,8 +7,10 @@ ghost use lib.Dec.{T, eqb};
 ghost use lib.ListN.{length, getD};
 ghost use Rattle.formats.specs.Items.{numberKind, dateKind, kindOf, integerPlaces};
 ghost use Rattle.formats.specs.Choice.{instantExact, Reason, chosen, choose};
-ghost use Rattle.formats.specs.Reading.{lookOf, within, instantContext, readInstant, showsGeneral, reading};
+ghost use Rattle.formats.specs.Reading.{lookOf, within, instantContext, readInstant, showsGeneral, sectionRounded, reading};
 ghost use Rattle.figures.specs.Digits.{figures};
+ghost use Rattle.figures.specs.Sign.{signedOf};
+ghost use Rattle.values.specs.declared.Number.{Number};
 ghost use Rattle.values.specs.declared.Value.the-variants as value;
 ghost use Rattle.tables.specs.Words.{entriesIn};
 ghost use Rattle.tables.specs.Decode.{decode};
@@ -19,9 +21,8 @@ ghost use Rattle.choosing.specs.Seeking.{instantSought};
 ghost use Rattle.figure_text.specs.Shown.{figuresWith};
 ghost use Rattle.section_text.specs.Show.{sectionReading, Shows};
 ghost use Rattle.showing.specs.Minus.{minusTold, minusIn};
-ghost use Rattle.showing.specs.Number.{sectionNumber, firstArgument};
+ghost use Rattle.showing.specs.Number.{signedSought, firstArgument};
 ghost use Rattle.showing.specs.Plan.{PlanIs, PlansNumber, valueReading, barePlan, digitsPlan};
-ghost use Rattle.showing.specs.Sought.{signedSought};
 use answers::Answer;
 use answers::Shown;
 use answers::done_shown;
@@ -254,7 +255,7 @@ fn excess(a: u32, b: u32) -> u32
 fn number_digits(table: &[u16], i: usize, v: Signed) -> [u8; 40]
     requires { ⌜ T (passes (now table)) × (i < getD (now table) 0 0) × (v .magnitude < 10 ^ 15) × (v .scale ≤ 15)
         × (kindOf (sectionIn (now table) i) ≡ numberKind) ⌝ }
-    ensures { λ r. ⌜ r ≡ figures (sectionNumber (sectionIn (now (table .entry)) i) (v .magnitude) (v .scale)) ⌝ }
+    ensures { λ r. ⌜ ((x : Number) → v ≡ signedOf x → r ≡ figures (sectionRounded (sectionIn (now (table .entry)) i) x)) ⌝ }
 {
     let h = head_of(table, i);
     let shift = h.shift as u32;

@@ -15,11 +15,11 @@ returns c =
     let g = w .before in
     let n = g .before in
     let p = n .before .before .pre in
-    let small = number-small (number-words _ _ (p .0) (p .1) (p .4) refl) _ _ (p .2) in
     λ text x why ev eo.
-    let are = number-figures _ _ x ev small (n .number-digits .ensures) (g .integer-places .ensures) (w .is-grouped .ensures) in
+    let small = number-small (number-words _ _ (p .0) (p .1) (p .4) refl) _ x ev (p .2) in
+    let are = number-figures _ x small (n .number-digits .ensures x ev) (g .integer-places .ensures) (w .is-grouped .ensures) in
     rw (c .with-digits .ensures)
-    (number-section _ _ _ x why ev eo (number-takes _ _ x ev (p .4) are) (p .1) (figures-used are) (number-subject _ (p .4) are))
+    (number-section _ _ _ x why ev eo (number-takes _ x (p .4) are) (p .1) (figures-used are) (number-subject _ (p .4) are))
 
 pub figures-plan-spec : {M : Type 1} → statement M
 figures-plan-spec =

@@ -18,7 +18,8 @@ returns c =
     let x = y .before in
     let h = x .before .before .before in
     let p = h .before .before .pre in
-    number-digits (number-words _ _ (p .0) (p .1) (p .4) (h .head-of .ensures .0)) _ _ (x .excess .ensures) (y .excess2 .ensures) (c .round .ensures)
+    λ n ev.
+    number-digits (number-words _ _ (p .0) (p .1) (p .4) (h .head-of .ensures .0)) _ n ev (x .excess .ensures) (y .excess2 .ensures) (c .round .ensures)
 
 pub number-digits-spec : {M : Type 1} → statement M
 number-digits-spec =
