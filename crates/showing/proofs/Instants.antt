@@ -1,7 +1,6 @@
 -- An instant in the section that takes it.
 -- Assumes nothing.
-use Prim.Native.Nat.{ℕ, _+_, _*_, _<_}
-use native.Mathlib.Omega.{arith}
+use Prim.Native.Nat.{ℕ, _+_, _*_, _≤_, _<_}
 use mathlib.Core.Path.{_≡_, refl, sym}
 use mathlib.Core.Bool.{Bool, true, false, true≢false}
 use mathlib.Core.List.{List}
@@ -22,9 +21,10 @@ use Rattle.date_text.specs.Moment.{momentOf, MomentIs}
 use Rattle.date_text.proofs.Moments.{moment-instant}
 use Rattle.table_words.specs.Sections.{sectionIn}
 use Rattle.choosing.specs.Seeking.{instantSought}
+use Rattle.figure_text.specs.declared.Figures.{Figures}
 use Rattle.section_text.specs.Walk.{DatedKnown}
 use Rattle.section_text.specs.Show.{signText, sectionReading}
-use Rattle.showing.specs.Plan.{SectionIs, noFigures}
+use Rattle.showing.specs.Plan.{SectionIs}
 use Rattle.showing.proofs.Subjects.{section-places, literal-subject}
 
 -- date-time sections and literal sections take instants, and are no number sections
@@ -56,14 +56,14 @@ module _ (ws : List ℕ) (i : ℕ) (t : T (passes ws)) (h : i < getD ws 0 0) (d 
     unfolding readInstant sectionReading signText
     instant-reads e size = rw (eo, e .0)
 
-    pub instant-literal : {digits text : List ℕ} → kindOf (sectionIn ws i) ≡ literalKind
-        → SectionIs i false (record { figures = noFigures; lent = false }) digits ws text (λ size. readInstant d m size (choose (decode ws) (instantExact d m)))
-    instant-literal e =
+    pub instant-literal : {digits text : List ℕ} {f : Figures} → f .used ≤ 40 → kindOf (sectionIn ws i) ≡ literalKind
+        → SectionIs i false (record { figures = f; lent = false }) digits ws text (λ size. readInstant d m size (choose (decode ws) (instantExact d m)))
+    instant-literal u e =
         let k = literal-takes (kindOf (sectionIn ws i)) e in
         record {
           inside = h;
-          used = omega arith;
-          short = λ f. absurd (true≢false (sym f));
+          used = u;
+          short = λ l. absurd (true≢false (sym l));
           known = record { context = instantContext (sectionIn ws i) d m; is = literal-subject (instantContext (sectionIn ws i) d m) e };
           places = instant-places k;
           reads = instant-reads k;

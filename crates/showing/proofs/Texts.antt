@@ -26,9 +26,10 @@ use Rattle.table_words.specs.Sections.{sectionIn}
 use Rattle.table_words.proofs.Heads.{section-stands}
 use Rattle.choosing.specs.Seeking.{textFoundOf}
 use Rattle.choosing.proofs.Finding.{text-itself, text-at}
+use Rattle.figure_text.specs.declared.Figures.{Figures}
 use Rattle.section_text.specs.Show.{signText, sectionReading, Shows}
 use Rattle.section_text.proofs.Fitting.{shows-none, shows-all}
-use Rattle.showing.specs.Plan.{SectionIs, valueReading, noFigures}
+use Rattle.showing.specs.Plan.{SectionIs, valueReading}
 use Rattle.showing.proofs.Subjects.{section-places, standing-subject}
 
 -- a text goes to the fourth section or to a text section
@@ -83,15 +84,15 @@ module _ (ws : List ℕ) (i : ℕ) (t : T (passes ws)) (e : found.At i ≡ textF
   unfolding readValue readText sectionReading signText
   text-reads text h size = rw (le-leb (length text) 1024 h, text-at ws i e .0)
 
-  pub text-section : {digits text : List ℕ} → length text ≤ 1024
-      → SectionIs i false (record { figures = noFigures; lent = true }) digits ws text (valueReading ws value.Text text)
+  pub text-section : {digits text : List ℕ} {f : Figures} → f .used ≤ 40 → length text ≤ 1024
+      → SectionIs i false (record { figures = f; lent = true }) digits ws text (valueReading ws value.Text text)
   unfolding textContext
-  text-section {digits} {text} h =
+  text-section {digits} {text} u h =
       let k = plain-kind (kindOf (sectionIn ws i)) section-plain in
       record {
         inside = text-at ws i e .1;
-        used = omega arith;
-        short = λ f. h;
+        used = u;
+        short = λ l. h;
         known = record { context = textContext text; is = standing-subject (textContext text) (k .0) (k .1) refl };
         places = section-places ws i t (text-at ws i e .1) (k .0);
         reads = text-reads text h;

@@ -52,17 +52,11 @@ abbrev pub PlansNumber : List ℕ → ℕ → Signed → Planned → Type 0
 PlansNumber ws i v p = (text : List ℕ) (x : Number) (why : Reason) → v ≡ signedOf x → choose (decode ws) (numberExact x) ≡ chosen i (sectionIn ws i) why
     → PlanIs (p .plan) (p .digits) ws text (λ size. readNumber (decode ws) x size (choose (decode ws) (numberExact x)))
 
--- no number
-abbrev pub noFigures : Figures
-noFigures = record { used = 0; lowest = 40; integers = 0; grouped = false }
-
 -- section i without figures
 abbrev pub barePlan : ℕ → Bool → Bool → Plan
-barePlan i minus lent = plan.Section i minus (record { figures = noFigures; lent = lent })
+barePlan i minus lent =
+    plan.Section i minus (record { figures = record { used = 0; lowest = 40; integers = 0; grouped = false }; lent = lent })
 
 -- section i with the figures of a number
-abbrev pub digitsPlan : List ℕ → ℕ → Bool → List ℕ → Figures → Planned
-digitsPlan ws i negative digits f = record {
-  plan = plan.Section i (minusIn ws i negative (eqb (f .used) 0)) (record { figures = f; lent = false });
-  digits = digits;
-}
+abbrev pub digitsPlan : List ℕ → ℕ → Bool → Figures → Plan
+digitsPlan ws i negative f = plan.Section i (minusIn ws i negative (eqb (f .used) 0)) (record { figures = f; lent = false })

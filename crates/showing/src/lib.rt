@@ -189,7 +189,7 @@ fn with_digits(
     grouped: bool,
 ) -> Planned
     requires { ⌜ T (passes (now table)) × (i < getD (now table) 0 0) ⌝ }
-    ensures { λ r. ⌜ r ≡ digitsPlan (now (table .entry)) i negative digits (figuresWith digits integers grouped) ⌝ }
+    ensures { λ r. ⌜ (r .plan ≡ digitsPlan (now (table .entry)) i negative (figuresWith digits integers grouped)) × (r .digits ≡ digits) ⌝ }
 {
     let figures = figures_of(digits, integers, grouped);
     let minus = added_minus(table, i, negative, figures.used == 0);

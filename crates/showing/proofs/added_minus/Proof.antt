@@ -5,8 +5,11 @@ use borrow.Author.Needs.{needs}
 use Rattle.showing.proofs.added_minus.Statement.{statement}
 use Rattle.showing.proofs.added_minus.Tie as tie
 
-returns : tie.Need-returns
-returns c = minus-words _ _ _ _ (c .before .before .head-of .ensures .0) (c .before .no-minus .ensures) (c .has-minus .ensures)
-
 pub added-minus-spec : {M : Type 1} → statement M
-added-minus-spec = tie.close (tie.spec (λ c κs. search needs) (λ c κs. search needs) (λ c κs. search needs) returns)
+added-minus-spec =
+    tie.close
+    (tie.spec
+    (λ c κs. search needs)
+    (λ c κs. search needs)
+    (λ c κs. search needs)
+    (λ c. minus-words _ _ _ _ (c .before .before .head-of .ensures .0) (c .before .no-minus .ensures) (c .has-minus .ensures)))

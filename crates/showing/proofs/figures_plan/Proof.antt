@@ -18,7 +18,7 @@ returns c =
     λ text x why ev eo.
     let small = number-small (number-words _ _ (p .0) (p .1) (p .4) refl) _ x ev (p .2) in
     let are = number-figures _ x small (n .number-digits .ensures x ev) (g .integer-places .ensures) (w .is-grouped .ensures) in
-    rw (c .with-digits .ensures)
+    rw (c .with-digits .ensures .0, c .with-digits .ensures .1)
     (number-section _ _ _ x why ev eo (number-takes _ x (p .4) are) (p .1) (figures-used are) (number-subject _ (p .4) are))
 
 pub figures-plan-spec : {M : Type 1} → statement M

@@ -13,9 +13,6 @@ Inv-loop items n k₀ k = Seeking items n k
 abbrev μ-loop : tie.MeasureT-loop
 μ-loop items n k₀ k = n - k
 
-loop-holds : tie.Need-loop-holds Inv-loop μ-loop
-loop-holds c = seeking-start _ _ refl
-
 returns : tie.Need-returns Inv-loop μ-loop
 returns c =
     let t = c .before .before .before in
@@ -26,16 +23,13 @@ loop-again c =
     let t = c .before .before in
     seeking-step (t .before .loop .inv) (t .loop-test .taken) (c .if1 .left)
 
-returns-2 : tie.Need-returns-2 Inv-loop μ-loop
-returns-2 c = seeking-end (c .before .loop .inv) (c .loop-test .left)
-
 pub first-argument-spec : {M : Type 1} → statement M
 first-argument-spec =
     tie.close
     (tie.spec
     Inv-loop
     μ-loop
-    loop-holds
+    (λ c. seeking-start _ _ refl)
     (λ c. search needs)
     (λ c. search needs)
     (λ c. search needs)
@@ -46,4 +40,4 @@ first-argument-spec =
     (λ c. search needs)
     (λ c. search needs)
     loop-again
-    returns-2)
+    (λ c. seeking-end (c .before .loop .inv) (c .loop-test .left)))

@@ -22,7 +22,7 @@ returns-2 c =
     let p = g .before .before .pre in
     λ text x why ev eo.
     let are = general-figures _ x ev (p .2) (r .round-general .ensures) in
-    rw (c .with-digits .ensures)
+    rw (c .with-digits .ensures .0, c .with-digits .ensures .1)
     (number-section _ _ _ x why ev eo (general-takes _ (p .3) x are (wide-is _ x ev (g .general-too-wide .ensures) ∙ r .before .if1 .left))
     (p .1) (figures-used are) (general-subject _ (p .3) x are))
 

@@ -1,5 +1,6 @@
 -- `showing::instant_in` meets its contract.
 -- Assumes nothing.
+use native.Mathlib.Omega.{arith}
 use Rattle.showing.proofs.KindWords.{kind-with, told-sort}
 use Rattle.showing.proofs.Instants.{date-takes, instant-reads, instant-literal, instant-refused}
 use borrow.Author.Needs.{needs}
@@ -19,7 +20,7 @@ returns-2 c =
     let w = k .before .before in
     let p = w .before .before .pre in
     λ digits text why eo.
-    rw (c .bare .ensures) (instant-literal _ _ (p .0) (p .1) _ _ why eo (kind-with _ _ (w .head-of .ensures .0) 0 (k .if2 .taken)))
+    rw (c .bare .ensures) (instant-literal _ _ (p .0) (p .1) _ _ why eo (omega arith) (kind-with _ _ (w .head-of .ensures .0) 0 (k .if2 .taken)))
 
 returns-3 : tie.Need-returns-3
 returns-3 c =

@@ -10,17 +10,10 @@ use borrow.Author.Needs.{needs}
 use Rattle.showing.proofs.instant_plan.Statement.{statement}
 use Rattle.showing.proofs.instant_plan.Tie as tie
 
-returns : tie.Need-returns
-returns c = let a = c .before .before .before .args in λ digits text size. rw (day-beyond (a .d) (a .m) (omega arith))
-
 returns-2 : tie.Need-returns-2
 returns-2 c =
     let a = c .before .before .before .before .before .args in
     λ digits text size. rw (millisecond-beyond (a .d) (a .m) (omega arith) (omega arith))
-
-choose-requires : tie.Need-choose-requires
-choose-requires c κs =
-    (c .before .before .before .before .before .before .pre, rw (c .instant-sought .ensures) (instant-scale _ _))
 
 instant-in-requires : tie.Need-instant-in-requires
 instant-in-requires c κs =
@@ -53,10 +46,10 @@ pub instant-plan-spec : {M : Type 1} → statement M
 instant-plan-spec =
     tie.close
     (tie.spec
-    returns
+    (λ c digits text size. let a = c .before .before .before .args in rw (day-beyond (a .d) (a .m) (omega arith)))
     returns-2
     (λ c κs. search needs)
-    choose-requires
+    (λ c κs. (c .before .before .before .before .before .before .pre, rw (c .instant-sought .ensures) (instant-scale _ _)))
     (λ c. search needs)
     (λ c. search needs)
     instant-in-requires

@@ -5,8 +5,5 @@ use borrow.Author.Needs.{needs}
 use Rattle.showing.proofs.instant_sought.Statement.{statement}
 use Rattle.showing.proofs.instant_sought.Tie as tie
 
-returns : tie.Need-returns
-returns c = sought-instant _ _
-
 pub instant-sought-spec : {M : Type 1} → statement M
-instant-sought-spec = tie.close (tie.spec (λ c. search needs) (λ c. search needs) (λ c. search needs) (λ c. search needs) returns)
+instant-sought-spec = tie.close (tie.spec (λ c. search needs) (λ c. search needs) (λ c. search needs) (λ c. search needs) (λ c. sought-instant _ _))

@@ -6,12 +6,6 @@ use borrow.Author.Needs.{needs}
 use Rattle.showing.proofs.integer_places.Statement.{statement}
 use Rattle.showing.proofs.integer_places.Tie as tie
 
-sub-result : tie.Need-sub-result
-sub-result c = omega (arith, argument-is (c .before .items-of .ensures) (c .first-argument .ensures))
-
-returns : tie.Need-returns
-returns c = omega (arith, argument-is (c .before .items-of .ensures) (c .first-argument .ensures))
-
 pub integer-places-spec : {M : Type 1} → statement M
 integer-places-spec =
     tie.close
@@ -19,5 +13,5 @@ integer-places-spec =
     (λ c κs. search needs)
     (λ c κs. search needs)
     (λ c. search needs)
-    sub-result
-    returns)
+    (λ c. omega (arith, argument-is (c .before .items-of .ensures) (c .first-argument .ensures)))
+    (λ c. omega (arith, argument-is (c .before .items-of .ensures) (c .first-argument .ensures))))

@@ -7,19 +7,19 @@ use borrow.Author.Needs.{needs}
 use Rattle.showing.proofs.show.Statement.{statement}
 use Rattle.showing.proofs.show.Tie as tie
 
-show-value-requires : tie.Need-show-value-requires
-show-value-requires c κs = true-T (sym (c .before .before .check .ensures) ∙ c .before .if1 .taken)
-
 returns : tie.Need-returns
 returns c =
     let s = c .before .before in
     let t = s .before .before in
     table-shows _ _ _ (t .before .check .ensures) (t .if1 .taken) (s .show-value .ensures)
 
-returns-2 : tie.Need-returns-2
-returns-2 c = rw (c .refused-shown .ensures) (table-refused _ _ _ (c .before .before .check .ensures) _ (c .before .if1 .left))
-
 pub show-spec : {M : Type 1} → statement M
 show-spec =
     tie.close
-    (tie.spec (λ c κs. search needs) show-value-requires (λ c. search needs) returns (λ c κs. search needs) returns-2)
+    (tie.spec
+    (λ c κs. search needs)
+    (λ c κs. true-T (sym (c .before .before .check .ensures) ∙ c .before .if1 .taken))
+    (λ c. search needs)
+    returns
+    (λ c κs. search needs)
+    (λ c. rw (c .refused-shown .ensures) (table-refused _ _ _ (c .before .before .check .ensures) _ (c .before .if1 .left))))

@@ -5,9 +5,6 @@ use borrow.Author.Needs.{needs}
 use Rattle.showing.proofs.show_plain.Statement.{statement}
 use Rattle.showing.proofs.show_plain.Tie as tie
 
-returns : tie.Need-returns
-returns c = rw (c .refused-shown .ensures) (plain-none _ _ (c .before .if1 .taken))
-
 returns-2 : tie.Need-returns-2
 returns-2 c =
     let p = c .before .before .before in
@@ -18,7 +15,7 @@ show-plain-spec =
     tie.close
     (tie.spec
     (λ c κs. search needs)
-    returns
+    (λ c. rw (c .refused-shown .ensures) (plain-none _ _ (c .before .if1 .taken)))
     (λ c κs. search needs)
     (λ c. search needs)
     (λ c κs. search needs)

@@ -10,9 +10,6 @@ use borrow.Author.Needs.{needs}
 use Rattle.showing.proofs.text_plan.Statement.{statement}
 use Rattle.showing.proofs.text_plan.Tie as tie
 
-returns : tie.Need-returns
-returns c = let t = now (c .before .before .before .args .text) in λ digits size. rw (lt-leb (length t) 1024 (omega arith))
-
 returns-2 : tie.Need-returns-2
 returns-2 c =
     let h = c .before .before in
@@ -24,13 +21,13 @@ returns-3 c =
     let g = c .before .before in
     let h = g .before .before in
     let p = h .before .before .before .before .pre in
-    λ digits. rw (c .bare .ensures) (text-section _ _ p (sym (g .i .given .1) ∙ h .choose-text .ensures) (omega arith))
+    λ digits. rw (c .bare .ensures) (text-section _ _ p (sym (g .i .given .1) ∙ h .choose-text .ensures) (omega arith) (omega arith))
 
 pub text-plan-spec : {M : Type 1} → statement M
 text-plan-spec =
     tie.close
     (tie.spec
-    returns
+    (λ c digits size. rw (lt-leb (length (now (c .before .before .before .args .text))) 1024 (omega arith)))
     (λ c κs. search needs)
     (λ c. search needs)
     (λ c. search needs)

@@ -1,11 +1,9 @@
 -- `showing::with_digits` meets its contract.
 -- Assumes nothing.
+use mathlib.Core.Path.{refl}
 use borrow.Author.Needs.{needs}
 use Rattle.showing.proofs.with_digits.Statement.{statement}
 use Rattle.showing.proofs.with_digits.Tie as tie
-
-returns : tie.Need-returns
-returns c = rw (c .added-minus .ensures, c .before .before .figures-of .ensures .0)
 
 pub with-digits-spec : {M : Type 1} → statement M
 with-digits-spec =
@@ -13,4 +11,4 @@ with-digits-spec =
     (tie.spec
     (λ c κs. search needs)
     (λ c κs. search needs)
-    returns)
+    (λ c. (rw (c .added-minus .ensures, c .before .before .figures-of .ensures .0), refl)))
