@@ -7,7 +7,7 @@ ghost use lib.Dec.{T, eqb};
 ghost use lib.ListN.{length, getD};
 ghost use Rattle.formats.specs.Items.{numberKind, dateKind, kindOf, integerPlaces};
 ghost use Rattle.formats.specs.Choice.{instantExact, Reason, chosen, choose};
-ghost use Rattle.formats.specs.Reading.{lookOf, within, instantContext, readInstant, showsGeneral, sectionRounded, reading};
+ghost use Rattle.formats.specs.Reading.{lookOf, within, instantContext, readInstant, showsGeneral, sectionRounded, readValue, reading};
 ghost use Rattle.figures.specs.Digits.{figures};
 ghost use Rattle.figures.specs.Sign.{signedOf};
 ghost use Rattle.values.specs.declared.Number.{Number};
@@ -310,18 +310,26 @@ fn number_sought(v: Signed) -> Sought
     }
 }
 
+// The plan of a number that is in range.
+fn number_in_range(table: &[u16], v: Signed) -> Planned
+    requires { ⌜ T (passes (now table)) × (v .magnitude < 10 ^ 15) × (v .scale ≤ 15) ⌝ }
+    ensures { λ r. ⌜ ((text : List ℕ) (x : Number) → v ≡ signedOf x
+        → PlanIs (r .plan) (r .digits) (now (table .entry)) text (readValue (decode (now (table .entry))) (value.Number x) text)) ⌝ }
+{
+    match choosing::choose(table, number_sought(v)) {
+        Found::Nothing => without_digits(Plan::Refused(Answer::NoSection)),
+        Found::At(i) => number_in(table, i, v),
+    }
+}
+
 // The plan of a number; one out of range is refused.
 fn number_plan(table: &[u16], x: Number) -> Planned
     requires { ⌜ T (passes (now table)) ⌝ }
     ensures { λ r. ⌜ ((text : List ℕ) → PlanIs (r .plan) (r .digits) (now (table .entry)) text (valueReading (now (table .entry)) (value.Number x) text)) ⌝ }
 {
-    let taken = figures::take_number(x);
-    let Taken::In(v) = taken else {
-        return without_digits(Plan::Refused(Answer::Range));
-    };
-    match choosing::choose(table, number_sought(v)) {
-        Found::Nothing => without_digits(Plan::Refused(Answer::NoSection)),
-        Found::At(i) => number_in(table, i, v),
+    match figures::take_number(x) {
+        Taken::OutOfRange => without_digits(Plan::Refused(Answer::Range)),
+        Taken::In(v) => number_in_range(table, v),
     }
 }
 
