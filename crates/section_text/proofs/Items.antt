@@ -19,16 +19,12 @@ use Rattle.tables.specs.Rules.{entryInRange}
 use Rattle.tables.proofs.BackEntries.{also, span-at, tag-known, between-facts}
 use Rattle.figures.proofs.Past.{Apart, past}
 use Rattle.figure_text.specs.declared.Figures.{Figures}
-use Rattle.figure_text.specs.Shown.{DigitsAre, FiguresAre, placeOfTag}
+use Rattle.figure_text.specs.Shown.{FiguresAre, placeOfTag}
 use Rattle.writing.specs.Put.{Put}
 use Rattle.date_text.specs.Moment.{datedEntry}
 use Rattle.section_text.specs.declared.Subject.{Subject}
 use Rattle.section_text.specs.Subject.{GeneralOf, StandsFor, SubjectIs}
 use Rattle.section_text.specs.Walk.{EntryFits, ItemPut, DatedIs}
-
--- the figures of a context are digits of its number
-pub digits-of : {digits : List ℕ} {f : Figures} {c : Context} → FiguresAre digits f c → DigitsAre digits f (c .figures)
-digits-of a = record { number = a .number; small = a .small; used = a .used; lowest = a .lowest }
 
 pub stands-lent : (b : Bool) (digits : List ℕ) (f : Figures) (text us : List ℕ) → b ≡ true → StandsFor b digits f text us → text ≡ us
 stands-lent true digits f text us e h = h

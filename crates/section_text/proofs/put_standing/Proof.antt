@@ -1,6 +1,6 @@
 -- `section_text::put_standing` meets its contract.
 -- Assumes nothing.
-use Rattle.section_text.proofs.Items.{digits-of, stands-lent, stands-general}
+use Rattle.section_text.proofs.Items.{stands-lent, stands-general}
 use borrow.Author.Needs.{needs}
 use Rattle.section_text.proofs.put_standing.Statement.{statement}
 use Rattle.section_text.proofs.put_standing.Tie as tie
@@ -15,7 +15,7 @@ returns-2 c =
     let p = c .before .before in
     λ us h.
     let g = stands-general _ _ _ _ us (p .before .before .if1 .left) h in
-    rw (g .shows) (p .put-general .ensures .1 (g .context .figures) (digits-of (g .are)))
+    rw (g .shows) (p .put-general .ensures .1 (g .context) (g .are))
 
 pub put-standing-spec : {M : Type 1} → statement M
 put-standing-spec =
