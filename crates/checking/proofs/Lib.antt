@@ -3,6 +3,4 @@ pub mod Places
 pub mod Passing
 pub mod Heads
 pub mod Loops
-pub mod Undated
 pub mod Stands
-pub mod ByKind

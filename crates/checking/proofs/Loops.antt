@@ -15,11 +15,9 @@ use Rattle.formats.specs.Minus.{exceptionA}
 use Rattle.tables.specs.Words.{Head, headAt, headsAt, entriesAt, entriesIn, rowsAt, headsIn, rowsIn, itemsSaid}
 use Rattle.tables.specs.Standing.{countedOne, countedKinds}
 use Rattle.tables.proofs.Words.{entries-part, headsAt-length}
-use Rattle.tallies.specs.Tally.{tallyOf}
 use Rattle.table_words.specs.declared.HeadWords.{HeadWords}
 use Rattle.table_words.specs.Sections.{headFrom}
-use Rattle.checking.specs.Checking.{Sized, rowTold, rowGood, hasIn, placeFits, placesFrom, placesFit, kindsIn, firstHasIn}
-use Rattle.checking.proofs.Rows.{row-told}
+use Rattle.checking.specs.Checking.{Sized, rowWith, rowGood, hasIn, placeFits, placesFrom, placesFit, kindsIn, firstHasIn}
 
 -- the heads from the i-th on
 abbrev pub left : List ℕ → ℕ → ℕ → List Head
@@ -130,19 +128,19 @@ module _ (ws : List ℕ) (n i at : ℕ) (inv : Rowing ws n i at) where
         }
 
     row-front : every rowGood (rowsIn ws)
-        ≡ cond (rowTold here (tallyOf (entriesIn (take (2 * here .items) (drop at ws)))))
+        ≡ cond (rowGood (rowWith here (entriesIn (take (2 * here .items) (drop at ws)))))
         (every rowGood (rowsAt (left ws n (i + 1)) (drop (at + 2 * here .items) ws))) false
     unfolding rowsAt every
     row-front =
         let w : Within (here .items) = within here refl in
         let d : length (drop at ws) ≡ length ws - at = length-drop at ws in
-        inv .same ∙ rw (left-front ws n i l, entries-part (here .items) (drop at ws) (omega arith), row-told here (entriesAt (here .items) (drop at ws)), drop-drop (2 * here .items) at ws)
+        inv .same ∙ rw (left-front ws n i l, entries-part (here .items) (drop at ws) (omega arith), drop-drop (2 * here .items) at ws)
 
-    module _ (h : Head) (e : h ≡ here) (m : ℕ) (k : m ≡ 2 * h .items) (b : Bool) (r : b ≡ rowTold here (tallyOf (entriesIn (take m (drop at ws))))) where
-      told : rowTold here (tallyOf (entriesIn (take (2 * here .items) (drop at ws)))) ≡ b
+    module _ (h : Head) (e : h ≡ here) (m : ℕ) (k : m ≡ 2 * h .items) (b : Bool) (r : b ≡ rowGood (rowWith here (entriesIn (take m (drop at ws))))) where
+      told : rowGood (rowWith here (entriesIn (take (2 * here .items) (drop at ws)))) ≡ b
       told =
           let j : m ≡ 2 * here .items = k ∙ ap (λ (x : Head). 2 * x .items) e in
-          sym (r ∙ ap (λ (x : ℕ). rowTold here (tallyOf (entriesIn (take x (drop at ws))))) j)
+          sym (r ∙ ap (λ (x : ℕ). rowGood (rowWith here (entriesIn (take x (drop at ws))))) j)
 
       pub rowing-step : b ≡ true → Rowing ws n (i + 1) (at + 2 * h .items)
       rowing-step v =

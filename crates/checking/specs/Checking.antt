@@ -1,5 +1,4 @@
--- The table rules in the order in which they are tested: how many words there are; each section by its head and the tally of its
--- items; where each section stands, by the heads alone.
+-- The table rules in the order in which they are tested: how many words there are; each section by its head and its items; where each section stands, by the heads alone.
 -- Assumes nothing.
 use Prim.Native.Nat.{ℕ, _+_, _*_, _/_, _%_, _≤_}
 use mathlib.Core.Path.{_≡_}
@@ -9,13 +8,12 @@ use lib.ListN.{length, getD}
 use lib.Dec.{leb, ltb, eqb}
 use Rattle.formats.specs.Where.{implies}
 use Rattle.formats.specs.Minus.{exceptionA}
-use Rattle.tables.specs.Words.{Head, Row, headsIn, itemsSaid, exactWords}
+use Rattle.tables.specs.Words.{Head, Entry, Row, headsIn, itemsSaid, exactWords}
 use Rattle.tables.specs.Encode.{hasHalf}
 use Rattle.tables.specs.Standing.{headStands, countedKinds}
-use Rattle.tables.specs.Decode.{wholeAt, millionthsAt, itemsAt, groupedAt, thousandsAt}
-use Rattle.tables.specs.Rules.{headInRange, conditionFits, shiftTells, rowFits}
-use Rattle.tallies.specs.declared.Tally.{Tally}
-use Rattle.tallies.specs.Tally.{kindTold, itemsFitTold, oneFillTold, withinTold, groupingTold, decimalsTold}
+use Rattle.tables.specs.Decode.{wholeAt, millionthsAt, itemsAt, groupedAt}
+use Rattle.tables.specs.Rules.{shiftTells, rowFits}
+use Rattle.tallies.specs.declared.Counts.{Counts}
 
 -- both or neither
 abbrev pub agree : Bool → Bool → Bool
@@ -32,7 +30,7 @@ pub record Sized (ws : List ℕ) : Type 0 where
   pub words : length ws ≡ 1 + 12 * getD ws 0 0 + 2 * itemsSaid (headsIn ws)
   pub items : itemsSaid (headsIn ws) ≤ 254
 
--- ---- one section, by its head and the tally of its items
+-- ---- one section, by its head and its items
 -- a condition's words, whose numbers are read
 abbrev pub comparedTold : ℕ → ℕ → ℕ → ℕ → Bool
 comparedTold operator negative whole millionths =
@@ -46,61 +44,24 @@ comparedTold operator negative whole millionths =
 unfoldable pub conditionTold : Head → Bool
 conditionTold h = comparedTold (h .operator) (h .negative) (wholeAt h) (millionthsAt h)
 
-unfoldable pub thousandsTold : ℕ → Tally → ℕ
-thousandsTold shift t = cond (eqb (kindTold t) 2) (thousandsAt shift (t .percents)) 0
+-- what a number section's head must say beside the counts of its items
+unfoldable pub numberTold : ℕ → ℕ → ℕ → Counts → Bool
+numberTold shift flags decimals c =
+    shiftTells shift (c .percents)
+    && (leb (c .integers) 20
+    && leb (c .decimals) 15
+    && leb (c .percents) 5
+    && eqb decimals (c .decimals)
+    && ltb flags 4
+    && (not (groupedAt flags) || leb 2 (c .integers)))
 
-unfoldable pub shiftTold : ℕ → Tally → Bool
-shiftTold shift t = cond (eqb (kindTold t) 2) (shiftTells shift (t .percents)) (eqb shift 0)
+-- another section's, which has a half-day mark or none
+unfoldable pub otherTold : ℕ → ℕ → ℕ → Bool → Bool
+otherTold shift flags decimals half =
+    eqb shift 0 && eqb decimals 0 && leb flags 7 && not (groupedAt flags) && agree (leb 4 flags) half
 
--- the words that follow from the items
-unfoldable pub derivedTold : Head → Tally → Bool
-derivedTold h t =
-    eqb (h .kind) (kindTold t)
-    && (eqb (h .decimals) (decimalsTold t) && (shiftTold (h .shift) t && agree (leb 4 (h .flags)) (t .halves)))
-
-unfoldable pub itemsTold : Head → Tally → Bool
-itemsTold h t =
-    t .sound
-    && (itemsFitTold t && (oneFillTold t && (withinTold t (thousandsTold (h .shift) t) && groupingTold t (groupedAt (h .flags)))))
-
-unfoldable pub headTold : Head → Bool
-headTold h = headInRange h && conditionFits h
-
-unfoldable pub rowTold : Head → Tally → Bool
-rowTold h t = headTold h && (itemsTold h t && derivedTold h t)
-
--- where no item belongs to a date-time section, none is elapsed and none is a half-day mark
-pub record Undated (t : Tally) : Type 0 where
-  pub elapsed : t .dates ≡ false → t .elapsed ≡ 0
-  pub hours : t .dates ≡ false → t .«elapsed_hours» ≡ false
-  pub minutes : t .dates ≡ false → t .«elapsed_minutes» ≡ false
-  pub seconds : t .dates ≡ false → t .«elapsed_seconds» ≡ false
-  pub short : t .dates ≡ false → t .short ≡ true
-  pub halves : t .dates ≡ false → t .halves ≡ false
-
--- what is left to test of a number section, by the words of its head and the numbers of its tally
-unfoldable pub numberTold : ℕ → ℕ → ℕ → Bool → ℕ → ℕ → ℕ → ℕ → Bool
-numberTold shift flags decimals dates points integers places percents =
-    not dates
-    && leb points 1
-    && leb integers 20
-    && leb places 15
-    && leb percents 5
-    && eqb decimals places
-    && leb flags 3
-    && (not (groupedAt flags) || leb 2 integers)
-    && shiftTells shift percents
-
--- of another section
-unfoldable pub otherTold : ℕ → ℕ → ℕ → Tally → Bool
-otherTold shift flags decimals t =
-    eqb shift 0
-    && eqb decimals 0
-    && leb flags 7
-    && groupingTold t (groupedAt flags)
-    && agree (leb 4 flags) (t .halves)
-    && withinTold t 0
-    && itemsFitTold t
+abbrev pub rowWith : Head → List Entry → Row
+rowWith h es = record { head = h; entries = es }
 
 -- a row with its twelve-hour flag, the only flag besides grouping that its items tell
 unfoldable pub halfFits : Row → Bool

@@ -9,9 +9,8 @@ ghost use Rattle.tables.specs.Words.{headAt, entriesIn, headsIn, rowsIn, itemsS
 ghost use Rattle.tables.specs.Standing.{countedOne, countedKinds};
 ghost use Rattle.tables.specs.Decode.{thousandsAt};
 ghost use Rattle.tables.specs.Rules.{shiftTells, passes};
-ghost use Rattle.tallies.specs.Tally.{tallyOf};
 ghost use Rattle.table_words.specs.Sections.{headFrom};
-ghost use Rattle.checking.specs.Checking.{agree, sized, Sized, comparedTold, conditionTold, numberTold, otherTold, rowTold, rowGood, comparedStands, plainFits, placeFits, kindsIn, placesFit};
+ghost use Rattle.checking.specs.Checking.{agree, sized, Sized, comparedTold, conditionTold, numberTold, otherTold, rowWith, rowGood, comparedStands, plainFits, placeFits, kindsIn, placesFit};
 use table_words::HeadWords;
 use table_words::head_at;
 use table_words::number;
@@ -19,12 +18,13 @@ use table_words::section_count;
 use tables::flags;
 use tables::heads;
 use tables::kinds;
-use tallies::Tally;
-use tallies::grouping_fits;
-use tallies::items_fit;
-use tallies::kind;
-use tallies::tally_words;
-use tallies::within;
+use tallies::Counts;
+use tallies::counts_of;
+use tallies::has_half;
+use tallies::is_bare;
+use tallies::is_dated;
+use tallies::is_number;
+use tallies::walk_words;
 
 fn agree(a: bool, b: bool) -> bool
     ensures { λ r. ⌜ r ≡ agree a b ⌝ }
@@ -88,77 +88,37 @@ fn shift_tells(shift: u16, percents: u16) -> bool
     (t <= 5) & (shift as u32 + 3 * t as u32 == 15 + 2 * percents as u32)
 }
 
-// What is left to test of a number section, by the words of its head and what its items tell. Each is passed by itself:
-// what is not asked for is not read.
-fn number_fits(
-    shift: u16,
-    flags: u16,
-    decimals: u16,
-    dates: bool,
-    points: u16,
-    integers: u16,
-    places: u16,
-    percents: u16,
-) -> bool
-    ensures { λ r. ⌜ r ≡ numberTold shift flags decimals dates points integers places percents ⌝ }
+// The words of a number section's head that its items tell: grouping needs two integer places.
+fn number_fits(shift: u16, flags: u16, decimals: u16, c: Counts) -> bool
+    ensures { λ r. ⌜ r ≡ numberTold shift flags decimals c ⌝ }
 {
-    if dates {
+    if !shift_tells(shift, c.percents) {
         return false;
     }
-    if 1 < points {
-        return false;
-    }
-    if 20 < integers {
-        return false;
-    }
-    if 15 < places {
-        return false;
-    }
-    if 5 < percents {
-        return false;
-    }
-    if !(decimals == places) {
-        return false;
-    }
-    if flags::TWELVE_HOUR <= flags {
-        return false;
-    }
-    if (flags % 2 == flags::GROUPING) & (integers < 2) {
-        return false;
-    }
-    shift_tells(shift, percents)
+    (c.integers <= 20)
+        & (c.decimals <= 15)
+        & (c.percents <= 5)
+        & (decimals == c.decimals)
+        & (flags < flags::TWELVE_HOUR)
+        & (!(flags % 2 == flags::GROUPING) | (2 <= c.integers))
 }
 
-// What is left to test of a section of another kind.
-fn other_fits(shift: u16, flags: u16, decimals: u16, t: Tally) -> bool
-    ensures { λ r. ⌜ r ≡ otherTold shift flags decimals t ⌝ }
+// Those of another section's head: nothing is shifted, and no digits are grouped.
+fn other_fits(shift: u16, flags: u16, decimals: u16, half: bool) -> bool
+    ensures { λ r. ⌜ r ≡ otherTold shift flags decimals half ⌝ }
 {
-    if !(shift == 0) {
-        return false;
-    }
-    if !(decimals == 0) {
-        return false;
-    }
-    if flags::ALL < flags {
-        return false;
-    }
-    if !grouping_fits(t, flags % 2 == flags::GROUPING) {
-        return false;
-    }
-    if !agree(flags::TWELVE_HOUR <= flags, t.halves) {
-        return false;
-    }
-    if !within(t, 0) {
-        return false;
-    }
-    items_fit(t)
+    (shift == 0)
+        & (decimals == 0)
+        & (flags <= flags::ALL)
+        & !(flags % 2 == flags::GROUPING)
+        & agree(flags::TWELVE_HOUR <= flags, half)
 }
 
 // The rules for section i that do not speak of where it stands. A word that another word or the items tell is in its range
 // where they are. The head is read again behind the items: what is kept over a call costs more than a second reading.
 fn row_fits(table: &[u16], i: usize, items: &[u16]) -> bool
     requires { ⌜ (i ≤ 3) × (13 + 12 * i ≤ length (now table)) × (length (now items) ≤ 508) × (headAt (drop (1 + 12 * i) (now table)) .items ≤ 254) ⌝ }
-    ensures { λ r. ⌜ r ≡ rowTold (headAt (drop (1 + 12 * i) (now (table .entry)))) (tallyOf (entriesIn (now (items .entry)))) ⌝ }
+    ensures { λ r. ⌜ r ≡ rowGood (rowWith (headAt (drop (1 + 12 * i) (now (table .entry)))) (entriesIn (now (items .entry)))) ⌝ }
 {
     let first = head_at(table, i);
     if 56 < first.colour {
@@ -167,33 +127,18 @@ fn row_fits(table: &[u16], i: usize, items: &[u16]) -> bool
     if !condition_fits(first) {
         return false;
     }
-    let t = tally_words(items);
-    if !t.sound {
-        return false;
-    }
-    if 1 < t.fills {
-        return false;
-    }
+    let w = walk_words(items);
     let h = head_at(table, i);
     if h.kind == kinds::NUMBER {
-        if !(kind(t) == kinds::NUMBER) {
+        if !is_number(w) {
             return false;
         }
-        return number_fits(
-            h.shift,
-            h.flags,
-            h.decimals,
-            t.dates,
-            t.points,
-            t.integers,
-            t.decimals,
-            t.percents,
-        );
+        return number_fits(h.shift, h.flags, h.decimals, counts_of(w));
     }
-    if !(h.kind == kind(t)) {
-        return false;
+    if h.kind == kinds::DATE_TIME {
+        return other_fits(h.shift, h.flags, h.decimals, has_half(w)) & is_dated(w);
     }
-    other_fits(h.shift, h.flags, h.decimals, t)
+    other_fits(h.shift, h.flags, h.decimals, false) & is_bare(w, h.kind)
 }
 
 // The items of all heads.

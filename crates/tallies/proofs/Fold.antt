@@ -23,8 +23,9 @@ use Rattle.tables.specs.Decode.{itemAt, itemsAt}
 use Rattle.formats.proofs.Each.{by-item, by-elapsed}
 use Rattle.tables.proofs.MadeHeads.{bit-back}
 use Rattle.tables.proofs.BackEntries.{items-length}
+use Rattle.tallies.specs.declared.Counts.{Counts}
 use Rattle.tallies.specs.declared.Walk.{Walk}
-use Rattle.tallies.specs.Tally.{makesText, makesDate, belongsDate, soundEntries, tallyOf}
+use Rattle.tallies.specs.Tally.{makesText, makesDate, belongsDate, soundEntries, tallyOf, countsOf}
 use Rattle.tallies.specs.Walk.{packed, tallies, weight, isLong, otherTests, dateTests, markTests, numberWeight, unitAfter, runAt, runAfter, settles, nextAfter, ended, powerTest, entrySound, faultOf, stepOf, walkFrom, startOf, soundTold, finishedOf}
 use Rattle.tallies.proofs.Packed.{tallies-none, tallies-turn, first-dropped, first-digit, later-digits, digit-at, tallies-small, packed-positive}
 use Rattle.tallies.proofs.Powers.{place-no-point, places-counted, chainFrom, rangeTest, chain-start}
@@ -49,6 +50,22 @@ numbers-walked : (w : Walk) (es : List Entry) → walkFrom w es .numbers ≡ w .
 unfolding walkFrom stepOf itemsAt numbersLeft
 numbers-walked w [] = omega arith
 numbers-walked w (e ∷ es) = omega (arith, numbers-walked (stepOf w e) es)
+
+-- without a place and a point the powers stay as they were
+step-stays : (unit next : ℕ) (e : Entry) → 1 ≤ unit → numberWeight unit (itemAt e) ≡ 0
+    → (unitAfter unit (itemAt e) ≡ unit) × (nextAfter unit next e ≡ next)
+unfolding numberWeight unitAfter nextAfter weight bit
+step-stays unit next e u h =
+    let i = itemAt e in
+    by-cases (isPlace i) (λ p. absurd (omega (arith, rw p at h)))
+    (λ p. by-cases (isPoint i) (λ q. absurd (omega (arith, rw (p, q) at h))) (λ q. rw (p, q) (refl, refl)))
+
+next-stays : (w : Walk) (es : List Entry) → 1 ≤ w .unit → numbersLeft (w .unit) (itemsAt es) ≡ 0 → walkFrom w es .next ≡ w .next
+unfolding walkFrom stepOf itemsAt numbersLeft
+next-stays w [] u h = refl
+next-stays w (e ∷ es) u h =
+    let s = step-stays (w .unit) (w .next) e u (omega (arith, h)) in
+    next-stays (stepOf w e) es (omega (arith, s .0, u)) (omega (arith, h)) ∙ s .1
 
 place-weight : (i : Item) → isPlace i ≡ true → weight 65536 pointTests i ≡ 0
 unfolding weight bit
@@ -198,6 +215,14 @@ none-long [] = refl
 none-long (i ∷ is) = by-cases (elapsedShort i) (λ h. rw h (none-long is)) (λ h. rw h (eqb·suc-zero (count isLong is)))
 
 -- ---- the end
+abbrev pub countsIn : Walk → Counts
+countsIn w =
+    record {
+      integers = w .numbers % 65536;
+      decimals = w .numbers / 65536 % 65536;
+      percents = w .numbers / 281474976710656 % 65536;
+    }
+
 module _ (es : List Entry) (few : length es ≤ 254) where
   abbrev is : List Item
   is = itemsAt es
@@ -237,10 +262,10 @@ module _ (es : List Entry) (few : length es ≤ 254) where
   small : (b : ℕ) (ps : List (Item → Bool)) → 254 < b → All (λ (c : ℕ). c < b) (tallies ps is)
   small b ps h = tallies-small b ps is (omega (arith, few-items))
 
-  number-digit : (j : ℕ) → end .numbers / 65536 ^ j % 65536 ≡ getD numberCounts j 0
+  pub number-digit : (j : ℕ) → end .numbers / 65536 ^ j % 65536 ≡ getD numberCounts j 0
   number-digit j = rw numbers-are (digit-at 65536 numberCounts j numbers-small)
 
-  other-digit : (j : ℕ) → end .others / 65536 ^ j % 65536 ≡ getD (tallies otherTests is) j 0
+  pub other-digit : (j : ℕ) → end .others / 65536 ^ j % 65536 ≡ getD (tallies otherTests is) j 0
   other-digit j = rw others-are (digit-at 65536 (tallies otherTests is) j (small 65536 otherTests (omega arith)))
 
   date-digit : (j : ℕ) → end .dates / 256 ^ j % 256 ≡ getD (tallies dateTests is) j 0
@@ -262,24 +287,26 @@ module _ (es : List Entry) (few : length es ≤ 254) where
       (later-digits 65536 (faultsFrom startOf es) (packed 65536 (tallies markTests is)) few-faults 65536
       ∙ first-dropped 65536 (count isLong is) (packed 65536 (tallies besideTests is)) few-long)
 
-  sound-told : soundTold end ≡ soundEntries es
+  pub sound-told : soundTold end ≡ soundEntries es
   unfolding soundEntries partsFollow isSettled runAt testsFrom endTest
   sound-told =
       rw (marks-are, first-digit 65536 (faultsFrom startOf es) (packed 65536 (tallies markTests is)) few-faults)
       (none-fails startOf es ∙ ap (λ (x : Bool). partsFrom false is && (settledTest noRun is && x)) (chain-start es))
 
-  short-told : eqb (end .marks / 65536 % 65536) 0 ≡ every elapsedShort is
+  pub long-told : end .marks / 65536 % 65536 ≡ count isLong is
   unfolding packed tallies
-  short-told =
-      rw (marks-behind, first-digit 65536 (count isLong is) (packed 65536 (tallies besideTests is)) few-long) (none-long is)
+  long-told = rw marks-behind (first-digit 65536 (count isLong is) (packed 65536 (tallies besideTests is)) few-long)
 
-  halves-told : ltb 0 (end .marks / 4294967296 % 65536) ≡ any isHalf is
+  short-told : eqb (end .marks / 65536 % 65536) 0 ≡ every elapsedShort is
+  short-told = rw long-told (none-long is)
+
+  pub halves-told : ltb 0 (end .marks / 4294967296 % 65536) ≡ any isHalf is
   unfolding packed tallies
   halves-told =
       rw (marks-beside, first-digit 65536 (count isHalf is) (packed 65536 (tallies (isPart ∷ []) is)) (omega (arith, count-least isHalf is, few-items)))
       (positive-count isHalf is)
 
-  dating-told : ltb 0 (end .dates) ≡ any makesDate is
+  pub dating-told : ltb 0 (end .dates) ≡ any makesDate is
   dating-told =
       rw dates-are
       (packed-positive 256 dateTests is ∙ any-same (λ (i : Item). ltb 0 (weight 256 dateTests i)) makesDate date-weight is)
@@ -290,7 +317,7 @@ module _ (es : List Entry) (few : length es ≤ 254) where
       rw (dating-told, marks-beside, packed-positive 65536 besideTests is)
       (sym (any-either makesDate beside is) ∙ any-same (λ (i : Item). makesDate i || beside i) belongsDate (λ i. rw (beside-weight i)) is)
 
-  integers-told : end .numbers % 65536 ≡ integerPlaces is
+  pub integers-told : end .numbers % 65536 ≡ integerPlaces is
   unfolding packed
   integers-told = rw numbers-are (first-digit 65536 (integerPlaces is) (packed 65536 (decimalPlaces is ∷ count isPoint is ∷ count isPercent is ∷ [])) (numbers-small .0))
 
@@ -305,8 +332,28 @@ module _ (es : List Entry) (few : length es ≤ 254) where
   texts-told = ap (λ (n : ℕ). ltb 0 n) (other-digit 3) ∙ positive-count makesText is
 
   -- the flag of a digit of the dates
-  date-flag : (j : ℕ) (p : Item → Bool) → getD (tallies dateTests is) j 0 ≡ count p is → ltb 0 (end .dates / 256 ^ j % 256) ≡ any p is
+  pub date-flag : (j : ℕ) (p : Item → Bool) → getD (tallies dateTests is) j 0 ≡ count p is → ltb 0 (end .dates / 256 ^ j % 256) ≡ any p is
   date-flag j p h = ap (λ (n : ℕ). ltb 0 n) (date-digit j ∙ h) ∙ positive-count p is
+
+  pub counts-told : countsIn end ≡ countsOf is
+  unfolding countsOf
+  counts-told = λ i. record { integers = integers-told i; decimals = number-digit 1 i; percents = number-digit 3 i }
+
+  -- each of the three numbers that the tests of a kind read has four digits
+  pub numbers-most : end .numbers < 18446744073709551616
+  unfolding packed
+  numbers-most = let s = numbers-small in omega (arith, numbers-are)
+
+  pub others-most : end .others < 18446744073709551616
+  unfolding packed tallies
+  others-most = let s = small 65536 otherTests (omega arith) in omega (arith, others-are)
+
+  pub marks-most : end .marks < 18446744073709551616
+  unfolding packed tallies
+  marks-most = let s = small 65536 markTests (omega arith) in omega (arith, marks-are, few-faults)
+
+  pub next-open : end .numbers ≡ 0 → end .next ≡ 65536
+  next-open e = next-stays startOf es (omega arith) (omega (arith, numbers-walked startOf es, e))
 
   pub finished-is : finishedOf end ≡ tallyOf es
   unfolding tallyOf tallies
@@ -316,7 +363,6 @@ module _ (es : List Entry) (few : length es ≤ 254) where
     points = number-digit 2 i;
     percents = number-digit 3 i;
     generals = generals-told i;
-    fills = other-digit 1 i;
     elapsed = other-digit 2 i;
     texts = texts-told i;
     dating = dating-told i;
@@ -329,5 +375,4 @@ module _ (es : List Entry) (few : length es ≤ 254) where
     «elapsed_seconds» = date-flag 6 (isElapsedOf seconds) refl i;
     halves = halves-told i;
     short = short-told i;
-    sound = sound-told i;
   }

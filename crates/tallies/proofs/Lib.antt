@@ -4,3 +4,4 @@ pub mod Powers
 pub mod Fold
 pub mod Loop
 pub mod Told
+pub mod ByKind

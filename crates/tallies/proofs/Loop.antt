@@ -12,12 +12,10 @@ use Rattle.tables.specs.Words.{Entry, entriesAt, entriesIn}
 use Rattle.tables.specs.Encode.{entry}
 use Rattle.tables.specs.Decode.{itemAt}
 use Rattle.tables.proofs.Words.{entriesAt-length, entriesLeft, entries-front}
-use Rattle.tallies.specs.declared.Tally.{Tally}
 use Rattle.tallies.specs.declared.Walk.{Walk}
-use Rattle.tallies.specs.Tally.{tallyOf}
-use Rattle.tallies.specs.Walk.{otherTests, dateTests, markTests, numberWeight, isFirstPoint, unitAfter, entrySound, stepOf, walkFrom, startOf, finishedOf, Few}
+use Rattle.tallies.specs.Walk.{otherTests, dateTests, markTests, numberWeight, isFirstPoint, unitAfter, entrySound, stepOf, walkFrom, startOf, Walked, Few}
 use Rattle.tallies.proofs.Packed.{ones, weight-most}
-use Rattle.tallies.proofs.Fold.{fault-most, finished-is}
+use Rattle.tallies.proofs.Fold.{fault-most}
 
 -- ---- no weight is too large
 number-most : (unit : ℕ) (i : Item) → unit ≤ 65536 → numberWeight unit i ≤ 562949953421312
@@ -85,11 +83,12 @@ module _ (words : List ℕ) (n k : ℕ) (w : Walk) (inv : Walking words n k w) w
       let i = inv .items in
       few-most w k (inv .few) (omega arith)
 
-  pub walking-end : (t : Tally) → n ≤ k → t ≡ finishedOf w → t ≡ tallyOf (entriesIn words)
+  pub walking-end : n ≤ k → Walked (entriesIn words) w
   unfolding walkFrom entriesAt entriesIn
-  walking-end t h e =
+  walking-end h =
       let none : n - k ≡ 0 = omega arith in
-      let whole : walkFrom startOf (entriesIn words) ≡ w = inv .same ∙ rw none in
       let s = inv .small in
-      let few : length (entriesIn words) ≤ 254 = omega (arith, entriesAt-length (length words / 2) words) in
-      e ∙ ap finishedOf (sym whole) ∙ finished-is (entriesIn words) few
+      record {
+        few = omega (arith, entriesAt-length (length words / 2) words);
+        same = sym (inv .same ∙ rw none);
+      }

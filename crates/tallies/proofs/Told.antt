@@ -1,24 +1,22 @@
 -- What the tests on a tally say of a section with these items.
 -- Assumes nothing.
 use mathlib.Core.Path.{_≡_, refl, sym, _∙_, ap}
-use mathlib.Core.Bool.{Bool, true, false, cond, not, _&&_, _||_, and-false, and-true}
+use mathlib.Core.Bool.{Bool, true, false, true≢false, cond, not, _&&_, _||_, and-false, and-true}
 use mathlib.Core.List.{List}
 use lib.Dec.{T, leb, ltb, eqb}
 use Rattle.lists.specs.Lists.{every, any, count}
-use Rattle.lists.proofs.Bools.{and-left, and-right}
-use Rattle.lists.proofs.Counts.{either-positive, any-same, every-same, any-either, every-and, every-not-beside, positive-count}
+use Rattle.lists.proofs.Counts.{either-positive, any-same, every-same, any-either, every-and, every-not-beside, none-count, positive-count}
+use Rattle.lists.proofs.Bools.{and-left, and-right, or-false, carry}
 use Rattle.formats.specs.Tokens.{Elapsed, hours, minutes, seconds}
-use Rattle.formats.specs.Items.{Item, elapsed, Section, Kind, textKind, generalKind, dateKind, numberKind, literalKind, sameKind, kindFrom, itemMakes, itemsKind, kindOf, itemAllowed, isPlace, isPoint, isPercent, isGeneral, isHour, isMinute, isSecond, isElapsed, isElapsedOf, noPlain, itemsFit, integerPlaces, decimalPlaces}
+use Rattle.formats.specs.Items.{Item, elapsed, Section, Kind, textKind, generalKind, dateKind, numberKind, literalKind, sameKind, kindFrom, itemMakes, itemsKind, kindOf, itemAllowed, isPlace, isPoint, isPercent, isGeneral, isHour, isMinute, isSecond, isPart, isElapsed, isElapsedOf, isHalf, noPlain, itemsFit, integerPlaces, decimalPlaces}
 use Rattle.formats.specs.Limits.{elapsedShort, sectionWithin}
-use Rattle.formats.specs.WellFormed.{oneFill, partsFollow, isSettled, groupingFits}
 use Rattle.tables.specs.Words.{Entry}
 use Rattle.tables.specs.Encode.{kindWord, hasHalf, decimalsWord}
 use Rattle.tables.specs.Decode.{itemsAt}
-use Rattle.tables.specs.Rules.{entryInRange, powersRunDown}
 use Rattle.formats.proofs.FigureItems.{makes-place}
 use Rattle.formats.proofs.Each.{by-item, by-elapsed}
 use Rattle.tables.proofs.Standing.{number-word}
-use Rattle.tallies.specs.Tally.{makesText, makesDate, belongsDate, soundEntries, tallyOf, hasPlaces, hasNumberItems, kindTold, allowedTold, itemsFitTold, oneFillTold, withinTold, groupingTold, decimalsTold}
+use Rattle.tallies.specs.Tally.{makesText, makesDate, belongsDate, tallyOf, hasPlaces, hasNumberItems, kindTold, allowedTold, itemsFitTold, withinTold, decimalsTold}
 use Rattle.tallies.proofs.Powers.{places-counted}
 
 makes-general : (i : Item) → itemMakes generalKind i ≡ isGeneral i
@@ -109,6 +107,37 @@ allowed-every k is =
       beside numberKind numberItem,
     )
 
+-- no item is there that only another kind holds
+none-foreign : (some same : Bool) → T (not (some && not same)) → same ≡ false → some ≡ false
+none-foreign true true t e = absurd (true≢false e)
+none-foreign true false t e = absurd t
+none-foreign false same t e = refl
+
+last-two : (a b c d : Bool) → T (a && (b && (c && d))) → T c × T d
+last-two true true c d t = (and-left c d t, and-right c d t)
+last-two true false c d t = absurd t
+last-two false b c d t = absurd t
+
+module _ (k : Kind) (is : List Item) (t : T (every (itemAllowed k) is)) where
+  foreign : T (other k dateKind (any belongsDate is)) × T (other k numberKind (any numberItem is))
+  foreign =
+      last-two (other k textKind (any makesText is)) (other k generalKind (any isGeneral is)) (other k dateKind (any belongsDate is))
+      (other k numberKind (any numberItem is)) (carry (allowed-every k is) t)
+
+  pub no-figures : sameKind numberKind k ≡ false → (count isPlace is ≡ 0) × (count isPercent is ≡ 0)
+  no-figures e =
+      let none : any numberItem is ≡ false = none-foreign (any numberItem is) (sameKind numberKind k) (foreign .1) e in
+      let apart = or-false (any isPlace is) _ (sym (any-either isPlace (λ (i : Item). isPoint i || isPercent i) is) ∙ none) in
+      let later = or-false (any isPoint is) _ (sym (any-either isPoint isPercent is) ∙ apart .1) in
+      (none-count isPlace is (apart .0), none-count isPercent is (later .1))
+
+  pub no-half : sameKind dateKind k ≡ false → hasHalf is ≡ false
+  unfolding hasHalf
+  no-half e =
+      let none : any belongsDate is ≡ false = none-foreign (any belongsDate is) (sameKind dateKind k) (foreign .0) e in
+      let apart = or-false (any makesDate is) _ (sym (any-either makesDate (λ (i : Item). isHalf i || isPart i) is) ∙ none) in
+      or-false (any isHalf is) _ (sym (any-either isHalf isPart is) ∙ apart .1) .0
+
 -- the tests of `allowedTold` are those of the kind that the flags make
 allowed-by-kind : (t g d n D N : Bool)
     → cond t (not g && (not D && not N)) (cond g (not D && not N) (cond d (not N) (cond n (not D) (not D && not N))))
@@ -185,11 +214,6 @@ module _ (es : List Entry) where
   unfolding tallyOf hasHalf
   half-told = refl
 
-  pub sound-told : tallyOf es .sound
-      ≡ (partsFollow (itemsAt es) && (isSettled (itemsAt es) && (powersRunDown es && every entryInRange es)))
-  unfolding tallyOf soundEntries
-  sound-told = refl
-
   pub items-fit-told : itemsFitTold (tallyOf es) ≡ itemsFit (itemsAt es)
   unfolding itemsFit
   items-fit-told =
@@ -199,20 +223,12 @@ module _ (es : List Entry) where
       (rw (← no-plain-every is)
       (and-five (every (itemAllowed (itemsKind is)) is) (leb (count isGeneral is) 1) (leb (count isPoint is) 1) (leb (count isElapsed is) 1) (every (noPlain is) is))))
 
-  pub one-fill-told : oneFillTold (tallyOf es) ≡ oneFill (itemsAt es)
-  unfolding tallyOf oneFill
-  one-fill-told = refl
-
   module _ (s : Section) (e : s .items ≡ itemsAt es) where
     pub within-told : withinTold (tallyOf es) (s .thousands) ≡ sectionWithin s
     unfolding tallyOf sectionWithin
     within-told =
         let is = itemsAt es in
         rw e (and-five (leb (integerPlaces is) 20) (leb (decimalPlaces is) 15) (leb (count isPercent is) 5) (leb (s .thousands) 5) (every elapsedShort is))
-
-    pub grouping-told : groupingTold (tallyOf es) (s .grouped) ≡ groupingFits s
-    unfolding tallyOf groupingFits
-    grouping-told = rw e
 
     pub decimals-told : decimalsTold (tallyOf es) ≡ decimalsWord s
     unfolding decimalsWord kindOf
@@ -221,23 +237,3 @@ module _ (es : List Entry) where
     pub section-kind-told : kindTold (tallyOf es) ≡ kindWord (kindOf s)
     unfolding kindOf
     section-kind-told = rw e (kind-told es)
-
--- ---- what a sound tally says of its entries
-pub record Sound (es : List Entry) : Type 0 where
-  pub parts : T (partsFollow (itemsAt es))
-  pub settled : T (isSettled (itemsAt es))
-  pub powers : T (powersRunDown es)
-  pub ranges : T (every entryInRange es)
-
-pub sound-facts : (es : List Entry) → T (tallyOf es .sound) → Sound es
-sound-facts es t =
-    let is = itemsAt es in
-    let all : T (partsFollow is && (isSettled is && (powersRunDown es && every entryInRange es))) = rw (sound-told es) at t in
-    let later : T (isSettled is && (powersRunDown es && every entryInRange es)) = and-right (partsFollow is) _ all in
-    let last : T (powersRunDown es && every entryInRange es) = and-right (isSettled is) _ later in
-    record {
-      parts = and-left (partsFollow is) _ all;
-      settled = and-left (isSettled is) _ later;
-      powers = and-left (powersRunDown es) _ last;
-      ranges = and-right (powersRunDown es) _ last;
-    }

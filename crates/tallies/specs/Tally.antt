@@ -6,14 +6,16 @@ use mathlib.Core.List.{List}
 use lib.Dec.{leb, ltb, eqb}
 use Rattle.lists.specs.Lists.{every, any, count}
 use Rattle.formats.specs.Tokens.{hours, minutes, seconds}
-use Rattle.formats.specs.Items.{Item, dateKind, textKind, itemMakes, isFill, isPoint, isPercent, isGeneral, isHour, isMinute, isSecond, isPart, isElapsed, isElapsedOf, isHalf, integerPlaces, decimalPlaces}
+use Rattle.formats.specs.Items.{Item, dateKind, textKind, itemMakes, itemsKind, itemsFit, isPoint, isPercent, isGeneral, isHour, isMinute, isSecond, isPart, isElapsed, isElapsedOf, isHalf, integerPlaces, decimalPlaces}
 use Rattle.formats.specs.Limits.{elapsedShort}
-use Rattle.formats.specs.WellFormed.{partsFollow, isSettled}
+use Rattle.formats.specs.WellFormed.{oneFill, partsFollow, isSettled}
 use Rattle.tables.specs.Words.{Entry}
 unfoldable pub use Rattle.tables.specs.Words.{entriesIn}
+use Rattle.tables.specs.Encode.{kindWord}
 use Rattle.tables.specs.Decode.{itemsAt}
 use Rattle.tables.specs.Rules.{entryInRange, powersRunDown}
 use Rattle.tallies.specs.declared.Tally.{Tally}
+use Rattle.tallies.specs.declared.Counts.{Counts}
 
 abbrev pub makesText : Item → Bool
 makesText i = itemMakes textKind i
@@ -25,12 +27,6 @@ makesDate i = itemMakes dateKind i
 abbrev pub belongsDate : Item → Bool
 belongsDate i = makesDate i || (isHalf i || isPart i)
 
--- the tests of a section's items that look at their order, their arguments or their powers
-unfoldable pub soundEntries : List Entry → Bool
-soundEntries es =
-    let is = itemsAt es in
-    partsFollow is && (isSettled is && (powersRunDown es && every entryInRange es))
-
 unfoldable pub tallyOf : List Entry → Tally
 tallyOf es =
     let is = itemsAt es in
@@ -40,7 +36,6 @@ tallyOf es =
       points = count isPoint is;
       percents = count isPercent is;
       generals = count isGeneral is;
-      fills = count isFill is;
       elapsed = count isElapsed is;
       texts = any makesText is;
       dating = any makesDate is;
@@ -53,8 +48,23 @@ tallyOf es =
       «elapsed_seconds» = any (isElapsedOf seconds) is;
       halves = any isHalf is;
       short = every elapsedShort is;
-      sound = soundEntries es;
     }
+
+unfoldable pub countsOf : List Item → Counts
+countsOf is = record { integers = integerPlaces is; decimals = decimalPlaces is; percents = count isPercent is }
+
+-- ---- the rules for the items of a section
+-- those that look at their order, their arguments or their powers
+unfoldable pub soundEntries : List Entry → Bool
+soundEntries es =
+    let is = itemsAt es in
+    partsFollow is && (isSettled is && (powersRunDown es && every entryInRange es))
+
+-- all that speak of the items alone, where the section's kind word is this one
+unfoldable pub itemsOf : ℕ → List Entry → Bool
+itemsOf kind es =
+    let is = itemsAt es in
+    soundEntries es && (eqb kind (kindWord (itemsKind is)) && (itemsFit is && oneFill is))
 
 -- ---- the tests on a tally
 -- a place makes a number section; a point and a percent belong to one
@@ -86,16 +96,10 @@ itemsFitTold t =
     allowedTold t
     && (leb (t .generals) 1 && (leb (t .points) 1 && (leb (t .elapsed) 1 && noPlainTold t)))
 
-abbrev pub oneFillTold : Tally → Bool
-oneFillTold t = leb (t .fills) 1
-
 abbrev pub withinTold : Tally → ℕ → Bool
 withinTold t thousands =
     leb (t .integers) 20
     && (leb (t .decimals) 15 && (leb (t .percents) 5 && (leb thousands 5 && t .short)))
-
-abbrev pub groupingTold : Tally → Bool → Bool
-groupingTold t grouped = not grouped || leb 2 (t .integers)
 
 abbrev pub decimalsTold : Tally → ℕ
 decimalsTold t = cond (eqb (kindTold t) 2) (t .decimals) 0

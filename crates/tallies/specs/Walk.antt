@@ -3,6 +3,8 @@
 use Prim.Native.Nat.{ℕ, _+_, _-_, _*_, _/_, _%_, _≤_}
 use mathlib.Core.Bool.{Bool, true, false, cond, not, _&&_, _||_}
 use mathlib.Core.List.{List, [], _∷_}
+use mathlib.Core.Path.{_≡_}
+use lib.ListN.{length}
 use lib.Dec.{leb, ltb, eqb}
 use Rattle.values.specs.Ranges.{between}
 use Rattle.lists.specs.Lists.{count}
@@ -128,6 +130,11 @@ walkFrom w (e ∷ es) = walkFrom (stepOf w e) es
 abbrev pub startOf : Walk
 startOf = record { numbers = 0; others = 0; dates = 0; marks = 0; unit = 1; next = 65536; earlier = 0; behind = 0 }
 
+-- the walk over these entries
+pub record Walked (es : List Entry) (w : Walk) : Type 0 where
+  pub few : length es ≤ 254
+  pub same : w ≡ walkFrom startOf es
+
 -- ---- the end
 abbrev pub soundTold : Walk → Bool
 soundTold w = eqb (w .marks % 65536) 0 && (eqb (w .unit) 65536 || ended (w .next))
@@ -141,7 +148,6 @@ withoutDates w =
       points = w .numbers / 4294967296 % 65536;
       percents = w .numbers / 281474976710656 % 65536;
       generals = w .others % 65536;
-      fills = w .others / 65536 % 65536;
       elapsed = w .others / 4294967296 % 65536;
       texts = ltb 0 (w .others / 281474976710656 % 65536);
       dating = false;
@@ -154,7 +160,6 @@ withoutDates w =
       «elapsed_seconds» = false;
       halves = ltb 0 (w .marks / 4294967296 % 65536);
       short = eqb (w .marks / 65536 % 65536) 0;
-      sound = soundTold w;
     }
 
 -- with the number of the dates
@@ -166,7 +171,6 @@ withDates t n =
       points = t .points;
       percents = t .percents;
       generals = t .generals;
-      fills = t .fills;
       elapsed = t .elapsed;
       texts = t .texts;
       dating = ltb 0 n;
@@ -179,7 +183,6 @@ withDates t n =
       «elapsed_seconds» = ltb 0 (n / 281474976710656 % 256);
       halves = t .halves;
       short = t .short;
-      sound = t .sound;
     }
 
 abbrev pub finishedOf : Walk → Tally

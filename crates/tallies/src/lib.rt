@@ -1,21 +1,21 @@
 // One pass over a section's item words: what its rules ask of its items.
 ghost use mathlib.Core.Path.{_≡_};
+ghost use mathlib.Core.List.{List};
 ghost use Prim.Native.Nat.{_≤_};
 ghost use lib.ListN.{length};
 ghost use Rattle.values.specs.Ranges.{between};
 ghost use Rattle.formats.specs.Items.{meansMinutes, noRun};
-ghost use Rattle.tables.specs.Words.{entriesIn};
-ghost use Rattle.tables.specs.Encode.{entry};
-ghost use Rattle.tallies.specs.Tally.{tallyOf, hasPlaces, hasNumberItems, kindTold, allowedTold, noPlainTold, itemsFitTold, withinTold, groupingTold, decimalsTold};
-ghost use Rattle.tallies.specs.Walk.{runAt, lower, faultOf, tooLong, countedOf, datedOf, stepOf, startOf, finishedOf, withoutDates, Few, Weights};
+ghost use Rattle.tables.specs.Words.{Entry, entriesIn};
+ghost use Rattle.tables.specs.Encode.{entry, hasHalf};
+ghost use Rattle.tables.specs.Decode.{itemsAt};
+ghost use Rattle.tallies.specs.Tally.{tallyOf, countsOf, itemsOf, hasPlaces, hasNumberItems, kindTold, allowedTold, noPlainTold, itemsFitTold, withinTold, decimalsTold};
+ghost use Rattle.tallies.specs.Walk.{runAt, lower, faultOf, tooLong, countedOf, datedOf, stepOf, startOf, Walked, finishedOf, withoutDates, Few, Weights};
 use tables::kinds;
 use tables::tags;
 use values::integers::is_between;
 
 // What the items of a section tell together.
 pub struct Tally {
-    // order, arguments and powers are right
-    pub sound: bool,
     // no elapsed run is too long
     pub short: bool,
     // integer and decimal places, and how many there are of some other items
@@ -24,7 +24,6 @@ pub struct Tally {
     pub points: u16,
     pub percents: u16,
     pub generals: u16,
-    pub fills: u16,
     pub elapsed: u16,
     // an item makes a text section, a date-time section; an item belongs to a date-time section
     pub texts: bool,
@@ -37,6 +36,13 @@ pub struct Tally {
     pub elapsed_minutes: bool,
     pub elapsed_seconds: bool,
     pub halves: bool,
+}
+
+// How many places and percents a number section has.
+pub struct Counts {
+    pub integers: u16,
+    pub decimals: u16,
+    pub percents: u16,
 }
 
 // What one item adds to the numbers of a walk: one to its digit, by base 65536.
@@ -101,7 +107,7 @@ const SECONDS_BEFORE: u64 = 1;
 
 // What is kept from one item to the next. Counts stand in numbers, a digit each: no section has more than 254 items. All
 // fields are of one width, and few, so that the compiler keeps them in registers.
-struct Walk {
+pub struct Walk {
     // places, points and percents
     numbers: u64,
     // Generals, fills, elapsed and text items
@@ -326,15 +332,12 @@ fn without_dates(w: Walk) -> Tally
     ensures { λ r. ⌜ r ≡ withoutDates w ⌝ }
 {
     Tally {
-        sound: (w.marks % 65536 == 0)
-            & ((w.unit == DECIMALS) | ((w.next == ANY_POWER) | (w.next == DECIMAL_POWER))),
         short: w.marks / LONG_RUNS % 65536 == 0,
         integers: (w.numbers % 65536) as u16,
         decimals: (w.numbers / DECIMALS % 65536) as u16,
         points: (w.numbers / POINTS % 65536) as u16,
         percents: (w.numbers / PERCENTS % 65536) as u16,
         generals: (w.others % 65536) as u16,
-        fills: (w.others / FILLS % 65536) as u16,
         elapsed: (w.others / ELAPSED_RUNS % 65536) as u16,
         texts: 0 < w.others / TEXTS % 65536,
         dating: false,
@@ -372,10 +375,10 @@ fn finished(w: Walk) -> Tally
     t
 }
 
-// What the items of a section tell, whose words these are.
-pub fn tally_words(words: &[u16]) -> Tally
+// The pass over the items of a section, whose words these are.
+pub fn walk_words(words: &[u16]) -> Walk
     requires { ⌜ length (now words) ≤ 508 ⌝ }
-    ensures { λ r. ⌜ r ≡ tallyOf (entriesIn (now (words .entry))) ⌝ }
+    ensures { λ r. ⌜ Walked (entriesIn (now (words .entry))) r ⌝ }
 {
     let n = words.len() / 2;
     let mut w = start();
@@ -386,7 +389,15 @@ pub fn tally_words(words: &[u16]) -> Tally
         w = step(w, words[i], words[j]);
         k += 1;
     }
-    finished(w)
+    w
+}
+
+// What the items of a section tell, whose words these are.
+pub fn tally_words(words: &[u16]) -> Tally
+    requires { ⌜ length (now words) ≤ 508 ⌝ }
+    ensures { λ r. ⌜ r ≡ tallyOf (entriesIn (now (words .entry))) ⌝ }
+{
+    finished(walk_words(words))
 }
 
 fn has_places(t: Tally) -> bool
@@ -451,6 +462,97 @@ fn no_plain(t: Tally) -> bool
     true
 }
 
+// Whether the items of a walk keep the rules for a number section's items: every test on the way, no date item, no General
+// and no text, at most one fill and one point, a place.
+pub fn is_number(w: Walk) -> bool
+    ensures { λ r. ⌜ ((es : List Entry) → Walked es w → r ≡ itemsOf 2 es) ⌝ }
+{
+    if 0 < w.marks {
+        return false;
+    }
+    if 0 < w.dates {
+        return false;
+    }
+    if 0 < w.others % FILLS {
+        return false;
+    }
+    if 1 < w.others / FILLS {
+        return false;
+    }
+    if w.numbers % POINTS == 0 {
+        return false;
+    }
+    if 1 < w.numbers / POINTS % 65536 {
+        return false;
+    }
+    (w.unit == DECIMALS) | ((w.next == ANY_POWER) | (w.next == DECIMAL_POWER))
+}
+
+// Those for a date-time section's: no number item, no General and no text; one elapsed item, not beside its plain
+// equivalent.
+pub fn is_dated(w: Walk) -> bool
+    ensures { λ r. ⌜ ((es : List Entry) → Walked es w → r ≡ itemsOf 4 es) ⌝ }
+{
+    if 0 < w.numbers {
+        return false;
+    }
+    if w.dates == 0 {
+        return false;
+    }
+    if 0 < w.marks % 65536 {
+        return false;
+    }
+    if 0 < w.others % FILLS {
+        return false;
+    }
+    if w.others / FILLS <= 1 {
+        return true;
+    }
+    (w.others / ELAPSED_RUNS == 1) & (w.others / FILLS % 65536 <= 1) & no_plain(finished(w))
+}
+
+// Those for a literal, General or text section's: neither a number item nor a date item.
+pub fn is_bare(w: Walk, kind: u16) -> bool
+    ensures { λ r. ⌜ ((es : List Entry) → Walked es w → (kind ≡ 2 → ⊥) → (kind ≡ 4 → ⊥) → r ≡ itemsOf kind es) ⌝ }
+{
+    if 0 < w.numbers {
+        return false;
+    }
+    if 0 < w.marks {
+        return false;
+    }
+    if 0 < w.dates {
+        return false;
+    }
+    match kind {
+        kinds::LITERAL => (w.others % FILLS == 0) & (w.others / FILLS <= 1),
+        kinds::GENERAL => (w.others % FILLS == 1) & (w.others / FILLS <= 1),
+        kinds::TEXT => {
+            (w.others % FILLS == 0)
+                & (w.others / FILLS % 65536 <= 1)
+                & (0 < w.others / TEXTS % 65536)
+        }
+        _ => false,
+    }
+}
+
+pub fn has_half(w: Walk) -> bool
+    ensures { λ r. ⌜ ((es : List Entry) → Walked es w → r ≡ hasHalf (itemsAt es)) ⌝ }
+{
+    0 < w.marks / HALVES % 65536
+}
+
+// How many integer places, decimal places and percents there are.
+pub fn counts_of(w: Walk) -> Counts
+    ensures { λ r. ⌜ ((es : List Entry) → Walked es w → r ≡ countsOf (itemsAt es)) ⌝ }
+{
+    Counts {
+        integers: (w.numbers % 65536) as u16,
+        decimals: (w.numbers / DECIMALS % 65536) as u16,
+        percents: (w.numbers / PERCENTS % 65536) as u16,
+    }
+}
+
 pub fn items_fit(t: Tally) -> bool
     ensures { λ r. ⌜ r ≡ itemsFitTold t ⌝ }
 {
@@ -461,12 +563,6 @@ pub fn within(t: Tally, thousands: u16) -> bool
     ensures { λ r. ⌜ r ≡ withinTold t thousands ⌝ }
 {
     (t.integers <= 20) & ((t.decimals <= 15) & ((t.percents <= 5) & ((thousands <= 5) & t.short)))
-}
-
-pub fn grouping_fits(t: Tally, grouped: bool) -> bool
-    ensures { λ r. ⌜ r ≡ groupingTold t grouped ⌝ }
-{
-    !grouped | (2 <= t.integers)
 }
 
 pub fn decimals_word(t: Tally) -> u16

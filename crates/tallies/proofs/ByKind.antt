@@ -1,0 +1,502 @@
+-- The tests of a walk by its section's kind are the rules for the items of such a section.
+-- Assumes nothing.
+use Prim.Native.Nat.{ℕ, _+_, _*_, _/_, _%_, _≤_, _<_}
+use native.Mathlib.Omega.{arith}
+use native.Mathlib.Nat.{mod-eq-of-lt, div-div-eq-div-mul}
+use mathlib.Core.Path.{_≡_, refl, sym, _∙_, ap, subst}
+use mathlib.Core.Bool.{Bool, true, false, true≢false, cond, not, _&&_, _||_}
+use mathlib.Core.List.{List, [], _∷_}
+use lib.ListN.{length}
+use lib.Dec.{T, leb, ltb, eqb, leb→le, le→leb, ltb→lt, nltb→le, eqb→eq}
+use borrow.Author.Tests.{eq-eqb, ne-eqb, lt-ltb, le-ltb, ltb-true, ltb-false}
+use Rattle.lists.proofs.Bools.{and-left, and-right, and-in, and-parts, or-right, by-cases, same-test, carry, true-T, T-true}
+use Rattle.lists.specs.Lists.{any, count}
+use Rattle.lists.proofs.Counts.{either-positive, none-count, positive-count}
+use Rattle.formats.specs.Tokens.{Elapsed, hours, minutes, seconds}
+use Rattle.formats.specs.Items.{Item, itemMakes, isFill, isElapsed, isElapsedOf}
+use Rattle.formats.specs.Limits.{elapsedShort}
+use Rattle.formats.specs.WellFormed.{oneFill}
+use Rattle.formats.proofs.Each.{by-item}
+use Rattle.tables.specs.Words.{Entry}
+use Rattle.tables.specs.Decode.{itemsAt}
+use Rattle.tallies.specs.declared.Tally.{Tally}
+use Rattle.tallies.specs.declared.Walk.{Walk}
+use Rattle.tallies.specs.Tally.{makesDate, soundEntries, itemsOf, hasPlaces, hasNumberItems, kindTold, allowedTold, noPlainTold, itemsFitTold}
+use Rattle.tallies.specs.Walk.{tallies, isLong, ended, walkFrom, startOf, Walked, soundTold, finishedOf}
+use Rattle.tallies.proofs.Fold.{sound-told, dating-told, long-told, other-digit, date-flag, numbers-most, others-most, marks-most, next-open, finished-is}
+use Rattle.tallies.proofs.Told.{kind-told, items-fit-told}
+
+-- ---- what else is known of the numbers of a whole walk
+-- a number of four digits: without its first two, and by the last two
+pub record Digits (n : ℕ) : Type 0 where
+  pub high : n / 4294967296 ≡ n / 65536 / 65536
+  pub last : n / 4294967296 ≡ n / 4294967296 % 65536 + 65536 * (n / 281474976710656 % 65536)
+
+pub digits : (n : ℕ) → n < 18446744073709551616 → Digits n
+digits n h =
+    let fourth : n / 281474976710656 ≡ n / 4294967296 / 65536 = sym (div-div-eq-div-mul n 4294967296 65536) in
+    let small : n / 281474976710656 < 65536 = omega (arith, h) in
+    let whole : n / 281474976710656 % 65536 ≡ n / 281474976710656 = mod-eq-of-lt small in
+    record {
+      high = sym (div-div-eq-div-mul n 65536 65536);
+      last = rw (whole, fourth) (omega arith);
+    }
+
+pub record Linked (w : Walk) : Type 0 where
+  pub numbers : Digits (w .numbers)
+  pub others : Digits (w .others)
+  pub marks : Digits (w .marks)
+  -- an elapsed item is a date item; where none is, no run is too long, and none stands beside its plain equivalent
+  pub dates : w .dates ≡ 0 → w .others / 4294967296 % 65536 ≡ 0
+  pub long : w .others / 4294967296 % 65536 ≡ 0 → w .marks / 65536 % 65536 ≡ 0
+  pub plain : w .others / 4294967296 % 65536 ≡ 0 → T (noPlainTold (finishedOf w))
+  -- without a number item no power is left open
+  pub ends : w .numbers ≡ 0 → T (ended (w .next))
+
+-- ---- the kind and what it may hold, by the flags of a tally
+abbrev kindBy : Bool → Bool → Bool → Bool → ℕ
+kindBy t g d p = cond t 3 (cond g 1 (cond d 4 (cond p 2 0)))
+
+abbrev madeBy : ℕ → Bool → Bool → Bool → Bool → Bool → Bool → Bool
+madeBy k t g d p D N =
+    eqb k (kindBy t g d p)
+    && cond t (not g && (not D && not N)) (cond g (not D && not N) (cond d (not N) (cond p (not D) (not D && not N))))
+
+number-made : (t g d p D N : Bool) → madeBy 2 t g d p D N ≡ (not t && (not g && (not d && (p && not D))))
+number-made true g d p D N = refl
+number-made false true d p D N = refl
+number-made false false true p D N = refl
+number-made false false false true D N = refl
+number-made false false false false D N = refl
+
+date-made : (t g d p D N : Bool) → madeBy 4 t g d p D N ≡ (not t && (not g && (d && not N)))
+date-made true g d p D N = refl
+date-made false true d p D N = refl
+date-made false false true p D N = refl
+date-made false false false true D N = refl
+date-made false false false false D N = refl
+
+-- another section has neither date items nor number items
+other-made : (k : ℕ) (t g d p D N : Bool) → (k ≡ 2 → ⊥) → (k ≡ 4 → ⊥) → T (madeBy k t g d p D N) → T (not D && not N)
+other-made k true g d p D N a b m = and-right (not g) (not D && not N) (and-right (eqb k 3) _ m)
+other-made k false true d p D N a b m = and-right (eqb k 1) (not D && not N) m
+other-made k false false true p D N a b m = absurd (b (eqb→eq k 4 (and-left (eqb k 4) (not N) m)))
+other-made k false false false true D N a b m = absurd (a (eqb→eq k 2 (and-left (eqb k 2) (not D) m)))
+other-made k false false false false D N a b m = and-right (eqb k 0) (not D && not N) m
+
+literal-made : (t g : Bool) → madeBy 0 t g false false false false ≡ (not t && not g)
+literal-made true g = refl
+literal-made false true = refl
+literal-made false false = refl
+
+general-made : (t g : Bool) → madeBy 1 t g false false false false ≡ (not t && g)
+general-made true g = refl
+general-made false true = refl
+general-made false false = refl
+
+text-made : (t g : Bool) → madeBy 3 t g false false false false ≡ (t && not g)
+text-made true true = refl
+text-made true false = refl
+text-made false true = refl
+text-made false false = refl
+
+kind-most : (t g d p : Bool) → kindBy t g d p ≤ 4
+kind-most true g d p = omega arith
+kind-most false true d p = omega arith
+kind-most false false true p = omega arith
+kind-most false false false true = omega arith
+kind-most false false false false = omega arith
+
+-- ---- the flags of a walk's tally as tests of its numbers
+nought : (n : ℕ) → n ≡ 0 → T (not (ltb 0 n))
+nought n e = rw e tt
+
+some : (n : ℕ) → 0 < n → T (ltb 0 n)
+some n h = true-T (lt-ltb 0 n h)
+
+same-positive : (m n : ℕ) → (m ≡ 0 → n ≡ 0) → (n ≡ 0 → m ≡ 0) → ltb 0 m ≡ ltb 0 n
+same-positive m n f g =
+    same-test (ltb 0 m) (ltb 0 n)
+    (λ t. by-cases (ltb 0 n) (λ e. true-T e) (λ e. let z = g (omega (arith, ltb-false 0 n e)) in absurd (omega (arith, ltb→lt 0 m t))))
+    (λ t. by-cases (ltb 0 m) (λ e. true-T e) (λ e. let z = f (omega (arith, ltb-false 0 m e)) in absurd (omega (arith, ltb→lt 0 n t))))
+
+abbrev madeTold : ℕ → Walk → Bool
+madeTold k w = eqb k (kindTold (finishedOf w)) && allowedTold (finishedOf w)
+
+abbrev fitsTold : ℕ → Walk → Bool
+fitsTold k w =
+    soundTold w && (eqb k (kindTold (finishedOf w)) && (itemsFitTold (finishedOf w) && leb (w .others / 65536 % 65536) 1))
+
+-- the rules for the items of a section with kind word k, as facts on the numbers
+record Fits (k : ℕ) (w : Walk) : Type 0 where
+  faults : w .marks % 65536 ≡ 0
+  ends : T (eqb (w .unit) 65536 || ended (w .next))
+  made : T (madeTold k w)
+  generals : w .others % 65536 ≤ 1
+  points : w .numbers / 4294967296 % 65536 ≤ 1
+  elapsed : w .others / 4294967296 % 65536 ≤ 1
+  plain : T (noPlainTold (finishedOf w))
+  fill : w .others / 65536 % 65536 ≤ 1
+
+fits : (k : ℕ) (w : Walk) → T (fitsTold k w) → Fits k w
+fits k w t =
+    let kind : T (eqb k (kindTold (finishedOf w))) = search (and-left, and-right) depth 6 in
+    let allowed : T (allowedTold (finishedOf w)) = search (and-left, and-right) depth 6 in
+    record {
+      faults = search (and-left, and-right, eqb→eq) depth 6;
+      ends = search (and-left, and-right) depth 6;
+      made = and-in (eqb k (kindTold (finishedOf w))) (allowedTold (finishedOf w)) kind allowed;
+      generals = search (and-left, and-right, leb→le) depth 8;
+      points = search (and-left, and-right, leb→le) depth 8;
+      elapsed = search (and-left, and-right, leb→le) depth 8;
+      plain = search (and-left, and-right) depth 8;
+      fill = search (and-left, and-right, leb→le) depth 8;
+    }
+
+fits-back : (k : ℕ) (w : Walk) → Fits k w → T (fitsTold k w)
+fits-back k w f =
+    let made : T (eqb k (kindTold (finishedOf w)) && allowedTold (finishedOf w)) = f .made in
+    let kind : T (eqb k (kindTold (finishedOf w))) = search and-left in
+    let allowed : T (allowedTold (finishedOf w)) = search and-right in
+    let faults : T (eqb (w .marks % 65536) 0) = true-T (eq-eqb _ _ (f .faults)) in
+    search (and-in, le→leb) depth 8
+
+-- what each kind of section asks of the numbers
+pub record NumberFacts (w : Walk) : Type 0 where
+  pub marks : w .marks ≡ 0
+  pub dates : w .dates ≡ 0
+  pub generals : w .others % 65536 ≡ 0
+  pub fill : w .others / 65536 ≤ 1
+  pub places : 0 < w .numbers % 4294967296
+  pub points : w .numbers / 4294967296 % 65536 ≤ 1
+  pub ends : T (eqb (w .unit) 65536 || ended (w .next))
+
+pub record DatedFacts (w : Walk) : Type 0 where
+  pub numbers : w .numbers ≡ 0
+  pub dates : 0 < w .dates
+  pub faults : w .marks % 65536 ≡ 0
+  pub generals : w .others % 65536 ≡ 0
+  pub fill : w .others / 65536 % 65536 ≤ 1
+  pub runs : w .others / 4294967296 ≤ 1
+  pub plain : T (noPlainTold (finishedOf w))
+
+pub record BareFacts (w : Walk) : Type 0 where
+  pub numbers : w .numbers ≡ 0
+  pub marks : w .marks ≡ 0
+  pub dates : w .dates ≡ 0
+
+-- the tests of a literal section and of General, and of a text section
+abbrev pub plainTest : ℕ → Walk → Bool
+plainTest n w = eqb (w .others % 65536) n && leb (w .others / 65536) 1
+
+abbrev pub textTest : Walk → Bool
+textTest w = eqb (w .others % 65536) 0 && leb (w .others / 65536 % 65536) 1 && ltb 0 (w .others / 281474976710656 % 65536)
+
+module _ (w : Walk) (l : Linked w) where
+  places-are : hasPlaces (finishedOf w) ≡ ltb 0 (w .numbers % 4294967296)
+  places-are =
+      let d = l .numbers in
+      either-positive (w .numbers % 65536) (w .numbers / 65536 % 65536)
+      ∙ same-positive (w .numbers % 65536 + w .numbers / 65536 % 65536) (w .numbers % 4294967296) (λ e. omega arith) (λ e. omega arith)
+
+  numbers-are : hasNumberItems (finishedOf w) ≡ ltb 0 (w .numbers)
+  numbers-are =
+      let d = l .numbers in
+      let points = w .numbers / 4294967296 % 65536 in
+      let percents = w .numbers / 281474976710656 % 65536 in
+      rw (places-are, either-positive points percents, either-positive (w .numbers % 4294967296) (points + percents))
+      (same-positive (w .numbers % 4294967296 + (points + percents)) (w .numbers)
+      (λ e. let none : w .numbers / 4294967296 ≡ 0 = omega (arith, d .last) in omega arith) (λ e. rw e))
+
+  abbrev texts : Bool
+  texts = ltb 0 (w .others / 281474976710656 % 65536)
+
+  abbrev generals : Bool
+  generals = ltb 0 (w .others % 65536)
+
+  abbrev dates : Bool
+  dates = ltb 0 (w .dates)
+
+  abbrev places : Bool
+  places = ltb 0 (w .numbers % 4294967296)
+
+  abbrev dated : Bool
+  dated = ltb 0 (w .dates + w .marks / 4294967296)
+
+  abbrev numbers : Bool
+  numbers = ltb 0 (w .numbers)
+
+  made-is : (k : ℕ) → madeTold k w ≡ madeBy k texts generals dates places dated numbers
+  made-is k = rw (numbers-are, places-are, either-positive (w .dates) (w .marks / 4294967296))
+
+  -- ---- a number section
+  number-flags : madeTold 2 w ≡ (not texts && (not generals && (not dates && (places && not dated))))
+  number-flags = made-is 2 ∙ number-made texts generals dates places dated numbers
+
+  number-out : Fits 2 w → NumberFacts w
+  number-out f =
+      let made : T (not texts && (not generals && (not dates && (places && not dated)))) = carry number-flags (f .made) in
+      let t : w .others / 281474976710656 % 65536 ≤ 0 = search (and-left, and-right, nltb→le) depth 8 in
+      let g : w .others % 65536 ≤ 0 = search (and-left, and-right, nltb→le) depth 8 in
+      let d : w .dates ≤ 0 = search (and-left, and-right, nltb→le) depth 8 in
+      let b : w .dates + w .marks / 4294967296 ≤ 0 = search (and-left, and-right, nltb→le) depth 8 in
+      let runs = l .dates (omega arith) in
+      let long = l .long runs in
+      let o = l .others in
+      let m = l .marks in
+      record {
+        marks = omega (arith, f .faults);
+        dates = omega arith;
+        generals = omega arith;
+        fill = omega (arith, f .fill);
+        places = search (and-left, and-right, ltb→lt) depth 8;
+        points = f .points;
+        ends = f .ends;
+      }
+
+  number-in : NumberFacts w → Fits 2 w
+  number-in f =
+      let o = l .others in
+      let runs = l .dates (f .dates) in
+      let t : T (not texts) = nought (w .others / 281474976710656 % 65536) (omega (arith, f .fill)) in
+      let g : T (not generals) = nought (w .others % 65536) (f .generals) in
+      let d : T (not dates) = nought (w .dates) (f .dates) in
+      let p : T places = some (w .numbers % 4294967296) (f .places) in
+      let b : T (not dated) = nought (w .dates + w .marks / 4294967296) (omega (arith, f .dates, f .marks)) in
+      let made : T (not texts && (not generals && (not dates && (places && not dated)))) = search and-in depth 6 in
+      record {
+        faults = omega (arith, f .marks);
+        ends = f .ends;
+        made = carry (sym number-flags) made;
+        generals = omega (arith, f .generals);
+        points = f .points;
+        elapsed = omega arith;
+        plain = l .plain runs;
+        fill = omega (arith, f .fill);
+      }
+
+  -- ---- a date-time section
+  date-flags : madeTold 4 w ≡ (not texts && (not generals && (dates && not numbers)))
+  date-flags = made-is 4 ∙ date-made texts generals dates places dated numbers
+
+  dated-out : Fits 4 w → DatedFacts w
+  dated-out f =
+      let made : T (not texts && (not generals && (dates && not numbers))) = carry date-flags (f .made) in
+      let t : w .others / 281474976710656 % 65536 ≤ 0 = search (and-left, and-right, nltb→le) depth 8 in
+      let g : w .others % 65536 ≤ 0 = search (and-left, and-right, nltb→le) depth 8 in
+      let n : w .numbers ≤ 0 = search (and-left, and-right, nltb→le) depth 8 in
+      let o = l .others in
+      record {
+        numbers = omega arith;
+        dates = search (and-left, and-right, ltb→lt) depth 8;
+        faults = f .faults;
+        generals = omega arith;
+        fill = f .fill;
+        runs = omega (arith, f .elapsed);
+        plain = f .plain;
+      }
+
+  dated-in : DatedFacts w → Fits 4 w
+  dated-in f =
+      let o = l .others in
+      let t : T (not texts) = nought (w .others / 281474976710656 % 65536) (omega (arith, f .runs)) in
+      let g : T (not generals) = nought (w .others % 65536) (f .generals) in
+      let d : T dates = some (w .dates) (f .dates) in
+      let n : T (not numbers) = nought (w .numbers) (f .numbers) in
+      let made : T (not texts && (not generals && (dates && not numbers))) = search and-in depth 6 in
+      record {
+        faults = f .faults;
+        ends = or-right (eqb (w .unit) 65536) (ended (w .next)) (l .ends (f .numbers));
+        made = carry (sym date-flags) made;
+        generals = omega (arith, f .generals);
+        points = omega (arith, f .numbers);
+        elapsed = omega (arith, f .runs);
+        plain = f .plain;
+        fill = f .fill;
+      }
+
+  -- ---- another section
+  bare-out : (k : ℕ) → (k ≡ 2 → ⊥) → (k ≡ 4 → ⊥) → Fits k w → BareFacts w
+  bare-out k a b f =
+      let none : T (not dated && not numbers) = other-made k texts generals dates places dated numbers a b (carry (made-is k) (f .made)) in
+      let d : w .dates + w .marks / 4294967296 ≤ 0 = search (and-left, and-right, nltb→le) depth 8 in
+      let n : w .numbers ≤ 0 = search (and-left, and-right, nltb→le) depth 8 in
+      let long = l .long (l .dates (omega arith)) in
+      let m = l .marks in
+      record { numbers = omega arith; marks = omega (arith, f .faults); dates = omega arith }
+
+  module _ (b : BareFacts w) where
+    bare-made : (k : ℕ) → madeTold k w ≡ madeBy k texts generals false false false false
+    bare-made k = made-is k ∙ rw (b .numbers, b .dates, b .marks)
+
+    bare-in : (k : ℕ) → w .others % 65536 ≤ 1 → w .others / 65536 % 65536 ≤ 1 → T (madeTold k w) → Fits k w
+    bare-in k generals fill made =
+        let runs = l .dates (b .dates) in
+        record {
+          faults = omega (arith, b .marks);
+          ends = or-right (eqb (w .unit) 65536) (ended (w .next)) (l .ends (b .numbers));
+          made = made;
+          generals = generals;
+          points = omega (arith, b .numbers);
+          elapsed = omega arith;
+          plain = l .plain runs;
+          fill = fill;
+        }
+
+    -- so many Generals and at most one fill
+    plain-in : (n : ℕ) → n ≤ 1 → T (plainTest n w) → (T (not texts) → w .others % 65536 ≡ n → T (madeTold n w)) → Fits n w
+    plain-in n h t f =
+        let o = l .others in
+        let g : w .others % 65536 ≡ n = search (and-left, eqb→eq) in
+        let one : w .others / 65536 ≤ 1 = search (and-right, leb→le) in
+        bare-in n (omega arith) (omega arith) (f (nought (w .others / 281474976710656 % 65536) (omega arith)) g)
+
+    plain-out : (n : ℕ) → Fits n w → T (not texts) → w .others % 65536 ≡ n → T (plainTest n w)
+    plain-out n f t g =
+        let o = l .others in
+        let runs = l .dates (b .dates) in
+        let none = nltb→le 0 (w .others / 281474976710656 % 65536) t in
+        let one : w .others / 65536 ≤ 1 = omega (arith, f .fill) in
+        and-in (eqb (w .others % 65536) n) (leb (w .others / 65536) 1) (true-T (eq-eqb _ _ g)) (le→leb _ _ one)
+
+    literal-is : plainTest 0 w ≡ fitsTold 0 w
+    literal-is =
+        let made : madeTold 0 w ≡ (not texts && not generals) = bare-made 0 ∙ literal-made texts generals in
+        same-test (plainTest 0 w) (fitsTold 0 w)
+        (λ t. fits-back 0 w (plain-in 0 (omega arith) t (λ u g. carry (sym made) (and-in (not texts) (not generals) u (nought _ g)))))
+        (λ t. let f = fits 0 w t in
+        let m = carry made (f .made) in
+        let none = nltb→le 0 (w .others % 65536) (and-right (not texts) (not generals) m) in
+        plain-out 0 f (and-left (not texts) (not generals) m) (omega arith))
+
+    general-is : plainTest 1 w ≡ fitsTold 1 w
+    general-is =
+        let made : madeTold 1 w ≡ (not texts && generals) = bare-made 1 ∙ general-made texts generals in
+        same-test (plainTest 1 w) (fitsTold 1 w)
+        (λ t. fits-back 1 w (plain-in 1 (omega arith) t (λ u g. carry (sym made) (and-in (not texts) generals u (some (w .others % 65536) (omega arith))))))
+        (λ t. let f = fits 1 w t in
+        let m = carry made (f .made) in
+        let one = ltb→lt 0 (w .others % 65536) (and-right (not texts) generals m) in
+        plain-out 1 f (and-left (not texts) generals m) (omega (arith, f .generals)))
+
+    text-is : textTest w ≡ fitsTold 3 w
+    text-is =
+        let made : madeTold 3 w ≡ (texts && not generals) = bare-made 3 ∙ text-made texts generals in
+        same-test (textTest w) (fitsTold 3 w)
+        (λ t. let none : w .others % 65536 ≡ 0 = search (and-left, and-right, eqb→eq) in
+        let one : w .others / 65536 % 65536 ≤ 1 = search (and-left, and-right, leb→le) in
+        let some : T texts = search and-right in
+        fits-back 3 w (bare-in 3 (omega arith) one (carry (sym made) (and-in texts (not generals) some (nought _ none)))))
+        (λ t. let f = fits 3 w t in
+        let m = carry made (f .made) in
+        let few = nltb→le 0 (w .others % 65536) (and-right texts (not generals) m) in
+        let none : T (eqb (w .others % 65536) 0) = true-T (eq-eqb (w .others % 65536) 0 (omega arith)) in
+        let one : T (leb (w .others / 65536 % 65536) 1) = le→leb _ _ (f .fill) in
+        let some : T texts = and-left texts (not generals) m in
+        search and-in depth 4)
+
+-- ---- the walk over a section's entries
+-- where no item passes a test, none passes a narrower one
+none-within : (p q : Item → Bool) → ((i : Item) → p i ≡ true → q i ≡ true) → (is : List Item) → any q is ≡ false → any p is ≡ false
+unfolding any
+none-within p q f [] e = refl
+none-within p q f (i ∷ is) e =
+    by-cases (q i) (λ h. absurd (true≢false (rw h at e)))
+    (λ h. by-cases (p i) (λ g. absurd (true≢false (sym (f i g) ∙ h))) (λ g. rw g (none-within p q f is (rw h at e))))
+
+elapsed-dates : (i : Item) → isElapsed i ≡ true → makesDate i ≡ true
+unfolding itemMakes
+elapsed-dates =
+    by-item (λ i. isElapsed i ≡ true → makesDate i ≡ true) (λ u e. e) (λ u e. e) (λ u e. e) (λ p e. e) (λ e. e) (λ e. e) (λ e. e) (λ e. e)
+    (λ n e. refl) (λ n e. refl) (λ n e. refl) (λ n e. refl) (λ n e. refl) (λ n e. refl) (λ n e. e) (λ d n e. refl) (λ h e. e)
+
+long-elapsed : (i : Item) → isLong i ≡ true → isElapsed i ≡ true
+unfolding elapsedShort
+long-elapsed i e = by-cases (isElapsed i) (λ h. h) (λ h. absurd (true≢false (sym e ∙ rw h)))
+
+no-runs : (a b c x y z : Bool) → a ≡ false → b ≡ false → c ≡ false → T (not (a && x) && (not (b && y) && not (c && z)))
+no-runs a b c x y z p q r = rw (p, q, r) tt
+
+module _ (es : List Entry) (few : length es ≤ 254) where
+  abbrev is : List Item
+  is = itemsAt es
+
+  abbrev end : Walk
+  end = walkFrom startOf es
+
+  runs-are : end .others / 4294967296 % 65536 ≡ count isElapsed is
+  unfolding tallies
+  runs-are = other-digit es few 2
+
+  none-elapsed : end .others / 4294967296 % 65536 ≡ 0 → any isElapsed is ≡ false
+  none-elapsed e = sym (positive-count isElapsed is) ∙ ap (λ (n : ℕ). ltb 0 n) (sym runs-are ∙ e)
+
+  no-run : end .others / 4294967296 % 65536 ≡ 0 → (e : Elapsed) → any (isElapsedOf e) is ≡ false
+  no-run h e = none-within (isElapsedOf e) isElapsed (λ i g. and-parts (isElapsed i) _ g .0) is (none-elapsed h)
+
+  linked : Linked end
+  unfolding tallies
+  linked = record {
+    numbers = digits (end .numbers) (numbers-most es few);
+    others = digits (end .others) (others-most es few);
+    marks = digits (end .marks) (marks-most es few);
+    dates = λ e. runs-are ∙ none-count isElapsed is (none-within isElapsed makesDate elapsed-dates is (sym (dating-told es few) ∙ ap (λ (n : ℕ). ltb 0 n) e));
+    long = λ e. long-told es few ∙ none-count isLong is (none-within isLong isElapsed long-elapsed is (none-elapsed e));
+    plain = λ e. no-runs _ _ _ _ _ _ (date-flag es few 4 (isElapsedOf hours) refl ∙ no-run e hours) (date-flag es few 5 (isElapsedOf minutes) refl ∙ no-run e minutes) (date-flag es few 6 (isElapsedOf seconds) refl ∙ no-run e seconds);
+    ends = λ e. rw (next-open es few e) tt;
+  }
+
+  fits-are : (kind : ℕ) → fitsTold kind end ≡ itemsOf kind es
+  unfolding itemsOf oneFill tallies
+  fits-are kind =
+      let fills : end .others / 65536 % 65536 ≡ count isFill is = other-digit es few 1 in
+      rw (sound-told es few, fills)
+      (ap (λ (t : Tally). soundEntries es && (eqb kind (kindTold t) && (itemsFitTold t && leb (count isFill is) 1))) (finished-is es few)
+      ∙ rw (kind-told es, items-fit-told es))
+
+-- ---- a test of the walk is the rules where it says what they ask of its numbers
+module _ (es : List Entry) (w : Walk) (k : Walked es w) where
+  known : Linked w
+  known = subst Linked (sym (k .same)) (linked es (k .few))
+
+  told : (kind : ℕ) → fitsTold kind w ≡ itemsOf kind es
+  told kind = ap (fitsTold kind) (k .same) ∙ fits-are es (k .few) kind
+
+  decided : (kind : ℕ) (test : Bool) → (T test → Fits kind w) → (Fits kind w → T test) → test ≡ itemsOf kind es
+  decided kind test f g = same-test test (fitsTold kind w) (λ t. fits-back kind w (f t)) (λ t. g (fits kind w t)) ∙ told kind
+
+  pub number-told : (test : Bool) → (T test → NumberFacts w) → (NumberFacts w → T test) → test ≡ itemsOf 2 es
+  number-told test f g = decided 2 test (λ t. number-in w known (f t)) (λ h. g (number-out w known h))
+
+  pub dated-told : (test : Bool) → (T test → DatedFacts w) → (DatedFacts w → T test) → test ≡ itemsOf 4 es
+  dated-told test f g = decided 4 test (λ t. dated-in w known (f t)) (λ h. g (dated-out w known h))
+
+  -- without an elapsed item none stands beside its plain equivalent
+  pub fill-alone : w .others / 65536 ≤ 1 → (w .others / 4294967296 ≤ 1) × T (noPlainTold (finishedOf w))
+  fill-alone h =
+      let o = known .others in
+      (omega (arith, h), known .plain (omega (arith, h)))
+
+  pub runs-behind : 1 < w .others / 65536 → w .others / 65536 % 65536 ≤ 1 → w .others / 4294967296 ≤ 1 → w .others / 4294967296 ≡ 1
+  runs-behind h f g = let o = known .others in omega (arith, h, f, g)
+
+  pub bare-refused : (kind : ℕ) → (kind ≡ 2 → ⊥) → (kind ≡ 4 → ⊥) → (BareFacts w → ⊥) → false ≡ itemsOf kind es
+  bare-refused kind a b refuted = decided kind false (λ t. absurd t) (λ h. refuted (bare-out w known kind a b h))
+
+  pub none-such : (kind : ℕ) → (kind ≡ 0 → ⊥) → (kind ≡ 1 → ⊥) → (kind ≡ 2 → ⊥) → (kind ≡ 3 → ⊥) → (kind ≡ 4 → ⊥) → false ≡ itemsOf kind es
+  none-such kind n₀ n₁ n₂ n₃ n₄ =
+      let h : 4 < kind = omega arith in
+      decided kind false (λ t. absurd t)
+      (λ f. let t = finishedOf w in
+      let e : kind ≡ kindTold (finishedOf w) = eqb→eq kind _ (and-left (eqb kind (kindTold t)) (allowedTold t) (f .made)) in
+      absurd (omega (arith, h, e, kind-most (t .texts) (ltb 0 (t .generals)) (t .dating) (hasPlaces t))))
+
+  module _ (b : BareFacts w) where
+    pub literal-told : plainTest 0 w ≡ itemsOf 0 es
+    literal-told = literal-is w known b ∙ told 0
+
+    pub general-told : plainTest 1 w ≡ itemsOf 1 es
+    general-told = general-is w known b ∙ told 1
+
+    pub text-told : textTest w ≡ itemsOf 3 es
+    text-told = text-is w known b ∙ told 3
