@@ -111,6 +111,9 @@ kind-most false false false false = omega arith
 nought : (n : ℕ) → n ≡ 0 → T (not (ltb 0 n))
 nought n e = rw e tt
 
+same-eqb : (m n : ℕ) → m ≡ n → T (eqb m n)
+same-eqb m n e = true-T (eq-eqb m n e)
+
 some : (n : ℕ) → 0 < n → T (ltb 0 n)
 some n h = true-T (lt-ltb 0 n h)
 
@@ -158,7 +161,7 @@ fits-back k w f =
     let made : T (eqb k (kindTold (finishedOf w)) && allowedTold (finishedOf w)) = f .made in
     let kind : T (eqb k (kindTold (finishedOf w))) = search and-left in
     let allowed : T (allowedTold (finishedOf w)) = search and-right in
-    let faults : T (eqb (w .marks % 65536) 0) = true-T (eq-eqb _ _ (f .faults)) in
+    let faults : T (eqb (w .marks % 65536) 0) = same-eqb _ _ (f .faults) in
     search (and-in, le→leb) depth 8
 
 -- what each kind of section asks of the numbers
@@ -171,21 +174,17 @@ pub record NumberFacts (w : Walk) : Type 0 where
   pub points : w .numbers / 4294967296 % 65536 ≤ 1
   pub ends : T (eqb (w .unit) 65536 || ended (w .next))
 
-pub record DatedFacts (w : Walk) : Type 0 where
-  pub numbers : w .numbers ≡ 0
-  pub dates : 0 < w .dates
-  pub faults : w .marks % 65536 ≡ 0
-  pub generals : w .others % 65536 ≡ 0
-  pub fill : w .others / 65536 % 65536 ≤ 1
-  pub runs : w .others / 4294967296 ≤ 1
-  pub plain : T (noPlainTold (finishedOf w))
-
 pub record BareFacts (w : Walk) : Type 0 where
   pub numbers : w .numbers ≡ 0
   pub marks : w .marks ≡ 0
   pub dates : w .dates ≡ 0
 
--- the tests of a literal section and of General, and of a text section
+-- the tests of a date-time section, of a literal section and of General, and of a text section
+abbrev pub datedTest : Walk → Bool
+datedTest w =
+    eqb (w .numbers) 0 && ltb 0 (w .dates) && eqb (w .marks % 65536) 0 && eqb (w .others % 65536) 0
+    && leb (w .others / 65536 % 65536) 1 && leb (w .others / 4294967296) 1 && noPlainTold (finishedOf w)
+
 abbrev pub plainTest : ℕ → Walk → Bool
 plainTest n w = eqb (w .others % 65536) n && leb (w .others / 65536) 1
 
@@ -279,40 +278,42 @@ module _ (w : Walk) (l : Linked w) where
   date-flags : madeTold 4 w ≡ (not texts && (not generals && (dates && not numbers)))
   date-flags = made-is 4 ∙ date-made texts generals dates places dated numbers
 
-  dated-out : Fits 4 w → DatedFacts w
+  dated-out : Fits 4 w → T (datedTest w)
   dated-out f =
       let made : T (not texts && (not generals && (dates && not numbers))) = carry date-flags (f .made) in
       let t : w .others / 281474976710656 % 65536 ≤ 0 = search (and-left, and-right, nltb→le) depth 8 in
       let g : w .others % 65536 ≤ 0 = search (and-left, and-right, nltb→le) depth 8 in
       let n : w .numbers ≤ 0 = search (and-left, and-right, nltb→le) depth 8 in
       let o = l .others in
-      record {
-        numbers = omega arith;
-        dates = search (and-left, and-right, ltb→lt) depth 8;
-        faults = f .faults;
-        generals = omega arith;
-        fill = f .fill;
-        runs = omega (arith, f .elapsed);
-        plain = f .plain;
-      }
+      let none : T (eqb (w .numbers) 0) = same-eqb (w .numbers) 0 (omega arith) in
+      let some : T dates = search (and-left, and-right) depth 8 in
+      let faults : T (eqb (w .marks % 65536) 0) = same-eqb (w .marks % 65536) 0 (f .faults) in
+      let plain : T (eqb (w .others % 65536) 0) = same-eqb (w .others % 65536) 0 (omega arith) in
+      let one : T (leb (w .others / 65536 % 65536) 1) = le→leb (w .others / 65536 % 65536) 1 (f .fill) in
+      let runs : T (leb (w .others / 4294967296) 1) = le→leb (w .others / 4294967296) 1 (omega (arith, f .elapsed)) in
+      let apart : T (noPlainTold (finishedOf w)) = f .plain in
+      search and-in depth 8
 
-  dated-in : DatedFacts w → Fits 4 w
-  dated-in f =
+  dated-in : T (datedTest w) → Fits 4 w
+  dated-in t =
       let o = l .others in
-      let t : T (not texts) = nought (w .others / 281474976710656 % 65536) (omega (arith, f .runs)) in
-      let g : T (not generals) = nought (w .others % 65536) (f .generals) in
-      let d : T dates = some (w .dates) (f .dates) in
-      let n : T (not numbers) = nought (w .numbers) (f .numbers) in
+      let none : w .numbers ≡ 0 = search (and-left, and-right, eqb→eq) depth 8 in
+      let plain : w .others % 65536 ≡ 0 = search (and-left, and-right, eqb→eq) depth 8 in
+      let runs : w .others / 4294967296 ≤ 1 = search (and-left, and-right, leb→le) depth 8 in
+      let x : T (not texts) = nought (w .others / 281474976710656 % 65536) (omega arith) in
+      let g : T (not generals) = nought (w .others % 65536) plain in
+      let d : T dates = search (and-left, and-right) depth 8 in
+      let n : T (not numbers) = nought (w .numbers) none in
       let made : T (not texts && (not generals && (dates && not numbers))) = search and-in depth 6 in
       record {
-        faults = f .faults;
-        ends = or-right (eqb (w .unit) 65536) (ended (w .next)) (l .ends (f .numbers));
+        faults = search (and-left, and-right, eqb→eq) depth 8;
+        ends = or-right (eqb (w .unit) 65536) (ended (w .next)) (l .ends none);
         made = carry (sym date-flags) made;
-        generals = omega (arith, f .generals);
-        points = omega (arith, f .numbers);
-        elapsed = omega (arith, f .runs);
-        plain = f .plain;
-        fill = f .fill;
+        generals = omega arith;
+        points = omega arith;
+        elapsed = omega arith;
+        plain = search (and-left, and-right) depth 8;
+        fill = search (and-left, and-right, leb→le) depth 8;
       }
 
   -- ---- another section
@@ -357,7 +358,7 @@ module _ (w : Walk) (l : Linked w) where
         let runs = l .dates (b .dates) in
         let none = nltb→le 0 (w .others / 281474976710656 % 65536) t in
         let one : w .others / 65536 ≤ 1 = omega (arith, f .fill) in
-        and-in (eqb (w .others % 65536) n) (leb (w .others / 65536) 1) (true-T (eq-eqb _ _ g)) (le→leb _ _ one)
+        and-in (eqb (w .others % 65536) n) (leb (w .others / 65536) 1) (same-eqb _ _ g) (le→leb _ _ one)
 
     literal-is : plainTest 0 w ≡ fitsTold 0 w
     literal-is =
@@ -390,7 +391,7 @@ module _ (w : Walk) (l : Linked w) where
         (λ t. let f = fits 3 w t in
         let m = carry made (f .made) in
         let few = nltb→le 0 (w .others % 65536) (and-right texts (not generals) m) in
-        let none : T (eqb (w .others % 65536) 0) = true-T (eq-eqb (w .others % 65536) 0 (omega arith)) in
+        let none : T (eqb (w .others % 65536) 0) = same-eqb (w .others % 65536) 0 (omega arith) in
         let one : T (leb (w .others / 65536 % 65536) 1) = le→leb _ _ (f .fill) in
         let some : T texts = and-left texts (not generals) m in
         search and-in depth 4)
@@ -468,17 +469,11 @@ module _ (es : List Entry) (w : Walk) (k : Walked es w) where
   pub number-told : (test : Bool) → (T test → NumberFacts w) → (NumberFacts w → T test) → test ≡ itemsOf 2 es
   number-told test f g = decided 2 test (λ t. number-in w known (f t)) (λ h. g (number-out w known h))
 
-  pub dated-told : (test : Bool) → (T test → DatedFacts w) → (DatedFacts w → T test) → test ≡ itemsOf 4 es
-  dated-told test f g = decided 4 test (λ t. dated-in w known (f t)) (λ h. g (dated-out w known h))
+  pub number-refused : (NumberFacts w → ⊥) → false ≡ itemsOf 2 es
+  number-refused refuted = number-told false (λ t. absurd t) refuted
 
-  -- without an elapsed item none stands beside its plain equivalent
-  pub fill-alone : w .others / 65536 ≤ 1 → (w .others / 4294967296 ≤ 1) × T (noPlainTold (finishedOf w))
-  fill-alone h =
-      let o = known .others in
-      (omega (arith, h), known .plain (omega (arith, h)))
-
-  pub runs-behind : 1 < w .others / 65536 → w .others / 65536 % 65536 ≤ 1 → w .others / 4294967296 ≤ 1 → w .others / 4294967296 ≡ 1
-  runs-behind h f g = let o = known .others in omega (arith, h, f, g)
+  pub dated-told : datedTest w ≡ itemsOf 4 es
+  dated-told = decided 4 (datedTest w) (dated-in w known) (dated-out w known)
 
   pub bare-refused : (kind : ℕ) → (kind ≡ 2 → ⊥) → (kind ≡ 4 → ⊥) → (BareFacts w → ⊥) → false ≡ itemsOf kind es
   bare-refused kind a b refuted = decided kind false (λ t. absurd t) (λ h. refuted (bare-out w known kind a b h))

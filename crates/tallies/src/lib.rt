@@ -493,22 +493,13 @@ pub fn is_number(w: Walk) -> bool
 pub fn is_dated(w: Walk) -> bool
     ensures { λ r. ⌜ ((es : List Entry) → Walked es w → r ≡ itemsOf 4 es) ⌝ }
 {
-    if 0 < w.numbers {
-        return false;
-    }
-    if w.dates == 0 {
-        return false;
-    }
-    if 0 < w.marks % 65536 {
-        return false;
-    }
-    if 0 < w.others % FILLS {
-        return false;
-    }
-    if w.others / FILLS <= 1 {
-        return true;
-    }
-    (w.others / ELAPSED_RUNS == 1) & (w.others / FILLS % 65536 <= 1) & no_plain(finished(w))
+    (w.numbers == 0)
+        & (0 < w.dates)
+        & (w.marks % 65536 == 0)
+        & (w.others % FILLS == 0)
+        & (w.others / FILLS % 65536 <= 1)
+        & (w.others / ELAPSED_RUNS <= 1)
+        & no_plain(finished(w))
 }
 
 // Those for a literal, General or text section's: neither a number item nor a date item.
