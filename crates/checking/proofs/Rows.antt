@@ -23,10 +23,10 @@ use Rattle.tables.proofs.Ranges.{HeadRanges, head-ranges, head-in-ranges}
 use Rattle.tables.proofs.Back.{RowFacts, row-facts}
 use Rattle.tables.proofs.BackEntries.{items-ranged}
 use Rattle.tables.proofs.Standing.{number-word}
-use Rattle.tallies.specs.declared.Counts.{Counts}
-use Rattle.tallies.specs.Tally.{countsOf, soundEntries, itemsOf}
+use Rattle.tallies.specs.declared.Tally.{Tally}
+use Rattle.tallies.specs.Tally.{tallyOf, soundEntries, itemsOf}
 use Rattle.tallies.proofs.Powers.{places-counted}
-use Rattle.tallies.proofs.Told.{no-figures, no-half}
+use Rattle.tallies.proofs.Told.{half-told, no-figures, no-half}
 use Rattle.table_words.specs.declared.HeadWords.{HeadWords}
 use Rattle.table_words.specs.Sections.{headFrom}
 use Rattle.checking.specs.Checking.{agree, conditionTold, numberTold, otherTold, rowWith, halfFits, rowGood}
@@ -221,8 +221,8 @@ module _ (h : Head) (es : List Entry) where
 
   -- ---- a number section
   module _ (k : h .kind ≡ 2) where
-    number-in : Front h → ItemFacts (h .kind) es → T (numberTold (h .shift) (h .flags) (h .decimals) (countsOf is)) → T (rowGood row)
-    unfolding numberTold countsOf groupingFits sectionAt halfFits
+    number-in : Front h → ItemFacts (h .kind) es → T (numberTold (h .shift) (h .flags) (h .decimals) (tallyOf es)) → T (rowGood row)
+    unfolding numberTold tallyOf groupingFits sectionAt halfFits
     number-in front f t =
         let number = number-kind f k in
         let shifted : T (shiftTells (h .shift) (count isPercent is)) = search and-left in
@@ -241,8 +241,8 @@ module _ (h : Head) (es : List Entry) where
         (carry (sym (decimals-by true number)) same)
         (neither (leb 4 (h .flags)) (hasHalf is) (lt-leb 4 (h .flags) flags) (none-half f (λ e. absurd (omega (arith, k, e)))))
 
-    number-out : RowFacts row → T (halfFits row) → T (numberTold (h .shift) (h .flags) (h .decimals) (countsOf is))
-    unfolding numberTold countsOf groupingFits sectionAt halfFits
+    number-out : RowFacts row → T (halfFits row) → T (numberTold (h .shift) (h .flags) (h .decimals) (tallyOf es))
+    unfolding numberTold tallyOf groupingFits sectionAt halfFits
     number-out r half =
         let f = item-facts (h .kind) es (items-out r) in
         let number = number-kind f k in
@@ -299,10 +299,10 @@ module _ (h : Head) (es : List Entry) where
       absurd (refuted r (condition-out h (r .head) (r .condition))))
       (λ e. sym e)
 
-  row-number : h .kind ≡ 2 → Front h → (itemsOf (h .kind) es && numberTold (h .shift) (h .flags) (h .decimals) (countsOf is)) ≡ rowGood row
+  row-number : h .kind ≡ 2 → Front h → (itemsOf (h .kind) es && numberTold (h .shift) (h .flags) (h .decimals) (tallyOf es)) ≡ rowGood row
   unfolding rowGood
   row-number k front =
-      let told = numberTold (h .shift) (h .flags) (h .decimals) (countsOf is) in
+      let told = numberTold (h .shift) (h .flags) (h .decimals) (tallyOf es) in
       same-test (itemsOf (h .kind) es && told) (rowGood row)
       (λ t. number-in k front (item-facts (h .kind) es (and-left (itemsOf (h .kind) es) told t)) (and-right (itemsOf (h .kind) es) told t))
       (λ t. let r = row-facts row (and-left (rowFits row) (halfFits row) t) in
@@ -324,16 +324,17 @@ module _ (h : Head) (es : List Entry) where
   pub no-number : h .kind ≡ 2 → (b : Bool) → b ≡ itemsOf 2 es → not b ≡ true → false ≡ rowGood row
   no-number k b e n = refused (λ r t. carry (ap (λ (x : ℕ). itemsOf x es) k ∙ sym e ∙ not-true b n) (items-out r))
 
-  pub number-answer : h .kind ≡ 2 → Front h → (b : Bool) → b ≡ itemsOf 2 es → not b ≡ false → (c : Counts) → c ≡ countsOf is
-      → (r : Bool) → r ≡ numberTold (h .shift) (h .flags) (h .decimals) c → r ≡ rowGood row
-  number-answer k front b e n c counts r told =
+  pub number-answer : h .kind ≡ 2 → Front h → (b : Bool) → b ≡ itemsOf 2 es → not b ≡ false → (t : Tally) → t ≡ tallyOf es
+      → (r : Bool) → r ≡ numberTold (h .shift) (h .flags) (h .decimals) t → r ≡ rowGood row
+  number-answer k front b e n t tally r told =
       let fits : itemsOf (h .kind) es ≡ true = ap (λ (x : ℕ). itemsOf x es) k ∙ sym e ∙ not-false b n in
-      told ∙ ap (numberTold (h .shift) (h .flags) (h .decimals)) counts ∙ rw fits at (row-number k front)
+      told ∙ ap (numberTold (h .shift) (h .flags) (h .decimals)) tally ∙ rw fits at (row-number k front)
 
-  pub dated-answer : h .kind ≡ 4 → Front h → (half : Bool) → half ≡ hasHalf is → (a b : Bool)
-      → a ≡ otherTold (h .shift) (h .flags) (h .decimals) half → b ≡ itemsOf 4 es → (a && b) ≡ rowGood row
-  dated-answer k front half same a b e f =
-      rw (e, f, ← k) (row-other (λ x. absurd (omega (arith, k, x))) front half (λ i. same))
+  pub dated-answer : h .kind ≡ 4 → Front h → (t : Tally) → t ≡ tallyOf es → (a b : Bool)
+      → a ≡ otherTold (h .shift) (h .flags) (h .decimals) (t .halves) → b ≡ itemsOf 4 es → (a && b) ≡ rowGood row
+  dated-answer k front t tally a b e f =
+      let half : t .halves ≡ hasHalf is = ap (λ (x : Tally). x .halves) tally ∙ half-told es in
+      rw (e, f, ← k) (row-other (λ x. absurd (omega (arith, k, x))) front (t .halves) (λ i. half))
 
   -- only a date-time section has a half-day mark
   pub bare-answer : (h .kind ≡ 2 → ⊥) → (h .kind ≡ 4 → ⊥) → Front h → (a b : Bool)

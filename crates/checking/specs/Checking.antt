@@ -13,7 +13,7 @@ use Rattle.tables.specs.Encode.{hasHalf}
 use Rattle.tables.specs.Standing.{headStands, countedKinds}
 use Rattle.tables.specs.Decode.{wholeAt, millionthsAt, itemsAt, groupedAt}
 use Rattle.tables.specs.Rules.{shiftTells, rowFits}
-use Rattle.tallies.specs.declared.Counts.{Counts}
+use Rattle.tallies.specs.declared.Tally.{Tally}
 
 -- both or neither
 abbrev pub agree : Bool → Bool → Bool
@@ -44,16 +44,16 @@ comparedTold operator negative whole millionths =
 unfoldable pub conditionTold : Head → Bool
 conditionTold h = comparedTold (h .operator) (h .negative) (wholeAt h) (millionthsAt h)
 
--- what a number section's head must say beside the counts of its items
-unfoldable pub numberTold : ℕ → ℕ → ℕ → Counts → Bool
-numberTold shift flags decimals c =
-    shiftTells shift (c .percents)
-    && (leb (c .integers) 20
-    && leb (c .decimals) 15
-    && leb (c .percents) 5
-    && eqb decimals (c .decimals)
+-- what a number section's head must say beside the tally of its items
+unfoldable pub numberTold : ℕ → ℕ → ℕ → Tally → Bool
+numberTold shift flags decimals t =
+    shiftTells shift (t .percents)
+    && (leb (t .integers) 20
+    && leb (t .decimals) 15
+    && leb (t .percents) 5
+    && eqb decimals (t .decimals)
     && ltb flags 4
-    && (not (groupedAt flags) || leb 2 (c .integers)))
+    && (not (groupedAt flags) || leb 2 (t .integers)))
 
 -- another section's, which has a half-day mark or none
 unfoldable pub otherTold : ℕ → ℕ → ℕ → Bool → Bool

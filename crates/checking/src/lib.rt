@@ -18,12 +18,11 @@ use table_words::section_count;
 use tables::flags;
 use tables::heads;
 use tables::kinds;
-use tallies::Counts;
-use tallies::counts_of;
-use tallies::has_half;
+use tallies::Tally;
 use tallies::is_bare;
 use tallies::is_dated;
 use tallies::is_number;
+use tallies::tally_of;
 use tallies::walk_words;
 
 fn agree(a: bool, b: bool) -> bool
@@ -89,18 +88,18 @@ fn shift_tells(shift: u16, percents: u16) -> bool
 }
 
 // The words of a number section's head that its items tell: grouping needs two integer places.
-fn number_fits(shift: u16, flags: u16, decimals: u16, c: Counts) -> bool
-    ensures { λ r. ⌜ r ≡ numberTold shift flags decimals c ⌝ }
+fn number_fits(shift: u16, flags: u16, decimals: u16, t: Tally) -> bool
+    ensures { λ r. ⌜ r ≡ numberTold shift flags decimals t ⌝ }
 {
-    if !shift_tells(shift, c.percents) {
+    if !shift_tells(shift, t.percents) {
         return false;
     }
-    (c.integers <= 20)
-        & (c.decimals <= 15)
-        & (c.percents <= 5)
-        & (decimals == c.decimals)
+    (t.integers <= 20)
+        & (t.decimals <= 15)
+        & (t.percents <= 5)
+        & (decimals == t.decimals)
         & (flags < flags::TWELVE_HOUR)
-        & (!(flags % 2 == flags::GROUPING) | (2 <= c.integers))
+        & (!(flags % 2 == flags::GROUPING) | (2 <= t.integers))
 }
 
 // Those of another section's head: nothing is shifted, and no digits are grouped.
@@ -133,10 +132,11 @@ fn row_fits(table: &[u16], i: usize, items: &[u16]) -> bool
         if !is_number(w) {
             return false;
         }
-        return number_fits(h.shift, h.flags, h.decimals, counts_of(w));
+        return number_fits(h.shift, h.flags, h.decimals, tally_of(w));
     }
     if h.kind == kinds::DATE_TIME {
-        return other_fits(h.shift, h.flags, h.decimals, has_half(w)) & is_dated(w);
+        let t = tally_of(w);
+        return other_fits(h.shift, h.flags, h.decimals, t.halves) & is_dated(w);
     }
     other_fits(h.shift, h.flags, h.decimals, false) & is_bare(w, h.kind)
 }

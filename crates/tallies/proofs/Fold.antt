@@ -23,10 +23,9 @@ use Rattle.tables.specs.Decode.{itemAt, itemsAt}
 use Rattle.formats.proofs.Each.{by-item, by-elapsed}
 use Rattle.tables.proofs.MadeHeads.{bit-back}
 use Rattle.tables.proofs.BackEntries.{items-length}
-use Rattle.tallies.specs.declared.Counts.{Counts}
 use Rattle.tallies.specs.declared.Walk.{Walk}
-use Rattle.tallies.specs.Tally.{makesText, makesDate, belongsDate, soundEntries, tallyOf, countsOf}
-use Rattle.tallies.specs.Walk.{packed, tallies, weight, isLong, otherTests, dateTests, markTests, numberWeight, unitAfter, runAt, runAfter, settles, nextAfter, ended, powerTest, entrySound, faultOf, stepOf, walkFrom, startOf, soundTold, finishedOf}
+use Rattle.tallies.specs.Tally.{makesText, makesDate, belongsDate, soundEntries, tallyOf}
+use Rattle.tallies.specs.Walk.{packed, tallies, weight, isLong, otherTests, dateTests, markTests, numberWeight, unitAfter, runAt, runAfter, settles, nextAfter, ended, powerTest, entrySound, faultOf, stepOf, walkFrom, startOf, Walked, soundTold, finishedOf}
 use Rattle.tallies.proofs.Packed.{tallies-none, tallies-turn, first-dropped, first-digit, later-digits, digit-at, tallies-small, packed-positive}
 use Rattle.tallies.proofs.Powers.{place-no-point, places-counted, chainFrom, rangeTest, chain-start}
 
@@ -215,14 +214,6 @@ none-long [] = refl
 none-long (i ∷ is) = by-cases (elapsedShort i) (λ h. rw h (none-long is)) (λ h. rw h (eqb·suc-zero (count isLong is)))
 
 -- ---- the end
-abbrev pub countsIn : Walk → Counts
-countsIn w =
-    record {
-      integers = w .numbers % 65536;
-      decimals = w .numbers / 65536 % 65536;
-      percents = w .numbers / 281474976710656 % 65536;
-    }
-
 module _ (es : List Entry) (few : length es ≤ 254) where
   abbrev is : List Item
   is = itemsAt es
@@ -262,7 +253,7 @@ module _ (es : List Entry) (few : length es ≤ 254) where
   small : (b : ℕ) (ps : List (Item → Bool)) → 254 < b → All (λ (c : ℕ). c < b) (tallies ps is)
   small b ps h = tallies-small b ps is (omega (arith, few-items))
 
-  pub number-digit : (j : ℕ) → end .numbers / 65536 ^ j % 65536 ≡ getD numberCounts j 0
+  number-digit : (j : ℕ) → end .numbers / 65536 ^ j % 65536 ≡ getD numberCounts j 0
   number-digit j = rw numbers-are (digit-at 65536 numberCounts j numbers-small)
 
   pub other-digit : (j : ℕ) → end .others / 65536 ^ j % 65536 ≡ getD (tallies otherTests is) j 0
@@ -300,7 +291,7 @@ module _ (es : List Entry) (few : length es ≤ 254) where
   short-told : eqb (end .marks / 65536 % 65536) 0 ≡ every elapsedShort is
   short-told = rw long-told (none-long is)
 
-  pub halves-told : ltb 0 (end .marks / 4294967296 % 65536) ≡ any isHalf is
+  halves-told : ltb 0 (end .marks / 4294967296 % 65536) ≡ any isHalf is
   unfolding packed tallies
   halves-told =
       rw (marks-beside, first-digit 65536 (count isHalf is) (packed 65536 (tallies (isPart ∷ []) is)) (omega (arith, count-least isHalf is, few-items)))
@@ -317,7 +308,7 @@ module _ (es : List Entry) (few : length es ≤ 254) where
       rw (dating-told, marks-beside, packed-positive 65536 besideTests is)
       (sym (any-either makesDate beside is) ∙ any-same (λ (i : Item). makesDate i || beside i) belongsDate (λ i. rw (beside-weight i)) is)
 
-  pub integers-told : end .numbers % 65536 ≡ integerPlaces is
+  integers-told : end .numbers % 65536 ≡ integerPlaces is
   unfolding packed
   integers-told = rw numbers-are (first-digit 65536 (integerPlaces is) (packed 65536 (decimalPlaces is ∷ count isPoint is ∷ count isPercent is ∷ [])) (numbers-small .0))
 
@@ -334,10 +325,6 @@ module _ (es : List Entry) (few : length es ≤ 254) where
   -- the flag of a digit of the dates
   pub date-flag : (j : ℕ) (p : Item → Bool) → getD (tallies dateTests is) j 0 ≡ count p is → ltb 0 (end .dates / 256 ^ j % 256) ≡ any p is
   date-flag j p h = ap (λ (n : ℕ). ltb 0 n) (date-digit j ∙ h) ∙ positive-count p is
-
-  pub counts-told : countsIn end ≡ countsOf is
-  unfolding countsOf
-  counts-told = λ i. record { integers = integers-told i; decimals = number-digit 1 i; percents = number-digit 3 i }
 
   -- each of the three numbers that the tests of a kind read has four digits
   pub numbers-most : end .numbers < 18446744073709551616
@@ -376,3 +363,6 @@ module _ (es : List Entry) (few : length es ≤ 254) where
     halves = halves-told i;
     short = short-told i;
   }
+
+pub finished-told : (es : List Entry) (w : Walk) → Walked es w → finishedOf w ≡ tallyOf es
+finished-told es w k = ap finishedOf (k .same) ∙ finished-is es (k .few)

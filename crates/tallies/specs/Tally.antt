@@ -15,7 +15,6 @@ use Rattle.tables.specs.Encode.{kindWord}
 use Rattle.tables.specs.Decode.{itemsAt}
 use Rattle.tables.specs.Rules.{entryInRange, powersRunDown}
 use Rattle.tallies.specs.declared.Tally.{Tally}
-use Rattle.tallies.specs.declared.Counts.{Counts}
 
 abbrev pub makesText : Item → Bool
 makesText i = itemMakes textKind i
@@ -49,9 +48,6 @@ tallyOf es =
       halves = any isHalf is;
       short = every elapsedShort is;
     }
-
-unfoldable pub countsOf : List Item → Counts
-countsOf is = record { integers = integerPlaces is; decimals = decimalPlaces is; percents = count isPercent is }
 
 -- ---- the rules for the items of a section
 -- those that look at their order, their arguments or their powers

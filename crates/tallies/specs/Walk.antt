@@ -139,9 +139,9 @@ pub record Walked (es : List Entry) (w : Walk) : Type 0 where
 abbrev pub soundTold : Walk → Bool
 soundTold w = eqb (w .marks % 65536) 0 && (eqb (w .unit) 65536 || ended (w .next))
 
--- where no date or time run is
-abbrev pub withoutDates : Walk → Tally
-withoutDates w =
+-- the digits of the numbers
+abbrev pub finishedOf : Walk → Tally
+finishedOf w =
     record {
       integers = w .numbers % 65536;
       decimals = w .numbers / 65536 % 65536;
@@ -150,43 +150,17 @@ withoutDates w =
       generals = w .others % 65536;
       elapsed = w .others / 4294967296 % 65536;
       texts = ltb 0 (w .others / 281474976710656 % 65536);
-      dating = false;
-      dates = ltb 0 (w .marks / 4294967296);
-      hours = false;
-      minutes = false;
-      seconds = false;
-      «elapsed_hours» = false;
-      «elapsed_minutes» = false;
-      «elapsed_seconds» = false;
+      dating = ltb 0 (w .dates);
+      dates = ltb 0 (w .dates) || ltb 0 (w .marks / 4294967296);
+      hours = ltb 0 (w .dates / 256 % 256);
+      minutes = ltb 0 (w .dates / 65536 % 256);
+      seconds = ltb 0 (w .dates / 16777216 % 256);
+      «elapsed_hours» = ltb 0 (w .dates / 4294967296 % 256);
+      «elapsed_minutes» = ltb 0 (w .dates / 1099511627776 % 256);
+      «elapsed_seconds» = ltb 0 (w .dates / 281474976710656 % 256);
       halves = ltb 0 (w .marks / 4294967296 % 65536);
       short = eqb (w .marks / 65536 % 65536) 0;
     }
-
--- with the number of the dates
-abbrev pub withDates : Tally → ℕ → Tally
-withDates t n =
-    record {
-      integers = t .integers;
-      decimals = t .decimals;
-      points = t .points;
-      percents = t .percents;
-      generals = t .generals;
-      elapsed = t .elapsed;
-      texts = t .texts;
-      dating = ltb 0 n;
-      dates = ltb 0 n || t .dates;
-      hours = ltb 0 (n / 256 % 256);
-      minutes = ltb 0 (n / 65536 % 256);
-      seconds = ltb 0 (n / 16777216 % 256);
-      «elapsed_hours» = ltb 0 (n / 4294967296 % 256);
-      «elapsed_minutes» = ltb 0 (n / 1099511627776 % 256);
-      «elapsed_seconds» = ltb 0 (n / 281474976710656 % 256);
-      halves = t .halves;
-      short = t .short;
-    }
-
-abbrev pub finishedOf : Walk → Tally
-finishedOf w = withDates (withoutDates w) (w .dates)
 
 -- ---- one step by its weights
 abbrev pub tooLong : ℕ → ℕ

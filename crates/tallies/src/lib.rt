@@ -6,10 +6,9 @@ ghost use lib.ListN.{length};
 ghost use Rattle.values.specs.Ranges.{between};
 ghost use Rattle.formats.specs.Items.{meansMinutes, noRun};
 ghost use Rattle.tables.specs.Words.{Entry, entriesIn};
-ghost use Rattle.tables.specs.Encode.{entry, hasHalf};
-ghost use Rattle.tables.specs.Decode.{itemsAt};
-ghost use Rattle.tallies.specs.Tally.{tallyOf, countsOf, itemsOf, hasPlaces, hasNumberItems, kindTold, allowedTold, noPlainTold, itemsFitTold, withinTold, decimalsTold};
-ghost use Rattle.tallies.specs.Walk.{runAt, lower, faultOf, tooLong, countedOf, datedOf, stepOf, startOf, Walked, finishedOf, withoutDates, Few, Weights};
+ghost use Rattle.tables.specs.Encode.{entry};
+ghost use Rattle.tallies.specs.Tally.{tallyOf, itemsOf, hasPlaces, hasNumberItems, kindTold, allowedTold, noPlainTold, itemsFitTold, withinTold, decimalsTold};
+ghost use Rattle.tallies.specs.Walk.{runAt, lower, faultOf, tooLong, countedOf, datedOf, stepOf, startOf, Walked, Few, Weights};
 use tables::kinds;
 use tables::tags;
 use values::integers::is_between;
@@ -36,13 +35,6 @@ pub struct Tally {
     pub elapsed_minutes: bool,
     pub elapsed_seconds: bool,
     pub halves: bool,
-}
-
-// How many places and percents a number section has.
-pub struct Counts {
-    pub integers: u16,
-    pub decimals: u16,
-    pub percents: u16,
 }
 
 // What one item adds to the numbers of a walk: one to its digit, by base 65536.
@@ -327,9 +319,9 @@ fn step(w: Walk, tag: u16, a: u16) -> Walk
     }
 }
 
-// The tally of items among which no date or time run is.
-fn without_dates(w: Walk) -> Tally
-    ensures { λ r. ⌜ r ≡ withoutDates w ⌝ }
+// What the items of a walk tell: the digits of its numbers.
+pub fn tally_of(w: Walk) -> Tally
+    ensures { λ r. ⌜ ((es : List Entry) → Walked es w → r ≡ tallyOf es) ⌝ }
 {
     Tally {
         short: w.marks / LONG_RUNS % 65536 == 0,
@@ -340,39 +332,16 @@ fn without_dates(w: Walk) -> Tally
         generals: (w.others % 65536) as u16,
         elapsed: (w.others / ELAPSED_RUNS % 65536) as u16,
         texts: 0 < w.others / TEXTS % 65536,
-        dating: false,
-        dates: 0 < w.marks / HALVES,
-        hours: false,
-        minutes: false,
-        seconds: false,
-        elapsed_hours: false,
-        elapsed_minutes: false,
-        elapsed_seconds: false,
+        dating: 0 < w.dates,
+        dates: (0 < w.dates) | (0 < w.marks / HALVES),
+        hours: 0 < w.dates / HOURS % 256,
+        minutes: 0 < w.dates / MINUTES % 256,
+        seconds: 0 < w.dates / SECONDS % 256,
+        elapsed_hours: 0 < w.dates / ELAPSED_HOURS % 256,
+        elapsed_minutes: 0 < w.dates / ELAPSED_MINUTES % 256,
+        elapsed_seconds: 0 < w.dates / ELAPSED_SECONDS % 256,
         halves: 0 < w.marks / HALVES % 65536,
     }
-}
-
-// The digits of the numbers. Most sections have no date or time run, and few an elapsed one: those digits are not read then.
-fn finished(w: Walk) -> Tally
-    ensures { λ r. ⌜ r ≡ finishedOf w ⌝ }
-{
-    let mut t = without_dates(w);
-    let n = w.dates;
-    if n == 0 {
-        return t;
-    }
-    t.dating = true;
-    t.dates = true;
-    t.hours = 0 < n / HOURS % 256;
-    t.minutes = 0 < n / MINUTES % 256;
-    t.seconds = 0 < n / SECONDS % 256;
-    if n < ELAPSED_HOURS {
-        return t;
-    }
-    t.elapsed_hours = 0 < n / ELAPSED_HOURS % 256;
-    t.elapsed_minutes = 0 < n / ELAPSED_MINUTES % 256;
-    t.elapsed_seconds = 0 < n / ELAPSED_SECONDS % 256;
-    t
 }
 
 // The pass over the items of a section, whose words these are.
@@ -397,7 +366,7 @@ pub fn tally_words(words: &[u16]) -> Tally
     requires { ⌜ length (now words) ≤ 508 ⌝ }
     ensures { λ r. ⌜ r ≡ tallyOf (entriesIn (now (words .entry))) ⌝ }
 {
-    finished(walk_words(words))
+    tally_of(walk_words(words))
 }
 
 fn has_places(t: Tally) -> bool
@@ -499,7 +468,7 @@ pub fn is_dated(w: Walk) -> bool
         & (w.others % FILLS == 0)
         & (w.others / FILLS % 65536 <= 1)
         & (w.others / ELAPSED_RUNS <= 1)
-        & no_plain(finished(w))
+        & no_plain(tally_of(w))
 }
 
 // Those for a literal, General or text section's: neither a number item nor a date item.
@@ -524,23 +493,6 @@ pub fn is_bare(w: Walk, kind: u16) -> bool
                 & (0 < w.others / TEXTS % 65536)
         }
         _ => false,
-    }
-}
-
-pub fn has_half(w: Walk) -> bool
-    ensures { λ r. ⌜ ((es : List Entry) → Walked es w → r ≡ hasHalf (itemsAt es)) ⌝ }
-{
-    0 < w.marks / HALVES % 65536
-}
-
-// How many integer places, decimal places and percents there are.
-pub fn counts_of(w: Walk) -> Counts
-    ensures { λ r. ⌜ ((es : List Entry) → Walked es w → r ≡ countsOf (itemsAt es)) ⌝ }
-{
-    Counts {
-        integers: (w.numbers % 65536) as u16,
-        decimals: (w.numbers / DECIMALS % 65536) as u16,
-        percents: (w.numbers / PERCENTS % 65536) as u16,
     }
 }
 

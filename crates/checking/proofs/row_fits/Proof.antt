@@ -14,11 +14,10 @@ use Rattle.checking.proofs.condition_fits.Reads as condition-fits-reads
 use Rattle.checking.proofs.number_fits.Reads as number-fits-reads
 use Rattle.checking.proofs.other_fits.Reads as other-fits-reads
 use Rattle.table_words.proofs.head_at.Reads as head-at-reads
-use Rattle.tallies.proofs.counts_of.Reads as counts-of-reads
-use Rattle.tallies.proofs.has_half.Reads as has-half-reads
 use Rattle.tallies.proofs.is_bare.Reads as is-bare-reads
 use Rattle.tallies.proofs.is_dated.Reads as is-dated-reads
 use Rattle.tallies.proofs.is_number.Reads as is-number-reads
+use Rattle.tallies.proofs.tally_of.Reads as tally-of-reads
 use Rattle.tallies.proofs.walk_words.Reads as walk-words-reads
 
 returns : tie.Need-returns
@@ -56,7 +55,7 @@ returns-4 c =
     let w = k .before .before .walk-words .ensures in
     rowed _ _ _ _ (k .before .head-at2 .ensures)
     (number-answer (headFrom (k .before .head-at2 .result)) _ (i .before .if3 .taken) (front k) _ (i .is-number .ensures _ w) (c .before .before .if4 .left) _
-    (c .before .counts-of .ensures _ w) _ (c .number-fits .ensures))
+    (c .before .tally-of .ensures _ w) _ (c .number-fits .ensures))
 
 returns-5 : tie.Need-returns-5
 returns-5 c =
@@ -64,7 +63,7 @@ returns-5 c =
     let k = d .before .before .before in
     let w = k .before .before .walk-words .ensures in
     rowed _ _ _ _ (k .before .head-at2 .ensures)
-    (dated-answer (headFrom (k .before .head-at2 .result)) _ (d .if5 .taken) (front k) _ (c .before .before .has-half .ensures _ w) _ _
+    (dated-answer (headFrom (k .before .head-at2 .result)) _ (d .if5 .taken) (front k) _ (c .before .before .tally-of2 .ensures _ w) _ _
     (c .before .other-fits .ensures) (c .is-dated .ensures _ w))
 
 returns-6 : tie.Need-returns-6
