@@ -1,7 +1,7 @@
 -- An instant in the section that takes it.
 -- Assumes nothing.
 use Prim.Native.Nat.{ℕ, _+_, _*_, _≤_, _<_}
-use mathlib.Core.Path.{_≡_, refl, sym}
+use mathlib.Core.Path.{_≡_, refl, sym, ap, _∙_}
 use mathlib.Core.Bool.{Bool, true, false, true≢false}
 use mathlib.Core.List.{List}
 use lib.Dec.{T}
@@ -9,20 +9,22 @@ use lib.ListN.{getD}
 use Rattle.answers.specs.declared.Answer.the-variants as answer
 use Rattle.values.specs.declared.Day.{Day}
 use Rattle.values.specs.declared.Millisecond.{Millisecond}
+use Rattle.lists.specs.Lists.{any}
 use Rattle.formats.specs.Items.{Section, Kind, dateKind, numberKind, literalKind, sameKind, kindOf, integerPlaces}
 use Rattle.calendar.specs.Clock.{sinceDayZero}
 use Rattle.formats.specs.Choice.{instantExact, Reason, chosen, choose}
 use Rattle.formats.specs.Reading.{refused, takesInstant, instantContext, readInstant}
-use Rattle.tables.specs.Encode.{hasHalf}
+use Rattle.tables.specs.Words.{entriesIn}
+use Rattle.tables.specs.Encode.{hasHalf, entriesOf}
 use Rattle.tables.specs.Decode.{decode}
 use Rattle.tables.specs.Rules.{passes}
-use Rattle.date_text.specs.declared.Moment.{Moment}
-use Rattle.date_text.specs.Moment.{momentOf, MomentIs}
-use Rattle.date_text.proofs.Moments.{moment-instant}
-use Rattle.table_words.specs.Sections.{sectionIn}
+use Rattle.date_text.specs.Moment.{datedEntry, momentOf}
+use Rattle.date_text.proofs.Moments.{clock-instant, date-instant}
+use Rattle.table_words.specs.Sections.{sectionIn, ItemsOf}
 use Rattle.choosing.specs.Seeking.{instantSought}
 use Rattle.figure_text.specs.declared.Figures.{Figures}
-use Rattle.section_text.specs.Walk.{DatedKnown}
+use Rattle.section_text.specs.Walk.{MomentIs, DatedKnown}
+use Rattle.section_text.proofs.Bodies.{items-entries}
 use Rattle.section_text.specs.Show.{signText, sectionReading}
 use Rattle.showing.specs.Plan.{SectionIs}
 use Rattle.showing.proofs.Subjects.{section-places, literal-subject}
@@ -69,13 +71,17 @@ module _ (ws : List ℕ) (i : ℕ) (t : T (passes ws)) (h : i < getD ws 0 0) (d 
           reads = instant-reads k;
         }
 
--- the moment is that of the section's context
-module _ (s : Section) (w : Moment) (b : Bool) (d : Day) (m : Millisecond) (eb : b ≡ hasHalf (s .items)) (ew : w ≡ momentOf b d m) where
-  pub instant-moment : MomentIs w (instantContext s d m)
+-- the moment is that of the section's context, its date where an item shows it
+module _ {s : Section} {words : List ℕ} (o : ItemsOf s words) {w : List ℕ} {twelve dated : Bool} (d : Day) (m : Millisecond)
+    (et : twelve ≡ hasHalf (s .items)) (ed : dated ≡ any datedEntry (entriesIn words)) (ew : w ≡ momentOf twelve dated d m) where
+  pub instant-moment : MomentIs w (any datedEntry (entriesOf (s .items))) (instantContext s d m)
   unfolding hasHalf
-  instant-moment = moment-instant b s d m w ew eb
+  instant-moment = record {
+    clock = clock-instant twelve dated s d m w ew et;
+    date = λ f. date-instant twelve dated s d m w ew (ed ∙ ap (any datedEntry) (items-entries o) ∙ f);
+  }
 
-  pub instant-known : DatedKnown w
+  pub instant-known : DatedKnown w (any datedEntry (entriesOf (s .items)))
   instant-known = record { context = instantContext s d m; is = instant-moment }
 
 pub sought-instant : (d : Day) (m : Millisecond)

@@ -1,16 +1,12 @@
--- A text in the section that takes it, and a text by itself.
+-- A text in the section that takes it, and by itself.
 -- Assumes nothing.
-use Prim.Native.Nat.{ℕ, suc, _≤_, _<_}
-use native.Mathlib.Nat.{zero-add}
-use native.Mathlib.Omega.{arith}
+use Prim.Native.Nat.{ℕ, suc, _≤_}
 use mathlib.Core.Path.{_≡_, refl, sym, subst, _∙_}
 use mathlib.Core.Bool.{Bool, true, false, _||_, true≢false}
 use mathlib.Core.List.{List, [], _∷_}
 use lib.Dec.{T, eqb}
 use lib.ListN.{length}
 use borrow.Author.Tests.{le-leb}
-use Rattle.answers.specs.declared.Answer.the-variants as answer
-use Rattle.answers.specs.Number.{doneShown, refusedShown}
 use Rattle.values.specs.declared.Value.the-variants as value
 use Rattle.lists.proofs.Bools.{and-left, and-right, implied, true-T, by-cases, cond-case}
 use Rattle.formats.specs.Items.{Kind, textKind, generalKind, dateKind, numberKind, literalKind, sameKind, kindOf, Section}
@@ -19,16 +15,13 @@ use Rattle.formats.specs.Choice.{TextChoice, itself, textIn, fourthFrom, textFr
 use Rattle.formats.specs.Reading.{textContext, lookOf, within, readText, readValue}
 use Rattle.tables.specs.Decode.{decode}
 use Rattle.tables.specs.Rules.{passes}
-use Rattle.writing.specs.Put.{Put}
-use Rattle.writing.proofs.Laws.{put-out}
 use Rattle.choosing.specs.declared.TextFound.the-variants as found
 use Rattle.table_words.specs.Sections.{sectionIn}
 use Rattle.table_words.proofs.Heads.{section-stands}
 use Rattle.choosing.specs.Seeking.{textFoundOf}
 use Rattle.choosing.proofs.Finding.{text-itself, text-at}
 use Rattle.figure_text.specs.declared.Figures.{Figures}
-use Rattle.section_text.specs.Show.{signText, sectionReading, Shows}
-use Rattle.section_text.proofs.Fitting.{shows-none, shows-all}
+use Rattle.section_text.specs.Show.{signText, sectionReading}
 use Rattle.showing.specs.Plan.{SectionIs, valueReading}
 use Rattle.showing.proofs.Subjects.{section-places, standing-subject}
 
@@ -102,12 +95,3 @@ pub itself-reads : (ws text : List ℕ) → length text ≤ 1024 → found.Itsel
     → (size : ℕ) → valueReading ws value.Text text size ≡ within size (lookOf text 0 4)
 unfolding readValue readText
 itself-reads ws text h e size = rw (le-leb (length text) 1024 h, text-itself ws e)
-
--- a text by itself
-module _ (old text : List ℕ) where
-  pub plain-none : length old < length text → Shows (within (length old) (lookOf text 0 4)) old (refusedShown answer.TextRoom) old
-  plain-none h = shows-none old text 0 4 (put-out [] 0 text (omega arith)) (omega arith)
-
-  pub plain-all : {r : ℕ} {out : List ℕ} → length text ≤ length old → Put old 0 text r out
-      → Shows (within (length old) (lookOf text 0 4)) old (doneShown (length text) 0 4) out
-  plain-all h p = shows-all old text 0 4 {small = []} (record { next = sym (zero-add (length text)); room = refl }) h p

@@ -354,8 +354,8 @@ fn show_plain(room: &mut [u16], text: &[u16]) -> Shown
     if room.len() < text.len() {
         return refused_shown(Answer::TextRoom);
     }
-    writing::put_units(room, 0, text);
-    done_shown(text.len() as u32, 0, 4)
+    let end = writing::put_units(room, 0, text);
+    done_shown(end as u32, 0, 4)
 }
 
 // Shows an instant in section i, which is a date-time section.
@@ -364,8 +364,9 @@ fn show_dated(room: &mut [u16], table: &[u16], i: u16, d: Day, m: Millisecond) -
     ensures { λ r. ⌜ Shows (sectionReading (length (now (room .entry))) (sectionIn (now (table .entry)) i) i false
         (instantContext (sectionIn (now (table .entry)) i) d m)) (now (room .entry)) r (now (room .exit)) ⌝ }
 {
-    let moment = date_text::moment_of(is_twelve_hour(table, i as usize), d, m);
-    show_dated_section(room, table, i, moment)
+    let dated = date_text::shows_date(items_of(table, i as usize));
+    let moment = date_text::moment_of(is_twelve_hour(table, i as usize), dated, d, m);
+    show_dated_section(room, table, i, &moment)
 }
 
 // Shows a value through a table that passes.
