@@ -88,7 +88,7 @@ module _ (v : Signed) (x : Number) (ev : v ≡ signedOf x) where
   unfolding standingRounded
   general-figures {digits} hm ed =
       figures-are digits (generalContext (standingRounded x)) refl (ed ∙ ap (λ y. figures (generalRounded y)) exact-is)
-      (rw exact-is at (general-small (v .magnitude) (v .scale) hm))
+      (rw exact-is at (general-small (v .magnitude) (v .scale) hm)) (omega arith)
 
 module _ (z : Section) (t : T (showsGeneral (kindOf z))) (x : Number) where
   pub general-wide : generalTooWide (numberExact x .size) ≡ true → (ss : List Section) (i : ℕ) (why : Reason) (size : ℕ)

@@ -6,6 +6,7 @@ use mathlib.Core.Path.{_≡_, refl, sym, ap, ap₂, _∙_}
 use mathlib.Core.Bool.{Bool, true, false, _||_}
 use mathlib.Core.List.{List}
 use lib.Dec.{T, eqb}
+use lib.IntN.{natAbs}
 use lib.ListN.{getD}
 use Rattle.values.specs.declared.Number.{Number}
 use Rattle.lists.specs.Lists.{count}
@@ -15,7 +16,7 @@ use Rattle.figures.specs.Powers.{powered}
 use Rattle.figures.specs.Rounding.{scaled, rounded}
 use Rattle.figures.specs.Rounder.{Roundable}
 use Rattle.figures.specs.Sign.{signedOf}
-use Rattle.figures.proofs.Rounding.{powered-net, scaled-powered, rounded-small, roundable}
+use Rattle.figures.proofs.Rounding.{powered-net, scaled-powered, scaled-small, roundable}
 use Rattle.formats.specs.Items.{Section, numberKind, kindOf, isPercent, integerPlaces, decimalPlaces}
 use Rattle.formats.specs.Reading.{takesNumber, showsGeneral, sectionRounded, numberContext, showsNought}
 use Rattle.tables.specs.Words.{Head}
@@ -67,10 +68,6 @@ module _ {shift decimals : ℕ} {s : Section} (w : NumberWords shift decimals s)
       ∙ ap (λ x. rounded x decimals) (sym (scaled-powered (v .magnitude) (v .scale) p t))
       ∙ ap₂ (λ (u : Signed). rounded (scaled (u .magnitude) (u .scale) p t)) ev (w .places)
 
-  pub number-small : v .magnitude < 10 ^ 15 → sectionRounded s x < 10 ^ 40
-  number-small h =
-      rw (← number-net) (rounded-small (v .magnitude) (shift - 15) (v .scale + (15 - shift)) decimals h (omega (arith, w .shiftMost)) (w .decimalsMost))
-
   pub number-digits : {r : List ℕ} {up down : ℕ} → up ≡ shift - 15 → down ≡ 15 - shift
       → r ≡ figures (rounded (powered (v .magnitude) up (v .scale + down)) decimals) → r ≡ figures (sectionRounded s x)
   number-digits eu ed e = e ∙ rw (eu, ed) (ap figures number-net)
@@ -81,11 +78,14 @@ or-none false = refl
 
 -- the figures that the section shows of a number
 module _ (z : Section) (x : Number) where
-  pub number-figures : {digits : List ℕ} {integers : ℕ} {grouped : Bool} → sectionRounded z x < 10 ^ 40
+  pub number-figures : {digits : List ℕ} {integers : ℕ} {grouped : Bool} → Within z → signedOf x .magnitude < 10 ^ 15
       → digits ≡ figures (sectionRounded z x) → integers ≡ integerPlaces (z .items) → grouped ≡ z .grouped
       → FiguresAre digits (figuresWith digits integers grouped) (numberContext z x)
-  unfolding numberContext
-  number-figures {digits} small ed ei eg = figures-are digits (numberContext z x) (rw (ei, eg)) ed small
+  unfolding signedOf sectionRounded numberContext
+  number-figures {digits} w h ed ei eg =
+      figures-are digits (numberContext z x) (rw (ei, eg)) ed
+      (scaled-small (natAbs (x .coefficient)) (x .scale) (count isPercent (z .items)) (z .thousands) (decimalPlaces (z .items)) h (w .percents-most) (w .decimals-most))
+      (omega (arith, w .integers-most))
 
   pub number-takes : {digits : List ℕ} {f : Figures} → kindOf z ≡ numberKind → FiguresAre digits f (numberContext z x) → Takes z x (eqb (f .used) 0)
   unfolding showsNought showsGeneral takesNumber numberContext

@@ -55,7 +55,7 @@ PlansNumber ws i v p = (text : List ℕ) (x : Number) (why : Reason) → v ≡ s
 -- section i without figures
 abbrev pub barePlan : ℕ → Bool → Bool → Plan
 barePlan i minus lent =
-    plan.Section i minus (record { figures = record { used = 0; lowest = 40; integers = 0; grouped = false }; lent = lent })
+    plan.Section i minus (record { figures = record { used = 0; first = 40; grouped = false }; lent = lent })
 
 -- section i with the figures of a number
 abbrev pub digitsPlan : List ℕ → ℕ → Bool → Figures → Plan

@@ -85,8 +85,7 @@ fn bare(i: u16, minus: bool, lent: bool) -> Plan
         Subject {
             figures: Figures {
                 used: 0,
-                lowest: 40,
-                integers: 0,
+                first: 40,
                 grouped: false,
             },
             lent,

@@ -1,10 +1,10 @@
 -- `showing::figures_plan` meets its contract.
 -- Assumes nothing.
-use mathlib.Core.Path.{refl}
+use Rattle.table_words.proofs.Bodies.{section-limits}
 use Rattle.figure_text.proofs.Digits.{figures-used}
 use Rattle.showing.proofs.Subjects.{number-subject}
 use Rattle.showing.proofs.Numbers.{number-section}
-use Rattle.showing.proofs.Sections.{number-words, number-small, number-figures, number-takes}
+use Rattle.showing.proofs.Sections.{number-figures, number-takes}
 use borrow.Author.Needs.{needs}
 use Rattle.showing.proofs.figures_plan.Statement.{statement}
 use Rattle.showing.proofs.figures_plan.Tie as tie
@@ -16,8 +16,7 @@ returns c =
     let n = g .before in
     let p = n .before .before .pre in
     λ text x why ev eo.
-    let small = number-small (number-words _ _ (p .0) (p .1) (p .4) refl) _ x ev (p .2) in
-    let are = number-figures _ x small (n .number-digits .ensures x ev) (g .integer-places .ensures) (w .is-grouped .ensures) in
+    let are = number-figures _ x (section-limits _ _ (p .0) (p .1)) (rw ev at (p .2)) (n .number-digits .ensures x ev) (g .integer-places .ensures) (w .is-grouped .ensures) in
     rw (c .with-digits .ensures .0, c .with-digits .ensures .1)
     (number-section _ _ _ x why ev eo (number-takes _ x (p .4) are) (p .1) (figures-used are) (number-subject _ (p .4) are))
 
