@@ -10,7 +10,6 @@ use borrow.Author.Tests.{le-leb, leb-false}
 use Rattle.lists.proofs.Bools.{no, by-cases}
 use Rattle.values.specs.Ranges.{between}
 use Rattle.formats.specs.Items.{Kind, dateKind, sameKind, itemAllowed}
-use Rattle.formats.specs.Tokens.{Place}
 use Rattle.formats.specs.Text.{Context, itemUnits, placeUnits}
 use Rattle.tables.specs.Words.{Entry}
 use Rattle.tables.specs.Encode.{entry}
@@ -34,10 +33,6 @@ pub stands-general : (b : Bool) (digits : List ℕ) (f : Figures) (text us : Lis
 stands-general true digits f text us e h = no (sym e)
 stands-general false digits f text us e h = h
 
-pub place-put : {old out : List ℕ} {at r : ℕ} (c : Context) (p : Place) (a q : ℕ) → a ≡ suc q
-    → Put old at (placeUnits c p (a - 1)) r out → Put old at (placeUnits c p q) r out
-place-put c p a q e h = let z : a - 1 ≡ q = omega arith in rw z at h
-
 -- a place, in a section that holds it
 module _ (tag a : ℕ) (b : (4 ≤ tag) × (tag ≤ 6)) where
   pub place-argument : T (entryInRange (entry tag a)) → (1 ≤ a) × (a ≤ 35)
@@ -46,18 +41,17 @@ module _ (tag a : ℕ) (b : (4 ≤ tag) × (tag ≤ 6)) where
       span-at (λ (t : ℕ). T (entryInRange (entry t a)) → (1 ≤ a) × (a ≤ 35)) 4 3 tag
       (between-facts 1 35 a, (between-facts 1 35 a, (between-facts 1 35 a, tt))) (b .0) (omega arith)
 
-  pub digit-put : {old out digits text : List ℕ} {at r : ℕ} {s : Subject} {c : Context} (k : Kind) (q : ℕ) → SubjectIs k digits s text c
+  pub place-put : {old out digits text : List ℕ} {at r : ℕ} {s : Subject} {c : Context} (k : Kind) (q : ℕ) → SubjectIs k digits s text c
       → EntryFits k q (entry tag a)
-      → ((x : Context) (p : ℕ) → FiguresAre digits (s .figures) x → a ≡ suc p → Put old at (placeUnits x (placeOfTag tag) p) r out)
+      → ((x : Context) → FiguresAre digits (s .figures) x → Put old at (placeUnits x (placeOfTag tag) (a - 1)) r out)
       → Put old at (itemUnits c q (itemAt (entry tag a))) r out
   unfolding itemUnits itemAt itemAllowed placeOfTag
-  digit-put {old} {out} {digits} {at = at} {r} {s} {c} k q i =
-      span-at (λ (t : ℕ). EntryFits k q (entry t a)
-      → ((x : Context) (p : ℕ) → FiguresAre digits (s .figures) x → a ≡ suc p → Put old at (placeUnits x (placeOfTag t) p) r out)
+  place-put {old} {out} {digits} {at = at} {r} {s} {c} k q i =
+      span-at (λ (t : ℕ). EntryFits k q (entry t a) → ((x : Context) → FiguresAre digits (s .figures) x → Put old at (placeUnits x (placeOfTag t) (a - 1)) r out)
       → Put old at (itemUnits c q (itemAt (entry t a))) r out) 4 3 tag
-      (also (λ f put. put c q (i .numeric (f .allowed)) (eqb→eq a (suc q) (f .power)))
-      (also (λ f put. put c q (i .numeric (f .allowed)) (eqb→eq a (suc q) (f .power)))
-      (also (λ f put. put c q (i .numeric (f .allowed)) (eqb→eq a (suc q) (f .power))) tt))) (b .0) (omega arith)
+      (also (λ f put. let e : a - 1 ≡ q = omega (arith, eqb→eq a (suc q) (f .power)) in rw e at (put c (i .numeric (f .allowed))))
+      (also (λ f put. let e : a - 1 ≡ q = omega (arith, eqb→eq a (suc q) (f .power)) in rw e at (put c (i .numeric (f .allowed))))
+      (also (λ f put. let e : a - 1 ≡ q = omega (arith, eqb→eq a (suc q) (f .power)) in rw e at (put c (i .numeric (f .allowed)))) tt))) (b .0) (omega arith)
 
 -- an item that is put where the date is known if the item shows it, is put where it is known if some item does
 pub dated-put : {m old out : List ℕ} {at r : ℕ} {dated : Bool} (e : Entry) → (datedEntry e ≡ true → dated ≡ true)

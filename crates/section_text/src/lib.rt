@@ -2,20 +2,19 @@
 ghost use mathlib.Core.Path.{_≡_};
 ghost use mathlib.Core.Bool.{true, false};
 ghost use mathlib.Core.List.{List, _++_};
-ghost use Prim.Native.Nat.{ℕ, suc, _+_, _*_, _≤_, _<_, _^_};
+ghost use Prim.Native.Nat.{ℕ, _+_, _*_, _≤_, _<_, _^_};
 ghost use lib.Dec.{T, leb};
 ghost use lib.ListN.{length, getD};
 ghost use Rattle.lists.specs.Lists.{any};
 ghost use Rattle.formats.specs.Items.{dateKind, kindOf, integerPlaces};
 ghost use Rattle.formats.specs.Reading.{lookOf, within};
-ghost use Rattle.formats.specs.Text.{Context, placeUnits};
+ghost use Rattle.formats.specs.Text.{Context};
 ghost use Rattle.tables.specs.Words.{entriesIn};
 ghost use Rattle.tables.specs.Encode.{entry, entriesOf};
 ghost use Rattle.tables.specs.Rules.{entryInRange, passes};
 ghost use Rattle.table_words.specs.Sections.{sectionIn};
 ghost use Rattle.writing.specs.Put.{Put};
 ghost use Rattle.date_text.specs.Moment.{datedEntry};
-ghost use Rattle.figure_text.specs.Shown.{FiguresAre, placeOfTag};
 ghost use Rattle.section_text.specs.Subject.{StandsFor, SubjectIs};
 ghost use Rattle.section_text.specs.Walk.{MomentIs, DatedIs, Ready, ItemPut, OfText, Known, DatedKnown};
 ghost use Rattle.section_text.specs.Show.{signText, sectionReading, Shows};
@@ -47,24 +46,8 @@ fn put_standing(room: &mut [u16], at: usize, digits: &[u8; 40], s: Subject, text
     figure_text::put_general(room, at, digits, s.figures)
 }
 
-// Puts what a place shows; its argument is one more than the place of its digit.
-fn put_digit(
-    room: &mut [u16],
-    at: usize,
-    tag: u16,
-    argument: u16,
-    digits: &[u8; 40],
-    f: Figures,
-) -> usize
-    requires { ⌜ (at < 2 ^ 61) × (f .used ≤ 40) × (1 ≤ argument) × (argument ≤ 40) ⌝ }
-    ensures { λ r. ⌜ ((c : Context) (q : ℕ) → FiguresAre (now (digits .entry)) f c → argument ≡ suc q
-        → Put (now (room .entry)) at (placeUnits c (placeOfTag tag) q) r (now (room .exit))) ⌝ }
-{
-    let q = argument as usize - 1;
-    figure_text::put_place(room, at, digits, f, tag, q)
-}
-
-// Puts the text of an item that a table has under this tag with this argument; it is none of a date-time section's own.
+// Puts the text of an item that a table has under this tag with this argument; it is none of a date-time section's own. (A place's argument is one
+// more than the place of its digit.)
 fn put_item(
     room: &mut [u16],
     at: usize,
@@ -78,7 +61,8 @@ fn put_item(
     ensures { λ r. ⌜ ItemPut (λ k. SubjectIs k (now (digits .entry)) s (now (text .entry))) (entry tag argument) (now (room .entry)) at r (now (room .exit)) ⌝ }
 {
     if (tags::ZERO_PLACE <= tag) & (tag <= tags::SPACE_PLACE) {
-        return put_digit(room, at, tag, argument, digits, s.figures);
+        let q = argument as usize - 1;
+        return figure_text::put_place(room, at, digits, s.figures, tag, q);
     }
     match tag {
         tags::LITERAL => writing::put_unit(room, at, argument),

@@ -8,21 +8,24 @@ use Rattle.formats.specs.Text.{itemUnits}
 use Rattle.tables.specs.Decode.{itemAt}
 use Rattle.tables.proofs.BackEntries.{between-facts}
 use Rattle.writing.proofs.Laws.{put-none}
-use Rattle.section_text.proofs.Items.{place-argument, digit-put, late-dated}
+use Rattle.section_text.proofs.Items.{place-argument, place-put, late-dated}
 use borrow.Author.Needs.{needs}
 use Rattle.section_text.proofs.put_item.Statement.{statement}
 use Rattle.section_text.proofs.put_item.Tie as tie
 
-put-digit-requires : tie.Need-put-digit-requires
-put-digit-requires c κs =
-    let b = c .before .before .before .before .pre in
-    let f = place-argument _ _ (between-facts 4 6 _ (true-T (c .before .if1 .taken))) (b .3) in
-    (b .0, b .1, f .0, omega (arith, f .1))
+sub-q : tie.Need-sub-q
+sub-q c = place-argument _ _ (between-facts 4 6 _ (true-T (c .if1 .taken))) (c .before .before .before .pre .3) .0
 
-digit : tie.Need-returns
-digit c =
+put-place-requires : tie.Need-put-place-requires
+put-place-requires c κs =
+    let t = c .before in
+    let b = t .before .before .before .pre in
+    (omega (arith, b .0), b .1, omega (arith, place-argument _ _ (between-facts 4 6 _ (true-T (t .if1 .taken))) (b .3)))
+
+place : tie.Need-returns
+place c =
     let p = c .before .before in
-    λ x k q i f. digit-put _ _ (between-facts 4 6 _ (true-T (p .before .before .if1 .taken))) k q i f (p .put-digit .ensures)
+    λ x k q i f. place-put _ _ (between-facts 4 6 _ (true-T (p .before .before .if1 .taken))) k q i f (p .put-place .ensures .1)
 
 dated : tie.Need-returns-9
 dated c =
@@ -34,9 +37,10 @@ unfolding itemUnits itemAt itemAllowed units
 put-item-spec =
     tie.close
     (tie.spec
-    put-digit-requires
+    sub-q
+    put-place-requires
     (λ c. search needs)
-    digit
+    place
     (λ c κs. search needs)
     (λ c κs. search needs)
     (λ c κs. search needs)
