@@ -256,7 +256,7 @@ pub fn clock_of(m: Millisecond) -> Clock
 }
 
 // The hour on "a 12-hour clock (12, 1 to 11)".
-pub fn twelve_hour(hour: u32) -> u32
+pub fn twelve_hour(hour: u64) -> u64
     ensures { λ r. ⌜ r ≡ twelveHour hour ⌝ }
 {
     let h = hour % 12;

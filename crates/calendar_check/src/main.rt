@@ -61,7 +61,7 @@ fn show_clock(ms: u32) {
     write_number(clock.minute as u64);
     write_number(clock.second as u64);
     write_number(clock.thousandth as u64);
-    write_number(calendar::twelve_hour(clock.hour) as u64);
+    write_number(calendar::twelve_hour(clock.hour as u64));
     write_byte(half_day(clock.hour as u64));
 }
 

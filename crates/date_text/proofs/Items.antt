@@ -1,24 +1,15 @@
--- Laws of items' texts: a year, a part of a second, a half-day mark.
+-- Laws of items' texts: a part of a second, a half-day mark.
 -- Assumes nothing.
-use Prim.Native.Nat.{ℕ, _-_, _/_, _%_, _^_, _≤_}
+use Prim.Native.Nat.{ℕ, _-_, _/_, _^_, _≤_}
 use native.Mathlib.Nat.{div-one}
 use native.Mathlib.Omega.{arith}
 use mathlib.Core.Path.{_≡_, sym}
 use mathlib.Core.Bool.{Bool, true, false, cond}
 use mathlib.Core.List.{[], _∷_, _++_}
 use borrow.Author.Tests.{ne-eqb}
-use Rattle.figures.specs.Digits.{numeral}
 use Rattle.calendar.specs.Names.{units}
-use Rattle.formats.specs.Text.{yearUnits, halfUnits}
+use Rattle.formats.specs.Text.{halfUnits}
 use Rattle.tables.specs.Decode.{halfAt}
-
-pub year-two : (n y : ℕ) → n ≡ 2 → yearUnits n y ≡ numeral 2 (y % 100)
-unfolding yearUnits
-year-two n y e = rw e
-
-pub year-four : (n y : ℕ) → ¬ (n ≡ 2) → yearUnits n y ≡ numeral 4 y
-unfolding yearUnits
-year-four n y h = simp (ne-eqb n 2 h)
 
 -- three digits of the thousandths are all of them
 pub part-whole : (n t : ℕ) → 3 ≤ n → t ≡ t / 10 ^ (3 - n)

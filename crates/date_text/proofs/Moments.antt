@@ -1,40 +1,44 @@
 -- The moment of an instant is what the instant's context shows, and the texts of items that are read off a moment.
 -- Assumes nothing.
-use Prim.Native.Nat.{ℕ, zero, suc, _+_, _-_, _*_, _/_, _≤_, _<_}
+use Prim.Native.Nat.{ℕ, zero, suc, _+_, _*_, _/_, _%_, _≤_, _<_}
 use native.Mathlib.Omega.{arith}
 use native.Mathlib.Nat.{sub-zero}
-use mathlib.Core.Path.{_≡_, refl, sym, ap, _∙_}
-use mathlib.Core.Bool.{Bool, true, false, _||_}
+use mathlib.Core.Path.{_≡_, refl, ap, _∙_}
+use mathlib.Core.Bool.{Bool, true, false, cond}
 use mathlib.Core.List.{List, _∷_}
 use lib.Dec.{eqb, ltb}
 use lib.ListN.{length, getD}
-use borrow.Author.Tests.{eqb-true, ltb-true, ltb-false}
+use borrow.Author.Tests.{eqb-true, ne-eqb, ltb-true}
 use Rattle.values.specs.declared.Day.{Day}
 use Rattle.values.specs.declared.Millisecond.{Millisecond}
 use Rattle.lists.specs.Lists.{any}
-use Rattle.lists.proofs.Bools.{and-parts, by-cases, cond-both}
-use Rattle.figures.specs.Digits.{numeral}
+use Rattle.lists.proofs.Bools.{and-parts, cond-both}
+use Rattle.calendar.specs.Date.{dateOf}
 use Rattle.calendar.specs.Names.{monthName, weekdayName}
 use Rattle.formats.specs.Items.{Section, isHalf}
-use Rattle.formats.specs.Text.{Context, yearUnits, itemUnits}
+use Rattle.formats.specs.Text.{Context, itemUnits}
 use Rattle.formats.specs.Reading.{instantContext}
 use Rattle.tables.specs.Words.{Entry, entriesIn}
 use Rattle.tables.specs.Encode.{entry}
 use Rattle.tables.specs.Decode.{itemAt}
 use Rattle.tables.proofs.Words.{entriesLeft, entries-front}
-use Rattle.tables.proofs.BackEntries.{also, span-at}
 use Rattle.date_text.specs.Letters.{packed, lettersUpTo, mostLetters}
-use Rattle.date_text.specs.Moment.{datedEntry, momentOf, isNamed, nameShown, DateIs, ClockIs}
-use Rattle.date_text.proofs.Letters.{month-spelt, weekday-spelt, named-digits, named-letters}
+use Rattle.date_text.specs.Moment.{datedEntry, momentOf, isNamed, DateIs, ClockIs}
+use Rattle.date_text.proofs.Letters.{month-spelt, weekday-spelt, named-letters}
+
+-- what is 1 for true and else 0
+flag-back : (b : Bool) → eqb (cond b 1 0) 1 ≡ b
+flag-back true = refl
+flag-back false = refl
 
 module _ (twelve dated : Bool) (s : Section) (d : Day) (m : Millisecond) (r : List ℕ) (e : r ≡ momentOf twelve dated d m) where
   -- whatever tells that the clock is a 12-hour one
   pub clock-instant : twelve ≡ any isHalf (s .items) → ClockIs r (instantContext s d m)
   unfolding instantContext
-  clock-instant f = rw (e, f) (record { hour = refl; minute = refl; second = refl; clock = refl; elapsed = refl })
+  clock-instant f = rw (e, f) (record { clock = refl; elapsed = refl; twelve = flag-back _ })
 
   pub date-instant : dated ≡ true → DateIs r (instantContext s d m)
-  unfolding instantContext
+  unfolding instantContext dateOf
   date-instant f = rw (e, f) (record { year = refl; month = refl; dayOfMonth = refl; weekday = refl })
 
 -- an entry in front that shows the date, and one that does not
@@ -64,37 +68,18 @@ dated-at words n k e h t =
     let r = all-left words n k (omega arith) (ap (any datedEntry) (entries-front words n k h) ∙ dated-here _ _ t) in
     rw (sub-zero n, e) at r
 
-module _ (m : List ℕ) (c : Context) (q n : ℕ) where
-  pub year-item : (tag : ℕ) → tag ≡ 11 → (datedEntry (entry tag n) ≡ true → DateIs m c)
-      → itemUnits c q (itemAt (entry tag n)) ≡ yearUnits n (getD m (tag - 11) 0)
-  unfolding itemUnits itemAt
-  year-item tag e d = rw e (ap (yearUnits n) (sym (d (rw e) .year)))
-
-  -- a name's letters
-  pub named-item : (tag letters : ℕ) → isNamed tag n ≡ true → (datedEntry (entry tag n) ≡ true → DateIs m c) → letters ≡ packed (nameShown tag m)
+module _ (m : List ℕ) (c : Context) (q tag n : ℕ) (d : datedEntry (entry tag n) ≡ true → DateIs m c) where
+  -- the letters of a month's name, and of a day's
+  pub month-item : (letters : ℕ) → isNamed tag n ≡ true → tag ≡ 12 → letters ≡ packed (monthName (getD m 1 0))
       → itemUnits c q (itemAt (entry tag n)) ≡ lettersUpTo (mostLetters n) letters
   unfolding itemUnits itemAt
-  named-item tag letters e d f =
-      let b = and-parts (eqb tag 12 || eqb tag 13) (ltb 2 n) e in
-      let l = ltb-true 2 n (b .1) in
-      by-cases (eqb tag 12)
-      (λ t.
-      let k = eqb-true tag 12 t in
-      rw k (named-letters n _ (month-spelt _ letters ((rw k at f) ∙ ap (λ (x : ℕ). packed (monthName x)) (d (rw k) .month))) l))
-      (λ t.
-      let k = eqb-true tag 13 (rw t at (b .0)) in
-      rw k (named-letters n _ (weekday-spelt _ letters ((rw k at f) ∙ ap (λ (x : ℕ). packed (weekdayName x)) (d (rw k) .weekday))) l))
+  month-item letters b k f =
+      rw k (named-letters n _ (month-spelt _ letters (f ∙ ap (λ (x : ℕ). packed (monthName x)) (d (rw k) .month))) (ltb-true 2 n (rw k at b)))
 
-  -- a number that is shown by its digits
-  pub number-item : (tag : ℕ) → isNamed tag n ≡ false → ClockIs m c → (datedEntry (entry tag n) ≡ true → DateIs m c) → 11 < tag → tag < 17
-      → itemUnits c q (itemAt (entry tag n)) ≡ numeral n (getD m (tag - 11) 0)
+  pub day-item : (letters : ℕ) → isNamed tag n ≡ true → ¬ (tag ≡ 12) → letters ≡ packed (weekdayName (getD m 3 0 % 7))
+      → itemUnits c q (itemAt (entry tag n)) ≡ lettersUpTo (mostLetters n) letters
   unfolding itemUnits itemAt
-  number-item tag b k d l g =
-      span-at P 12 5 tag
-      (also (λ b d. named-digits n _ _ (ltb-false 2 n b) ∙ ap (numeral n) (sym (d refl .month)))
-      (also (λ b d. named-digits n _ _ (ltb-false 2 n b) ∙ ap (numeral n) (sym (d refl .dayOfMonth)))
-      (also (λ b d. ap (numeral n) (sym (k .hour))) (also (λ b d. ap (numeral n) (sym (k .minute))) (also (λ b d. ap (numeral n) (sym (k .second))) tt)))))
-      l g b d
-    where
-      P : ℕ → Type 0
-      P t = isNamed t n ≡ false → (datedEntry (entry t n) ≡ true → DateIs m c) → itemUnits c q (itemAt (entry t n)) ≡ numeral n (getD m (t - 11) 0)
+  day-item letters b h f =
+      let p = and-parts (eqb tag 13) (ltb 2 n) (rw (ne-eqb tag 12 h) at b) in
+      let k = eqb-true tag 13 (p .0) in
+      rw k (named-letters n _ (weekday-spelt _ letters (f ∙ ap (λ (x : ℕ). packed (weekdayName x)) (d (rw k) .weekday))) (ltb-true 2 n (p .1)))

@@ -1,6 +1,6 @@
 -- The numbers that the code finds once of an instant, and that they are what a context shows.
 -- Assumes nothing.
-use Prim.Native.Nat.{ℕ}
+use Prim.Native.Nat.{ℕ, _%_}
 use mathlib.Core.Path.{_≡_}
 use mathlib.Core.Bool.{Bool, cond, _&&_, _||_}
 use mathlib.Core.List.{List, [], _∷_}
@@ -11,8 +11,7 @@ use Rattle.values.specs.declared.Millisecond.{Millisecond}
 use Rattle.values.specs.Ranges.{between}
 use Rattle.calendar.specs.Date.{Date, dateOf}
 use Rattle.calendar.specs.Clock.{clockOf, sinceDayZero}
-use Rattle.calendar.specs.Names.{monthName, weekdayName}
-use Rattle.formats.specs.Text.{Context, hourShown}
+use Rattle.formats.specs.Text.{Context}
 use Rattle.tables.specs.Words.{Entry}
 
 -- the entry is that of a year, a month or a day
@@ -23,32 +22,25 @@ datedEntry e = between 11 13 (e .tag)
 abbrev pub dateShown : Bool → ℕ → Date
 dateShown dated day = cond dated (dateOf day) (record { year = 0; month = 0; dayOfMonth = 0; weekday = 0 })
 
--- a moment: the numbers of a day and a millisecond of it that items show. The first six are at the tags of their items less 11.
+-- a moment: what items show of a day and a millisecond of it, or find what they show by
 abbrev pub momentOf : Bool → Bool → Day → Millisecond → List ℕ
 momentOf twelve dated d m =
     let date = dateShown dated (d .0) in
-    let clock = clockOf (m .0) in
-    date .year ∷ date .month ∷ date .dayOfMonth ∷ hourShown twelve (clock .hour) ∷ clock .minute ∷ clock .second
-    ∷ date .weekday ∷ m .0 ∷ sinceDayZero (d .0) (m .0) ∷ []
+    date .year ∷ date .month ∷ date .dayOfMonth ∷ d .0 ∷ m .0 ∷ sinceDayZero (d .0) (m .0) ∷ cond twelve 1 0 ∷ []
 
 -- a moment's date is the one that a context shows
 pub record DateIs (m : List ℕ) (c : Context) : Type 0 where
   pub year : getD m 0 0 ≡ c .date .year
   pub month : getD m 1 0 ≡ c .date .month
   pub dayOfMonth : getD m 2 0 ≡ c .date .dayOfMonth
-  pub weekday : getD m 6 0 ≡ c .date .weekday
+  pub weekday : getD m 3 0 % 7 ≡ c .date .weekday
 
 -- its clock and its count since day 0 are
 pub record ClockIs (m : List ℕ) (c : Context) : Type 0 where
-  pub hour : getD m 3 0 ≡ hourShown (c .twelve) (c .clock .hour)
-  pub minute : getD m 4 0 ≡ c .clock .minute
-  pub second : getD m 5 0 ≡ c .clock .second
-  pub clock : clockOf (getD m 7 0) ≡ c .clock
-  pub elapsed : getD m 8 0 ≡ c .elapsed
+  pub clock : clockOf (getD m 4 0) ≡ c .clock
+  pub elapsed : getD m 5 0 ≡ c .elapsed
+  pub twelve : eqb (getD m 6 0) 1 ≡ c .twelve
 
--- a month or a day is shown by its name, and which name
+-- a month or a day is shown by its name
 abbrev pub isNamed : ℕ → ℕ → Bool
 isNamed tag n = (eqb tag 12 || eqb tag 13) && ltb 2 n
-
-abbrev pub nameShown : ℕ → List ℕ → List ℕ
-nameShown tag m = cond (eqb tag 12) (monthName (getD m 1 0)) (weekdayName (getD m 6 0))

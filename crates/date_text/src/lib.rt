@@ -5,12 +5,12 @@ use calendar::Date;
 use tables::tags;
 use values::Day;
 use values::Millisecond;
-use writing::put_numeral;
 use writing::put_unit;
 use writing::units;
 ghost use mathlib.Core.Path.{_≡_};
-ghost use mathlib.Core.Bool.{true, cond};
+ghost use mathlib.Core.Bool.{true, false, cond};
 ghost use Prim.Native.Nat.{ℕ, _-_, _/_, _<_, _^_};
+ghost use Rattle.figures.specs.Digits.{numeral};
 ghost use Rattle.formats.specs.Text.{Context, yearUnits, hourShown, partUnits, halfUnits, itemUnits};
 ghost use Rattle.lists.specs.Lists.{any};
 ghost use Rattle.calendar.specs.Clock.{afternoon};
@@ -21,7 +21,10 @@ ghost use Rattle.tables.specs.Encode.{entry};
 ghost use Rattle.tables.specs.Decode.{halfAt, itemAt};
 ghost use Rattle.writing.specs.Put.{Put};
 ghost use Rattle.date_text.specs.Letters.{packed, lettersUpTo, mostLetters};
-ghost use Rattle.date_text.specs.Moment.{datedEntry, dateShown, momentOf, nameShown, isNamed, DateIs, ClockIs};
+ghost use Rattle.date_text.specs.Moment.{datedEntry, dateShown, momentOf, isNamed, DateIs, ClockIs};
+
+// At least how many digits an item shows, and the number that they show.
+struct Numeral(u32, u64);
 
 const LETTER_A: u16 = 65;
 
@@ -60,45 +63,21 @@ fn date_shown(dated: bool, d: Day) -> Date
     }
 }
 
-fn hour_shown(twelve: bool, hour: u32) -> u32
-    ensures { λ r. ⌜ r ≡ hourShown twelve hour ⌝ }
-{
-    if twelve {
-        return calendar::twelve_hour(hour);
-    }
-    hour
-}
-
-// All that items show of a day and a millisecond of it, at the places that `numbers` names, found once: the hour as a 12-hour clock
-// has it where `twelve` says so, the date where `dated` does.
-pub fn moment_of(twelve: bool, dated: bool, d: Day, m: Millisecond) -> [u64; 9]
+// What items show of a day and a millisecond of it, at the places that `numbers` names. The date is found here, where `dated` says
+// that one is shown; hours, minutes and counts are found by the item that shows them.
+pub fn moment_of(twelve: bool, dated: bool, d: Day, m: Millisecond) -> [u64; 7]
     ensures { λ r. ⌜ r ≡ momentOf twelve dated d m ⌝ }
 {
     let date = date_shown(dated, d);
-    let clock = calendar::clock_of(m);
-    let hour = hour_shown(twelve, clock.hour);
     [
         date.year as u64,
         date.month as u64,
         date.day as u64,
-        hour as u64,
-        clock.minute as u64,
-        clock.second as u64,
-        date.weekday as u64,
+        d.0 as u64,
         m.0 as u64,
         calendar::since_day_zero(d, m),
+        twelve as u64,
     ]
-}
-
-// Two digits of the year, or four.
-fn put_year(room: &mut [u16], at: usize, n: u32, year: u64) -> usize
-    requires { ⌜ at < 2 ^ 62 ⌝ }
-    ensures { λ r. ⌜ Put (now (room .entry)) at (yearUnits n year) r (now (room .exit)) ⌝ }
-{
-    if n == 2 {
-        return put_numeral(room, at, 2, year % 100);
-    }
-    put_numeral(room, at, 4, year)
 }
 
 // The letters of a month's name in one number; none from month 13 on, and month 0 is named as month 1.
@@ -172,21 +151,30 @@ fn most_letters(n: u32) -> u32
     1
 }
 
-// Whether an item is a month or a day that is shown by its name.
+// Whether an item is a month or a day that is shown by its name. (Returns and no `|`: the compiler joins them with the `match` behind.)
 fn is_named(tag: u16, n: u32) -> bool
     ensures { λ r. ⌜ r ≡ isNamed tag n ⌝ }
 {
-    ((tag == tags::MONTH) | (tag == tags::DAY)) & (2 < n)
+    if tag == tags::MONTH {
+        return 2 < n;
+    }
+    if tag == tags::DAY {
+        return 2 < n;
+    }
+    false
 }
 
-// The letters of the name of a moment's month, or of its day.
-fn name_letters(tag: u16, m: &[u64; 9]) -> u64
-    ensures { λ r. ⌜ r ≡ packed (nameShown tag (now (m .entry))) ⌝ }
+// Puts the name of a moment's month, or of its day. (By two calls: the compiler then keeps the loop out of its caller.)
+fn put_name(room: &mut [u16], at: usize, tag: u16, n: u32, m: &[u64; 7]) -> usize
+    requires { ⌜ (at < 2 ^ 62) × (isNamed tag n ≡ true) ⌝ }
+    ensures { λ r. ⌜ ((c : Context) (q : ℕ) → (datedEntry (entry tag n) ≡ true → DateIs (now (m .entry)) c)
+        → Put (now (room .entry)) at (itemUnits c q (itemAt (entry tag n))) r (now (room .exit))) ⌝ }
 {
+    let most = most_letters(n);
     if tag == tags::MONTH {
-        return month_letters(m[numbers::MONTH]);
+        return put_letters(room, at, most, month_letters(m[numbers::MONTH]));
     }
-    weekday_letters(m[numbers::WEEKDAY])
+    put_letters(room, at, most, weekday_letters(m[numbers::DAY_NUMBER] % 7))
 }
 
 // The thousandths cut to n digits.
@@ -233,41 +221,64 @@ fn put_half(room: &mut [u16], at: usize, mark: u32, hour: u64) -> usize
     put_unit(room, a, LETTER_M)
 }
 
-// Puts the text of an item whose tag is that of a part of a second or above. (Few codes have one: beside the others it would slow
-// those down.)
-fn put_rare_item(room: &mut [u16], at: usize, tag: u16, n: u32, m: &[u64; 9]) -> usize
-    requires { ⌜ (at < 2 ^ 62) × (16 < tag) ⌝ }
-    ensures { λ r. ⌜ ((c : Context) (q : ℕ) → ClockIs (now (m .entry)) c
-        → Put (now (room .entry)) at (itemUnits c q (itemAt (entry tag n))) r (now (room .exit))) ⌝ }
+fn hour_shown(twelve: bool, hour: u64) -> u64
+    ensures { λ r. ⌜ r ≡ hourShown twelve hour ⌝ }
 {
-    let ms = m[numbers::MILLISECOND];
-    let total = m[numbers::ELAPSED];
+    if twelve {
+        return calendar::twelve_hour(hour);
+    }
+    hour
+}
+
+// Two digits of the year, or four.
+fn year_numeral(n: u32, year: u64) -> Numeral
+    ensures { λ r. ⌜ yearUnits n year ≡ numeral (r .0) (r .1) ⌝ }
+{
+    if n == 2 {
+        return Numeral(2, year % 100);
+    }
+    Numeral(4, year)
+}
+
+// The numeral of an item that is shown by digits.
+fn numeral_of(tag: u16, n: u32, m: &[u64; 7]) -> Numeral
+    requires { ⌜ (10 < tag) × (¬ (tag ≡ 17)) × (tag < 21) × (isNamed tag n ≡ false) ⌝ }
+    ensures { λ r. ⌜ ((c : Context) (q : ℕ) → ClockIs (now (m .entry)) c → (datedEntry (entry tag n) ≡ true → DateIs (now (m .entry)) c)
+        → itemUnits c q (itemAt (entry tag n)) ≡ numeral (r .0) (r .1)) ⌝ }
+{
     match tag {
-        tags::PART => put_part(room, at, n, ms % 1000),
-        tags::ELAPSED_HOURS => put_numeral(room, at, n, total / 3600000),
-        tags::ELAPSED_MINUTES => put_numeral(room, at, n, total / 60000),
-        tags::ELAPSED_SECONDS => put_numeral(room, at, n, total / 1000),
-        _ => put_half(room, at, n, ms / 3600000),
+        tags::YEAR => year_numeral(n, m[numbers::YEAR]),
+        tags::MONTH => Numeral(n, m[numbers::MONTH]),
+        tags::DAY => Numeral(n, m[numbers::DAY]),
+        tags::HOUR => Numeral(
+            n,
+            hour_shown(m[numbers::TWELVE] == 1, m[numbers::MILLISECOND] / 3600000),
+        ),
+        tags::MINUTE => Numeral(n, m[numbers::MILLISECOND] / 60000 % 60),
+        tags::SECOND => Numeral(n, m[numbers::MILLISECOND] / 1000 % 60),
+        tags::ELAPSED_HOURS => Numeral(n, m[numbers::ELAPSED] / 3600000),
+        tags::ELAPSED_MINUTES => Numeral(n, m[numbers::ELAPSED] / 60000),
+        _ => Numeral(n, m[numbers::ELAPSED] / 1000),
     }
 }
 
-// Puts the text of a date section's item that a table has under a tag above that of `@`: but for names and the rarer items, the
-// number at the place that its tag tells.
-pub fn put_moment_item(room: &mut [u16], at: usize, tag: u16, argument: u16, m: &[u64; 9]) -> usize
+// Puts the text of a date section's item that a table has under a tag above that of `@`. (`put_numeral`
+// is called here alone, so that the compiler has it in place: a second call would make both slower.)
+pub fn put_moment_item(room: &mut [u16], at: usize, tag: u16, argument: u16, m: &[u64; 7]) -> usize
     requires { ⌜ (at < 2 ^ 62) × (10 < tag) ⌝ }
     ensures { λ r. ⌜ ((c : Context) (q : ℕ) → ClockIs (now (m .entry)) c → (datedEntry (entry tag argument) ≡ true → DateIs (now (m .entry)) c)
         → Put (now (room .entry)) at (itemUnits c q (itemAt (entry tag argument))) r (now (room .exit))) ⌝ }
 {
     let n = argument as u32;
-    if tags::PART <= tag {
-        return put_rare_item(room, at, tag, n, m);
+    if tag == tags::PART {
+        return put_part(room, at, n, m[numbers::MILLISECOND] % 1000);
+    }
+    if tags::HALF_DAY <= tag {
+        return put_half(room, at, n, m[numbers::MILLISECOND] / 3600000);
     }
     if is_named(tag, n) {
-        return put_letters(room, at, most_letters(n), name_letters(tag, m));
+        return put_name(room, at, tag, n, m);
     }
-    let number = m[tag as usize - tags::YEAR as usize];
-    if tag == tags::YEAR {
-        return put_year(room, at, n, number);
-    }
-    put_numeral(room, at, n, number)
+    let x = numeral_of(tag, n, m);
+    writing::put_numeral(room, at, x.0, x.1)
 }

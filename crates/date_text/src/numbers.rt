@@ -1,18 +1,17 @@
-// The places of a moment's numbers. Those of the first six are the tags of their items less 11.
+// The places of a moment's numbers.
 pub const YEAR: usize = 0;
 
 pub const MONTH: usize = 1;
 
 pub const DAY: usize = 2;
 
-pub const HOUR: usize = 3;
+// The day's number, whose remainder by 7 is the weekday.
+pub const DAY_NUMBER: usize = 3;
 
-pub const MINUTE: usize = 4;
+pub const MILLISECOND: usize = 4;
 
-pub const SECOND: usize = 5;
+// The milliseconds since day 0.
+pub const ELAPSED: usize = 5;
 
-pub const WEEKDAY: usize = 6;
-
-pub const MILLISECOND: usize = 7;
-
-pub const ELAPSED: usize = 8;
+// 1 for a 12-hour clock, else 0.
+pub const TWELVE: usize = 6;

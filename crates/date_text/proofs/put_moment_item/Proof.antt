@@ -1,54 +1,62 @@
 -- `date_text::put_moment_item` meets its contract.
 -- Assumes nothing.
-use mathlib.Core.Path.{sym, _∙_}
+use mathlib.Core.Path.{sym, ap, _∙_}
 use native.Mathlib.Omega.{arith}
 use borrow.Author.Needs.{needs}
-use Rattle.date_text.proofs.Moments.{year-item, named-item, number-item}
+use Rattle.calendar.specs.Clock.{Clock, clockOf}
+use Rattle.formats.specs.Text.{itemUnits}
+use Rattle.tables.specs.Decode.{itemAt}
+use Rattle.tables.proofs.BackEntries.{late-tag}
 use Rattle.date_text.proofs.put_moment_item.Statement.{statement}
 use Rattle.date_text.proofs.put_moment_item.Tie as tie
 
 returns : tie.Need-returns
-returns c x q i d = c .before .before .put-rare-item .ensures x q i
+unfolding clockOf itemUnits itemAt
+returns c x q i d =
+    let p = c .before .before in
+    rw (p .before .before .before .if1 .taken) (rw (ap (λ (k : Clock). k .thousandth) (i .clock)) at (p .put-part .ensures))
 
 returns-2 : tie.Need-returns-2
+unfolding clockOf itemUnits
 returns-2 c x q i d =
     let p = c .before .before in
-    let l = p .before in
-    let k = l .before .before .before in
-    rw (named-item _ x q _ _ _ (sym (k .before .is-named .ensures) ∙ k .if2 .taken) d (l .name-letters .ensures)) (rw (l .before .most-letters .ensures) at (p .put-letters .ensures))
+    rw (late-tag _ _ (p .before .before .before .if2 .taken)) (rw (ap (λ (k : Clock). k .hour) (i .clock)) at (p .put-half .ensures))
+
+put-name-requires : tie.Need-put-name-requires
+put-name-requires c κs =
+    let k = c .before in
+    (search needs, sym (k .before .is-named .ensures) ∙ k .if3 .taken)
 
 returns-3 : tie.Need-returns-3
-returns-3 c x q i d =
-    let p = c .before .before in
-    rw (year-item _ x q _ _ (p .before .before .if3 .taken) d) (p .put-year .ensures)
+returns-3 c x q i d = c .before .before .put-name .ensures x q d
+
+numeral-of-requires : tie.Need-numeral-of-requires
+numeral-of-requires c κs =
+    let k = c .before in
+    (search needs, k .before .before .if1 .left, omega arith, sym (k .is-named .ensures) ∙ c .if3 .left)
 
 returns-4 : tie.Need-returns-4
 returns-4 c x q i d =
     let p = c .before .before in
-    let k = p .before .before in
-    let f = k .before .before in
-    rw (number-item _ x q _ (f .before .before .before .before .args .tag) (sym (f .before .is-named .ensures) ∙ f .if2 .left) i d (omega (arith, k .if3 .left)) (omega arith)) (p .put-numeral .ensures)
+    rw (p .before .before .numeral-of .ensures x q i d) (p .put-numeral .ensures)
 
 pub put-moment-item-spec : {M : Type 1} → statement M
 put-moment-item-spec =
     tie.close
     (tie.spec
+    (λ c. search needs)
     (λ c κs. search needs)
     (λ c. search needs)
     returns
-    (λ c κs. search needs)
-    (λ c κs. search needs)
-    (λ c κs. search needs)
+    (λ c. search needs)
     (λ c κs. search needs)
     (λ c. search needs)
     returns-2
-    (λ c. search needs)
-    (λ c. search needs)
-    (λ c. search needs)
-    (λ c. search needs)
     (λ c κs. search needs)
+    put-name-requires
     (λ c. search needs)
     returns-3
+    numeral-of-requires
     (λ c κs. search needs)
     (λ c. search needs)
     returns-4)
