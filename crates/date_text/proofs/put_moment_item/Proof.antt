@@ -22,23 +22,10 @@ returns-2 c x q i d =
     let p = c .before .before in
     rw (late-tag _ _ (p .before .before .before .if2 .taken)) (rw (ap (λ (k : Clock). k .hour) (i .clock)) at (p .put-half .ensures))
 
-put-name-requires : tie.Need-put-name-requires
-put-name-requires c κs =
-    let k = c .before in
-    (search needs, sym (k .before .is-named .ensures) ∙ k .if3 .taken)
-
-returns-3 : tie.Need-returns-3
-returns-3 c x q i d = c .before .before .put-name .ensures x q d
-
 numeral-of-requires : tie.Need-numeral-of-requires
 numeral-of-requires c κs =
     let k = c .before in
     (search needs, k .before .before .if1 .left, omega arith, sym (k .is-named .ensures) ∙ c .if3 .left)
-
-returns-4 : tie.Need-returns-4
-returns-4 c x q i d =
-    let p = c .before .before in
-    rw (p .before .before .numeral-of .ensures x q i d) (p .put-numeral .ensures)
 
 pub put-moment-item-spec : {M : Type 1} → statement M
 put-moment-item-spec =
@@ -53,10 +40,10 @@ put-moment-item-spec =
     (λ c. search needs)
     returns-2
     (λ c κs. search needs)
-    put-name-requires
+    (λ c κs. let k = c .before in (search needs, sym (k .before .is-named .ensures) ∙ k .if3 .taken))
     (λ c. search needs)
-    returns-3
+    (λ c x q i d. c .before .before .put-name .ensures x q d)
     numeral-of-requires
     (λ c κs. search needs)
     (λ c. search needs)
-    returns-4)
+    (λ c x q i d. let p = c .before .before in rw (p .before .before .numeral-of .ensures x q i d) (p .put-numeral .ensures)))

@@ -5,20 +5,6 @@ use Rattle.date_text.proofs.Moments.{month-item, day-item}
 use Rattle.date_text.proofs.put_name.Statement.{statement}
 use Rattle.date_text.proofs.put_name.Tie as tie
 
-returns : tie.Need-returns
-returns c x q d =
-    let p = c .before .before in
-    let i = p .before .before .before .before in
-    let k = i .before in
-    rw (month-item _ x q _ _ d _ (k .before .before .pre .1) (i .if1 .taken) (p .before .month-letters .ensures)) (rw (k .most-letters .ensures) at (p .put-letters .ensures))
-
-returns-2 : tie.Need-returns-2
-returns-2 c x q d =
-    let p = c .before .before in
-    let i = p .before .before .before .before in
-    let k = i .before in
-    rw (day-item _ x q _ _ d _ (k .before .before .pre .1) (i .if1 .left) (p .before .weekday-letters .ensures)) (rw (k .most-letters .ensures) at (p .put-letters2 .ensures))
-
 pub put-name-spec : {M : Type 1} → statement M
 put-name-spec =
     tie.close
@@ -28,9 +14,9 @@ put-name-spec =
     (λ c κs. search needs)
     (λ c κs. search needs)
     (λ c. search needs)
-    returns
+    (λ c x q d. let p = c .before .before in let i = p .before .before .before .before in rw (month-item _ x q _ _ d _ (i .before .before .before .pre .1) (i .if1 .taken) (p .before .month-letters .ensures)) (rw (i .before .most-letters .ensures) at (p .put-letters .ensures)))
     (λ c. search needs)
     (λ c κs. search needs)
     (λ c κs. search needs)
     (λ c. search needs)
-    returns-2)
+    (λ c x q d. let p = c .before .before in let i = p .before .before .before .before in rw (day-item _ x q _ _ d _ (i .before .before .before .pre .1) (i .if1 .left) (p .before .weekday-letters .ensures)) (rw (i .before .most-letters .ensures) at (p .put-letters2 .ensures))))
