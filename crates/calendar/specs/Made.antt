@@ -2,11 +2,9 @@
 -- Assumes nothing.
 use Rattle.calendar.specs.Year.{YearDay}
 use Rattle.calendar.specs.Date.{MonthDay, Date}
-use Rattle.calendar.specs.Clock.{Clock}
 use Rattle.calendar.specs.declared.YearDay.{YearDay as YearDayValue}
 use Rattle.calendar.specs.declared.MonthDay.{MonthDay as MonthDayValue}
 use Rattle.calendar.specs.declared.Date.{Date as DateValue}
-use Rattle.calendar.specs.declared.Clock.{Clock as ClockValue}
 
 abbrev pub madeYearDay : YearDay → YearDayValue
 madeYearDay y = record { years = y .years; day = y .dayOfYear }
@@ -16,6 +14,3 @@ madeMonthDay d = record { month = d .month; day = d .dayOfMonth }
 
 abbrev pub madeDate : Date → DateValue
 madeDate d = record { year = d .year; month = d .month; day = d .dayOfMonth; weekday = d .weekday }
-
-abbrev pub madeClock : Clock → ClockValue
-madeClock c = record { hour = c .hour; minute = c .minute; second = c .second; thousandth = c .thousandth }

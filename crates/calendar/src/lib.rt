@@ -14,10 +14,10 @@ ghost use Rattle.searching.specs.Machine.{started};
 ghost use Rattle.searching.specs.Search.{driven, answered};
 ghost use Rattle.calendar.specs.Year.{leap, firstDay, yearDayOf};
 ghost use Rattle.calendar.specs.Date.{monthDays, monthDayFrom, dateOf};
-ghost use Rattle.calendar.specs.Clock.{clockOf, twelveHour, afternoon, sinceDayZero};
+ghost use Rattle.calendar.specs.Clock.{twelveHour, afternoon, sinceDayZero};
 ghost use Rattle.calendar.specs.Tables.{firstDays};
 ghost use Rattle.calendar.specs.Moved.{movedBy};
-ghost use Rattle.calendar.specs.Made.{madeYearDay, madeMonthDay, madeDate, madeClock};
+ghost use Rattle.calendar.specs.Made.{madeYearDay, madeMonthDay, madeDate};
 
 // A year, as 1900 + years, and a day of it, the first being 1.
 struct YearDay {
@@ -49,13 +49,6 @@ pub struct Date {
     pub month: u32,
     pub day: u32,
     pub weekday: u32,
-}
-
-pub struct Clock {
-    pub hour: u32,
-    pub minute: u32,
-    pub second: u32,
-    pub thousandth: u32,
 }
 
 // The table: its rule is computed once over it, and carried to each year by law.
@@ -239,19 +232,6 @@ pub fn date_of(d: Day) -> Date
         month: m.month,
         day: m.day,
         weekday: weekday,
-    }
-}
-
-// "Times are cut, never rounded."
-pub fn clock_of(m: Millisecond) -> Clock
-    ensures { λ r. ⌜ r ≡ madeClock (clockOf (m .0)) ⌝ }
-{
-    let ms = m.0;
-    Clock {
-        hour: ms / 3600000,
-        minute: ms / 60000 % 60,
-        second: ms / 1000 % 60,
-        thousandth: ms % 1000,
     }
 }
 

@@ -24,14 +24,22 @@ fn write_units(units: [u16; 12], n: usize) {
     }
 }
 
-// What an item shows of an instant.
-fn write_item(day: u32, ms: u32, tag: u16, argument: u16)
+// What an item shows of an instant, on a 12-hour clock where `twelve` says so.
+fn write_item(twelve: bool, day: u32, ms: u32, tag: u16, argument: u16)
     requires { ⌜ 10 < tag ⌝ }
 {
     let mut room = [0u16; 12];
-    let moment = date_text::moment_of(false, true, Day(day), Millisecond(ms));
+    let moment = date_text::moment_of(twelve, true, Day(day), Millisecond(ms));
     let n = date_text::put_moment_item(&mut room, 0, tag, argument, &moment);
     write_units(room, n);
+}
+
+// The same with the argument 1, and a space.
+fn write_part(twelve: bool, day: u32, ms: u32, tag: u16)
+    requires { ⌜ 10 < tag ⌝ }
+{
+    write_item(twelve, day, ms, tag, 1);
+    write_byte(b' ');
 }
 
 fn show_date(day: u32) {
@@ -41,38 +49,27 @@ fn show_date(day: u32) {
     write_number(date.month as u64);
     write_number(date.day as u64);
     write_number(date.weekday as u64);
-    write_item(day, 0, tags::DAY, 4);
+    write_item(false, day, 0, tags::DAY, 4);
     write_byte(b' ');
-    write_item(day, 0, tags::MONTH, 4);
+    write_item(false, day, 0, tags::MONTH, 4);
     write_byte(b'\n');
 }
 
-fn half_day(hour: u64) -> u8 {
-    if calendar::is_afternoon(hour) {
-        return b'P';
-    }
-    b'A'
-}
-
-fn show_clock(ms: u32) {
-    let clock = calendar::clock_of(Millisecond(ms));
+fn show_clock(day: u32, ms: u32) {
     write_number(ms as u64);
-    write_number(clock.hour as u64);
-    write_number(clock.minute as u64);
-    write_number(clock.second as u64);
-    write_number(clock.thousandth as u64);
-    write_number(calendar::twelve_hour(clock.hour as u64));
-    write_byte(half_day(clock.hour as u64));
+    write_part(false, day, ms, tags::HOUR);
+    write_part(false, day, ms, tags::MINUTE);
+    write_part(false, day, ms, tags::SECOND);
+    write_number((ms % 1000) as u64);
+    write_part(true, day, ms, tags::HOUR);
+    write_part(true, day, ms, tags::HALF_DAY);
 }
 
 fn show_time(day: u32, ms: u32) {
-    show_clock(ms);
-    write_byte(b' ');
-    write_item(day, ms, tags::ELAPSED_HOURS, 1);
-    write_byte(b' ');
-    write_item(day, ms, tags::ELAPSED_MINUTES, 1);
-    write_byte(b' ');
-    write_item(day, ms, tags::ELAPSED_SECONDS, 1);
+    show_clock(day, ms);
+    write_part(false, day, ms, tags::ELAPSED_HOURS);
+    write_part(false, day, ms, tags::ELAPSED_MINUTES);
+    write_item(false, day, ms, tags::ELAPSED_SECONDS, 1);
     write_byte(b'\n');
 }
 
