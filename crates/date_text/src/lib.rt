@@ -151,7 +151,8 @@ fn most_letters(n: u32) -> u32
     1
 }
 
-// Whether an item is a month or a day that is shown by its name. (Returns and no `|`: the compiler joins them with the `match` behind.)
+// Whether an item is a month or a day that is shown by its name. (By returns: with `|`
+// and `&` a text takes some twenty instructions more.)
 fn is_named(tag: u16, n: u32) -> bool
     ensures { λ r. ⌜ r ≡ isNamed tag n ⌝ }
 {
@@ -164,7 +165,8 @@ fn is_named(tag: u16, n: u32) -> bool
     false
 }
 
-// Puts the name of a moment's month, or of its day. (By two calls: the compiler then keeps the loop out of its caller.)
+// Puts the name of a moment's month, or of its day. (Two calls of `put_letters`: one
+// behind a choice of the name takes some ten instructions more.)
 fn put_name(room: &mut [u16], at: usize, tag: u16, n: u32, m: &[u64; 7]) -> usize
     requires { ⌜ (at < 2 ^ 62) × (isNamed tag n ≡ true) ⌝ }
     ensures { λ r. ⌜ ((c : Context) (q : ℕ) → (datedEntry (entry tag n) ≡ true → DateIs (now (m .entry)) c)
@@ -263,7 +265,7 @@ fn numeral_of(tag: u16, n: u32, m: &[u64; 7]) -> Numeral
 }
 
 // Puts the text of a date section's item that a table has under a tag above that of `@`. (`put_numeral`
-// is called here alone, so that the compiler has it in place: a second call would make both slower.)
+// is called here alone: the compiler has it in place then, which it had not with a call for each sort of item.)
 pub fn put_moment_item(room: &mut [u16], at: usize, tag: u16, argument: u16, m: &[u64; 7]) -> usize
     requires { ⌜ (at < 2 ^ 62) × (10 < tag) ⌝ }
     ensures { λ r. ⌜ ((c : Context) (q : ℕ) → ClockIs (now (m .entry)) c → (datedEntry (entry tag argument) ≡ true → DateIs (now (m .entry)) c)
