@@ -187,7 +187,7 @@ fn show_items(
 }
 
 // Puts the text of a date-time section's item. (Its walker is one of its own: in the other it would slow down numbers.)
-fn put_dated_item(room: &mut [u16], at: usize, tag: u16, word: u16, m: &[u64; 9]) -> usize
+fn put_dated_item(room: &mut [u16], at: usize, tag: u16, word: u16, m: &[u64; 7]) -> usize
     requires { ⌜ (at < 2 ^ 61) × T (entryInRange (entry tag word)) ⌝ }
     ensures { λ r. ⌜ ItemPut (DatedIs (now (m .entry)) (datedEntry (entry tag word))) (entry tag word) (now (room .entry)) at r (now (room .exit)) ⌝ }
 {
@@ -202,7 +202,7 @@ fn put_dated_item(room: &mut [u16], at: usize, tag: u16, word: u16, m: &[u64; 9]
 }
 
 // Puts the text of a date-time section's items, whose words these are.
-fn put_dated_items(room: &mut [u16], items: &[u16], m: &[u64; 9]) -> usize
+fn put_dated_items(room: &mut [u16], items: &[u16], m: &[u64; 7]) -> usize
     requires { ⌜ (length (now items) ≤ 508) × Ready (DatedIs (now m) (any datedEntry (entriesIn (now items)))) (now items) ⌝ }
     ensures within { λ r. ⌜ r ≤ 260096 ⌝ }
     ensures put { λ r. ⌜ OfText (DatedIs (now (m .entry)) (any datedEntry (entriesIn (now (items .entry))))) (now (items .entry)) (λ us. Put (now (room .entry)) 0 us r (now (room .exit))) ⌝ }
@@ -220,7 +220,7 @@ fn put_dated_items(room: &mut [u16], items: &[u16], m: &[u64; 9]) -> usize
 }
 
 // Whether a room of this size takes a date-time section's text.
-fn takes_dated(size: usize, items: &[u16], m: &[u64; 9]) -> bool
+fn takes_dated(size: usize, items: &[u16], m: &[u64; 7]) -> bool
     requires { ⌜ (length (now items) ≤ 508) × Ready (DatedIs (now m) (any datedEntry (entriesIn (now items)))) (now items) ⌝ }
     ensures { λ r. ⌜ OfText (DatedIs (now (m .entry)) (any datedEntry (entriesIn (now (items .entry))))) (now (items .entry)) (λ us. r ≡ leb (length us) size) ⌝ }
 {
@@ -235,7 +235,7 @@ fn takes_dated(size: usize, items: &[u16], m: &[u64; 9]) -> bool
 fn show_dated_items(
     room: &mut [u16],
     items: &[u16],
-    m: &[u64; 9],
+    m: &[u64; 7],
     colour: u16,
     section: u16,
 ) -> Shown
@@ -251,7 +251,7 @@ fn show_dated_items(
 }
 
 // Shows section i, which is a date-time section.
-pub fn show_dated_section(room: &mut [u16], table: &[u16], i: u16, m: &[u64; 9]) -> Shown
+pub fn show_dated_section(room: &mut [u16], table: &[u16], i: u16, m: &[u64; 7]) -> Shown
     requires { ⌜ T (passes (now table)) × (i < getD (now table) 0 0) × (kindOf (sectionIn (now table) i) ≡ dateKind)
         × DatedKnown (now m) (any datedEntry (entriesOf (sectionIn (now table) i .items))) ⌝ }
     ensures { λ r. ⌜ ((c : Context) → MomentIs (now (m .entry)) (any datedEntry (entriesOf (sectionIn (now (table .entry)) i .items))) c
