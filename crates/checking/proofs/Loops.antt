@@ -12,7 +12,7 @@ use lib.Dec.{eqb}
 use Rattle.lists.specs.Lists.{every}
 use Rattle.lists.proofs.Bools.{cond-self}
 use Rattle.formats.specs.Minus.{exceptionA}
-use Rattle.tables.specs.Words.{Head, headAt, headsAt, entriesAt, entriesIn, rowsAt, headsIn, rowsIn, itemsSaid}
+use Rattle.tables.specs.Words.{Head, headAt, headsAt, entriesIn, rowsAt, headsIn, rowsIn, itemsSaid}
 use Rattle.tables.specs.Standing.{countedOne, countedKinds}
 use Rattle.tables.proofs.Words.{entries-part, headsAt-length}
 use Rattle.table_words.specs.declared.HeadWords.{HeadWords}

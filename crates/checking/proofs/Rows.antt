@@ -1,16 +1,16 @@
 -- The rules of a row as they are tested: what every head must pass, then what is left to test of a number section and of another.
 -- Assumes nothing.
-use Prim.Native.Nat.{ℕ, _+_, _*_, _%_, _≤_, _<_}
+use Prim.Native.Nat.{ℕ, _+_, _*_, _≤_, _<_}
 use native.Mathlib.Omega.{arith}
 use mathlib.Core.Path.{_≡_, refl, sym, _∙_, ap}
 use mathlib.Core.List.{List}
 use mathlib.Core.Bool.{Bool, true, false, true≢false, cond, not, _&&_, _||_}
-use lib.Dec.{T, leb, ltb, eqb, leb→le, le→leb, ltb→lt, eqb→eq, not-T}
+use lib.Dec.{T, leb, ltb, eqb, leb→le, le→leb, ltb→lt, eqb→eq}
 use borrow.Author.Tests.{eq-eqb, ne-eqb, lt-ltb, lt-leb, leb-false, not-true, not-false}
 use Rattle.lists.specs.Lists.{every, count}
-use Rattle.lists.proofs.Bools.{and-left, and-right, and-in, implied, implies-in, not-so, carry, same-test, by-cases, T-true, true-T}
+use Rattle.lists.proofs.Bools.{and-left, and-right, and-in, carry, same-test, by-cases, true-T}
 use Rattle.lists.proofs.Counts.{every-weaker}
-use Rattle.formats.specs.Items.{Item, Kind, textKind, generalKind, dateKind, numberKind, literalKind, sameKind, kindOf, itemsKind, itemAllowed, itemInRange, isPlace, isPercent, itemsFit, integerPlaces, decimalPlaces}
+use Rattle.formats.specs.Items.{Item, Kind, textKind, generalKind, dateKind, numberKind, literalKind, sameKind, kindOf, itemsKind, itemAllowed, itemInRange, isPercent, itemsFit, integerPlaces, decimalPlaces}
 use Rattle.formats.specs.Where.{implies}
 use Rattle.formats.specs.Limits.{elapsedShort, sectionWithin}
 use Rattle.formats.specs.WellFormed.{oneFill, partsFollow, isSettled, groupingFits, sectionFits}

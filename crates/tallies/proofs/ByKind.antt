@@ -8,8 +8,8 @@ use mathlib.Core.Bool.{Bool, true, false, true≢false, cond, not, _&&_, _||_}
 use mathlib.Core.List.{List, [], _∷_}
 use lib.ListN.{length}
 use lib.Dec.{T, leb, ltb, eqb, leb→le, le→leb, ltb→lt, nltb→le, eqb→eq}
-use borrow.Author.Tests.{eq-eqb, ne-eqb, lt-ltb, le-ltb, ltb-true, ltb-false}
-use Rattle.lists.proofs.Bools.{and-left, and-right, and-in, and-parts, or-right, by-cases, same-test, carry, true-T, T-true}
+use borrow.Author.Tests.{eq-eqb, lt-ltb, ltb-false}
+use Rattle.lists.proofs.Bools.{and-left, and-right, and-in, and-parts, or-right, or-false, by-cases, same-test, carry, true-T}
 use Rattle.lists.specs.Lists.{any, count}
 use Rattle.lists.proofs.Counts.{either-positive, none-count, positive-count}
 use Rattle.formats.specs.Tokens.{Elapsed, hours, minutes, seconds}
@@ -190,6 +190,16 @@ plainTest n w = eqb (w .others % 65536) n && leb (w .others / 65536) 1
 
 abbrev pub textTest : Walk → Bool
 textTest w = eqb (w .others % 65536) 0 && leb (w .others / 65536 % 65536) 1 && ltb 0 (w .others / 281474976710656 % 65536)
+
+pub bare-left : (w : Walk) → (ltb 0 (w .numbers) || ltb 0 (w .marks) || ltb 0 (w .dates)) ≡ false → BareFacts w
+bare-left w e =
+    let last = or-false (ltb 0 (w .numbers) || ltb 0 (w .marks)) (ltb 0 (w .dates)) e in
+    let both = or-false (ltb 0 (w .numbers)) (ltb 0 (w .marks)) (last .0) in
+    record {
+      numbers = omega (arith, ltb-false 0 (w .numbers) (both .0));
+      marks = omega (arith, ltb-false 0 (w .marks) (both .1));
+      dates = omega (arith, ltb-false 0 (w .dates) (last .1));
+    }
 
 module _ (w : Walk) (l : Linked w) where
   places-are : hasPlaces (finishedOf w) ≡ ltb 0 (w .numbers % 4294967296)
@@ -475,8 +485,11 @@ module _ (es : List Entry) (w : Walk) (k : Walked es w) where
   pub dated-told : datedTest w ≡ itemsOf 4 es
   dated-told = decided 4 (datedTest w) (dated-in w known) (dated-out w known)
 
-  pub bare-refused : (kind : ℕ) → (kind ≡ 2 → ⊥) → (kind ≡ 4 → ⊥) → (BareFacts w → ⊥) → false ≡ itemsOf kind es
-  bare-refused kind a b refuted = decided kind false (λ t. absurd t) (λ h. refuted (bare-out w known kind a b h))
+  pub bare-refused : (kind : ℕ) → (kind ≡ 2 → ⊥) → (kind ≡ 4 → ⊥) → (ltb 0 (w .numbers) || ltb 0 (w .marks) || ltb 0 (w .dates)) ≡ true
+      → false ≡ itemsOf kind es
+  bare-refused kind a b e =
+      decided kind false (λ t. absurd t)
+      (λ h. let f = bare-out w known kind a b h in absurd (true≢false (sym (rw (f .numbers, f .marks, f .dates) at e))))
 
   pub none-such : (kind : ℕ) → (kind ≡ 0 → ⊥) → (kind ≡ 1 → ⊥) → (kind ≡ 2 → ⊥) → (kind ≡ 3 → ⊥) → (kind ≡ 4 → ⊥) → false ≡ itemsOf kind es
   none-such kind n₀ n₁ n₂ n₃ n₄ =

@@ -475,13 +475,7 @@ pub fn is_dated(w: Walk) -> bool
 pub fn is_bare(w: Walk, kind: u16) -> bool
     ensures { λ r. ⌜ ((es : List Entry) → Walked es w → (kind ≡ 2 → ⊥) → (kind ≡ 4 → ⊥) → r ≡ itemsOf kind es) ⌝ }
 {
-    if 0 < w.numbers {
-        return false;
-    }
-    if 0 < w.marks {
-        return false;
-    }
-    if 0 < w.dates {
+    if (0 < w.numbers) | (0 < w.marks) | (0 < w.dates) {
         return false;
     }
     match kind {
