@@ -136,6 +136,13 @@ module _ (n : ℕ) where
   unfolding width
   width-below h = widthUpTo-below 24 n h
 
+  -- no more digits than the power has that it is below
+  pub width-within : (w : ℕ) → 1 ≤ w → n < 10 ^ w → width n ≤ w
+  width-within w least above =
+      let v : ℕ = width n in
+      let not-more : ¬ (w < v) = λ h. omega (arith, ten-le w (v - 1) (omega arith), width-below (omega arith)) in
+      omega arith
+
   -- they determine it
   pub width-unique : (w : ℕ) → 1 ≤ w → w ≤ 25 → n < 10 ^ w → (1 < w → 10 ^ (w - 1) ≤ n) → width n ≡ w
   width-unique w least most above below =
@@ -143,8 +150,7 @@ module _ (n : ℕ) where
       let v : ℕ = width n in
       let one : 1 ≤ v = width-least in
       let not-less : ¬ (v < w) = λ h. omega (arith, width-above small, ten-le v (w - 1) (omega arith), below (omega arith)) in
-      let not-more : ¬ (w < v) = λ h. omega (arith, ten-le w (v - 1) (omega arith), width-below (omega arith)) in
-      omega arith
+      omega (arith, width-within w least above)
 
 -- the digits above a place are those of the quotient
 pub quotient-quotient : (n i k : ℕ) → n / 10 ^ i / 10 ^ k ≡ n / 10 ^ (i + k)

@@ -1,6 +1,6 @@
 -- Laws of General: the decimals that it rounds to, and the units that it shows.
 -- Assumes nothing.
-use Rattle.figures.proofs.Tens.{ten-pos}
+use Rattle.figures.proofs.Tens.{ten-pos, ten-split}
 use mathlib.Core.Path.{_≡_, refl, sym, ap, _∙_, ap₂}
 use mathlib.Core.Bool.{false, cond, _&&_}
 use mathlib.Core.Logic.{⊎-elim}
@@ -15,12 +15,12 @@ use lib.ListN.{length, take}
 use lib.Seq.{take-nil}
 use Rattle.lists.specs.Lists.{isEmpty}
 use Rattle.figures.specs.Digits.{digit, figures, digitUnits, width, numeral}
-use Rattle.figures.specs.Rounding.{Magnitude, nearest}
+use Rattle.figures.specs.Rounding.{Magnitude, nearest, rounded}
 use Rattle.figures.specs.Powers.{powered}
 use Rattle.figures.specs.Places.{lowestPlace, placesUsed}
-use Rattle.figures.specs.General.{generalDecimals, generalTooWide, withoutEndZeros, pointed, generalUnits}
-use Rattle.figures.proofs.Rounding.{nearest-le}
-use Rattle.figures.proofs.Digits.{quotient-quotient, width-unique, digitUnits-length, width-least}
+use Rattle.figures.specs.General.{generalDecimals, generalRounded, generalTooWide, withoutEndZeros, pointed, generalUnits}
+use Rattle.figures.proofs.Rounding.{nearest-le, rounded-exact}
+use Rattle.figures.proofs.Digits.{quotient-quotient, width-unique, width-within, digitUnits-length, width-least}
 use Rattle.figures.proofs.Filling.{lt-or-le}
 use Rattle.figures.proofs.Places.{used-iff, used-most, lowest-iff, mod-lower, mod-zero-next, mod-zero-digit}
 
@@ -40,6 +40,16 @@ module _ (m s : ℕ) where
 
     pub decimals-none : 10 ≤ w → 0 ≡ generalDecimals (powered m 0 s)
     decimals-none h = let e : 0 ≡ 10 - w = omega arith in e ∙ decimals-some
+
+  -- ten digits are not cut
+  pub general-exact : m < 10 ^ 10 → s ≤ 9 → rounded (powered m 0 s) s ≡ generalRounded (powered m 0 s)
+  unfolding generalRounded
+  general-exact small few =
+      let whole : m / 10 ^ s < 10 ^ (10 - s) =
+      div-lt-iff-lt-mul {k = 10 ^ s} {x = m} {y = 10 ^ (10 - s)} (ten-pos s) .1 (rw (← ten-split s 10 (omega arith)) small) in
+      let held : s ≤ 0 + generalDecimals (powered m 0 s) = omega (arith, decimals-powered, width-within (m / 10 ^ s) (10 - s) (omega arith) whole) in
+      rounded-exact m 0 s s (omega arith) (omega arith)
+      ∙ sym (rounded-exact m 0 s (generalDecimals (powered m 0 s)) (omega (arith, decimals-most (powered m 0 s))) held)
 
   pub wide-powered : generalTooWide (powered m 0 s) ≡ leb (10 ^ 11) (nearest m (10 ^ s))
   unfolding generalTooWide powered

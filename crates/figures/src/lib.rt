@@ -280,9 +280,12 @@ pub fn general_too_wide(m: u64, scale: u32) -> bool
     100000000000 <= divided(m, scale)
 }
 
-// The digits of m / 10^scale as General rounds it.
+// The digits of m / 10^scale as General rounds it. Where ten digits hold it, nothing is cut.
 pub fn round_general(digits: [u8; 40], m: u64, scale: u32) -> [u8; 40]
     ensures { λ r. ⌜ r ≡ figures (generalRounded (powered m 0 scale)) ⌝ }
 {
+    if (m < 10000000000) & (scale <= 9) {
+        return round(digits, m, 0, scale, scale);
+    }
     round(digits, m, 0, scale, general_decimals(m, scale))
 }
