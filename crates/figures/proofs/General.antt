@@ -2,18 +2,19 @@
 -- Assumes nothing.
 use Rattle.figures.proofs.Tens.{ten-pos, ten-split}
 use mathlib.Core.Path.{_≡_, refl, sym, ap, _∙_, ap₂}
-use mathlib.Core.Bool.{false, cond, _&&_}
+use mathlib.Core.Bool.{true, false, cond, _&&_}
 use mathlib.Core.Logic.{⊎-elim}
 use mathlib.Core.List.{List, [], _∷_, _++_}
 use Prim.Native.Nat.{ℕ, zero, suc, _+_, _-_, _/_, _%_, _^_, _≤_, _<_, max}
 use native.Mathlib.Nat.{mul-one, mod-one, eq-or-lt-of-le, div-lt-iff-lt-mul, one-mul, div-eq-of-lt, lt-of-le-of-lt}
 use native.Mathlib.Numerals.{add-one}
 use native.Mathlib.Omega.{arith}
-use borrow.Author.Tests.{lt-leb, ne-eqb}
-use lib.Dec.{leb, eqb}
+use borrow.Author.Tests.{ltb-true, leb-true, lt-leb, ne-eqb}
+use lib.Dec.{leb, ltb, eqb}
 use lib.ListN.{length, take}
 use lib.Seq.{take-nil}
 use Rattle.lists.specs.Lists.{isEmpty}
+use Rattle.lists.proofs.Bools.{and-parts}
 use Rattle.figures.specs.Digits.{digit, figures, digitUnits, width, numeral}
 use Rattle.figures.specs.Rounding.{Magnitude, nearest, rounded}
 use Rattle.figures.specs.Powers.{powered}
@@ -29,27 +30,37 @@ unfolding generalDecimals
 decimals-most x = omega (arith, width-least (x .above / x .below))
 
 module _ (m s : ℕ) where
-  pub decimals-powered : generalDecimals (powered m 0 s) ≡ 10 - width (m / 10 ^ s)
+  -- to d decimals a number is rounded as General rounds it
+  abbrev AsGeneral : ℕ → Type 0
+  AsGeneral d = (d ≤ 15) × (rounded (powered m 0 s) d ≡ generalRounded (powered m 0 s))
+
+  decimals-powered : generalDecimals (powered m 0 s) ≡ 10 - width (m / 10 ^ s)
   unfolding generalDecimals powered
   decimals-powered = ap (λ (x : ℕ). 10 - width (x / 10 ^ s)) (mul-one m)
 
   -- in the code's words: w is the width of the whole part
-  module _ (n w : ℕ) (whole : n ≡ m / 10 ^ s) (wide : w ≡ width n) where
-    pub decimals-some : 10 - w ≡ generalDecimals (powered m 0 s)
-    decimals-some = ap (λ (x : ℕ). 10 - x) (wide ∙ ap width whole) ∙ sym decimals-powered
+  module _ {n w : ℕ} (whole : n ≡ m / 10 ^ s) (wide : w ≡ width n) where
+    pub decimals-some : AsGeneral (10 - w)
+    unfolding generalRounded
+    decimals-some =
+        (omega arith, ap (rounded (powered m 0 s)) (ap (λ (x : ℕ). 10 - x) (wide ∙ ap width whole) ∙ sym decimals-powered))
 
-    pub decimals-none : 10 ≤ w → 0 ≡ generalDecimals (powered m 0 s)
-    decimals-none h = let e : 0 ≡ 10 - w = omega arith in e ∙ decimals-some
+    pub decimals-none : 10 ≤ w → AsGeneral 0
+    decimals-none h = let e : 10 - w ≡ 0 = omega arith in rw e at decimals-some
 
-  -- ten digits are not cut
-  pub general-exact : m < 10 ^ 10 → s ≤ 9 → rounded (powered m 0 s) s ≡ generalRounded (powered m 0 s)
+  -- ten digits, of which nothing is cut
+  pub decimals-own : (ltb m 10000000000 && leb s 9) ≡ true → AsGeneral s
   unfolding generalRounded
-  general-exact small few =
+  decimals-own t =
+      let b = and-parts (ltb m 10000000000) (leb s 9) t in
+      let few : s ≤ 9 = leb-true s 9 (b .1) in
       let whole : m / 10 ^ s < 10 ^ (10 - s) =
-      div-lt-iff-lt-mul {k = 10 ^ s} {x = m} {y = 10 ^ (10 - s)} (ten-pos s) .1 (rw (← ten-split s 10 (omega arith)) small) in
-      let held : s ≤ 0 + generalDecimals (powered m 0 s) = omega (arith, decimals-powered, width-within (m / 10 ^ s) (10 - s) (omega arith) whole) in
-      rounded-exact m 0 s s (omega arith) (omega arith)
-      ∙ sym (rounded-exact m 0 s (generalDecimals (powered m 0 s)) (omega (arith, decimals-most (powered m 0 s))) held)
+      div-lt-iff-lt-mul {k = 10 ^ s} {x = m} {y = 10 ^ (10 - s)} (ten-pos s) .1 (rw (← ten-split s 10 (omega arith)) (ltb-true m 10000000000 (b .0))) in
+      let held : s ≤ 0 + generalDecimals (powered m 0 s) = omega (arith, decimals-powered, width-within (m / 10 ^ s) (10 - s) (omega arith) whole) in (
+        omega arith,
+        rounded-exact m 0 s s (omega arith) (omega arith)
+            ∙ sym (rounded-exact m 0 s (generalDecimals (powered m 0 s)) (omega (arith, decimals-powered)) held),
+      )
 
   pub wide-powered : generalTooWide (powered m 0 s) ≡ leb (10 ^ 11) (nearest m (10 ^ s))
   unfolding generalTooWide powered

@@ -6,7 +6,7 @@ ghost use lib.IntN.{natAbs};
 ghost use Rattle.figures.specs.Digits.{figures, width};
 ghost use Rattle.figures.specs.Rounding.{nearest, rounded};
 ghost use Rattle.figures.specs.Powers.{powered};
-ghost use Rattle.figures.specs.General.{generalDecimals, generalRounded, generalTooWide};
+ghost use Rattle.figures.specs.General.{generalRounded, generalTooWide};
 ghost use Rattle.figures.specs.Sign.{takenOf};
 ghost use Rattle.figures.specs.Rounder.{Roundable};
 ghost use Rattle.figures.specs.Places.{digitSum, placesUsed, lowestFrom, lowestPlace};
@@ -262,10 +262,13 @@ pub fn width_of(n: u64) -> u32
     w
 }
 
-// To how many decimals General rounds m / 10^scale.
+// To how many decimals m / 10^scale is rounded as General rounds it. Of ten digits nothing is cut: no width is needed for them.
 fn general_decimals(m: u64, scale: u32) -> u32
-    ensures { λ r. ⌜ r ≡ generalDecimals (powered m 0 scale) ⌝ }
+    ensures { λ r. ⌜ (r ≤ 15) × (rounded (powered m 0 scale) r ≡ generalRounded (powered m 0 scale)) ⌝ }
 {
+    if (m < 10000000000) & (scale <= 9) {
+        return scale;
+    }
     let n = width_of(whole(m, scale));
     if n < 10 { 10 - n } else { 0 }
 }
@@ -280,12 +283,9 @@ pub fn general_too_wide(m: u64, scale: u32) -> bool
     100000000000 <= divided(m, scale)
 }
 
-// The digits of m / 10^scale as General rounds it. Where ten digits hold it, nothing is cut.
+// The digits of m / 10^scale as General rounds it.
 pub fn round_general(digits: [u8; 40], m: u64, scale: u32) -> [u8; 40]
     ensures { λ r. ⌜ r ≡ figures (generalRounded (powered m 0 scale)) ⌝ }
 {
-    if (m < 10000000000) & (scale <= 9) {
-        return round(digits, m, 0, scale, scale);
-    }
     round(digits, m, 0, scale, general_decimals(m, scale))
 }
