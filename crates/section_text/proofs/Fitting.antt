@@ -1,13 +1,13 @@
 -- A text is shown where the room holds it, and refused where it does not.
 -- Assumes nothing.
-use Prim.Native.Nat.{ℕ, _+_, _*_, _≤_}
+use Prim.Native.Nat.{ℕ, _+_, _*_, _≤_, _<_}
 use native.Mathlib.Omega.{arith}
-use mathlib.Core.Path.{_≡_, refl, sym, _∙_}
+use mathlib.Core.Path.{_≡_, refl, _∙_}
 use mathlib.Core.Bool.{Bool, true, false, not, _&&_}
 use mathlib.Core.List.{List, [], _∷_, _++_}
 use lib.ListN.{length}
 use lib.Dec.{leb, leb→le}
-use borrow.Author.Tests.{leb-true}
+use borrow.Author.Tests.{le-leb, lt-leb}
 use Rattle.answers.specs.declared.Answer.{Answer}
 use Rattle.answers.specs.declared.Answer.the-variants as answer
 use Rattle.answers.specs.declared.Shown.{Shown}
@@ -44,23 +44,21 @@ pub sure : (lent : Bool) (words size : ℕ) → (not lent && leb (41 * words + 1
 sure true words size e = no e
 sure false words size e = (refl, leb→le (41 * words + 1) size (true-T e))
 
--- a text that was measured: put into no room
-pub measured : {old out text : List ℕ} {n : ℕ} (size : ℕ) → Put old 0 text n out → leb n size ≡ leb (length text) size
-measured {text = text} {n} size p = let e : n ≡ length text = omega (arith, p .next) in rw e
+-- the place behind a text is its length
+pub measured : {old out text : List ℕ} {n : ℕ} → Put old 0 text n out → n ≡ length text
+measured p = omega (arith, p .next)
 
--- whether a room takes a text, as it was told: it is refused, or shown
-module _ (old text : List ℕ) (colour i : ℕ) {takes : Bool} (e : takes ≡ leb (length text) (length old)) where
-  pub shows-none : takes ≡ false → Shows (within (length old) (lookOf text colour i)) old (refusedShown answer.TextRoom) old
+-- a text that a room does not take is refused, one that it takes is shown
+module _ (old text : List ℕ) (colour i : ℕ) where
+  pub shows-none : length old < length text → Shows (within (length old) (lookOf text colour i)) old (refusedShown answer.TextRoom) old
   unfolding within
-  shows-none f = rw (sym e ∙ f) (shows-refused old answer.TextRoom)
+  shows-none h = rw (lt-leb (length text) (length old) h) (shows-refused old answer.TextRoom)
 
-  pub shows-all : {n : ℕ} {out : List ℕ} → takes ≡ true → Put old 0 text n out
+  pub shows-all : {n : ℕ} {out : List ℕ} → length text ≤ length old → Put old 0 text n out
       → Shows (within (length old) (lookOf text colour i)) old (doneShown n colour i) out
   unfolding within shownAs textAs
-  shows-all {n} t p =
-      let m : n ≡ length text = omega (arith, p .next) in
-      let f = sym e ∙ t in
-      rw f (record { result = rw m; room = p .room ∙ sets-overlay old text (leb-true (length text) (length old) f) })
+  shows-all h p =
+      rw (le-leb (length text) (length old) h) (record { result = rw (measured p); room = p .room ∙ sets-overlay old text h })
 
 -- no minus is no text
 pub unsigned : {old out : List ℕ} {r : Shown} (text : List ℕ) (colour i : ℕ) → Shows (within (length old) (lookOf text colour i)) old r out

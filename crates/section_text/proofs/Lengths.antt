@@ -3,12 +3,12 @@
 use Prim.Native.Nat.{ℕ, zero, suc, _+_, _-_, _*_, _/_, _%_, _^_, _≤_}
 use native.Mathlib.Nat.{mul-suc}
 use native.Mathlib.Omega.{arith}
-use mathlib.Core.Path.{_≡_, refl, sym}
+use mathlib.Core.Path.{_≡_, refl}
 use mathlib.Core.Bool.{Bool, true, false, cond, _&&_}
 use mathlib.Core.List.{List, [], _∷_, _++_}
 use lib.ListN.{length, take, length-append, length-take, length-map}
 use lib.Dec.{T, leb, eqb}
-use borrow.Author.Tests.{leb-true, le-leb}
+use borrow.Author.Tests.{leb-true}
 use Rattle.values.specs.Ranges.{between}
 use Rattle.lists.specs.Lists.{isEmpty, every}
 use Rattle.lists.proofs.Bools.{cond-both, cond-case, every-head, every-tail}
@@ -180,12 +180,8 @@ module _ (n : ℕ) (words : List ℕ) (h : 82 ≤ n) where
   unfolding itemAllowed
   dated-short c k q i f = words-short c k n h (λ g. absurd (rw (i .0) at g)) (λ a. absurd (rw (i .0) at a)) q words f
 
--- a short text keeps a walk's places small, and is taken by a room of its length
+-- a short text keeps a walk's places small
 pub short-within : {P : Kind → Context → Type 0} {words : List ℕ} → length words ≤ 508 → (d : Ready P words)
     → OfText P words (λ us. length us ≤ 1024 * (length words / 2))
     → length (itemsUnits (d .context) (d .power) (itemsAt (entriesIn words))) ≤ 260096
 short-within h d l = omega (arith, l (d .context) (d .kind) (d .power) (d .subject) (d .fit))
-
-pub short-taken : {P : Kind → Context → Type 0} {size : ℕ} (words : List ℕ) → OfText P words (λ us. length us ≤ size)
-    → OfText P words (λ us. true ≡ leb (length us) size)
-short-taken {size = size} words l c k q i f = sym (le-leb (length (itemsUnits c q (itemsAt (entriesIn words)))) size (l c k q i f))

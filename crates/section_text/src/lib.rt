@@ -142,28 +142,38 @@ fn is_roomy(size: usize, words: usize, lent: bool) -> bool
     !lent & (41 * words + 1 <= size)
 }
 
-// Whether a room of this size takes a section's text. Where it may not, the text is measured, by putting it into no room.
-fn takes(
-    size: usize,
+// How long a section's text is: it is put into no room.
+fn length_of(minus: bool, items: &[u16], digits: &[u8; 40], s: Subject, text: &[u16]) -> usize
+    requires { ⌜ (s .figures .used ≤ 40) × (s .lent ≡ true → length (now text) ≤ 1024) × (length (now items) ≤ 508)
+        × Ready (λ k. SubjectIs k (now digits) s (now text)) (now items) ⌝ }
+    ensures { λ r. ⌜ OfText (λ k. SubjectIs k (now (digits .entry)) s (now (text .entry))) (now (items .entry)) (λ us. r ≡ length (signText minus ++ us)) ⌝ }
+{
+    let mut none = [0; 1];
+    put_text(&mut none[..0], minus, items, digits, s, text)
+}
+
+// Writes a section's text into a room that takes it.
+fn write_items(
+    room: &mut [u16],
     minus: bool,
     items: &[u16],
     digits: &[u8; 40],
     s: Subject,
     text: &[u16],
-) -> bool
+    colour: u16,
+    section: u16,
+) -> Shown
     requires { ⌜ (s .figures .used ≤ 40) × (s .lent ≡ true → length (now text) ≤ 1024) × (length (now items) ≤ 508)
         × Ready (λ k. SubjectIs k (now digits) s (now text)) (now items) ⌝ }
     ensures { λ r. ⌜ OfText (λ k. SubjectIs k (now (digits .entry)) s (now (text .entry))) (now (items .entry))
-        (λ us. r ≡ leb (length (signText minus ++ us)) size) ⌝ }
+        (λ us. length (signText minus ++ us) ≤ length (now (room .entry))
+        → Shows (within (length (now (room .entry))) (lookOf (signText minus ++ us) colour section)) (now (room .entry)) r (now (room .exit))) ⌝ }
 {
-    if is_roomy(size, items.len(), s.lent) {
-        return true;
-    }
-    let mut none = [0; 1];
-    put_text(&mut none[..0], minus, items, digits, s, text) <= size
+    let n = put_text(room, minus, items, digits, s, text);
+    done_shown(n as u32, colour, section)
 }
 
-// Shows a section's text where the room takes it.
+// Shows a section's text where the room takes it. Only where it may not is the text measured.
 fn show_items(
     room: &mut [u16],
     minus: bool,
@@ -179,11 +189,13 @@ fn show_items(
     ensures { λ r. ⌜ OfText (λ k. SubjectIs k (now (digits .entry)) s (now (text .entry))) (now (items .entry))
         (λ us. Shows (within (length (now (room .entry))) (lookOf (signText minus ++ us) colour section)) (now (room .entry)) r (now (room .exit))) ⌝ }
 {
-    if takes(room.len(), minus, items, digits, s, text) {
-        let n = put_text(room, minus, items, digits, s, text);
-        return done_shown(n as u32, colour, section);
+    if is_roomy(room.len(), items.len(), s.lent) {
+        return write_items(room, minus, items, digits, s, text, colour, section);
     }
-    refused_shown(Answer::TextRoom)
+    if room.len() < length_of(minus, items, digits, s, text) {
+        return refused_shown(Answer::TextRoom);
+    }
+    write_items(room, minus, items, digits, s, text, colour, section)
 }
 
 // Puts the text of a date-time section's item. (Its walker is one of its own: in the other it would slow down numbers.)

@@ -1,7 +1,9 @@
 -- `section_text::takes_dated` meets its contract.
 -- Assumes nothing.
 use native.Mathlib.Omega.{arith}
-use Rattle.section_text.proofs.Lengths.{dated-short, short-taken}
+use mathlib.Core.Path.{sym}
+use borrow.Author.Tests.{le-leb}
+use Rattle.section_text.proofs.Lengths.{dated-short}
 use Rattle.section_text.proofs.Fitting.{measured}
 use denote.Ref.{now}
 use borrow.Author.Needs.{needs}
@@ -11,11 +13,11 @@ use Rattle.section_text.proofs.takes_dated.Tie as tie
 returns : tie.Need-returns
 returns c =
     let e = c .before .is-roomy .ensures (c .if1 .taken) in
-    let words = now (c .before .before .before .args .items) in
-    short-taken words (λ x k q i f. omega (arith, e .1, dated-short 82 words (omega arith) x k q i f))
+    let a = c .before .before .before .args in
+    λ x k q i f. let h = dated-short 82 (now (a .items)) (omega arith) x k q i f in sym (le-leb _ (a .size) (omega (arith, e .1, h)))
 
 returns-2 : tie.Need-returns-2
-returns-2 c = λ x k q i f. measured _ (c .before .put-dated-items .ensures .1 x k q i f)
+returns-2 c = λ x k q i f. rw (measured (c .before .put-dated-items .ensures .1 x k q i f))
 
 pub takes-dated-spec : {M : Type 1} → statement M
 takes-dated-spec =
