@@ -23,7 +23,7 @@ use Rattle.formats.specs.Accept.{partsIn, sectionsIn, Verdict, fine, verdict, a
 use Rattle.formats.specs.Accept.{refused as wrong}
 use Rattle.formats.specs.Where.{isText}
 use Rattle.formats.specs.Choice.{numberExact, instantExact, Reason, Choice, nothing, chosen, choose, TextChoice, itself, textIn, fourthFrom, textFrom, chooseText}
-use Rattle.formats.specs.Reading.{Reading, refused, within, takesNumber, takesInstant, showsGeneral, standingRounded, numberContext, instantContext, textContext, numberSign, numberUnits, readNumber, readInstant, readText, readValue, reading, readAccepted, codeReading}
+use Rattle.formats.specs.Reading.{Look, Reading, refused, within, takesNumber, takesInstant, showsGeneral, standingRounded, numberContext, instantContext, textContext, numberSign, numberUnits, readNumber, readInstant, readText, readValue, reading, readAccepted, codeReading}
 use Rattle.answers.specs.declared.Answer.{Answer}
 use Rattle.answers.specs.declared.Answer.the-variants as answer
 use Rattle.answers.specs.Number.{numberOf}
@@ -241,9 +241,10 @@ code-ascii code t =
 abbrev Fine : ℕ → Reading → Type 0
 Fine room d = (length (textAs d) ≤ room) × Ascii (textAs d)
 
-fine-within : (room : ℕ) (us : List ℕ) (colour i : ℕ) → Ascii us → Fine room (within room us colour i)
+fine-within : (room : ℕ) (look : Look) → Ascii (look .text) → Fine room (within room look)
 unfolding within textAs every
-fine-within room us colour i t = cond-case (Fine room) (leb (length us) room) (λ e. (leb-true (length us) room e, t)) (λ e. (omega arith, tt))
+fine-within room look t =
+    cond-case (Fine room) (leb (length (look .text)) room) (λ e. (leb-true (length (look .text)) room e, t)) (λ e. (omega arith, tt))
 
 fine-refused : (room : ℕ) (a : Answer) → Fine room (refused a)
 unfolding textAs every
@@ -259,7 +260,7 @@ unfolding readNumber numberUnits numberContext
 number-fine ss room x i s why t =
     cond-both (Fine room) (not (takesNumber (kindOf s))) (fine-refused room answer.Sort)
     (cond-both (Fine room) (showsGeneral (kindOf s) && generalTooWide ((numberExact x) .size)) (fine-refused room answer.General)
-    (fine-within room _ (s .colour) i
+    (fine-within room _
     (every-append isAscii (signUnits (numberSign ss i s why x)) (sectionUnits (numberContext s x) (s .items)) (sign-ascii _)
     (shown-ascii (numberContext s x) s (general-ascii (standingRounded x)) t))))
 
@@ -268,7 +269,7 @@ instant-fine : (room : ℕ) (d : Day) (m : Millisecond) (i : ℕ) (s : Section) 
 unfolding readInstant instantContext every
 instant-fine room d m i s why t =
     cond-both (Fine room) (not (takesInstant (kindOf s))) (fine-refused room answer.Sort)
-    (fine-within room _ (s .colour) i (shown-ascii (instantContext s d m) s tt t))
+    (fine-within room _ (shown-ascii (instantContext s d m) s tt t))
 
 -- the section that takes a text
 abbrev TextPasses : TextChoice → Type 0
@@ -289,8 +290,8 @@ text-passes i (s ∷ ss) t =
 
 text-fine : (room : ℕ) (text : List ℕ) (h : TextChoice) → Ascii text → TextPasses h → Fine room (readText text room h)
 unfolding readText textContext
-text-fine room text itself t h = fine-within room text 0 4 t
-text-fine room text (textIn i s) t h = fine-within room _ (s .colour) i (shown-ascii (textContext text) s t h)
+text-fine room text itself t h = fine-within room _ t
+text-fine room text (textIn i s) t h = fine-within room _ (shown-ascii (textContext text) s t h)
 
 module _ (ss : List Section) (text : List ℕ) (room : ℕ) (h : T (every sectionAscii ss)) (t : Ascii text) where
   by-number : (x : Number) (k : Choice) → choose ss (numberExact x) ≡ k → Fine room (readNumber ss x room k)

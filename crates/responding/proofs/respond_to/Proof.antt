@@ -9,40 +9,25 @@ use borrow.Author.Needs.{needs}
 use Rattle.responding.proofs.respond_to.Statement.{statement}
 use Rattle.responding.proofs.respond_to.Tie as tie
 
-text-room-requires : tie.Need-text-room-requires
-text-room-requires c κs = search needs
-
-slice-aggregate-preview : tie.Need-slice-aggregate-preview
-slice-aggregate-preview c = search needs
-
-preview-requires : tie.Need-preview-requires
-preview-requires c κs = search needs
-
-cast-n : tie.Need-cast-n
-cast-n c = search needs
-
 array-share-prefix-room : tie.Need-array-share-prefix-room
 array-share-prefix-room c =
-    let p = c .before .before .before .preview in
+    let p = c .before .before .before .before .preview in
     omega (arith, p .kept .1 .1 .1 .0, shown-within _ _ _ _ _ (p .ensures .0) (p .ensures .1) (p .kept .1 .1 .1 .0))
 
 slice-aggregate-put-lines : tie.Need-slice-aggregate-put-lines
 slice-aggregate-put-lines c =
-    let p = c .before .before .before .before .preview in
+    let p = c .before .before .before .before .before .preview in
     sym (length-take-le _ _ (omega (arith, p .kept .1 .1 .1 .0, shown-within _ _ _ _ _ (p .ensures .0) (p .ensures .1) (p .kept .1 .1 .1 .0))))
 
 put-lines-requires : tie.Need-put-lines-requires
 put-lines-requires c κs =
-    let v = c .before .before .before .before in
+    let v = c .before .before .before .before .before in
     simp length-take (omega (arith, v .preview .kept .1 .1 .1 .0, v .before .before .text-room .ensures))
-
-same-length : tie.Need-same-length
-same-length c = search needs
 
 returns : tie.Need-returns
 returns c =
     let w = c .before .before in
-    let v = w .before .before .before .before .before in
+    let v = w .before .before .before .before .before .before in
     let p = v .preview in
     preview-answered _ _ _ _ _ (p .ensures .0) (p .ensures .1) (p .kept .1 .1 .1 .0) _ (v .before .before .text-room .ensures) refl
     (w .put-lines .ensures .0) (w .put-lines .ensures .1)
@@ -51,12 +36,12 @@ pub respond-to-spec : {M : Type 1} → statement M
 respond-to-spec =
     tie.close
     (tie.spec
-    text-room-requires
-    slice-aggregate-preview
-    preview-requires
-    cast-n
+    (λ c κs. search needs)
+    (λ c. search needs)
+    (λ c κs. search needs)
+    (λ c. search needs)
     array-share-prefix-room
     slice-aggregate-put-lines
     put-lines-requires
-    same-length
+    (λ c. search needs)
     returns)
