@@ -124,10 +124,6 @@ rest-elapsed {abs} {b} (rest-between {t = t} {ts = ts} x d) =
 
 -- ---- fills left out change no date
 
-fill-run : (u : ℕ) → runOf (item.fill u) ≡ noRun
-unfolding runOf
-fill-run u = refl
-
 first-fill : (is : List Item) → firstRun (lastFill is) ≡ firstRun is
 unfolding firstRun nearer runOf
 first-fill = fills-kept firstRun (λ i is js e. rw e) (λ u is. refl)
