@@ -4,11 +4,11 @@ use Prim.Native.Nat.{ℕ, zero, suc, _+_, _-_, _*_, _/_, _≤_, _<_}
 use native.Mathlib.Omega.{arith}
 use mathlib.Core.Path.{_≡_, refl, sym, _∙_, ap}
 use mathlib.Core.Bool.{Bool, true, false, _&&_, true≢false}
-use mathlib.Core.List.{List, [], _++_, append-assoc}
+use mathlib.Core.List.{List, []}
 use mathlib.Core.Option.{some}
 use native.Mathlib.Decide.{decLe}
 use lib.ListN.{length, take, drop, length-take, length-drop, drop-of-length-le}
-use lib.Seq.{take-all, take-append-seam, drop-at, sets-eq, length-take-le}
+use lib.Seq.{take-all}
 use lib.Dec.{T, leb→le}
 use Rattle.calendar.specs.Names.{units}
 use Rattle.lists.specs.Lists.{count, isSome}
@@ -39,9 +39,9 @@ use Rattle.marks.proofs.Words.{tokens-drop}
 use Rattle.tallies.specs.declared.Tally.{Tally}
 use Rattle.tallies.specs.Tally.{tallyOf, kindTold, withinTold}
 use Rattle.tallies.proofs.Told.{percents-are, half-told, items-fit-told, within-told, decimals-told, section-kind-told}
-use Rattle.emitting.specs.Emit.{bodyWords}
 use Rattle.drafting.specs.declared.Body.{Body}
-use Rattle.drafting.specs.Draft.{ConditionAs, headingCondition, noCondition, thousandsBy, fitsBy, bodyBy, BodyOf, DraftOf}
+use Rattle.drafting.specs.Draft.{bodyWords, ConditionAs, headingCondition, noCondition, thousandsBy, fitsBy, bodyBy, BodyOf, DraftOf}
+use Rattle.drafting.proofs.Settled.{put-read}
 
 -- ---- the condition
 conditioned : (w : Written) (r : Compared) → ComparedBy w r → ConditionAs (some w) r
@@ -138,13 +138,7 @@ module _ (p : Parts) where
         items = unfold sectionOf in refl;
       }
 
--- the part of a room that a piece was put into
-pub put-read : {l o q : List ℕ} {at r : ℕ} → Put l at q r o → at + length q ≤ length l → take (r - at) (drop at o) ≡ q
-put-read {l} {o} {q} {at} {r} x h =
-    let n : r - at ≡ length q = omega (arith, x .next) in
-    rw (x .room, n, sets-eq q l at h, append-assoc (take at l) q (drop (at + length q) l), drop-at (take at l) (q ++ drop (at + length q) l) at (length-take-le at l (omega arith)))
-    (take-append-seam q (drop (at + length q) l))
-
+-- the place behind a piece, said otherwise
 pub put-place : {l o q : List ℕ} {at r : ℕ} (s : ℕ) → Put l at q r o → s ≡ r → Put l at q s o
 put-place s x e = rw e x
 

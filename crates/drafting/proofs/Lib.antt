@@ -1,4 +1,5 @@
 pub mod Integers
+pub mod Settled
 pub mod Drafting
 pub mod Digits
 pub mod Sectioning

@@ -24,10 +24,9 @@ use Rattle.writing.proofs.Laws.{rest-start, rest-put, rest-done}
 use Rattle.bodies.specs.Sections.{firstSection, laterSections, SectionEnd}
 use Rattle.marks.proofs.Words.{tokens-drop, tokens-take, tokens-length}
 use Rattle.bodies.proofs.Endings.{split-first}
-use Rattle.emitting.specs.Emit.{bodyWords}
 use Rattle.drafting.specs.declared.Draft.{Draft}
 use Rattle.drafting.specs.declared.sections.Next.{Next}
-use Rattle.drafting.specs.Draft.{DraftOf, Drafted, itemWords, FirstDrafted, AllDrafted, Lexes, hasDigit}
+use Rattle.drafting.specs.Draft.{bodyWords, DraftOf, Drafted, itemWords, FirstDrafted, AllDrafted, Lexes, hasDigit}
 use Rattle.drafting.proofs.Drafting.{body-length}
 use Rattle.drafting.proofs.Digits.{digits-all, digits-drop}
 

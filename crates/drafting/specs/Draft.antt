@@ -9,15 +9,15 @@ use lib.ListN.{length, take}
 use lib.Dec.{ltb, eqb}
 use Rattle.lists.specs.Lists.{isEmpty}
 use Rattle.formats.specs.Tokens.{Token, Written, lex}
-use Rattle.formats.specs.Items.{kindOf}
+use Rattle.formats.specs.Items.{kindOf, settled}
 use Rattle.formats.specs.Accept.{placedOf, tokensOf, partsIn}
-use Rattle.formats.specs.Kinds.{Parts, partsOf, conditionIn, conditionOf, sectionOf, fits, isPlace, isPoint, isZero, isSecondsToken}
+use Rattle.formats.specs.Kinds.{Parts, partsOf, conditionIn, conditionOf, sectionOf, fits, bodyItems, lastFill, isPlace, isPoint, isZero, isSecondsToken}
 use Rattle.formats.specs.Limits.{writtenWithin, withinLimits, sectionWithin}
-use Rattle.tables.specs.Encode.{kindWord, operatorWord, negativeWord, wholePart, millionthsPart, bit, shiftWord, hasHalf, decimalsWord}
+use Rattle.tables.specs.Words.{entriesWords}
+use Rattle.tables.specs.Encode.{kindWord, operatorWord, negativeWord, wholePart, millionthsPart, bit, shiftWord, hasHalf, decimalsWord, entriesOf}
 use Rattle.tables.specs.Standing.{shiftOf}
 use Rattle.marks.specs.Marks.{tokenAt, tokensIn}
 use Rattle.bodies.specs.declared.conditions.Compared.{Compared}
-use Rattle.emitting.specs.Emit.{bodyWords}
 use Rattle.drafting.specs.declared.Draft.{Draft}
 use Rattle.drafting.specs.declared.Body.{Body}
 use Rattle.drafting.specs.declared.sections.Next.{Next}
@@ -31,6 +31,10 @@ use Rattle.bodies.specs.declared.commas.Commas.{Commas}
 use Rattle.bodies.specs.Forms.{placeForm}
 use Rattle.tallies.specs.declared.Tally.{Tally}
 use Rattle.tallies.specs.Tally.{kindTold, itemsFitTold, withinTold, decimalsTold}
+
+-- the words of a body's items in the table
+abbrev pub bodyWords : List Token → List ℕ
+bodyWords ts = entriesWords (entriesOf (settled (lastFill (bodyItems ts)))) []
 
 -- the places of a date's items: those of its tokens but the zeros of a part of a second; behind: the token just before is s, ss or
 -- an elapsed s; `left` zeros may still belong to a part

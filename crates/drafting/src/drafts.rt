@@ -11,6 +11,7 @@ use bodies::facts::facts_of;
 use bodies::sections::Heading;
 use bodies::sections::heading_of;
 use emitting::put_items;
+use settling::settle;
 use tables::kinds;
 use tallies::Tally;
 use tallies::decimals_word;
@@ -25,11 +26,12 @@ ghost use lib.Dec.{T};
 ghost use lib.ListN.{length, take, drop};
 ghost use Rattle.lists.specs.Lists.{every, isSome};
 ghost use Rattle.formats.specs.Tokens.{conditionInside};
-ghost use Rattle.formats.specs.Kinds.{Parts, partsOf};
+ghost use Rattle.formats.specs.Items.{integerPlaces};
+ghost use Rattle.formats.specs.Kinds.{Parts, partsOf, bodyItems};
 ghost use Rattle.marks.specs.Marks.{tokensIn};
 ghost use Rattle.writing.specs.Put.{Put};
-ghost use Rattle.emitting.specs.Emit.{bodyWords};
-ghost use Rattle.drafting.specs.Draft.{ConditionAs, headingCondition, noCondition, thousandsBy, shiftTold, fitsBy, bodyBy, BodyOf, DraftOf, hasDigit};
+ghost use Rattle.bodies.specs.Bodies.{factsOf};
+ghost use Rattle.drafting.specs.Draft.{bodyWords, ConditionAs, headingCondition, noCondition, thousandsBy, shiftTold, fitsBy, bodyBy, BodyOf, DraftOf, hasDigit};
 
 pub fn no_condition() -> Compared
     ensures { λ r. ⌜ r ≡ noCondition ⌝ }
@@ -101,6 +103,24 @@ fn body_of(f: Facts, c: Commas, t: Tally, items: u16) -> Body
     }
 }
 
+// Puts the words of a body's items at `at`, and settles the runs of m among them.
+fn put_settled(
+    code: &[u16],
+    body: &[u16],
+    f: Facts,
+    places: u16,
+    items: &mut [u16],
+    at: usize,
+) -> usize
+    requires { ⌜ (length (now code) ≤ 254) × (length (now body) ≤ 762) × (length (now items) ≤ 508) × (at + length (bodyWords (tokensIn (now code) (now body))) ≤ length (now items)) ⌝ }
+    requires { ⌜ (f ≡ factsOf (tokensIn (now code) (now body))) × (places ≤ 254) × (places ≡ integerPlaces (bodyItems (tokensIn (now code) (now body)))) ⌝ }
+    ensures { λ r. ⌜ Put (now (items .entry)) at (bodyWords (tokensIn (now (code .entry)) (now (body .entry)))) r (now (items .exit)) ⌝ }
+{
+    let end = put_items(code, body, f.date, f.fills, places, items, at);
+    settle(&mut items[at..end]);
+    end
+}
+
 // Drafts a body, and puts the words of its items at `at`.
 fn draft_body(code: &[u16], body: &[u16], items: &mut [u16], at: usize) -> Body
     requires { ⌜ (length (now code) ≤ 254) × (length (now body) ≤ 762) × (length (now items) ≤ 508) × (at + length (bodyWords (tokensIn (now code) (now body))) ≤ length (now items)) ⌝ }
@@ -110,7 +130,7 @@ fn draft_body(code: &[u16], body: &[u16], items: &mut [u16], at: usize) -> Body
     let f = facts_of(body);
     let c = commas_of(body);
     let places = integer_places(body, f);
-    let end = put_items(code, body, f.date, f.fills, places, items, at);
+    let end = put_settled(code, body, f, places, items, at);
     let t = tally_words(&items[at..end]);
     let size = end - at;
     body_of(f, c, t, (size / 2) as u16)

@@ -13,8 +13,7 @@ ghost use Rattle.formats.specs.Kinds.{partsOf};
 ghost use Rattle.formats.specs.Accept.{partsIn};
 ghost use Rattle.marks.specs.Marks.{tokensIn};
 ghost use Rattle.bodies.specs.Sections.{firstSection};
-ghost use Rattle.emitting.specs.Emit.{bodyWords};
-ghost use Rattle.drafting.specs.Draft.{noDraft, hasDigit, FirstDrafted, AllDrafted, Lexes};
+ghost use Rattle.drafting.specs.Draft.{bodyWords, noDraft, hasDigit, FirstDrafted, AllDrafted, Lexes};
 
 // The next section: its draft, and how many tokens it has.
 struct Next {

@@ -8,9 +8,9 @@ use mathlib.Core.List.{List, []}
 use lib.ListN.{length, drop}
 use Rattle.lists.specs.Lists.{count}
 use Rattle.formats.specs.Tokens.{Token}
-use Rattle.formats.specs.Items.{Item, dateKind, sameKind, integerPlaces, noRun, settledFrom, settled}
+use Rattle.formats.specs.Items.{Item, dateKind, sameKind, integerPlaces}
 use Rattle.formats.specs.Kinds.{isFillToken, bodyKind, bodyItems, lastFill}
-use Rattle.formats.proofs.FormedItems.{places-lastFill, places-settled}
+use Rattle.formats.proofs.FormedItems.{places-lastFill}
 use Rattle.marks.specs.Marks.{tokensIn}
 use Rattle.marks.proofs.Words.{tokens-end}
 use Rattle.tables.specs.Words.{entriesWords}
@@ -18,21 +18,21 @@ use Rattle.tables.specs.Encode.{entriesFrom, entriesOf}
 use Rattle.writing.specs.Put.{Put, Rest}
 use Rattle.writing.proofs.Laws.{rest-start, rest-put, rest-done}
 use Rattle.emitting.specs.declared.Walk.{Walk}
-use Rattle.emitting.specs.Emit.{bodyWords, emittedFrom, runIf, itemsWords, left, fillsLeft, Emitted}
+use Rattle.emitting.specs.Emit.{emittedWords, emittedFrom, itemsWords, left, fillsLeft, Emitted}
 use Rattle.emitting.proofs.Walks.{body-emitted, fills-emitted}
 
 -- the walk before the first token
 abbrev pub walkFrom : ℕ → ℕ → ℕ → Walk
-walkFrom at fills integers = record { at = at; behind = false; skip = 0; hours = false; digit = 14 + integers; fills = fills }
+walkFrom at fills integers = record { at = at; behind = false; skip = 0; digit = 14 + integers; fills = fills }
 
 -- all words of a body are left at its start
-words-start : (is : List Item) (n : ℕ) → n ≡ integerPlaces is → itemsWords noRun (14 + n) (lastFill is) ≡ entriesWords (entriesOf (settled (lastFill is))) []
-unfolding itemsWords entriesOf settled
-words-start is n e = rw (places-settled noRun (lastFill is), places-lastFill is, e)
+words-start : (is : List Item) (n : ℕ) → n ≡ integerPlaces is → itemsWords (14 + n) (lastFill is) ≡ entriesWords (entriesOf (lastFill is)) []
+unfolding itemsWords entriesOf
+words-start is n e = rw (places-lastFill is, e)
 
 left-start : (date : Bool) (ts : List Token) (at fills integers : ℕ) → date ≡ sameKind (bodyKind ts) dateKind → integers ≡ integerPlaces (bodyItems ts)
-    → left date (walkFrom at fills integers) ts ≡ bodyWords ts
-unfolding left runIf
+    → left date (walkFrom at fills integers) ts ≡ emittedWords ts
+unfolding left
 left-start date ts at fills integers e h = rw (← (body-emitted date ts e)) (words-start (bodyItems ts) integers h)
 
 fills-start : (date : Bool) (ts : List Token) (at fills integers : ℕ) → fills ≡ count isFillToken ts → fills ≡ fillsLeft date (walkFrom at fills integers) ts
@@ -41,11 +41,11 @@ fills-start date ts at fills integers e = e ∙ sym (fills-emitted date false 0 
 
 -- and none at its end
 left-end : (date : Bool) (w : Walk) → left date w [] ≡ []
-unfolding left itemsWords emittedFrom lastFill settledFrom entriesFrom entriesWords
+unfolding left itemsWords emittedFrom lastFill entriesFrom entriesWords
 left-end date w = refl
 
 pub record Going (date : Bool) (code body old : List ℕ) (start : ℕ) (room : List ℕ) (w : Walk) (i : ℕ) : Type 0 where
-  pub rest : Rest old start (bodyWords (tokensIn code body)) room (w .at) (left date w (tokensIn code (drop i body)))
+  pub rest : Rest old start (emittedWords (tokensIn code body)) room (w .at) (left date w (tokensIn code (drop i body)))
   pub fills : w .fills ≡ fillsLeft date w (tokensIn code (drop i body))
   pub digit : w .digit ≤ 268
   pub near : w .at ≤ start + 510 * i
@@ -57,7 +57,7 @@ pub going-start : (date : Bool) (code body old : List ℕ) (at fills integers : 
     → integers ≡ integerPlaces (bodyItems (tokensIn code body))
     → Going date code body old at old (walkFrom at fills integers) 0
 going-start date code body old at fills integers h d f n = record {
-  rest = rw (left-start date (tokensIn code body) at fills integers d n) (rest-start old at (bodyWords (tokensIn code body)));
+  rest = rw (left-start date (tokensIn code body) at fills integers d n) (rest-start old at (emittedWords (tokensIn code body)));
   fills = fills-start date (tokensIn code body) at fills integers f;
   digit = omega arith;
   near = omega arith;
@@ -77,5 +77,5 @@ going-step date code body old start room out w r i h g e = record {
 }
 
 pub going-end : (date : Bool) (code body old : List ℕ) (start : ℕ) (room : List ℕ) (w : Walk) (i : ℕ) → length body ≤ i + 2
-    → Going date code body old start room w i → Put old start (bodyWords (tokensIn code body)) (w .at) room
+    → Going date code body old start room w i → Put old start (emittedWords (tokensIn code body)) (w .at) room
 going-end date code body old start room w i h g = rest-done (rw (tokens-end code body i h, left-end date w) at (g .rest))

@@ -22,7 +22,7 @@ use Rattle.writing.specs.Put.{Put}
 use Rattle.writing.proofs.Laws.{put-none}
 use Rattle.emitting.specs.declared.Made.{Made}
 use Rattle.emitting.specs.declared.Walk.{Walk}
-use Rattle.emitting.specs.Emit.{emittedFrom, runIf, itemsWords, literalWords, formWords, madeWords, pieceOf, formDigit, walkAfter, walkPast, left, fillsLeft, Emitted}
+use Rattle.emitting.specs.Emit.{emittedFrom, itemsWords, literalWords, formWords, madeWords, pieceOf, formDigit, walkAfter, walkPast, left, fillsLeft, Emitted}
 use Rattle.emitting.proofs.Forms.{words-form}
 use Rattle.emitting.proofs.Walks.{fills-step, words-step}
 use Rattle.emitting.proofs.Buffer.{zeros-alone, literals-length}
@@ -33,7 +33,7 @@ module _ (date : Bool) (w : Walk) (n : ℕ) (code : List ℕ) (f a s : ℕ) wher
   here = tokenAt code f a s
 
   abbrev piece : List ℕ
-  piece = pieceOf date (w .hours) (w .digit) (w .fills) n here
+  piece = pieceOf date (w .digit) (w .fills) n here
 
   fill-told : isFillToken here ≡ eqb f 3
   unfolding tokenAt
@@ -46,17 +46,17 @@ module _ (date : Bool) (w : Walk) (n : ℕ) (code : List ℕ) (f a s : ℕ) wher
   unfolding tokenAt
   piece-literal h e =
       let z : n ≡ 0 = omega arith in
-      rw (z, fill-told, e, add-one s) (words-form date (w .hours) (w .digit) a (drop (suc s) code) 0)
+      rw (z, fill-told, e, add-one s) (words-form date (w .digit) a (drop (suc s) code) 0)
 
   pub piece-goes : n ≤ 0 → (eqb f 3 && ltb 1 (w .fills)) ≡ true → piece ≡ []
   piece-goes h e = let z : n ≡ 0 = omega arith in rw (z, fill-told, e)
 
   pub piece-made : n ≤ 0 → (eqb f 3 && ltb 1 (w .fills)) ≡ false → (f ≡ 0 → ⊥)
-      → (m : Made) → madeWords m ≡ formWords date (w .hours) (w .digit) a f → piece ≡ madeWords m
+      → (m : Made) → madeWords m ≡ formWords date (w .digit) a f → piece ≡ madeWords m
   unfolding tokenAt
   piece-made h e g m k =
       let z : n ≡ 0 = omega arith in
-      rw (z, fill-told, e) (words-form date (w .hours) (w .digit) a (drop (suc s) code) f ∙ rw (ne-eqb f 0 g) (sym k))
+      rw (z, fill-told, e) (words-form date (w .digit) a (drop (suc s) code) f ∙ rw (ne-eqb f 0 g) (sym k))
 
 -- how many words they are at most
 pub made-short : (m : Made) → length (madeWords m) ≤ 2
@@ -96,7 +96,7 @@ module _ (date : Bool) (code body : List ℕ) (i : ℕ) (w : Walk) (inside : i +
       rw g
       record {
         piece = [];
-        words = ap (λ is. itemsWords (runIf (w .hours)) (w .digit) (lastFill is)) p;
+        words = ap (λ is. itemsWords (w .digit) (lastFill is)) p;
         put = put-none old (w .at);
         fills = e ∙ ap (count isFill) p;
         digit = omega arith;
@@ -111,7 +111,7 @@ module _ (date : Bool) (code body : List ℕ) (i : ℕ) (w : Walk) (inside : i +
 
   pub turn-put : (old out : List ℕ) (n at : ℕ) (r : Walk) → r ≡ walkAfter w (getD body i 0) n at → w .skip ≤ 0 → w .fills ≡ fillsLeft date w (tokensIn code (drop i body))
       → n ≡ cond (date && w .behind && eqb (getD body i 0) 7) (min 3 (leadingZeros (tokensIn [] (drop (i + 3) body)))) 0
-      → Put old (w .at) (pieceOf date (w .hours) (w .digit) (w .fills) n first) at out → at ≤ w .at + 510
+      → Put old (w .at) (pieceOf date (w .digit) (w .fills) n first) at out → at ≤ w .at + 510
       → Emitted date (tokensIn code (drop i body)) later old w r out
   unfolding left fillsLeft tokenAt
   turn-put old out n at r g h e z p near =
@@ -123,11 +123,11 @@ module _ (date : Bool) (code body : List ℕ) (i : ℕ) (w : Walk) (inside : i +
       let l : w .fills ≡ count isFill (emittedFrom date (w .behind) 0 (first ∷ later)) = e ∙ ap (count isFill) s in
       rw g
       record {
-        piece = pieceOf date (w .hours) (w .digit) (w .fills) n first;
-        words = ap (λ is. itemsWords (runIf (w .hours)) (w .digit) (lastFill is)) s
-            ∙ words-step f date (w .behind) (w .hours) (w .digit) a us later (w .fills) n (zeros-here n z) l;
+        piece = pieceOf date (w .digit) (w .fills) n first;
+        words = ap (λ is. itemsWords (w .digit) (lastFill is)) s
+            ∙ words-step f date (w .behind) (w .digit) a us later (w .fills) n (zeros-here n z) l;
         put = p;
-        fills = fills-step f date (w .behind) (w .hours) (w .digit) a us later (w .fills) n (zeros-here n z) l;
+        fills = fills-step f date (w .behind) (w .digit) a us later (w .fills) n (zeros-here n z) l;
         digit = digit-least f (w .digit);
         near = near;
       }

@@ -12,7 +12,7 @@ use Rattle.lists.proofs.Bools.{by-cases}
 use Rattle.lists.proofs.Counts.{count-append, any-count, none-count}
 use Rattle.formats.specs.Tokens as token
 use Rattle.formats.specs.Tokens.{Token, Letter}
-use Rattle.formats.specs.Items.{Item, literal, fill, part, dateKind, sameKind, isFill, noRun, meansMinutes, runOf, nearer, settledItem, settledFrom}
+use Rattle.formats.specs.Items.{Item, fill, part, dateKind, sameKind, isFill}
 use Rattle.formats.specs.Kinds.{formOf, isFillToken, isZero, isSecondsToken, leadingZeros, partZeros, piecesFrom, pieceItems, plainItems, dateItems, bodyKind, bodyItems, runItem, tokenItems, lastFill}
 use Rattle.formats.specs.Text.{digitAfter}
 use Rattle.formats.proofs.Each.{by-token, by-letter}
@@ -20,8 +20,8 @@ use Rattle.formats.proofs.FormedPieces.{zero-case, zeros-follow, zeros-point}
 use Rattle.marks.specs.Marks.{markRows, markToken}
 use Rattle.tables.specs.Words.{entriesWords}
 use Rattle.tables.specs.Encode.{entryOf, entriesFrom}
-use Rattle.emitting.specs.Emit.{emittedFrom, runIf, itemsWords, tokenWords, pieceOf, formSeconds, formHours, formDigit, formFills}
-use Rattle.emitting.proofs.Joined.{runAfter, digitsAfter, items-append, words-first, words-run, fill-goes, fill-stays}
+use Rattle.emitting.specs.Emit.{emittedFrom, itemsWords, tokenWords, pieceOf, formSeconds, formDigit, formFills}
+use Rattle.emitting.proofs.Joined.{digitsAfter, items-append, words-first, fill-goes, fill-stays}
 use Rattle.emitting.proofs.Forms.{literals-fill, tells, behind}
 
 none-any : {A : Type 0} (g : A → Bool) (xs : List A) → count g xs ≡ 0 → any g xs ≡ false
@@ -78,26 +78,11 @@ fills-emitted date b zero (t ∷ ts) h =
     (by-cases (isFillToken t) (λ l. rw l (omega arith)) (λ l. rw l (omega arith)))))
     (λ e. rw (e, eqb-true (formOf t) 7 (zeros-point (date && b) t ts e .1)) r)
 
--- the words that are left behind a run of hours or not
-abbrev pub Words : Bool → Bool → ℕ → Bool → ℕ → List Token → List ℕ
-Words date b k hours q ts = itemsWords (runIf hours) q (lastFill (emittedFrom date b k ts))
+-- the words that are left
+abbrev pub Words : Bool → Bool → ℕ → ℕ → List Token → List ℕ
+Words date b k q ts = itemsWords q (lastFill (emittedFrom date b k ts))
 
-run-if : (hours : Bool) → meansMinutes (runIf hours) noRun ≡ hours
-unfolding runIf meansMinutes
-run-if true = refl
-run-if false = refl
-
--- from the run and the digit that a token's items leave to those that its form tells
-told-words : (f : ℕ) (date hours : Bool) (q a : ℕ) (us : List ℕ) (is : List Item)
-    → itemsWords (runAfter (runIf hours) (tokenItems date (markToken f a us))) (digitsAfter q (tokenItems date (markToken f a us))) is
-    ≡ itemsWords (runIf (formHours f hours)) (formDigit f q) is
-told-words f date hours q a us is =
-    let l = behind date (runIf hours) q a us f in
-    let m : meansMinutes (runAfter (runIf hours) (tokenItems date (markToken f a us))) noRun ≡ meansMinutes (runIf (formHours f hours)) noRun
-    = ap (λ (p : Bool × ℕ). p .0) l ∙ ap (formHours f) (run-if hours) ∙ sym (run-if (formHours f hours)) in
-    rw (ap (λ (p : Bool × ℕ). p .1) l) (words-run _ (runIf (formHours f hours)) (formDigit f q) is m)
-
-module _ (f : ℕ) (date b hours : Bool) (q a : ℕ) (us : List ℕ) (ts : List Token) where
+module _ (f : ℕ) (date b : Bool) (q a : ℕ) (us : List ℕ) (ts : List Token) where
   abbrev t : Token
   t = markToken f a us
 
@@ -110,13 +95,13 @@ module _ (f : ℕ) (date b hours : Bool) (q a : ℕ) (us : List ℕ) (ts : List 
   part-form : (n : ℕ) → n ≡ partZeros (date && b) t ts → eqb n 0 ≡ false → f ≡ 7
   part-form n e z = eqb-true f 7 (sym (tells f a us .point) ∙ zeros-point (date && b) t ts (ap (λ m. eqb m 0) (sym e) ∙ z) .1)
 
-  part-kept : (n : ℕ) → n ≡ partZeros (date && b) t ts → eqb n 0 ≡ false → (formHours f hours ≡ hours) × (formDigit f q ≡ q)
-  unfolding formHours formDigit
-  part-kept n e z = (ap (λ g. formHours g hours) (part-form n e z), ap (λ g. formDigit g q) (part-form n e z))
+  part-kept : (n : ℕ) → n ≡ partZeros (date && b) t ts → eqb n 0 ≡ false → formDigit f q ≡ q
+  unfolding formDigit
+  part-kept n e z = ap (λ g. formDigit g q) (part-form n e z)
 
-  fill-kept : f ≡ 3 → (formHours f hours ≡ hours) × (formDigit f q ≡ q)
-  unfolding formHours formDigit
-  fill-kept l = (ap (λ g. formHours g hours) l, ap (λ g. formDigit g q) l)
+  fill-kept : f ≡ 3 → formDigit f q ≡ q
+  unfolding formDigit
+  fill-kept l = ap (λ g. formDigit g q) l
 
   fill-items : f ≡ 3 → tokenItems date t ≡ fill a ∷ []
   unfolding markToken markRows tokenItems
@@ -141,29 +126,29 @@ module _ (f : ℕ) (date b hours : Bool) (q a : ℕ) (us : List ℕ) (ts : List 
 
   -- a token with its items, a fill that goes, and a part of a second
   words-plain : 0 ≡ partZeros (date && b) t ts → eqb f 3 ≡ false
-      → Words date b 0 hours q (t ∷ ts) ≡ tokenWords date hours q t ++ Words date (formSeconds f) 0 (formHours f hours) (formDigit f q) ts
+      → Words date b 0 q (t ∷ ts) ≡ tokenWords date q t ++ Words date (formSeconds f) 0 (formDigit f q) ts
   unfolding tokenWords
   words-plain e l =
       let none : any isFill (tokenItems date t) ≡ false = no-fill l in
-      rw (first 0 e, words-first (runIf hours) q (tokenItems date t) (later 0) none, told-words f date hours q a us (lastFill (later 0)))
+      rw (first 0 e, words-first q (tokenItems date t) (later 0) none, behind date q a us f)
 
   words-goes : 0 ≡ partZeros (date && b) t ts → f ≡ 3 → any isFill (later 0) ≡ true
-      → Words date b 0 hours q (t ∷ ts) ≡ Words date (formSeconds f) 0 (formHours f hours) (formDigit f q) ts
-  words-goes e l h = rw (first 0 e, fill-items l, fill-goes a (later 0) h, fill-kept l .0, fill-kept l .1)
+      → Words date b 0 q (t ∷ ts) ≡ Words date (formSeconds f) 0 (formDigit f q) ts
+  words-goes e l h = rw (first 0 e, fill-items l, fill-goes a (later 0) h, fill-kept l)
 
   words-stays : 0 ≡ partZeros (date && b) t ts → f ≡ 3 → any isFill (later 0) ≡ false
-      → Words date b 0 hours q (t ∷ ts) ≡ tokenWords date hours q t ++ Words date (formSeconds f) 0 (formHours f hours) (formDigit f q) ts
+      → Words date b 0 q (t ∷ ts) ≡ tokenWords date q t ++ Words date (formSeconds f) 0 (formDigit f q) ts
   unfolding tokenWords
   words-stays e l h =
-      rw (first 0 e, ← (told-words f date hours q a us (lastFill (later 0))), fill-items l, fill-stays a (later 0) h)
-      (items-append (runIf hours) q (fill a ∷ []) (lastFill (later 0)))
+      rw (first 0 e, ← (behind date q a us f), fill-items l, fill-stays a (later 0) h)
+      (items-append q (fill a ∷ []) (lastFill (later 0)))
 
   words-part : (n : ℕ) → n ≡ partZeros (date && b) t ts → eqb n 0 ≡ false
-      → Words date b 0 hours q (t ∷ ts) ≡ (17 ∷ n ∷ []) ++ Words date (formSeconds f) n (formHours f hours) (formDigit f q) ts
-  unfolding itemsWords entriesWords entriesFrom entryOf settledFrom settledItem nearer runOf digitAfter runAfter digitsAfter any
+      → Words date b 0 q (t ∷ ts) ≡ (17 ∷ n ∷ []) ++ Words date (formSeconds f) n (formDigit f q) ts
+  unfolding itemsWords entriesWords entriesFrom entryOf digitAfter digitsAfter any
   words-part n e z =
-      let s : Words date b 0 hours q (t ∷ ts) ≡ itemsWords (runIf hours) q (lastFill (part n ∷ later n)) = rw (first n e, z) in
-      s ∙ words-first (runIf hours) q (part n ∷ []) (later n) refl ∙ rw (part-kept n e z .0, part-kept n e z .1)
+      let s : Words date b 0 q (t ∷ ts) ≡ itemsWords q (lastFill (part n ∷ later n)) = rw (first n e, z) in
+      s ∙ words-first q (part n ∷ []) (later n) refl ∙ rw (part-kept n e z)
 
   -- whether a later fill stands among the items, by the fills that follow with this one
   fill-later : (fills : ℕ) → 0 ≡ partZeros (date && b) t ts → f ≡ 3 → fills ≡ count isFill (emittedFrom date b 0 (t ∷ ts))
@@ -177,7 +162,7 @@ module _ (f : ℕ) (date b hours : Bool) (q a : ℕ) (us : List ℕ) (ts : List 
 
   -- a token's words, and those that are left behind it
   pub words-step : (fills n : ℕ) → n ≡ partZeros (date && b) t ts → fills ≡ count isFill (emittedFrom date b 0 (t ∷ ts))
-      → Words date b 0 hours q (t ∷ ts) ≡ pieceOf date hours q fills n t ++ Words date (formSeconds f) n (formHours f hours) (formDigit f q) ts
+      → Words date b 0 q (t ∷ ts) ≡ pieceOf date q fills n t ++ Words date (formSeconds f) n (formDigit f q) ts
   words-step fills n e h =
       by-cases (eqb n 0)
       (λ z. let m : n ≡ 0 = eqb-true n 0 z in

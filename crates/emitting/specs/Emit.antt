@@ -2,12 +2,12 @@
 -- Assumes nothing.
 use Prim.Native.Nat.{ℕ, zero, suc, _+_, _-_, _≤_}
 use mathlib.Core.Path.{_≡_}
-use mathlib.Core.Bool.{Bool, true, false, cond, _&&_, _||_}
+use mathlib.Core.Bool.{Bool, false, cond, _&&_, _||_}
 use mathlib.Core.List.{List, [], _∷_, _++_}
 use lib.Dec.{leb, ltb, eqb}
 use Rattle.lists.specs.Lists.{count}
 use Rattle.formats.specs.Tokens.{Token}
-use Rattle.formats.specs.Items.{Item, part, isFill, Run, hourRun, noRun, settled, settledFrom}
+use Rattle.formats.specs.Items.{Item, part, isFill}
 use Rattle.formats.specs.Kinds.{isFillToken, partZeros, isSecondsToken, tokenItems, bodyItems, lastFill}
 use Rattle.tables.specs.Words.{entriesWords}
 use Rattle.tables.specs.Encode.{entriesFrom, entriesOf}
@@ -15,9 +15,9 @@ use Rattle.writing.specs.Put.{Put}
 use Rattle.emitting.specs.declared.Made.{Made}
 use Rattle.emitting.specs.declared.Walk.{Walk}
 
--- the words of a body's items in the table
-abbrev pub bodyWords : List Token → List ℕ
-bodyWords ts = entriesWords (entriesOf (settled (lastFill (bodyItems ts)))) []
+-- the words of a body's items as they stand in it, every m being a month
+abbrev pub emittedWords : List Token → List ℕ
+emittedWords ts = entriesWords (entriesOf (lastFill (bodyItems ts))) []
 
 -- the items of a body, of a date or not, in one walk; behindSeconds: the token just before is s, ss or an elapsed s;
 -- `skip` tokens belong to a part of a second
@@ -29,17 +29,12 @@ emittedFrom date behindSeconds zero (t ∷ ts) =
     let r = emittedFrom date (isSecondsToken t) n ts in
     cond (eqb n 0) (tokenItems date t ++ r) (part n ∷ r)
 
--- the nearest earlier run as far as the rule for m asks: hours or not
-unfoldable pub runIf : Bool → Run
-runIf true = hourRun
-runIf false = noRun
+-- the words of items, where q is the power of the first one's digit and 15
+unfoldable pub itemsWords : ℕ → List Item → List ℕ
+itemsWords q is = entriesWords (entriesFrom q is) []
 
--- the words of items behind the run e, where q is the power of the first one's digit and 15
-unfoldable pub itemsWords : Run → ℕ → List Item → List ℕ
-itemsWords e q is = entriesWords (entriesFrom q (settledFrom e is)) []
-
-unfoldable pub tokenWords : Bool → Bool → ℕ → Token → List ℕ
-tokenWords date hours q t = itemsWords (runIf hours) q (tokenItems date t)
+unfoldable pub tokenWords : Bool → ℕ → Token → List ℕ
+tokenWords date q t = itemsWords q (tokenItems date t)
 
 unfoldable pub literalWords : List ℕ → List ℕ
 literalWords [] = []
@@ -50,8 +45,8 @@ abbrev pub madeWords : Made → List ℕ
 madeWords m = cond (eqb (m .0) 0) [] (m .0 ∷ m .1 ∷ [])
 
 -- the words of a token that is no quoted literal, by its form f and its argument a
-abbrev pub formWords : Bool → Bool → ℕ → ℕ → ℕ → List ℕ
-formWords date hours q a f =
+abbrev pub formWords : Bool → ℕ → ℕ → ℕ → List ℕ
+formWords date q a f =
     cond (eqb f 1) (1 ∷ a ∷ [])
     (cond (eqb f 2) (2 ∷ a ∷ [])
     (cond (eqb f 3) (3 ∷ a ∷ [])
@@ -66,7 +61,7 @@ formWords date hours q a f =
     (cond (eqb f 13) (21 ∷ 1 ∷ [])
     (cond (eqb f 14) (21 ∷ 2 ∷ [])
     (cond (eqb f 15) (11 ∷ a ∷ [])
-    (cond (eqb f 16) (cond (hours && leb a 2) (15 ∷ a ∷ []) (12 ∷ a ∷ []))
+    (cond (eqb f 16) (12 ∷ a ∷ [])
     (cond (eqb f 17) (13 ∷ a ∷ [])
     (cond (eqb f 18) (14 ∷ a ∷ [])
     (cond (eqb f 19) (16 ∷ a ∷ [])
@@ -76,17 +71,13 @@ formWords date hours q a f =
 
 -- the words that a token puts: a fill with another behind it puts none, `fills` being how many there are from this token on; where
 -- n is not 0, the token starts a part of a second with n zeros
-abbrev pub pieceOf : Bool → Bool → ℕ → ℕ → ℕ → Token → List ℕ
-pieceOf date hours q fills n t =
-    cond (eqb n 0) (cond (isFillToken t && ltb 1 fills) [] (tokenWords date hours q t)) (17 ∷ n ∷ [])
+abbrev pub pieceOf : Bool → ℕ → ℕ → ℕ → Token → List ℕ
+pieceOf date q fills n t =
+    cond (eqb n 0) (cond (isFillToken t && ltb 1 fills) [] (tokenWords date q t)) (17 ∷ n ∷ [])
 
--- what a token of a form leaves behind: whether it is s, ss or an elapsed s, whether the nearest run is hours, the next digit's
--- power and 15, and the fills that follow
+-- what a token of a form leaves behind: whether it is s, ss or an elapsed s, the next digit's power and 15, and the fills that follow
 unfoldable pub formSeconds : ℕ → Bool
 formSeconds f = eqb f 19 || eqb f 22
-
-unfoldable pub formHours : ℕ → Bool → Bool
-formHours f hours = cond (leb 15 f && leb f 22) (eqb f 18 || eqb f 20) hours
 
 unfoldable pub formDigit : ℕ → ℕ → ℕ
 formDigit f q = cond (leb 4 f && leb f 6) (q - 1) q
@@ -101,18 +92,17 @@ walkAfter w f n at =
       at = at;
       behind = formSeconds f;
       skip = n;
-      hours = formHours f (w .hours);
       digit = formDigit f (w .digit);
       fills = formFills f (w .fills);
     }
 
 -- the walk behind a token that belongs to a part of a second
 abbrev pub walkPast : Walk → Walk
-walkPast w = record { at = w .at; behind = false; skip = w .skip - 1; hours = w .hours; digit = w .digit; fills = w .fills }
+walkPast w = record { at = w .at; behind = false; skip = w .skip - 1; digit = w .digit; fills = w .fills }
 
 -- the words that a walk has left to write
 unfoldable pub left : Bool → Walk → List Token → List ℕ
-left date w ts = itemsWords (runIf (w .hours)) (w .digit) (lastFill (emittedFrom date (w .behind) (w .skip) ts))
+left date w ts = itemsWords (w .digit) (lastFill (emittedFrom date (w .behind) (w .skip) ts))
 
 -- the fills that a walk has left to pass
 unfoldable pub fillsLeft : Bool → Walk → List Token → ℕ

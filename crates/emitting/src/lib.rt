@@ -13,7 +13,7 @@ ghost use Rattle.formats.specs.Items.{dateKind, sameKind, integerPlaces};
 ghost use Rattle.formats.specs.Kinds.{isFillToken, bodyKind, bodyItems, leadingZeros};
 ghost use Rattle.marks.specs.Marks.{tokenAt, tokensIn};
 ghost use Rattle.writing.specs.Put.{Put};
-ghost use Rattle.emitting.specs.Emit.{bodyWords, formWords, literalWords, madeWords, formSeconds, formHours, formDigit, formFills, pieceOf, walkAfter, walkPast, fillsLeft, Emitted};
+ghost use Rattle.emitting.specs.Emit.{emittedWords, formWords, literalWords, madeWords, formSeconds, formDigit, formFills, pieceOf, walkAfter, walkPast, fillsLeft, Emitted};
 
 // The units of a point and a comma, which are literals of a date.
 const POINT_UNIT: u16 = 46;
@@ -24,13 +24,11 @@ const COMMA_UNIT: u16 = 44;
 struct Made(u16, u16);
 
 // What the tokens that were passed leave behind: the place of the next word; whether the last one is s, ss or an elapsed s; how
-// many of the next ones belong to a part of a second; whether the nearest run is hours; the power of the next digit and 15; and
-// how many fills follow.
+// many of the next ones belong to a part of a second; the power of the next digit and 15; and how many fills follow.
 struct Walk {
     at: usize,
     behind: bool,
     skip: u16,
-    hours: bool,
     digit: u16,
     fills: u16,
 }
@@ -85,10 +83,10 @@ fn made_if(b: bool, first: Made, second: Made) -> Made
 }
 
 // The item of a token that is no quoted literal and no part of a second. Of a date a point and a comma are literals, elsewhere a
-// comma makes no item; a run of m of 1 or 2 is minutes behind hours.
-fn item_of(form: u16, argument: u16, date: bool, hours: bool, digit: u16) -> Made
+// comma makes no item; every run of m is put as a month, and settled where all items stand.
+fn item_of(form: u16, argument: u16, date: bool, digit: u16) -> Made
     requires { ⌜ digit < 2 ^ 15 ⌝ }
-    ensures { λ r. ⌜ madeWords r ≡ formWords date hours digit argument form ⌝ }
+    ensures { λ r. ⌜ madeWords r ≡ formWords date digit argument form ⌝ }
 {
     match form {
         forms::BARE => Made(tags::LITERAL, argument),
@@ -105,11 +103,7 @@ fn item_of(form: u16, argument: u16, date: bool, hours: bool, digit: u16) -> Mad
         forms::SHORT_HALF => Made(tags::HALF_DAY, 1),
         forms::LONG_HALF => Made(tags::HALF_DAY, 2),
         forms::YEARS => Made(tags::YEAR, argument),
-        forms::MONTHS => made_if(
-            hours & (argument <= 2),
-            Made(tags::MINUTE, argument),
-            Made(tags::MONTH, argument),
-        ),
+        forms::MONTHS => Made(tags::MONTH, argument),
         forms::DAYS => Made(tags::DAY, argument),
         forms::HOURS => Made(tags::HOUR, argument),
         forms::SECONDS => Made(tags::SECOND, argument),
@@ -125,16 +119,6 @@ fn seconds_at(form: u16) -> bool
     ensures { λ r. ⌜ r ≡ formSeconds form ⌝ }
 {
     (form == forms::SECONDS) | (form == forms::ELAPSED_SECONDS)
-}
-
-// Whether the nearest run behind a token is hours.
-fn hours_after(form: u16, hours: bool) -> bool
-    ensures { λ r. ⌜ r ≡ formHours form hours ⌝ }
-{
-    if (forms::YEARS <= form) & (form <= forms::ELAPSED_SECONDS) {
-        return (form == forms::HOURS) | (form == forms::ELAPSED_HOURS);
-    }
-    hours
 }
 
 // The power of the next digit behind a token, and 15. It stays at 0 behind the fifteenth decimal place, as the table's definition
@@ -215,7 +199,7 @@ fn put_form(
     n: u16,
 ) -> usize
     requires { ⌜ (w .at < 2 ^ 60) × (w .digit < 2 ^ 15) × (length (now code) ≤ 254) ⌝ }
-    ensures put { λ r. ⌜ Put (now (room .entry)) (w .at) (pieceOf date (w .hours) (w .digit) (w .fills) n (tokenAt (now (code .entry)) form argument start)) r (now (room .exit)) ⌝ }
+    ensures put { λ r. ⌜ Put (now (room .entry)) (w .at) (pieceOf date (w .digit) (w .fills) n (tokenAt (now (code .entry)) form argument start)) r (now (room .exit)) ⌝ }
     ensures near { λ r. ⌜ r ≤ w .at + 510 ⌝ }
 {
     if 0 < n {
@@ -227,7 +211,7 @@ fn put_form(
     if fill_goes(form, w.fills) {
         return w.at;
     }
-    put_made(room, w.at, item_of(form, argument, date, w.hours, w.digit))
+    put_made(room, w.at, item_of(form, argument, date, w.digit))
 }
 
 // The walk behind a token whose words end at the place `at`, where the next n tokens belong to its part of a second.
@@ -238,7 +222,6 @@ fn walked(w: Walk, form: u16, n: u16, at: usize) -> Walk
         at: at,
         behind: seconds_at(form),
         skip: n,
-        hours: hours_after(form, w.hours),
         digit: digit_after(form, w.digit),
         fills: fills_after(form, w.fills),
     }
@@ -253,7 +236,6 @@ fn passed(w: Walk) -> Walk
         at: w.at,
         behind: false,
         skip: w.skip - 1,
-        hours: w.hours,
         digit: w.digit,
         fills: w.fills,
     }
@@ -274,7 +256,7 @@ fn put_token(room: &mut [u16], w: Walk, code: &[u16], body: &[u16], i: usize, da
     walked(w, form, n, at)
 }
 
-// Puts the words of the items of a section's body at `at`. The body's tokens stand three words each; `date` says whether it is a
+// Puts the words of the items of a section's body at `at`, every m as a month. The body's tokens stand three words each; `date` says whether it is a
 // date's, `fills` how many fills it has, and `integers` how many integer places. Words past the room's end are counted, not put.
 pub fn put_items(
     code: &[u16],
@@ -289,13 +271,12 @@ pub fn put_items(
     requires { ⌜ date ≡ sameKind (bodyKind (tokensIn (now code) (now body))) dateKind ⌝ }
     requires { ⌜ fills ≡ count isFillToken (tokensIn (now code) (now body)) ⌝ }
     requires { ⌜ integers ≡ integerPlaces (bodyItems (tokensIn (now code) (now body))) ⌝ }
-    ensures { λ r. ⌜ Put (now (room .entry)) at (bodyWords (tokensIn (now (code .entry)) (now (body .entry)))) r (now (room .exit)) ⌝ }
+    ensures { λ r. ⌜ Put (now (room .entry)) at (emittedWords (tokensIn (now (code .entry)) (now (body .entry)))) r (now (room .exit)) ⌝ }
 {
     let mut w = Walk {
         at: at,
         behind: false,
         skip: 0,
-        hours: false,
         digit: 14 + integers,
         fills: fills,
     };

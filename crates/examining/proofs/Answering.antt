@@ -29,7 +29,7 @@ use Rattle.drafting.specs.declared.sections.Drafts.{Drafts}
 use Rattle.examining.specs.declared.Examined.{Examined}
 use Rattle.drafting.specs.Draft.{itemWords, AllDrafted, Lexes}
 use Rattle.examining.specs.Examine.{passesBy, foundBelow, verdictOf, sectionsVerdict, ExaminedAs, Buffered}
-use Rattle.drafting.proofs.Drafting.{put-read}
+use Rattle.drafting.proofs.Settled.{put-read}
 use Rattle.drafting.proofs.Sectioning.{items-room}
 use Rattle.examining.proofs.Refusing.{kind-told, where-told, limit-told}
 

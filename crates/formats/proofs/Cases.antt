@@ -154,6 +154,15 @@ slips =
     ∷ shows "s m" (instant 60 307000) "7 2" 0
     ∷ shows "[h]:mm" (instant 1 3660000) "25:01" 0
     ∷ shows "[mm]:ss" (instant 1 61999) "1441:01" 0
+    -- minutes before seconds, over a half-day mark and before elapsed ones; by the nearest run alone: not over a day, nor over minutes;
+    -- a month of three letters; seconds of another section
+    ∷ shows "mm:ss" (instant 60 307000) "05:07" 0
+    ∷ shows "m A/P s" (instant 60 307000) "5 A 7" 0
+    ∷ shows "m [ss]" (instant 60 307000) "5 5184307" 0
+    ∷ shows "m d s" (instant 60 307000) "2 29 7" 0
+    ∷ shows "mm:mm:ss" (instant 60 307000) "02:05:07" 0
+    ∷ shows "mmm:ss" (instant 60 307000) "Feb:07" 0
+    ∷ shows "m;s" (instant 60 307000) "2" 0
     -- a text that is longer than the room is refused whole
     ∷ record { code = "00000000000000000"; ask = number (pos 1) 0; text = []; room = 16; answer = refused answer.TextRoom }
     ∷ []
@@ -189,6 +198,9 @@ judgements =
     -- 4: before 5; the first of two
     ∷ refuses "0;@;." answer.Kind 2
     ∷ refuses "0;.;." answer.Kind 1
+    -- an elapsed m beside minutes, and beside a month
+    ∷ refuses "[m]:mm:ss" answer.Kind 0
+    ∷ record { code = units "[m] m d s"; says = fine }
     -- 5: before 6; the first of two; a condition on a text and on a third section; a fourth number section and a coloured one
     ∷ refuses "[>1234567890]0" answer.Standing 0
     ∷ refuses "0;@;@;0" answer.Standing 1

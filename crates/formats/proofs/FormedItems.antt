@@ -112,10 +112,6 @@ parts-lastFill b (i ∷ is) t =
     (and-left (not (isPart i) || b) (partsFrom (isSeconds i) is) t)
     (parts-lastFill (isSeconds i) is (and-right (not (isPart i) || b) (partsFrom (isSeconds i) is) t))))
 
--- the rule for m looks at the runs only for whether m means minutes
-pub settled-same : (e l f m : Run) → meansMinutes e l ≡ meansMinutes f m → (i : Item) → settledItem e l i ≡ settledItem f m i
-settled-same e l f m h = settled-cases (λ (i : Item) (g : Run → Run → Item). g e l ≡ g f m) (λ n. rw h) (λ n. rw h) (λ i. refl)
-
 count-settled : (e : Run) (is : List Item) → count isFill (settledFrom e is) ≡ count isFill is
 unfolding count
 count-settled = runs-kept (count isFill) (λ i is js e. rw e) (λ n is. refl)
@@ -138,7 +134,7 @@ run-settled e l i = settled-kept runOf (λ n. refl) e l i
 
 first-settled : (e : Run) (is : List Item) → firstRun (settledFrom e is) ≡ firstRun is
 unfolding firstRun runOf
-first-settled = runs-kept firstRun (λ i is js e. rw e) (λ n is. refl)
+first-settled = runs-kept firstRun (λ i is js e. cc) (λ n is. refl)
 
 -- to settle once more changes nothing
 settled-again : (e l : Run) (i : Item) → settledItem e l (settledItem e l i) ≡ settledItem e l i

@@ -167,7 +167,7 @@ fill-length (i ∷ is) =
     cond-both (λ (js : List Item). length js ≤ suc (length is)) (isFill i && any isFill is)
     (omega (arith, fill-length is)) (omega (arith, fill-length is))
 
-settled-length : (earlier : Run) (is : List Item) → length (settledFrom earlier is) ≡ length is
+pub settled-length : (earlier : Run) (is : List Item) → length (settledFrom earlier is) ≡ length is
 unfolding settledFrom
 settled-length earlier [] = refl
 settled-length earlier (i ∷ is) = ap suc (settled-length (nearer (runOf i) earlier) is)

@@ -6,6 +6,7 @@ pub mod Each
 pub mod ByNumber
 pub mod CommaUses
 pub mod FormedItems
+pub mod Former
 pub mod FormedPieces
 pub mod FormedKinds
 pub mod FormedParts

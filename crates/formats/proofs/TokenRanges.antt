@@ -372,8 +372,7 @@ module _ (test : ℕ → Bool) where
 -- ---- a test that the items of each token pass is passed by the items of a body
 module _ (g : Token → Bool) (f : Item → Bool)
     (made : (ofDate : Bool) (t : Token) → T (g t) → T (every f (tokenItems ofDate t)))
-    (parts : (n : ℕ) → n ≤ 3 → eqb n 0 ≡ false → T (f (part n)))
-    (settles : (earlier later : Run) (i : Item) → T (f i) → T (f (settledItem earlier later i))) where
+    (parts : (n : ℕ) → n ≤ 3 → eqb n 0 ≡ false → T (f (part n))) where
   plain-pass : (ts : List Token) → T (every g ts) → T (every f (plainItems ts))
   unfolding plainItems every
   plain-pass [] h = tt
@@ -392,16 +391,21 @@ module _ (g : Token → Bool) (f : Item → Bool)
       (λ e. rw e (every-append f (tokenItems true t) is (made true t (every-head g t ts h)) r))
       (λ e. rw e (every-cons f (part n) is (parts n (zeros-most b t ts) e) r))
 
-  settled-pass : (e : Run) (is : List Item) → T (every f is) → T (every f (settledFrom e is))
-  unfolding settledFrom every
-  settled-pass e [] t = tt
-  settled-pass e (i ∷ is) t =
-      every-cons f (settledItem e (firstRun is) i) (settledFrom (nearer (runOf i) e) is)
-      (settles e (firstRun is) i (every-head f i is t)) (settled-pass (nearer (runOf i) e) is (every-tail f i is t))
+  pub body-pass : (ts : List Token) → T (every g ts) → T (every f (lastFill (bodyItems ts)))
+  unfolding bodyItems
+  body-pass ts h =
+      every-lastFill f (bodyItems ts)
+      (cond-both (λ (is : List Item). T (every f is)) (sameKind (bodyKind ts) dateKind) (date-pass false 0 ts h) (plain-pass ts h))
 
-  pub items-pass : (p : Parts) → T (every g (p .body)) → T (every f ((sectionOf p) .items))
-  unfolding sectionOf settled bodyItems
-  items-pass p h =
-      let ts = p .body in
-      settled-pass noRun (lastFill (bodyItems ts)) (every-lastFill f (bodyItems ts)
-      (cond-both (λ (is : List Item). T (every f is)) (sameKind (bodyKind ts) dateKind) (date-pass false 0 ts h) (plain-pass ts h)))
+  -- and by those of its section, where the rule for m does not change the answer
+  module _ (settles : (earlier later : Run) (i : Item) → T (f i) → T (f (settledItem earlier later i))) where
+    settled-pass : (e : Run) (is : List Item) → T (every f is) → T (every f (settledFrom e is))
+    unfolding settledFrom every
+    settled-pass e [] t = tt
+    settled-pass e (i ∷ is) t =
+        every-cons f (settledItem e (firstRun is) i) (settledFrom (nearer (runOf i) e) is)
+        (settles e (firstRun is) i (every-head f i is t)) (settled-pass (nearer (runOf i) e) is (every-tail f i is t))
+
+    pub items-pass : (p : Parts) → T (every g (p .body)) → T (every f ((sectionOf p) .items))
+    unfolding sectionOf settled
+    items-pass p h = settled-pass noRun (lastFill (bodyItems (p .body))) (body-pass (p .body) h)

@@ -65,6 +65,18 @@ sameKind j k = eqb (kindRow j .number) (kindRow k .number)
 pub data Run : Type 0 where
   hourRun secondRun otherRun noRun : Run
 
+abbrev pub isHourRun : Run → Bool
+isHourRun hourRun = true
+isHourRun secondRun = false
+isHourRun otherRun = false
+isHourRun noRun = false
+
+abbrev pub isSecondRun : Run → Bool
+isSecondRun hourRun = false
+isSecondRun secondRun = true
+isSecondRun otherRun = false
+isSecondRun noRun = false
+
 unfoldable pub runOfElapsed : Elapsed → Run
 runOfElapsed hours = hourRun
 runOfElapsed minutes = otherRun
@@ -238,12 +250,10 @@ unfoldable pub firstRun : List Item → Run
 firstRun [] = noRun
 firstRun (i ∷ is) = nearer (runOf i) (firstRun is)
 
--- "m and mm mean minutes when the nearest earlier date or time run or elapsed token is hours, else the month." (R42)
+-- "m or mm is minutes when the nearest earlier date or time run or elapsed token is hours, or the nearest later one is s, ss or
+-- elapsed seconds", "else the month" (R42, R125)
 unfoldable pub meansMinutes : Run → Run → Bool
-meansMinutes hourRun later = true
-meansMinutes secondRun later = false
-meansMinutes otherRun later = false
-meansMinutes noRun later = false
+meansMinutes earlier later = isHourRun earlier || isSecondRun later
 
 -- a run of m of this length as an item
 unfoldable pub monthOrMinute : Bool → ℕ → Item

@@ -14,7 +14,7 @@ use Rattle.formats.specs.Items as item
 use Rattle.formats.specs.Items.{Item, Kind, textKind, generalKind, dateKind, itemAllowed, isFill, isElapsed, Run, noRun, runOf, nearer, firstRun, settledItem, settledFrom, settled}
 use Rattle.formats.specs.Kinds.{isPlace, isPoint, noBracket, tokenMakes, bodyKind, isSolidus, startsWithPlace, solidusFrom, solidusFits, commasFit, isSecondsToken, runItem, tokenItems, piecesFrom, dateItems, bodyItems, lastFill}
 use Rattle.formats.proofs.FormedItems.{dropped, fills-kept}
-use Rattle.grammar.specs.Bodies.{Behind, behindOther, NFAbsTimeToken, NFPartAbsHour, NFPartAbsSecond, NFPartAbsMinute, NFDateTimeToken, NFPartYear, NFPartMonth, NFPartMonth-long, NFPartDay, NFPartHour, NFPartMinute, NFPartSecond, absolute, NFPartSubSecond, tenths, hundredths, thousandths, Between, DateTimeRest, rest-end, rest-token, rest-sub-second, rest-between, DateTimeFrom, from-token, from-between, isAbsolute, NFDateTime}
+use Rattle.grammar.specs.Bodies.{Behind, behindOther, NFAbsTimeToken, NFPartAbsHour, NFPartAbsSecond, NFPartAbsMinute, NFDateTimeToken, NFPartYear, NFPartMonth, NFPartMonth-long, NFPartDay, NFPartHour, NFPartMinute, NFPartMinute-seconds, NFPartSecond, absolute, NFPartSubSecond, tenths, hundredths, thousandths, Between, DateTimeRest, rest-end, rest-token, rest-sub-second, rest-between, DateTimeFrom, from-token, from-between, isAbsolute, NFDateTime}
 use Rattle.grammar.proofs.Tests.{every-in, every-all, every-none}
 use Rattle.grammar.proofs.Quiet.{passed-over}
 use Rattle.grammar.proofs.Kept.{sorts, count-kept, allowed-kept, foreign, no-integers, no-decimals}
@@ -90,16 +90,17 @@ absolute-elapsed abs d ts (NFPartAbsHour {n = n} h) e = rw (whole-items abs d (e
 absolute-elapsed abs d ts (NFPartAbsSecond {n = n} h) e = rw (whole-items abs d (elapsed seconds n) ts refl) (ap suc e)
 absolute-elapsed abs d ts (NFPartAbsMinute {n = n} h) e = rw (whole-items abs d (elapsed minutes n) ts refl) (ap suc e)
 
-token-elapsed : {abs : Option Elapsed} {b c : Behind} {t : Token} (ts : List Token) → NFDateTimeToken abs b t c → Alike c ts → Alike b (t ∷ ts)
+token-elapsed : {abs : Option Elapsed} {before : Bool} {b c : Behind} {t : Token} (ts : List Token) → NFDateTimeToken abs before b t c → Alike c ts → Alike b (t ∷ ts)
 unfolding count tokenItems runItem isSecondsToken
-token-elapsed {abs} {b} ts (NFPartYear {n = n}) e = rw (whole-items abs (direct b) (run letterY n) ts refl) e
-token-elapsed {abs} {b} ts (NFPartMonth {n = n} h) e = rw (whole-items abs (direct b) (run letterM n) ts refl) e
-token-elapsed {abs} {b} ts (NFPartMonth-long {n = n} h) e = rw (whole-items abs (direct b) (run letterM n) ts refl) e
-token-elapsed {abs} {b} ts (NFPartDay {n = n}) e = rw (whole-items abs (direct b) (run letterD n) ts refl) e
-token-elapsed {abs} {b} ts (NFPartHour {n = n} h) e = rw (whole-items abs (direct b) (run letterH n) ts refl) e
+token-elapsed {abs} {b = b} ts (NFPartYear {n = n}) e = rw (whole-items abs (direct b) (run letterY n) ts refl) e
+token-elapsed {abs} {b = b} ts (NFPartMonth {n = n} h s) e = rw (whole-items abs (direct b) (run letterM n) ts refl) e
+token-elapsed {abs} {b = b} ts (NFPartMonth-long {n = n} h) e = rw (whole-items abs (direct b) (run letterM n) ts refl) e
+token-elapsed {abs} {b = b} ts (NFPartDay {n = n}) e = rw (whole-items abs (direct b) (run letterD n) ts refl) e
+token-elapsed {abs} {b = b} ts (NFPartHour {n = n} h) e = rw (whole-items abs (direct b) (run letterH n) ts refl) e
 token-elapsed {abs} ts (NFPartMinute {n = n} h k) e = rw (whole-items abs false (run letterM n) ts refl) e
-token-elapsed {abs} {b} ts (NFPartSecond {n = n} h) e = rw (whole-items abs (direct b) (run letterS n) ts refl) e
-token-elapsed {abs} {b} ts (absolute h x) e = absolute-elapsed abs (direct b) ts x e
+token-elapsed {abs} {b = b} ts (NFPartMinute-seconds {n = n} h k s) e = rw (whole-items abs (direct b) (run letterM n) ts refl) e
+token-elapsed {abs} {b = b} ts (NFPartSecond {n = n} h) e = rw (whole-items abs (direct b) (run letterS n) ts refl) e
+token-elapsed {abs} {b = b} ts (absolute h x) e = absolute-elapsed abs (direct b) ts x e
 
 sub-absolute : {ts us : List Token} → NFPartSubSecond ts us → count isAbsolute ts ≡ count isAbsolute us
 unfolding count

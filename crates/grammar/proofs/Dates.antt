@@ -3,7 +3,7 @@
 use Prim.Native.Nat.{ℕ, zero, suc, _≤_, min}
 use native.Mathlib.Omega.{arith}
 use mathlib.Core.Path.{_≡_, refl, sym, ap, subst, _∙_}
-use mathlib.Core.Bool.{Bool, true, false, cond, not, _&&_, true≢false, and-false}
+use mathlib.Core.Bool.{Bool, true, false, cond, not, _&&_, _||_, true≢false, and-false, or-true}
 use mathlib.Core.List.{List, [], _∷_, _++_}
 use mathlib.Core.Logic.{_≢_}
 use mathlib.Core.Option.{Option, some}
@@ -15,10 +15,11 @@ use Rattle.lists.specs.Lists.{every}
 use Rattle.lists.proofs.Bools.{no, and-parts, by-cases}
 use Rattle.formats.specs.Tokens.{Token, literal, bare, blank, fill, place, point, comma, percent, at, semicolon, general, half, run, elapsed, colour, condition, HalfDay, Place, zeroPlace, hashPlace, spacePlace, Letter, letterY, letterM, letterD, letterH, letterS, Elapsed, hours, minutes, seconds, elapsedIndex}
 use Rattle.formats.specs.Items as item
-use Rattle.formats.specs.Items.{Item, textKind, generalKind, dateKind, Run, hourRun, secondRun, otherRun, noRun, runOf, runOfElapsed, nearer, firstRun, meansMinutes, monthOrMinute, settledItem, settledFrom}
-use Rattle.formats.specs.Kinds.{isPoint, isPlace, startsWithPlace, noBracket, tokenMakes, whole, isSecondsToken, isZero, leadingZeros, partZeros, piecesFrom, runItem, tokenItems, pieceItems, dateItems}
-use Rattle.formats.proofs.FormedPieces.{zero-case}
-use Rattle.grammar.specs.Bodies.{free-string, free-repeat, free-space, free-bare, Behind, behindSeconds, behindHours, behindOther, past, NFAbsTimeToken, NFPartAbsHour, NFPartAbsSecond, NFPartAbsMinute, NFDateTimeToken, NFPartYear, NFPartMonth, NFPartMonth-long, NFPartDay, NFPartHour, NFPartMinute, NFPartSecond, absolute, NFPartSubSecond, tenths, hundredths, thousandths, Between, between-free, between-AMPM, between-comma, between-point, DateTimeRest, rest-end, rest-token, rest-sub-second, rest-between, isAbsolute}
+use Rattle.formats.specs.Items.{Item, textKind, generalKind, dateKind, Run, hourRun, secondRun, otherRun, isHourRun, isSecondRun, runOf, runOfElapsed, nearer, firstRun, meansMinutes, monthOrMinute, settledItem, settledFrom}
+use Rattle.formats.specs.Kinds.{formOf, isPoint, isPlace, startsWithPlace, noBracket, tokenMakes, whole, isSecondsToken, isZero, leadingZeros, partZeros, piecesFrom, runItem, tokenItems, pieceItems, dateItems}
+use Rattle.formats.proofs.FormedPieces.{zero-case, zeros-follow, zeros-point}
+use Rattle.formats.proofs.Each.{by-token, by-letter, by-elapsed}
+use Rattle.grammar.specs.Bodies.{free-string, free-repeat, free-space, free-bare, Behind, behindSeconds, behindHours, behindOther, past, NFAbsTimeToken, NFPartAbsHour, NFPartAbsSecond, NFPartAbsMinute, NFDateTimeToken, NFPartYear, NFPartMonth, NFPartMonth-long, NFPartDay, NFPartHour, NFPartMinute, NFPartMinute-seconds, NFPartSecond, absolute, NFPartSubSecond, tenths, hundredths, thousandths, Between, between-free, between-AMPM, between-comma, between-point, DateTimeRest, rest-end, rest-token, rest-sub-second, rest-between, isAbsolute, beforeSeconds}
 use Rattle.grammar.proofs.Tests.{every-parts}
 use Rattle.grammar.proofs.Quiet.{free-kept}
 use Rattle.grammar.proofs.Plain.{inBody}
@@ -36,12 +37,6 @@ behindHour behindSeconds = false
 behindHour behindHours = true
 behindHour behindOther = false
 
-abbrev isHourRun : Run → Bool
-isHourRun hourRun = true
-isHourRun secondRun = false
-isHourRun otherRun = false
-isHourRun noRun = false
-
 pub direct-past : (b : Behind) → direct (past b) ≡ false
 direct-past behindSeconds = refl
 direct-past behindHours = refl
@@ -51,13 +46,6 @@ hour-past : (b : Behind) → behindHour (past b) ≡ behindHour b
 hour-past behindSeconds = refl
 hour-past behindHours = refl
 hour-past behindOther = refl
-
-means-hour : (r s : Run) → meansMinutes r s ≡ isHourRun r
-unfolding meansMinutes
-means-hour hourRun s = refl
-means-hour secondRun s = refl
-means-hour otherRun s = refl
-means-hour noRun s = refl
 
 -- ---- the pieces of a date
 
@@ -98,6 +86,39 @@ module _ {A : Type 0} (m : List Item → A) (literals : (u : ℕ) (is : List Ite
   between-kept is (between-AMPM h) = halves h is
   between-kept is between-comma = literals 44 is
   between-kept is between-point = literals 46 is
+
+-- the nearest run of the items is seconds exactly when the nearest date token is
+seconds-front : (t : Token) (is : List Item)
+    → isSecondRun (firstRun (tokenItems true t ++ is)) ≡ cond (eqb (formOf t) 15 || isAbsolute t) (isSecondsToken t) (isSecondRun (firstRun is))
+unfolding tokenItems runItem isSecondsToken firstRun runOf runOfElapsed nearer
+seconds-front t is =
+    by-token (λ (t : Token). isSecondRun (firstRun (tokenItems true t ++ is)) ≡ cond (eqb (formOf t) 15 || isAbsolute t) (isSecondsToken t) (isSecondRun (firstRun is)))
+    (λ us. between-kept (λ (js : List Item). isSecondRun (firstRun js)) (λ u js. refl) (λ u js. refl) (λ u js. refl) (λ h js. refl) is (between-free (free-string us)))
+    (λ u. refl) (λ u. refl) (λ u. refl) (λ p. refl) refl refl refl refl refl refl (λ h. refl)
+    (λ l n. by-letter (λ (k : Letter). isSecondRun (firstRun (runItem k n ∷ is)) ≡ isSecondsToken (run k n)) refl refl refl refl refl l)
+    (λ x n. by-elapsed (λ (d : Elapsed). isSecondRun (firstRun (item.elapsed d n ∷ is)) ≡ isSecondsToken (elapsed d n)) refl refl refl x)
+    (λ n. refl) (λ w. refl) t
+
+seconds-next : (b : Bool) (skip : ℕ) (ts : List Token) → skip ≤ leadingZeros ts → isSecondRun (firstRun (dateItems (piecesFrom b skip ts))) ≡ beforeSeconds ts
+unfolding piecesFrom dateItems pieceItems leadingZeros beforeSeconds firstRun runOf nearer
+seconds-next b skip [] h = refl
+seconds-next b (suc skip) (t ∷ ts) h =
+    by-cases (isZero t)
+    (λ e. let g : suc skip ≤ suc (leadingZeros ts) = rw e at h in
+    rw (zero-case (λ (u : Token). formOf u ≡ 4) (λ p. refl) t e) (seconds-next false skip ts (omega arith)))
+    (λ e. let g : suc skip ≤ 0 = rw e at h in absurd (omega arith))
+seconds-next b zero (t ∷ ts) h =
+    let n = partZeros b t ts in
+    let r = seconds-next (isSecondsToken t) n ts (zeros-follow b t ts) in
+    by-cases (eqb n 0)
+    (λ e. rw e (seconds-front t (dateItems (piecesFrom (isSecondsToken t) n ts)) ∙ rw r))
+    (λ e. rw (e, eqb-true (formOf t) 7 (zeros-point b t ts e .1)) r)
+
+-- the rule for m, by what stands before a token and behind it
+means-told : (b : Behind) (r : Run) (ts : List Token) → isHourRun r ≡ behindHour b
+    → meansMinutes r (firstRun (dateItems (piecesFrom false 0 ts))) ≡ (behindHour b || beforeSeconds ts)
+unfolding meansMinutes
+means-told b r ts h = rw (h, seconds-next false 0 ts (omega arith))
 
 -- zeros behind the point of a part of a second
 zero-place : (q : Place) → isZero (place q) ≡ true → place q ≡ place zeroPlace
@@ -180,27 +201,33 @@ module _ (abs : Option Elapsed) where
   other-than-hours : (b : Behind) → behindHour b ≡ false → b ≢ behindHours
   other-than-hours b h e = no (sym h ∙ ap behindHour e)
 
-  is-minute : (n : ℕ) → leb n 2 ≡ true → dateItem abs (cond (true && leb n 2) (item.minute n) (item.month n)) ≡ true → not (counts abs minutes) ≡ true
-  unfolding dateItem
-  is-minute n k e = rw k at e
+  is-minute : (n : ℕ) (means : Bool) → means ≡ true → leb n 2 ≡ true → dateItem abs (monthOrMinute means n) ≡ true → abs ≢ some minutes
+  unfolding dateItem monthOrMinute
+  is-minute n means m k e = not-counted minutes (rw (m, k) at e)
 
   -- a date token, and what follows it
-  step-from : {t : Token} (ts : List Token) {b c : Behind} (r : Run) → NFDateTimeToken abs b t c → isHourRun r ≡ behindHour c
+  step-from : {t : Token} (ts : List Token) {b c : Behind} (r : Run) → NFDateTimeToken abs (beforeSeconds ts) b t c → isHourRun r ≡ behindHour c
       → Dated r (dateItems (piecesFrom (direct c) 0 ts)) → From ts → DateTimeRest abs b (t ∷ ts)
   step-from ts {c = c} r x h e f = rest-token x (f c r 0 (λ n k. absurd (omega arith)) h e)
 
+  short-token : (n : ℕ) (before : Bool) (b : Behind) (means : Bool) → means ≡ (behindHour b || before) → leb n 2 ≡ true → before ≡ false
+      → dateItem abs (monthOrMinute means n) ≡ true → NFDateTimeToken abs before b (run letterM n) behindOther
+  short-token n before behindSeconds means m k s e = NFPartMonth (other-than-hours behindSeconds refl) s
+  short-token n before behindHours means m k s e = NFPartMinute (leb-true n 2 k) (is-minute n means m k e)
+  short-token n before behindOther means m k s e = NFPartMonth (other-than-hours behindOther refl) s
+
   month-from : (n : ℕ) (ts : List Token) (b : Behind) (r : Run) → isHourRun r ≡ behindHour b → Dated r (item.month n ∷ dateItems (piecesFrom false 0 ts)) → From ts
       → DateTimeRest abs b (run letterM n ∷ ts)
-  unfolding settledFrom settledItem runOf nearer monthOrMinute
-  month-from n ts behindSeconds r h e f = step-from ts otherRun (NFPartMonth (other-than-hours behindSeconds refl)) refl ((every-parts (dateItem abs) _ _ e) .1) f
-  month-from n ts behindOther r h e f = step-from ts otherRun (NFPartMonth (other-than-hours behindOther refl)) refl ((every-parts (dateItem abs) _ _ e) .1) f
-  month-from n ts behindHours r h e f =
+  unfolding settledFrom settledItem runOf nearer
+  month-from n ts b r h e f =
       let (e₁, e₂) = every-parts (dateItem abs) _ _ e in
-      by-cases (leb n 2)
-      (λ k.
-      let minute = is-minute n k (rw (means-hour r (firstRun (dateItems (piecesFrom false 0 ts))), h) at e₁) in
-      step-from ts otherRun (NFPartMinute (leb-true n 2 k) (not-counted minutes minute)) refl e₂ f)
-      (λ k. let l = leb-false n 2 k in step-from ts otherRun (NFPartMonth-long (omega arith)) refl e₂ f)
+      let told = means-told b r ts h in
+      step-from ts otherRun
+      (by-cases (leb n 2)
+      (λ k. by-cases (beforeSeconds ts)
+      (λ s. NFPartMinute-seconds (leb-true n 2 k) (is-minute n _ (told ∙ rw s (or-true (behindHour b))) k e₁) s)
+      (λ s. short-token n (beforeSeconds ts) b _ told k s e₁))
+      (λ k. let l = leb-false n 2 k in NFPartMonth-long (omega arith))) refl e₂ f
 
   hour-from : (n : ℕ) (ts : List Token) (b : Behind) (r : Run) → Dated r (item.hour n ∷ dateItems (piecesFrom false 0 ts)) → From ts → DateTimeRest abs b (run letterH n ∷ ts)
   unfolding settledFrom settledItem runOf nearer dateItem
@@ -210,8 +237,8 @@ module _ (abs : Option Elapsed) where
   unfolding settledFrom settledItem runOf nearer dateItem
   second-from n ts b r e f = let (e₁, e₂) = every-parts (dateItem abs) _ _ e in step-from ts secondRun (NFPartSecond (not-counted seconds e₁)) refl e₂ f
 
-  counted-token : (x : Elapsed) (n : ℕ) {b c : Behind} → (n ≤ 9 → NFAbsTimeToken x (elapsed x n) c) → dateItem abs (item.elapsed x n) ≡ true
-      → NFDateTimeToken abs b (elapsed x n) c
+  counted-token : (x : Elapsed) (n : ℕ) {before : Bool} {b c : Behind} → (n ≤ 9 → NFAbsTimeToken x (elapsed x n) c) → dateItem abs (item.elapsed x n) ≡ true
+      → NFDateTimeToken abs before b (elapsed x n) c
   unfolding dateItem
   counted-token x n g e = let (c, l) = and-parts (counts abs x) (leb n 9) e in absolute (counts-some abs x c) (g (leb-true n 9 l))
 
@@ -265,13 +292,14 @@ pub data Dating : Token → Type 0 where
   dating-run : (l : Letter) (n : ℕ) → Dating (run l n)
   dating-elapsed : (x : Elapsed) (n : ℕ) → Dating (elapsed x n)
 
-pub dating : {abs : Option Elapsed} {b c : Behind} {t : Token} → NFDateTimeToken abs b t c → Dating t
+pub dating : {abs : Option Elapsed} {before : Bool} {b c : Behind} {t : Token} → NFDateTimeToken abs before b t c → Dating t
 dating (NFPartYear {n = n}) = dating-run letterY n
-dating (NFPartMonth {n = n} h) = dating-run letterM n
+dating (NFPartMonth {n = n} h s) = dating-run letterM n
 dating (NFPartMonth-long {n = n} h) = dating-run letterM n
 dating (NFPartDay {n = n}) = dating-run letterD n
 dating (NFPartHour {n = n} h) = dating-run letterH n
 dating (NFPartMinute {n = n} h k) = dating-run letterM n
+dating (NFPartMinute-seconds {n = n} h k s) = dating-run letterM n
 dating (NFPartSecond {n = n} h) = dating-run letterS n
 dating (absolute e (NFPartAbsHour {n = n} h)) = dating-elapsed hours n
 dating (absolute e (NFPartAbsSecond {n = n} h)) = dating-elapsed seconds n
@@ -324,26 +352,35 @@ module _ (abs : Option Elapsed) where
       rw (whole-items abs d (elapsed minutes n) ts refl, e, le-leb n 9 h) (rw e at (f otherRun refl))
 
   -- a run of m that means a month
-  month-dated : (r : Run) (n : ℕ) (is : List Item) → (isHourRun r && leb n 2) ≡ false → Dated abs otherRun is → Dated abs r (item.month n ∷ is)
+  month-dated : (r : Run) (n : ℕ) (is : List Item) → (meansMinutes r (firstRun is) && leb n 2) ≡ false → Dated abs otherRun is → Dated abs r (item.month n ∷ is)
   unfolding every settledFrom settledItem runOf nearer dateItem monthOrMinute
-  month-dated r n is h e = rw (means-hour r (firstRun is), h) e
+  month-dated r n is h e = rw h e
 
-  token-dated : {b c : Behind} {t : Token} (r : Run) (ts : List Token) → isHourRun r ≡ behindHour b → NFDateTimeToken abs b t c → Follows c ts
+  -- and one that means minutes
+  minute-dated : (r : Run) (n : ℕ) (is : List Item) → meansMinutes r (firstRun is) ≡ true → n ≤ 2 → abs ≢ some minutes → Dated abs otherRun is
+      → Dated abs r (item.month n ∷ is)
+  unfolding every settledFrom settledItem runOf nearer dateItem monthOrMinute
+  minute-dated r n is h k l e = rw (h, le-leb n 2 k, counted-not minutes l) e
+
+  token-dated : {b c : Behind} {t : Token} (r : Run) (ts : List Token) → isHourRun r ≡ behindHour b → NFDateTimeToken abs (beforeSeconds ts) b t c → Follows c ts
       → Dated abs r (dateItems (piecesFrom (direct b) 0 (t ∷ ts)))
   unfolding every settledFrom settledItem runOf nearer dateItem tokenItems runItem isSecondsToken monthOrMinute
   token-dated {b} r ts h (NFPartYear {n = n}) f = rw (whole-items abs (direct b) (run letterY n) ts refl) (f otherRun refl)
-  token-dated {b} r ts h (NFPartMonth {n = n} k) f =
+  token-dated {b} r ts h (NFPartMonth {n = n} k s) f =
       rw (whole-items abs (direct b) (run letterM n) ts refl)
-      (month-dated r n (dateItems (piecesFrom false 0 ts)) (rw (h, not-hours b k)) (f otherRun refl))
+      (month-dated r n (dateItems (piecesFrom false 0 ts)) (rw (means-told b r ts h, not-hours b k, s)) (f otherRun refl))
   token-dated {b} r ts h (NFPartMonth-long {n = n} k) f =
       rw (whole-items abs (direct b) (run letterM n) ts refl)
-      (month-dated r n (dateItems (piecesFrom false 0 ts)) (rw (lt-leb n 2 (omega arith), and-false (isHourRun r))) (f otherRun refl))
+      (month-dated r n (dateItems (piecesFrom false 0 ts)) (rw (lt-leb n 2 (omega arith), and-false)) (f otherRun refl))
   token-dated {b} r ts h (NFPartDay {n = n}) f = rw (whole-items abs (direct b) (run letterD n) ts refl) (f otherRun refl)
   token-dated {b} r ts h (NFPartHour {n = n} k) f =
       rw (whole-items abs (direct b) (run letterH n) ts refl, counted-not hours k) (f hourRun refl)
   token-dated r ts h (NFPartMinute {n = n} k l) f =
-      rw (whole-items abs false (run letterM n) ts refl, means-hour r (firstRun (dateItems (piecesFrom false 0 ts))), h, le-leb n 2 k, counted-not minutes l)
-      (f otherRun refl)
+      rw (whole-items abs false (run letterM n) ts refl)
+      (minute-dated r n (dateItems (piecesFrom false 0 ts)) (means-told behindHours r ts h) k l (f otherRun refl))
+  token-dated {b} r ts h (NFPartMinute-seconds {n = n} k l s) f =
+      rw (whole-items abs (direct b) (run letterM n) ts refl)
+      (minute-dated r n (dateItems (piecesFrom false 0 ts)) (means-told b r ts h ∙ rw s (or-true (behindHour b))) k l (f otherRun refl))
   token-dated {b} r ts h (NFPartSecond {n = n} k) f =
       rw (whole-items abs (direct b) (run letterS n) ts refl, counted-not seconds k) (f secondRun refl)
   token-dated {b} r ts h (absolute e x) f = absolute-dated (direct b) r ts e x f

@@ -42,11 +42,12 @@ none-derived (c ∷ cs) e =
 
 -- A number in two sections, a date, an elapsed time, text, General and a literal; and where 01 and 004 part, what 01 takes. Added:
 -- percents at both ends, a comma and other points in a date, a bare literal, a `/` in a number that is not directly between
--- places, a comma behind a bare point. 004's own: an empty section. The rule for m: an elapsed m beside a month.
+-- places, a comma behind a bare point. 004's own: an empty section. The rule for m: an elapsed m beside a month, which a day keeps from the
+-- seconds.
 unfoldable pub taken : List String
 taken =
     "#,##0;[Red](0.0)" ∷ "h:mm AM/PM" ∷ "[mm]:ss.00" ∷ "0;0;0;@\"x\"" ∷ "[<1]General" ∷ "\\x"
-    ∷ "%0%" ∷ "d, mmm. yy" ∷ "ss./" ∷ "$0" ∷ "0,/0" ∷ "0.," ∷ "0;" ∷ "[m] m" ∷ []
+    ∷ "%0%" ∷ "d, mmm. yy" ∷ "ss./" ∷ "$0" ∷ "0,/0" ∷ "0.," ∷ "0;" ∷ "[m] m" ∷ "[m] m d s" ∷ []
 
 pub taken-derived : All (λ (c : String). Derives (units c)) taken
 unfolding taken isTaken isFine evaluated
@@ -54,11 +55,11 @@ taken-derived = all-derived taken refl
 
 -- A whole run of three y, and text that does not stand last; and what 01 cuts: scientific, a fraction, a locale, an exponent in a
 -- condition, a date beside General, half-day marks outside dates, a number without a place, a second point, other commas, parts
--- of a second, a split run, a literal before a colour.
+-- of a second, a split run, a literal before a colour. The rule for m: an elapsed m beside minutes.
 unfoldable pub cut : List String
 cut =
     "yyy" ∷ "0;@;0" ∷ "0E+0" ∷ "0/0" ∷ "[$-409]0" ∷ "[>1E+1]General" ∷ "d General" ∷ "0 AM/PM" ∷ "@ A/P" ∷ "." ∷ "0.0.0"
-    ∷ ",0" ∷ "0.0,0" ∷ "h.0" ∷ "s*x.0" ∷ "hhh" ∷ " [Red]0" ∷ []
+    ∷ ",0" ∷ "0.0,0" ∷ "h.0" ∷ "s*x.0" ∷ "hhh" ∷ " [Red]0" ∷ "[m] m s" ∷ []
 
 pub cut-underived : All (λ (c : String). Derives (units c) → ⊥) cut
 unfolding cut isTaken isFine evaluated

@@ -1,9 +1,9 @@
--- The published grammar (R116). Level 2, tokens to bodies (R31 to R42, R51, R53): the rules NFGeneral, NFNumber, NFDateTime and NFText of
+-- The published grammar (R116). Level 2, tokens to bodies (R31 to R42, R51, R53, R125): the rules NFGeneral, NFNumber, NFDateTime and NFText of
 -- 004, over the tokens that `Units` spells.
 -- Assumes nothing.
 use Prim.Native.Nat.{ℕ, suc, _≤_}
 use Prim.Native.Char.{code}
-use mathlib.Core.Bool.{Bool, cond}
+use mathlib.Core.Bool.{Bool, true, false, cond, _||_}
 use mathlib.Core.List.{List, [], _∷_, _++_}
 use mathlib.Core.Logic.{_≢_}
 use mathlib.Core.Option.{Option, some}
@@ -11,7 +11,7 @@ use mathlib.Core.Path.{_≡_}
 use lib.Dec.{eqb}
 use Rattle.lists.specs.Lists.{count}
 use Rattle.formats.specs.Tokens.{Token, literal, bare, blank, fill, place, point, comma, percent, at, general, half, run, elapsed, Place, zeroPlace, HalfDay, letterY, letterM, letterD, letterH, letterS, Elapsed, hours, minutes, seconds}
-use Rattle.formats.specs.Kinds.{formOf, isPlace, isPoint}
+use Rattle.formats.specs.Kinds.{formOf, isPlace, isPoint, isSecondsToken}
 
 -- A constructor is a production. The comment above it says "004" where the production is from there, "narrowed" where 01 cuts it,
 -- and "added" where it is 01's own, with 01's sentence. It holds for the constructors below it, up to the next comment.
@@ -132,6 +132,14 @@ past behindSeconds = behindOther
 past behindHours = behindHours
 past behindOther = behindOther
 
+abbrev pub isAbsolute : Token → Bool
+isAbsolute t = eqb (formOf t) 20
+
+-- What stands behind a token of a date: seconds, as the nearest later run or elapsed token.
+unfoldable pub beforeSeconds : List Token → Bool
+beforeSeconds [] = false
+beforeSeconds (t ∷ ts) = let r = beforeSeconds ts in cond (eqb (formOf t) 15 || isAbsolute t) (isSecondsToken t) r
+
 -- 004: NFAbsTimeToken = NFPartAbsHour / NFPartAbsSecond / NFPartAbsMinute. Added, "Limits (6): [..] elapsed runs of 9".
 pub data NFAbsTimeToken : Elapsed → Token → Behind → Type 0 where
   NFPartAbsHour : {n : ℕ} → n ≤ 9 → NFAbsTimeToken hours (elapsed hours n) behindHours
@@ -139,22 +147,24 @@ pub data NFAbsTimeToken : Elapsed → Token → Behind → Type 0 where
   NFPartAbsMinute : {n : ℕ} → n ≤ 9 → NFAbsTimeToken minutes (elapsed minutes n) behindOther
 
 -- 004: NFDateTimeToken = NFPartYear / NFPartMonth / NFPartDay / NFPartHour / NFPartMinute / NFPartSecond / NFAbsTimeToken
--- abs is what the section's absolute time token counts, if it has one; then what stands before the token, and before the next.
+-- abs is what the section's absolute time token counts, if it has one; `before`, whether seconds are next; then what stands before the
+-- token, and before the next.
 -- 004: "an absolute time token must not coexist with a non-absolute equivalent token in NFDateTime"; hence `abs ≢ some ..`.
-pub data NFDateTimeToken (abs : Option Elapsed) : Behind → Token → Behind → Type 0 where
-  NFPartYear : {b : Behind} {n : ℕ} → NFDateTimeToken abs b (run letterY n) behindOther
-  -- 004, with 01's rule that tells NFPartMonth from NFPartMinute, "m and mm mean minutes when the nearest earlier date or time run
-  -- or elapsed token is hours, else the month"
-  NFPartMonth : {b : Behind} {n : ℕ} → b ≢ behindHours → NFDateTimeToken abs b (run letterM n) behindOther
-  NFPartMonth-long : {b : Behind} {n : ℕ} → 3 ≤ n → NFDateTimeToken abs b (run letterM n) behindOther
+pub data NFDateTimeToken (abs : Option Elapsed) (before : Bool) : Behind → Token → Behind → Type 0 where
+  NFPartYear : {b : Behind} {n : ℕ} → NFDateTimeToken abs before b (run letterY n) behindOther
+  -- 004, with the rule that tells NFPartMonth from NFPartMinute, "m or mm is minutes when the nearest earlier date or time run or
+  -- elapsed token is hours, or the nearest later one is s, ss or elapsed seconds", "else the month"
+  NFPartMonth : {b : Behind} {n : ℕ} → b ≢ behindHours → before ≡ false → NFDateTimeToken abs before b (run letterM n) behindOther
+  NFPartMonth-long : {b : Behind} {n : ℕ} → 3 ≤ n → NFDateTimeToken abs before b (run letterM n) behindOther
   -- 004
-  NFPartDay : {b : Behind} {n : ℕ} → NFDateTimeToken abs b (run letterD n) behindOther
-  NFPartHour : {b : Behind} {n : ℕ} → abs ≢ some hours → NFDateTimeToken abs b (run letterH n) behindHours
+  NFPartDay : {b : Behind} {n : ℕ} → NFDateTimeToken abs before b (run letterD n) behindOther
+  NFPartHour : {b : Behind} {n : ℕ} → abs ≢ some hours → NFDateTimeToken abs before b (run letterH n) behindHours
   -- 004, with the same rule
-  NFPartMinute : {n : ℕ} → n ≤ 2 → abs ≢ some minutes → NFDateTimeToken abs behindHours (run letterM n) behindOther
+  NFPartMinute : {n : ℕ} → n ≤ 2 → abs ≢ some minutes → NFDateTimeToken abs before behindHours (run letterM n) behindOther
+  NFPartMinute-seconds : {b : Behind} {n : ℕ} → n ≤ 2 → abs ≢ some minutes → before ≡ true → NFDateTimeToken abs before b (run letterM n) behindOther
   -- 004
-  NFPartSecond : {b : Behind} {n : ℕ} → abs ≢ some seconds → NFDateTimeToken abs b (run letterS n) behindSeconds
-  absolute : {b c : Behind} {x : Elapsed} {t : Token} → abs ≡ some x → NFAbsTimeToken x t c → NFDateTimeToken abs b t c
+  NFPartSecond : {b : Behind} {n : ℕ} → abs ≢ some seconds → NFDateTimeToken abs before b (run letterS n) behindSeconds
+  absolute : {b c : Behind} {x : Elapsed} {t : Token} → abs ≡ some x → NFAbsTimeToken x t c → NFDateTimeToken abs before b t c
 
 -- 004: NFPartSubSecond = INTL-CHAR-DECIMAL-SEP 1*3ASCII-DIGIT-ZERO. 004 forgets it among the elements that literals may not break
 -- apart; 01 says "A point right after s, ss or an elapsed s, followed by one to three zeros".
@@ -167,7 +177,8 @@ pub data NFPartSubSecond : List Token → List Token → Type 0 where
 -- first what follows its first date token
 pub data DateTimeRest (abs : Option Elapsed) : Behind → List Token → Type 0 where
   rest-end : {b : Behind} → DateTimeRest abs b []
-  rest-token : {b c : Behind} {t : Token} {ts : List Token} → NFDateTimeToken abs b t c → DateTimeRest abs c ts → DateTimeRest abs b (t ∷ ts)
+  rest-token : {b c : Behind} {t : Token} {ts : List Token} → NFDateTimeToken abs (beforeSeconds ts) b t c → DateTimeRest abs c ts
+      → DateTimeRest abs b (t ∷ ts)
   -- 004, narrowed, "right after s, ss or an elapsed s [..] other places are 4"
   rest-sub-second : {ts us : List Token} → NFPartSubSecond ts us → DateTimeRest abs behindOther us → DateTimeRest abs behindSeconds ts
   -- 004
@@ -175,11 +186,9 @@ pub data DateTimeRest (abs : Option Elapsed) : Behind → List Token → Type 0 
 
 -- 004: *INTL-AMPM, and then the first date token
 pub data DateTimeFrom (abs : Option Elapsed) : List Token → Type 0 where
-  from-token : {b : Behind} {t : Token} {ts : List Token} → NFDateTimeToken abs behindOther t b → DateTimeRest abs b ts → DateTimeFrom abs (t ∷ ts)
+  from-token : {b : Behind} {t : Token} {ts : List Token} → NFDateTimeToken abs (beforeSeconds ts) behindOther t b → DateTimeRest abs b ts
+      → DateTimeFrom abs (t ∷ ts)
   from-between : {t : Token} {ts : List Token} → Between t → DateTimeFrom abs ts → DateTimeFrom abs (t ∷ ts)
-
-abbrev pub isAbsolute : Token → Bool
-isAbsolute t = eqb (formOf t) 20
 
 pub record NFDateTime (ts : List Token) : Type 0 where
   pub abs : Option Elapsed

@@ -22,9 +22,8 @@ use Rattle.tables.proofs.Promise.{rows-many}
 use Rattle.tables.proofs.Standing.{sectionKind, counted-kinds}
 use Rattle.writing.specs.Put.{Put, Rest}
 use Rattle.writing.proofs.Laws.{put-put, rest-start, rest-put, rest-done}
-use Rattle.emitting.specs.Emit.{bodyWords}
 use Rattle.drafting.specs.declared.Draft.{Draft}
-use Rattle.drafting.specs.Draft.{DraftOf, Drafted, itemWords, hasConditionBy}
+use Rattle.drafting.specs.Draft.{bodyWords, DraftOf, Drafted, itemWords, hasConditionBy}
 use Rattle.preparing.specs.Table.{draftKind, firstBy, countedBy, headBy, headsBy, tableBy}
 use Rattle.examining.proofs.Testing.{front, none-left}
 use Rattle.examining.proofs.Refusing.{condition-same}

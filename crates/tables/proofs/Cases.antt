@@ -109,9 +109,11 @@ brokenTables =
     -- powers: one that does not fit its place; a decimal place before the point
     ∷ (1 ∷ plain 2 15 0 0 1 (4 ∷ 17 ∷ []))
     ∷ (1 ∷ plain 2 15 0 1 3 (4 ∷ 16 ∷ 4 ∷ 15 ∷ 7 ∷ 0 ∷ []))
-    -- grouping with one integer place; a month behind hours
+    -- grouping with one integer place; a month behind hours, and before seconds; minutes that a month keeps from the seconds
     ∷ (1 ∷ plain 2 15 1 1 3 (4 ∷ 16 ∷ 7 ∷ 0 ∷ 4 ∷ 15 ∷ []))
     ∷ (1 ∷ plain 4 0 0 0 2 (14 ∷ 1 ∷ 12 ∷ 1 ∷ []))
+    ∷ (1 ∷ plain 4 0 0 0 2 (12 ∷ 2 ∷ 16 ∷ 2 ∷ []))
+    ∷ (1 ∷ plain 4 0 0 0 3 (15 ∷ 1 ∷ 12 ∷ 3 ∷ 16 ∷ 1 ∷ []))
     -- shifts: of no dividing commas; one that multiplies; of a third of a comma; of a literal section
     ∷ (1 ∷ plain 2 16 0 0 1 (4 ∷ 16 ∷ []))
     ∷ (1 ∷ plain 2 18 0 0 1 (4 ∷ 16 ∷ []))
@@ -132,7 +134,8 @@ unfolding brokenTables evaluatedTable
 broken-refused = refl
 
 -- tables that pass: 254 items; all places and percents that may be; five dividing commas; the greatest condition; a point and decimals
--- alone; a percent and a comma; equal runs side by side; an elapsed run of nine; an empty section
+-- alone; a percent and a comma; equal runs side by side; an elapsed run of nine; minutes before seconds; an empty
+-- section
 unfoldable pub soundTables : List (List ℕ)
 unfolding copies placesDown
 soundTables =
@@ -144,6 +147,7 @@ soundTables =
     ∷ (1 ∷ plain 2 14 0 0 2 (4 ∷ 16 ∷ 8 ∷ 0 ∷ []))
     ∷ (1 ∷ plain 4 0 0 0 2 (11 ∷ 2 ∷ 11 ∷ 2 ∷ []))
     ∷ (1 ∷ plain 4 0 0 0 1 (18 ∷ 9 ∷ []))
+    ∷ (1 ∷ plain 4 0 0 0 3 (12 ∷ 1 ∷ 15 ∷ 2 ∷ 16 ∷ 1 ∷ []))
     ∷ (1 ∷ plain 0 0 0 0 0 [])
     ∷ []
 

@@ -13,16 +13,16 @@ use Rattle.lists.proofs.Bools.{and-left, and-right, and-in, and-parts, or-right
 use Rattle.lists.specs.Lists.{any, count}
 use Rattle.lists.proofs.Counts.{either-positive, none-count, positive-count}
 use Rattle.formats.specs.Tokens.{Elapsed, hours, minutes, seconds}
-use Rattle.formats.specs.Items.{Item, itemMakes, isFill, isElapsed, isElapsedOf}
+use Rattle.formats.specs.Items.{Item, runOf, itemMakes, isFill, isElapsed, isElapsedOf}
 use Rattle.formats.specs.Limits.{elapsedShort}
 use Rattle.formats.specs.WellFormed.{oneFill}
 use Rattle.formats.proofs.Each.{by-item}
 use Rattle.tables.specs.Words.{Entry}
-use Rattle.tables.specs.Decode.{itemsAt}
+use Rattle.tables.specs.Decode.{itemAt, itemsAt}
 use Rattle.tallies.specs.declared.Tally.{Tally}
 use Rattle.tallies.specs.declared.Walk.{Walk}
 use Rattle.tallies.specs.Tally.{makesDate, soundEntries, itemsOf, hasPlaces, hasNumberItems, kindTold, allowedTold, noPlainTold, itemsFitTold}
-use Rattle.tallies.specs.Walk.{tallies, isLong, ended, walkFrom, startOf, Walked, soundTold, finishedOf}
+use Rattle.tallies.specs.Walk.{tallies, isLong, runAfter, earlierAfter, ended, stepOf, walkFrom, startOf, Walked, soundTold, finishedOf}
 use Rattle.tallies.proofs.Fold.{sound-told, dating-told, long-told, other-digit, date-flag, numbers-most, others-most, marks-most, next-open, finished-is}
 use Rattle.tallies.proofs.Told.{kind-told, items-fit-told}
 
@@ -50,8 +50,9 @@ pub record Linked (w : Walk) : Type 0 where
   pub dates : w .dates ≡ 0 → w .others / 4294967296 % 65536 ≡ 0
   pub long : w .others / 4294967296 % 65536 ≡ 0 → w .marks / 65536 % 65536 ≡ 0
   pub plain : w .others / 4294967296 % 65536 ≡ 0 → T (noPlainTold (finishedOf w))
-  -- without a number item no power is left open
+  -- without a number item no power is left open, without a date item no m waits
   pub ends : w .numbers ≡ 0 → T (ended (w .next))
+  pub waits : w .dates ≡ 0 → T (not (eqb (w .earlier) 5))
 
 -- ---- the kind and what it may hold, by the flags of a tally
 abbrev kindBy : Bool → Bool → Bool → Bool → ℕ
@@ -133,6 +134,7 @@ fitsTold k w =
 -- the rules for the items of a section with kind word k, as facts on the numbers
 record Fits (k : ℕ) (w : Walk) : Type 0 where
   faults : w .marks % 65536 ≡ 0
+  waits : T (not (eqb (w .earlier) 5))
   ends : T (eqb (w .unit) 65536 || ended (w .next))
   made : T (madeTold k w)
   generals : w .others % 65536 ≤ 1
@@ -147,6 +149,7 @@ fits k w t =
     let allowed : T (allowedTold (finishedOf w)) = search (and-left, and-right) depth 6 in
     record {
       faults = search (and-left, and-right, eqb→eq) depth 6;
+      waits = search (and-left, and-right) depth 6;
       ends = search (and-left, and-right) depth 6;
       made = and-in (eqb k (kindTold (finishedOf w))) (allowedTold (finishedOf w)) kind allowed;
       generals = search (and-left, and-right, leb→le) depth 8;
@@ -182,7 +185,7 @@ pub record BareFacts (w : Walk) : Type 0 where
 -- the tests of a date-time section, of a literal section and of General, and of a text section
 abbrev pub datedTest : Walk → Bool
 datedTest w =
-    eqb (w .numbers) 0 && ltb 0 (w .dates) && eqb (w .marks % 65536) 0 && eqb (w .others % 65536) 0
+    eqb (w .numbers) 0 && ltb 0 (w .dates) && eqb (w .marks % 65536) 0 && not (eqb (w .earlier) 5) && eqb (w .others % 65536) 0
     && leb (w .others / 65536 % 65536) 1 && leb (w .others / 4294967296) 1 && noPlainTold (finishedOf w)
 
 abbrev pub plainTest : ℕ → Walk → Bool
@@ -275,6 +278,7 @@ module _ (w : Walk) (l : Linked w) where
       let made : T (not texts && (not generals && (not dates && (places && not dated)))) = search and-in depth 6 in
       record {
         faults = omega (arith, f .marks);
+        waits = l .waits (f .dates);
         ends = f .ends;
         made = carry (sym number-flags) made;
         generals = omega (arith, f .generals);
@@ -302,21 +306,23 @@ module _ (w : Walk) (l : Linked w) where
       let one : T (leb (w .others / 65536 % 65536) 1) = le→leb (w .others / 65536 % 65536) 1 (f .fill) in
       let runs : T (leb (w .others / 4294967296) 1) = le→leb (w .others / 4294967296) 1 (omega (arith, f .elapsed)) in
       let apart : T (noPlainTold (finishedOf w)) = f .plain in
-      search and-in depth 8
+      let waits : T (not (eqb (w .earlier) 5)) = f .waits in
+      search and-in depth 9
 
   dated-in : T (datedTest w) → Fits 4 w
   dated-in t =
       let o = l .others in
-      let none : w .numbers ≡ 0 = search (and-left, and-right, eqb→eq) depth 8 in
-      let plain : w .others % 65536 ≡ 0 = search (and-left, and-right, eqb→eq) depth 8 in
+      let none : w .numbers ≡ 0 = search (and-left, and-right, eqb→eq) depth 9 in
+      let plain : w .others % 65536 ≡ 0 = search (and-left, and-right, eqb→eq) depth 9 in
       let runs : w .others / 4294967296 ≤ 1 = search (and-left, and-right, leb→le) depth 8 in
       let x : T (not texts) = nought (w .others / 281474976710656 % 65536) (omega arith) in
       let g : T (not generals) = nought (w .others % 65536) plain in
-      let d : T dates = search (and-left, and-right) depth 8 in
+      let d : T dates = search (and-left, and-right) depth 9 in
       let n : T (not numbers) = nought (w .numbers) none in
       let made : T (not texts && (not generals && (dates && not numbers))) = search and-in depth 6 in
       record {
-        faults = search (and-left, and-right, eqb→eq) depth 8;
+        faults = search (and-left, and-right, eqb→eq) depth 9;
+        waits = search (and-left, and-right) depth 9;
         ends = or-right (eqb (w .unit) 65536) (ended (w .next)) (l .ends none);
         made = carry (sym date-flags) made;
         generals = omega arith;
@@ -345,6 +351,7 @@ module _ (w : Walk) (l : Linked w) where
         let runs = l .dates (b .dates) in
         record {
           faults = omega (arith, b .marks);
+          waits = l .waits (b .dates);
           ends = or-right (eqb (w .unit) 65536) (ended (w .next)) (l .ends (b .numbers));
           made = made;
           generals = generals;
@@ -425,6 +432,21 @@ long-elapsed : (i : Item) → isLong i ≡ true → isElapsed i ≡ true
 unfolding elapsedShort
 long-elapsed i e = by-cases (isElapsed i) (λ h. h) (λ h. absurd (true≢false (sym e ∙ rw h)))
 
+-- an item that makes no date-time section leaves the nearest earlier run, and so do many
+run-kept : (n : ℕ) (i : Item) → makesDate i ≡ false → earlierAfter n i ≡ n
+unfolding itemMakes earlierAfter runAfter runOf
+run-kept n =
+    by-item (λ i. makesDate i ≡ false → earlierAfter n i ≡ n) (λ u e. refl) (λ u e. refl) (λ u e. refl) (λ p e. refl) (λ e. refl) (λ e. refl) (λ e. refl) (λ e. refl)
+    (λ a e. absurd (true≢false e)) (λ a e. absurd (true≢false e)) (λ a e. absurd (true≢false e)) (λ a e. absurd (true≢false e)) (λ a e. absurd (true≢false e))
+    (λ a e. absurd (true≢false e)) (λ a e. refl) (λ d a e. absurd (true≢false e)) (λ h e. refl)
+
+no-wait : (w : Walk) (es : List Entry) → any makesDate (itemsAt es) ≡ false → walkFrom w es .earlier ≡ w .earlier
+unfolding walkFrom stepOf itemsAt any
+no-wait w [] e = refl
+no-wait w (x ∷ es) e =
+    by-cases (makesDate (itemAt x)) (λ h. absurd (true≢false (rw h at e)))
+    (λ h. no-wait (stepOf w x) es (rw h at e) ∙ run-kept (w .earlier) (itemAt x) h)
+
 no-runs : (a b c x y z : Bool) → a ≡ false → b ≡ false → c ≡ false → T (not (a && x) && (not (b && y) && not (c && z)))
 no-runs a b c x y z p q r = rw (p, q, r) tt
 
@@ -455,6 +477,7 @@ module _ (es : List Entry) (few : length es ≤ 254) where
     long = λ e. long-told es few ∙ none-count isLong is (none-within isLong isElapsed long-elapsed is (none-elapsed e));
     plain = λ e. no-runs _ _ _ _ _ _ (date-flag es few 4 (isElapsedOf hours) refl ∙ no-run e hours) (date-flag es few 5 (isElapsedOf minutes) refl ∙ no-run e minutes) (date-flag es few 6 (isElapsedOf seconds) refl ∙ no-run e seconds);
     ends = λ e. rw (next-open es few e) tt;
+    waits = λ e. rw (no-wait startOf es (sym (dating-told es few) ∙ ap (λ (n : ℕ). ltb 0 n) e)) tt;
   }
 
   fits-are : (kind : ℕ) → fitsTold kind end ≡ itemsOf kind es

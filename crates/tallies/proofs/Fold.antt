@@ -4,7 +4,7 @@ use Prim.Native.Nat.{ℕ, _+_, _*_, _/_, _%_, _^_, _≤_, _<_}
 use native.Mathlib.Omega.{arith}
 use native.Mathlib.Nat.{zero-add}
 use mathlib.Core.Path.{_≡_, refl, sym, _∙_, ap}
-use mathlib.Core.Bool.{Bool, true, false, _&&_, _||_, and-false, and-true}
+use mathlib.Core.Bool.{Bool, true, false, not, _&&_, _||_, and-false, not, and-true}
 use mathlib.Core.List.{List, [], _∷_}
 use lib.Dec.{ltb, eqb, eqb·suc-zero}
 use lib.ListN.{length, getD}
@@ -13,10 +13,10 @@ use Rattle.lists.specs.Lists.{every, any, count, All}
 use Rattle.lists.proofs.Bools.{by-cases, cond-and}
 use Rattle.lists.proofs.Counts.{count-least, any-same, any-either, positive-count}
 use Rattle.formats.specs.Tokens.{hours, minutes, seconds}
-use Rattle.formats.specs.Items.{Item, elapsed, isFill, isPlace, isPoint, isPercent, isGeneral, isHour, isMinute, isSecond, isPart, isElapsed, isElapsedOf, isHalf, itemMakes, itemNumber, integerPlaces, decimalPlaces, Run, hourRun, secondRun, otherRun, noRun, runOf, nearer, firstRun, meansMinutes, settledItem}
+use Rattle.formats.specs.Items.{Item, elapsed, isFill, isPlace, isPoint, isPercent, isGeneral, isHour, isMinute, isSecond, isPart, isElapsed, isElapsedOf, isHalf, itemMakes, itemNumber, integerPlaces, decimalPlaces, runOf}
 use Rattle.formats.specs.Where.{implies}
 use Rattle.formats.specs.Limits.{elapsedShort}
-use Rattle.formats.specs.WellFormed.{isSeconds, partsFrom, partsFollow, settledTest, isSettled}
+use Rattle.formats.specs.WellFormed.{isSeconds, partsFrom, partsFollow}
 use Rattle.tables.specs.Words.{Entry}
 use Rattle.tables.specs.Encode.{bit}
 use Rattle.tables.specs.Decode.{itemAt, itemsAt}
@@ -25,8 +25,9 @@ use Rattle.tables.proofs.MadeHeads.{bit-back}
 use Rattle.tables.proofs.BackEntries.{items-length}
 use Rattle.tallies.specs.declared.Walk.{Walk}
 use Rattle.tallies.specs.Tally.{makesText, makesDate, belongsDate, soundEntries, tallyOf}
-use Rattle.tallies.specs.Walk.{packed, tallies, weight, isLong, otherTests, dateTests, markTests, numberWeight, unitAfter, runAt, runAfter, settles, nextAfter, ended, powerTest, entrySound, faultOf, stepOf, walkFrom, startOf, Walked, soundTold, finishedOf}
+use Rattle.tallies.specs.Walk.{packed, tallies, weight, isLong, otherTests, dateTests, markTests, numberWeight, unitAfter, earlierAfter, mayStand, answers, nextAfter, ended, powerTest, entrySound, faultOf, stepOf, walkFrom, startOf, Walked, soundTold, finishedOf}
 use Rattle.tallies.proofs.Packed.{tallies-none, tallies-turn, first-dropped, first-digit, later-digits, digit-at, tallies-small, packed-positive}
+use Rattle.tallies.proofs.Runs.{runsFrom, runs-start, runs-front, runs-end}
 use Rattle.tallies.proofs.Powers.{place-no-point, places-counted, chainFrom, rangeTest, chain-start}
 
 -- ---- sums of weights
@@ -99,27 +100,6 @@ opened-numbers (i ∷ is) =
     (λ j. rw (point-weight i j, j) (omega arith))
     (λ j. rw j (omega arith)))))
 
--- ---- the rule for m: no later run changes it
-means-later : (r l : Run) → meansMinutes r l ≡ meansMinutes r noRun
-unfolding meansMinutes
-means-later hourRun l = refl
-means-later secondRun l = refl
-means-later otherRun l = refl
-means-later noRun l = refl
-
-settled-later : (r l : Run) (i : Item) → settledItem r l i ≡ settledItem r noRun i
-unfolding settledItem
-settled-later r l =
-    by-item (λ i. settledItem r l i ≡ settledItem r noRun i) (λ u. refl) (λ u. refl) (λ u. refl) (λ p. refl) refl refl refl refl
-    (λ n. refl) (λ n. rw (means-later r l)) (λ n. refl) (λ n. refl) (λ n. rw (means-later r l)) (λ n. refl) (λ n. refl) (λ e n. refl) (λ h. refl)
-
-run-after : (r : Run) (n : ℕ) → runAt (runAfter r n) ≡ nearer r (runAt n)
-unfolding runAt runAfter nearer
-run-after noRun n = refl
-run-after hourRun n = refl
-run-after secondRun n = refl
-run-after otherRun n = refl
-
 -- ---- what is tested on the way
 and-four : (a b c d : Bool) → ((a && b) && (c && d)) ≡ ((a && c) && (b && d))
 and-four true b true d = refl
@@ -137,22 +117,21 @@ testsFrom : Walk → List Entry → Bool
 testsFrom w es =
     let is = itemsAt es in
     partsFrom (eqb (w .behind) 1) is
-    && (settledTest (runAt (w .earlier)) is && (chainFrom (w .unit) (w .next) es && every rangeTest es))
+    && (runsFrom (w .earlier) is && (chainFrom (w .unit) (w .next) es && every rangeTest es))
 
 tests-front : (w : Walk) (e : Entry) (es : List Entry) → testsFrom w (e ∷ es) ≡ (entrySound w e && testsFrom (stepOf w e) es)
-unfolding testsFrom entrySound stepOf partsFrom settledTest settles chainFrom every itemsAt
+unfolding testsFrom entrySound stepOf partsFrom chainFrom every itemsAt
 tests-front w e es =
     let i = itemAt e in
     let is = itemsAt es in
     rw (
-      settled-later (runAt (w .earlier)) (firstRun is) i,
-      run-after (runOf i) (w .earlier),
+      runs-front (w .earlier) i is,
       bit-back (isSeconds i),
       cond-and (rangeTest e) (every rangeTest es),
     )
-    (sym (gathered (partsFrom (isSeconds i) is) (settledTest (nearer (runOf i) (runAt (w .earlier))) is)
+    (sym (gathered (partsFrom (isSeconds i) is) (runsFrom (earlierAfter (w .earlier) i) is)
     (chainFrom (unitAfter (w .unit) i) (nextAfter (w .unit) (w .next) e) es) (every rangeTest es)
-    (implies (isPart i) (eqb (w .behind) 1)) (settles (runAt (w .earlier)) i) (powerTest (w .unit) (w .next) e) (rangeTest e)))
+    (implies (isPart i) (eqb (w .behind) 1)) (mayStand (w .earlier) i && answers (w .earlier) (runOf i)) (powerTest (w .unit) (w .next) e) (rangeTest e)))
 
 -- the entries that fail
 faultsFrom : Walk → List Entry → ℕ
@@ -169,11 +148,11 @@ faults-few w [] = omega arith
 faults-few w (e ∷ es) = omega (arith, faults-few (stepOf w e) es, fault-most (entrySound w e))
 
 endTest : Walk → Bool
-endTest w = eqb (w .unit) 65536 || ended (w .next)
+endTest w = not (eqb (w .earlier) 5) && (eqb (w .unit) 65536 || ended (w .next))
 
 none-fails : (w : Walk) (es : List Entry) → (eqb (faultsFrom w es) 0 && endTest (walkFrom w es)) ≡ testsFrom w es
 unfolding faultsFrom walkFrom
-none-fails w [] = unfold testsFrom endTest partsFrom settledTest chainFrom every itemsAt in (sym (and-true (eqb (w .unit) 65536 || ended (w .next))))
+none-fails w [] = unfold testsFrom endTest partsFrom chainFrom every itemsAt in rw (runs-end (w .earlier), and-true (eqb (w .unit) 65536 || ended (w .next)))
 none-fails w (e ∷ es) =
     rw (tests-front w e es)
     (by-cases (entrySound w e)
@@ -279,10 +258,10 @@ module _ (es : List Entry) (few : length es ≤ 254) where
       ∙ first-dropped 65536 (count isLong is) (packed 65536 (tallies besideTests is)) few-long)
 
   pub sound-told : soundTold end ≡ soundEntries es
-  unfolding soundEntries partsFollow isSettled runAt testsFrom endTest
+  unfolding soundEntries partsFollow testsFrom endTest
   sound-told =
       rw (marks-are, first-digit 65536 (faultsFrom startOf es) (packed 65536 (tallies markTests is)) few-faults)
-      (none-fails startOf es ∙ ap (λ (x : Bool). partsFrom false is && (settledTest noRun is && x)) (chain-start es))
+      (none-fails startOf es ∙ rw (runs-start is, chain-start es))
 
   pub long-told : end .marks / 65536 % 65536 ≡ count isLong is
   unfolding packed tallies

@@ -1,6 +1,7 @@
 pub mod Packed
 pub mod Steps
 pub mod Powers
+pub mod Runs
 pub mod Fold
 pub mod Loop
 pub mod Told

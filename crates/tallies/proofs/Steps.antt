@@ -2,43 +2,28 @@
 -- Assumes nothing.
 use Prim.Native.Nat.{ℕ, zero, suc, _+_, _<_}
 use mathlib.Core.Path.{_≡_, refl, sym, _∙_}
-use mathlib.Core.Bool.{Bool, true, false, true≢false, not, _&&_, _||_, and-true}
+use mathlib.Core.Bool.{true, false, true≢false, cond, not, _&&_, _||_, and-false, and-true}
 use lib.Dec.{leb, eqb}
 use native.Mathlib.Omega.{arith}
-use borrow.Author.Tests.{eqb-true, eq-eqb, ne-eqb, le-leb, leb-false, lt-ltb}
+use borrow.Author.Tests.{eq-eqb, ne-eqb, le-leb, leb-false, lt-ltb}
 use Rattle.values.specs.Ranges.{between}
 use Rattle.tables.specs.Encode.{entry, bit}
 use Rattle.formats.specs.Tokens.{runAllowed}
-use Rattle.formats.specs.Items.{itemMakes, runOf, runOfElapsed, noRun, meansMinutes, monthOrMinute, settledItem, itemNumber}
+use Rattle.formats.specs.Items.{itemMakes, runOf, runOfElapsed}
 use Rattle.formats.specs.Limits.{elapsedShort}
 use Rattle.formats.specs.WellFormed.{isSeconds}
 use Rattle.tables.specs.Words.{Entry}
 use Rattle.tables.specs.Decode.{itemAt}
 use Rattle.tables.specs.Rules.{entryInRange}
 use Rattle.tallies.specs.declared.Walk.{Walk}
-use Rattle.tallies.specs.Walk.{runAt, runAfter, settles, weight, numberWeight, unitAfter, nextAfter, placeTest, powerTest, entrySound, tooLong, countedOf, placedOf, datedOf, stepOf}
+use Rattle.tallies.specs.Walk.{runAfter, earlierAfter, mayStand, answers, weight, numberWeight, unitAfter, nextAfter, placeTest, powerTest, entrySound, tooLong, countedOf, placedOf, datedOf, stepOf}
 use Rattle.lists.proofs.Bools.{by-cases, true-T}
 use Rattle.tables.proofs.BackEntries.{between-facts, span-at, late-tag}
 
--- opens all that a step at a known tag computes by; the rule for m stays shut
+-- opens all that a step at a known tag computes by
 unfoldable pub computed : Walk → Entry → Walk
-unfolding stepOf numberWeight weight bit unitAfter nextAfter powerTest entrySound settles settledItem runAfter runOf runOfElapsed itemAt itemMakes elapsedShort entryInRange runAllowed isSeconds
+unfolding stepOf numberWeight weight bit unitAfter nextAfter powerTest entrySound earlierAfter mayStand answers runAfter runOf runOfElapsed itemAt itemMakes elapsedShort entryInRange runAllowed isSeconds
 computed w e = stepOf w e
-
--- the rule for m keeps a month, keeps minutes
-pub month-stays : (isMinutes : Bool) (n : ℕ) → eqb (itemNumber (monthOrMinute isMinutes n)) 12 ≡ not (isMinutes && leb n 2)
-unfolding monthOrMinute
-month-stays b n = by-cases (b && leb n 2) (λ e. rw e) (λ e. rw e)
-
-pub minute-stays : (isMinutes : Bool) (n : ℕ) → eqb (itemNumber (monthOrMinute isMinutes n)) 15 ≡ (isMinutes && leb n 2)
-unfolding monthOrMinute
-minute-stays b n = by-cases (b && leb n 2) (λ e. rw e) (λ e. rw e)
-
-pub means-by-number : (n : ℕ) → eqb n 1 ≡ meansMinutes (runAt n) noRun
-unfolding runAt meansMinutes
-means-by-number n =
-    by-cases (eqb n 1) (λ e. rw (eqb-true n 1 e))
-    (λ e. rw e (by-cases (eqb n 0) (λ f. rw f) (λ f. rw f (by-cases (eqb n 2) (λ g. rw g) (λ g. rw g)))))
 
 -- ---- each tag by its weights
 module _ (w : Walk) (a : ℕ) where
@@ -98,6 +83,18 @@ module _ (w : Walk) (a : ℕ) where
   pub year-step : datedOf w 0 1 (eqb a 2 || eqb a 4) 0 3 0 ≡ stepOf w (entry 11 a)
   unfolding computed
   year-step = refl
+
+  pub month-step : datedOf w 0 1 (not (leb a 2 && eqb (w .earlier) 1) && between 1 5 a) 0 (cond (leb a 2) 4 3) 0 ≡ stepOf w (entry 12 a)
+  unfolding computed
+  month-step =
+      by-cases (leb a 2) (λ k. rw k (by-cases (eqb (w .earlier) 1) (λ h. rw h (by-cases (eqb (w .earlier) 5) (λ m. rw m) (λ m. rw m))) (λ h. rw h)))
+      (λ k. rw k)
+
+  pub minute-step : datedOf w 0 65536 (between 1 2 a) 0 (cond (eqb (w .earlier) 1) 3 5) 0 ≡ stepOf w (entry 15 a)
+  unfolding computed
+  minute-step =
+      by-cases (leb a 2) (λ k. rw k (by-cases (eqb (w .earlier) 1) (λ h. rw h) (λ h. rw h)))
+      (λ k. by-cases (eqb (w .earlier) 1) (λ h. simp (k, h, and-false)) (λ h. simp (k, h, and-false)))
 
   pub day-step : datedOf w 0 1 (between 1 4 a) 0 3 0 ≡ stepOf w (entry 13 a)
   unfolding computed

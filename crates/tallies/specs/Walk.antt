@@ -9,7 +9,7 @@ use lib.Dec.{leb, ltb, eqb}
 use Rattle.values.specs.Ranges.{between}
 use Rattle.lists.specs.Lists.{count}
 use Rattle.formats.specs.Tokens.{hours, minutes, seconds}
-use Rattle.formats.specs.Items.{Item, itemNumber, isFill, isPlace, isPoint, isPercent, isGeneral, isHour, isMinute, isSecond, isPart, isElapsed, isElapsedOf, isHalf, Run, hourRun, secondRun, otherRun, noRun, runOf, settledItem}
+use Rattle.formats.specs.Items.{Item, itemRow, itemNumber, isFill, isPlace, isPoint, isPercent, isGeneral, isMonth, isHour, isMinute, isSecond, isPart, isElapsed, isElapsedOf, isHalf, Run, hourRun, secondRun, otherRun, noRun, runOf}
 use Rattle.formats.specs.Where.{implies}
 use Rattle.formats.specs.Limits.{elapsedShort}
 use Rattle.formats.specs.WellFormed.{isSeconds}
@@ -64,7 +64,8 @@ unfoldable pub unitAfter : ℕ → Item → ℕ
 unitAfter unit i = cond (isFirstPoint unit i) 65536 unit
 
 -- ---- the rule for m
--- the nearest earlier run as a number
+-- the nearest earlier run as a number; 4 and 5 are an m of 1 or 2 said to be a month, and one said to be minutes with no hours before
+-- it: whether that is right the next run tells
 unfoldable pub runAt : ℕ → Run
 runAt n = cond (eqb n 0) noRun (cond (eqb n 1) hourRun (cond (eqb n 2) secondRun otherRun))
 
@@ -74,9 +75,25 @@ runAfter hourRun n = 1
 runAfter secondRun n = 2
 runAfter otherRun n = 3
 
--- the rule for m changes no item's number, whatever run is later
-unfoldable pub settles : Run → Item → Bool
-settles earlier i = eqb (itemNumber (settledItem earlier noRun i)) (itemNumber i)
+abbrev pub isShort : Item → Bool
+isShort i = leb (itemRow i .argument) 2
+
+unfoldable pub earlierAfter : ℕ → Item → ℕ
+earlierAfter n i = cond (isMonth i && isShort i) 4 (cond (isMinute i && not (eqb n 1)) 5 (runAfter (runOf i) n))
+
+-- what an m is said to be as far as the run before it tells: a short month is not behind hours, minutes are short
+unfoldable pub mayStand : ℕ → Item → Bool
+mayStand n i = implies (isMonth i && isShort i) (not (eqb n 1)) && implies (isMinute i) (isShort i)
+
+-- a run tells that the m before it is what it is said to be: no month before seconds, no minutes before another run
+abbrev pub answered : ℕ → ℕ → Bool
+answered n run = cond (eqb run 2) (not (eqb n 4)) (not (eqb n 5))
+
+unfoldable pub answers : ℕ → Run → Bool
+answers n noRun = true
+answers n hourRun = answered n 1
+answers n secondRun = answered n 2
+answers n otherRun = answered n 3
 
 -- ---- the powers
 -- the argument that the next place must have; 65536 before the first place, whose argument tells all others
@@ -103,7 +120,7 @@ powerTest unit next e =
 unfoldable pub entrySound : Walk → Entry → Bool
 entrySound w e =
     implies (isPart (itemAt e)) (eqb (w .behind) 1)
-    && (settles (runAt (w .earlier)) (itemAt e)
+    && ((mayStand (w .earlier) (itemAt e) && answers (w .earlier) (runOf (itemAt e)))
     && (powerTest (w .unit) (w .next) e && (isPlace (itemAt e) || entryInRange e)))
 
 abbrev pub faultOf : Bool → ℕ
@@ -119,7 +136,7 @@ stepOf w e =
       marks = w .marks + (faultOf (entrySound w e) + 65536 * weight 65536 markTests i);
       unit = unitAfter (w .unit) i;
       next = nextAfter (w .unit) (w .next) e;
-      earlier = runAfter (runOf i) (w .earlier);
+      earlier = earlierAfter (w .earlier) i;
       behind = bit (isSeconds i);
     }
 
@@ -137,7 +154,7 @@ pub record Walked (es : List Entry) (w : Walk) : Type 0 where
 
 -- ---- the end
 abbrev pub soundTold : Walk → Bool
-soundTold w = eqb (w .marks % 65536) 0 && (eqb (w .unit) 65536 || ended (w .next))
+soundTold w = eqb (w .marks % 65536) 0 && (not (eqb (w .earlier) 5) && (eqb (w .unit) 65536 || ended (w .next)))
 
 -- the digits of the numbers
 abbrev pub finishedOf : Walk → Tally
@@ -198,7 +215,7 @@ datedOf w other date fits mark run behind =
       numbers = w .numbers + 0;
       others = w .others + other;
       dates = w .dates + date;
-      marks = w .marks + (faultOf fits + mark);
+      marks = w .marks + (faultOf (answered (w .earlier) run && fits) + mark);
       unit = w .unit;
       next = w .next;
       earlier = run;

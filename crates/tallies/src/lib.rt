@@ -1,14 +1,14 @@
 // One pass over a section's item words: what its rules ask of its items.
 ghost use mathlib.Core.Path.{_≡_};
+ghost use mathlib.Core.Bool.{cond};
 ghost use mathlib.Core.List.{List};
 ghost use Prim.Native.Nat.{_≤_};
 ghost use lib.ListN.{length};
 ghost use Rattle.values.specs.Ranges.{between};
-ghost use Rattle.formats.specs.Items.{meansMinutes, noRun};
 ghost use Rattle.tables.specs.Words.{Entry, entriesIn};
 ghost use Rattle.tables.specs.Encode.{entry};
 ghost use Rattle.tallies.specs.Tally.{tallyOf, itemsOf, hasPlaces, hasNumberItems, kindTold, allowedTold, noPlainTold, itemsFitTold, withinTold, decimalsTold};
-ghost use Rattle.tallies.specs.Walk.{runAt, lower, faultOf, tooLong, countedOf, datedOf, stepOf, startOf, Walked, Few, Weights};
+ghost use Rattle.tallies.specs.Walk.{answered, lower, faultOf, tooLong, countedOf, datedOf, stepOf, startOf, Walked, Few, Weights};
 use tables::kinds;
 use tables::tags;
 use values::integers::is_between;
@@ -83,7 +83,8 @@ const ANY_POWER: u64 = 65536;
 
 const DECIMAL_POWER: u64 = 15;
 
-// The nearest earlier run: none, hours, seconds or another.
+// The nearest earlier run: none, hours, seconds or another. An m of 1 or 2 that nothing before it makes minutes waits for the next
+// run: said to be a month, it is wrong before seconds; said to be minutes, it is right before them alone.
 const NO_RUN: u64 = 0;
 
 const HOUR_RUN: u64 = 1;
@@ -91,6 +92,10 @@ const HOUR_RUN: u64 = 1;
 const SECOND_RUN: u64 = 2;
 
 const OTHER_RUN: u64 = 3;
+
+const MONTH_WAITS: u64 = 4;
+
+const MINUTES_WAIT: u64 = 5;
 
 // Whether the item just before is seconds.
 const OTHER_BEFORE: u64 = 0;
@@ -209,50 +214,57 @@ fn point(w: Walk, a: u16) -> Walk
     counted(w, POINTS, 0, 0, a == 0, 0)
 }
 
+// Whether a run is right behind the nearest earlier one: an m that waits is what it is said to be.
+fn answers(earlier: u64, run: u64) -> bool
+    ensures { λ r. ⌜ r ≡ answered earlier run ⌝ }
+{
+    if run == SECOND_RUN {
+        return earlier != MONTH_WAITS;
+    }
+    earlier != MINUTES_WAIT
+}
+
 // A date or time run, by its weight, the answer of its own tests, its number, and whether it is seconds.
 fn dated(w: Walk, date: u64, fits: bool, run: u64, behind: u64) -> Walk
     requires { ⌜ Few 253 w × Weights 0 0 date 0 ⌝ }
     ensures { λ r. ⌜ r ≡ datedOf w 0 date fits 0 run behind ⌝ }
 {
-    let mut d = counted(w, 0, 0, date, fits, 0);
+    let right = answers(w.earlier, run);
+    let mut d = counted(w, 0, 0, date, right & fits, 0);
     d.earlier = run;
     d.behind = behind;
     d
 }
 
-// The rule for m, by the nearest earlier run.
-fn means_minutes(earlier: u64) -> bool
-    ensures { λ r. ⌜ r ≡ meansMinutes (runAt earlier) noRun ⌝ }
+fn month_run(short: bool) -> u64
+    ensures { λ r. ⌜ r ≡ cond short 4 3 ⌝ }
 {
-    earlier == HOUR_RUN
+    if short { MONTH_WAITS } else { OTHER_RUN }
 }
 
+fn minutes_run(hours: bool) -> u64
+    ensures { λ r. ⌜ r ≡ cond hours 3 5 ⌝ }
+{
+    if hours { OTHER_RUN } else { MINUTES_WAIT }
+}
+
+// A month of 1 or 2 does not stand behind hours.
 fn month(w: Walk, a: u16) -> Walk
     requires { ⌜ Few 253 w ⌝ }
     ensures { λ r. ⌜ r ≡ stepOf w (entry 12 a) ⌝ }
 {
-    let minutes = means_minutes(w.earlier) & (a <= 2);
-    dated(
-        w,
-        DAYS,
-        !minutes & is_between(1, 5, a),
-        OTHER_RUN,
-        OTHER_BEFORE,
-    )
+    let short = a <= 2;
+    let minutes = short & (w.earlier == HOUR_RUN);
+    let run = month_run(short);
+    dated(w, DAYS, !minutes & is_between(1, 5, a), run, OTHER_BEFORE)
 }
 
 fn minute(w: Walk, a: u16) -> Walk
     requires { ⌜ Few 253 w ⌝ }
     ensures { λ r. ⌜ r ≡ stepOf w (entry 15 a) ⌝ }
 {
-    let minutes = means_minutes(w.earlier) & (a <= 2);
-    dated(
-        w,
-        MINUTES,
-        minutes & is_between(1, 2, a),
-        OTHER_RUN,
-        OTHER_BEFORE,
-    )
+    let run = minutes_run(w.earlier == HOUR_RUN);
+    dated(w, MINUTES, is_between(1, 2, a), run, OTHER_BEFORE)
 }
 
 // A part of a second stands directly behind seconds.
@@ -281,7 +293,8 @@ fn elapsed(w: Walk, date: u64, a: u16, run: u64, behind: u64) -> Walk
     ensures { λ r. ⌜ r ≡ datedOf w 4294967296 date (between 1 9 a) (tooLong a) run behind ⌝ }
 {
     let mark = too_long(a);
-    let mut d = counted(w, 0, ELAPSED_RUNS, date, is_between(1, 9, a), mark);
+    let right = answers(w.earlier, run);
+    let mut d = counted(w, 0, ELAPSED_RUNS, date, right & is_between(1, 9, a), mark);
     d.earlier = run;
     d.behind = behind;
     d
@@ -465,6 +478,7 @@ pub fn is_dated(w: Walk) -> bool
     (w.numbers == 0)
         & (0 < w.dates)
         & (w.marks % 65536 == 0)
+        & (w.earlier != MINUTES_WAIT)
         & (w.others % FILLS == 0)
         & (w.others / FILLS % 65536 <= 1)
         & (w.others / ELAPSED_RUNS <= 1)

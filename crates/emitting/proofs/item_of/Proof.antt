@@ -7,24 +7,6 @@ use borrow.Author.Needs.{needs}
 use Rattle.emitting.proofs.item_of.Statement.{statement}
 use Rattle.emitting.proofs.item_of.Tie as tie
 
-add-t7 : tie.Need-add-t7
-add-t7 c = search needs
-
-add-t8 : tie.Need-add-t8
-add-t8 c = search needs
-
-add-t9 : tie.Need-add-t9
-add-t9 c = search needs
-
-made-if-requires : tie.Need-made-if-requires
-made-if-requires c κs = search needs
-
-made-if-requires-2 : tie.Need-made-if-requires-2
-made-if-requires-2 c κs = search needs
-
-made-if-requires-3 : tie.Need-made-if-requires-3
-made-if-requires-3 c κs = search needs
-
 returns : tie.Need-returns
 returns c = rw (c .match .keys1)
 
@@ -68,7 +50,7 @@ returns-14 : tie.Need-returns-14
 returns-14 c = rw (c .match .keys14)
 
 returns-15 : tie.Need-returns-15
-returns-15 c = rw (c .before .match .keys15) (c .made-if3 .ensures)
+returns-15 c = rw (c .match .keys15)
 
 returns-16 : tie.Need-returns-16
 returns-16 c = rw (c .match .keys16)
@@ -97,12 +79,11 @@ pub item-of-spec : {M : Type 1} → statement M
 item-of-spec =
     tie.close
     (tie.spec
-    add-t7
-    add-t8
-    add-t9
-    made-if-requires
-    made-if-requires-2
-    made-if-requires-3
+    (λ c. search needs)
+    (λ c. search needs)
+    (λ c. search needs)
+    (λ c κs. search needs)
+    (λ c κs. search needs)
     returns
     returns-2
     returns-3

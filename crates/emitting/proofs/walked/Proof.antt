@@ -7,9 +7,6 @@ use Rattle.emitting.proofs.walked.Tie as tie
 seconds-at-requires : tie.Need-seconds-at-requires
 seconds-at-requires c κs = search needs
 
-hours-after-requires : tie.Need-hours-after-requires
-hours-after-requires c κs = search needs
-
 digit-after-requires : tie.Need-digit-after-requires
 digit-after-requires c κs = search needs
 
@@ -19,15 +16,13 @@ fills-after-requires c κs = search needs
 returns : tie.Need-returns
 returns c =
     let d = c .before in
-    let h = d .before in
-    rw (h .before .seconds-at .ensures, h .hours-after .ensures, d .digit-after .ensures, c .fills-after .ensures)
+    rw (d .before .seconds-at .ensures, d .digit-after .ensures, c .fills-after .ensures)
 
 pub walked-spec : {M : Type 1} → statement M
 walked-spec =
     tie.close
     (tie.spec
     seconds-at-requires
-    hours-after-requires
     digit-after-requires
     fills-after-requires
     returns)
