@@ -134,8 +134,6 @@ static bool date_item_fits(unsigned tag, unsigned argument, unsigned seen, unsig
         return argument != 3;
     case MONTH:
         return argument > 2 || (run & HOURS) == 0;
-    case MINUTE:
-        return (run & HOURS) != 0;
     case PART:
         return (before & SECONDS) != 0;
     default:
@@ -143,20 +141,38 @@ static bool date_item_fits(unsigned tag, unsigned argument, unsigned seen, unsig
     }
 }
 
+/* The bit of an m of 1 or 2 that no hours before it make minutes: the next run tells whether it is right. 0 for other runs. */
+static unsigned waits(unsigned tag, unsigned argument, unsigned run)
+{
+    bool is_short = tag == MINUTE || (tag == MONTH && argument <= 2);
+
+    return is_short && (run & HOURS) == 0 ? BIT(tag) : 0;
+}
+
+/* Minutes stand before seconds, a month does not. */
+static bool answers(unsigned waiting, unsigned run)
+{
+    return waiting == 0 || (waiting == BIT(MINUTE)) == ((run & SECONDS) != 0);
+}
+
 static bool date_fits(const uint16_t *head, const uint16_t *item, const uint16_t *end, unsigned no_minus)
 {
-    unsigned seen = 0, run = 0, before = 0, elapsed;
+    unsigned seen = 0, run = 0, before = 0, waiting = 0, elapsed;
 
     for (; item < end; item += ITEM_WORDS) {
         if (!date_item_fits(item[0], item[1], seen, run, before))
             return false;
         before = BIT(item[0]);
         seen |= before;
-        if (before & RUNS)
+        if (before & RUNS) {
+            if (!answers(waiting, before))
+                return false;
+            waiting = waits(item[0], item[1], run);
             run = before;
+        }
     }
     elapsed = seen & ELAPSED;
-    return (seen & RUNS) != 0 && (elapsed & (elapsed - 1)) == 0 && (elapsed >> TO_PLAIN & seen) == 0 &&
+    return (seen & RUNS) != 0 && waiting != BIT(MINUTE) && (elapsed & (elapsed - 1)) == 0 && (elapsed >> TO_PLAIN & seen) == 0 &&
            head[FLAGS] == (no_minus | (seen & BIT(HALF_DAY) ? TWELVE_HOUR : 0)) &&
            (head[SHIFT] | head[DECIMALS]) == 0;
 }

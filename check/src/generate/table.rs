@@ -301,14 +301,12 @@ fn date_time(random: &mut Random, section: &mut Section) {
     let elapsed = random.weighted(&[70, 10, 10, 10]);
     let total = random.between(1, 7);
     let elapsed_at = random.below(total);
-    let mut hours_before = false;
     for index in 0..total {
         let item = if elapsed > 0 && index == elapsed_at {
             [17 + elapsed as u16, random.between(1, 9) as u16]
         } else {
-            plain_item(random, elapsed, hours_before)
+            plain_item(random, elapsed)
         };
-        hours_before = matches!(item[0], 14 | 18);
         section.items.push(item);
         if matches!(item[0], 16 | 20) && random.chance(40) {
             section.items.push([17, random.between(1, 3) as u16]);
@@ -318,23 +316,40 @@ fn date_time(random: &mut Random, section: &mut Section) {
         }
         maybe_literal(random, &mut section.items);
     }
+    tell_minutes(random, elapsed, &mut section.items);
     if section.items.iter().any(|one| one[0] == 21) {
         section.flags |= 4;
     }
 }
 
-/// A plain date item that fits behind what stands before it and beside the section's elapsed item
-/// (1 hours, 2 minutes, 3 seconds).
-fn plain_item(random: &mut Random, elapsed: usize, hours_before: bool) -> [u16; 2] {
+/// Short m runs behind hours or before seconds become minutes, or long months where the section has
+/// elapsed minutes.
+fn tell_minutes(random: &mut Random, elapsed: usize, items: &mut [[u16; 2]]) {
+    let is_run = |one: &&[u16; 2]| matches!(one[0], 11..=16 | 18..=20);
+    for at in 0..items.len() {
+        let earlier = items[..at].iter().rev().find(is_run);
+        let later = items[at + 1..].iter().find(is_run);
+        let minutes = earlier.is_some_and(|one| matches!(one[0], 14 | 18))
+            || later.is_some_and(|one| matches!(one[0], 16 | 20));
+        if minutes && items[at][0] == 12 && items[at][1] <= 2 {
+            items[at] = match elapsed {
+                2 => [12, random.between(3, 5) as u16],
+                _ => [15, items[at][1]],
+            };
+        }
+    }
+}
+
+/// A plain date item that fits beside the section's elapsed item (1 hours, 2 minutes, 3 seconds); an
+/// m is a month for now.
+fn plain_item(random: &mut Random, elapsed: usize) -> [u16; 2] {
     let run = |random: &mut Random, most| random.between(1, most) as u16;
     match random.below(7) {
         0 => [11, random.pick(&[2, 4])],
         1 => [13, run(random, 4)],
         2 if elapsed != 1 => [14, run(random, 2)],
         3 if elapsed != 3 => [16, run(random, 2)],
-        4 | 5 if hours_before && elapsed == 2 => [12, random.between(3, 5) as u16],
-        4 | 5 if hours_before => [15, run(random, 2)],
-        _ if hours_before => [12, random.between(3, 5) as u16],
+        4 | 5 => [12, run(random, 2)],
         _ => [12, run(random, 5)],
     }
 }

@@ -292,15 +292,21 @@ fn plain_unit(body: &[Token], at: usize) -> Option<u8> {
     }
 }
 
-/// The rule for m and mm: minutes when the nearest earlier run or elapsed token is hours.
+/// The rule for m and mm: minutes when the nearest earlier run or elapsed token is hours, or the
+/// nearest later one is seconds.
 pub fn means_minutes(body: &[Token], at: usize) -> bool {
     let short = matches!(body[at], Token::Run { letter: b'm', length } if length <= 2);
     let earlier = body[..at].iter().rev().find(|token| is_date_token(token));
-    let hours = matches!(
-        earlier,
-        Some(Token::Run { letter: b'h', .. } | Token::Elapsed { letter: b'h', .. })
-    );
-    short && hours
+    let later = body[at + 1..].iter().find(|token| is_date_token(token));
+    short && (is_unit(earlier, b'h') || is_unit(later, b's'))
+}
+
+/// A run or an elapsed token of this letter.
+fn is_unit(token: Option<&Token>, wanted: u8) -> bool {
+    match token {
+        Some(Token::Run { letter, .. } | Token::Elapsed { letter, .. }) => *letter == wanted,
+        _ => false,
+    }
 }
 
 /// Document 01, "Where".

@@ -145,13 +145,16 @@ fn date_items(entry: &Entry) -> bool {
         && elapsed_stands_alone(entry)
 }
 
-/// An m run of 1 or 2 is minutes exactly when the nearest earlier date item is hours.
+/// An m run of 1 or 2 is minutes exactly when the nearest earlier date item is hours, or the nearest
+/// later one is seconds.
 fn minutes_rule(items: &[Item], at: usize) -> bool {
     let earlier = items[..at].iter().rev().find(|i| is_date_item(i.number));
-    let hours = earlier.is_some_and(|one| matches!(one.number, item::HOUR | item::ELAPSED_HOURS));
+    let later = items[at + 1..].iter().find(|i| is_date_item(i.number));
+    let minutes = earlier.is_some_and(|i| matches!(i.number, item::HOUR | item::ELAPSED_HOURS))
+        || later.is_some_and(|i| matches!(i.number, item::SECOND | item::ELAPSED_SECONDS));
     match items[at].number {
-        item::MONTH => items[at].operand > 2 || !hours,
-        item::MINUTE => hours,
+        item::MONTH => items[at].operand > 2 || !minutes,
+        item::MINUTE => minutes,
         _ => true,
     }
 }
