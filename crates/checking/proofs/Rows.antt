@@ -4,7 +4,7 @@ use Prim.Native.Nat.{ℕ, _+_, _*_, _≤_, _<_}
 use native.Mathlib.Omega.{arith}
 use mathlib.Core.Path.{_≡_, refl, sym, _∙_, ap}
 use mathlib.Core.List.{List}
-use mathlib.Core.Bool.{Bool, true, false, true≢false, cond, not, _&&_, _||_}
+use mathlib.Core.Bool.{Bool, true, false, true≢false, cond, not, _&&_, _||_, and-true}
 use lib.Dec.{T, leb, ltb, eqb, leb→le, le→leb, ltb→lt, eqb→eq}
 use borrow.Author.Tests.{eq-eqb, ne-eqb, lt-ltb, lt-leb, leb-false, not-true, not-false}
 use Rattle.lists.specs.Lists.{every, count}
@@ -23,10 +23,13 @@ use Rattle.tables.proofs.Ranges.{HeadRanges, head-ranges, head-in-ranges}
 use Rattle.tables.proofs.Back.{RowFacts, row-facts}
 use Rattle.tables.proofs.BackEntries.{items-ranged}
 use Rattle.tables.proofs.Standing.{number-word}
-use Rattle.tallies.specs.declared.Tally.{Tally}
-use Rattle.tallies.specs.Tally.{tallyOf, soundEntries, itemsOf}
+use Rattle.tallies.specs.declared.date_rows.DatedRow.{DatedRow}
+use Rattle.tallies.specs.declared.number_rows.NumberRow.{NumberRow}
+use Rattle.tallies.specs.Tally.{soundEntries, itemsOf}
+use Rattle.tallies.specs.DateRows.{DateTold}
+use Rattle.tallies.specs.NumberRows.{numberItems, NumberTold}
 use Rattle.tallies.proofs.Powers.{places-counted}
-use Rattle.tallies.proofs.Told.{half-told, no-figures, no-half}
+use Rattle.tallies.proofs.Told.{no-figures, no-half}
 use Rattle.table_words.specs.declared.HeadWords.{HeadWords}
 use Rattle.table_words.specs.Sections.{headFrom}
 use Rattle.checking.specs.Checking.{agree, conditionTold, numberTold, otherTold, rowWith, halfFits, rowGood}
@@ -221,14 +224,16 @@ module _ (h : Head) (es : List Entry) where
 
   -- ---- a number section
   module _ (k : h .kind ≡ 2) where
-    number-in : Front h → ItemFacts (h .kind) es → T (numberTold (h .shift) (h .flags) (h .decimals) (tallyOf es)) → T (rowGood row)
-    unfolding numberTold tallyOf groupingFits sectionAt halfFits
-    number-in front f t =
+    number-in : Front h → T (numberItems es) → T (numberTold h (integerPlaces is) (decimalPlaces is) (count isPercent is))
+        → T (rowGood row)
+    unfolding numberItems numberTold groupingFits sectionAt halfFits
+    number-in front items t =
+        let f : ItemFacts (h .kind) es = rw k (item-facts 2 es (and-left (itemsOf 2 es) _ items)) in
         let number = number-kind f k in
-        let shifted : T (shiftTells (h .shift) (count isPercent is)) = search and-left in
         let integers : T (leb (integerPlaces is) 20) = search (and-left, and-right) depth 8 in
         let places : T (leb (decimalPlaces is) 15) = search (and-left, and-right) depth 8 in
         let percents : T (leb (count isPercent is) 5) = search (and-left, and-right) depth 8 in
+        let shifted : T (shiftTells (h .shift) (count isPercent is)) = search and-left in
         let same : T (eqb (h .decimals) (decimalPlaces is)) = search (and-left, and-right) depth 8 in
         let flags : h .flags < 4 = search (and-left, and-right, ltb→lt) depth 8 in
         let grouping : T (not (groupedAt (h .flags)) || leb 2 (integerPlaces is)) = search and-right depth 8 in
@@ -241,9 +246,11 @@ module _ (h : Head) (es : List Entry) where
         (carry (sym (decimals-by true number)) same)
         (neither (leb 4 (h .flags)) (hasHalf is) (lt-leb 4 (h .flags) flags) (none-half f (λ e. absurd (omega (arith, k, e)))))
 
-    number-out : RowFacts row → T (halfFits row) → T (numberTold (h .shift) (h .flags) (h .decimals) (tallyOf es))
-    unfolding numberTold tallyOf groupingFits sectionAt halfFits
+    number-out : RowFacts row → T (halfFits row)
+        → T (numberItems es) × T (numberTold h (integerPlaces is) (decimalPlaces is) (count isPercent is))
+    unfolding numberItems numberTold groupingFits sectionAt halfFits
     number-out r half =
+        let held : T (itemsOf 2 es) = rw k at (items-out r) in
         let f = item-facts (h .kind) es (items-out r) in
         let number = number-kind f k in
         let limits = carry (within-by true number) (r .within) in
@@ -255,11 +262,11 @@ module _ (h : Head) (es : List Entry) where
         let none = none-half f (λ e. absurd (omega (arith, k, e))) in
         let flags : T (ltb (h .flags) 4) = true-T (lt-ltb _ _ (leb-false 4 (h .flags) (not-either (leb 4 (h .flags)) (hasHalf is) none half))) in
         let grouping : T (not (groupedAt (h .flags)) || leb 2 (integerPlaces is)) = r .grouping in
-        search and-in depth 8
+        (search and-in depth 8, search and-in depth 8)
 
   -- ---- another section
   module _ (k : h .kind ≡ 2 → ⊥) where
-    other-in : Front h → ItemFacts (h .kind) es → T (otherTold (h .shift) (h .flags) (h .decimals) (hasHalf is)) → T (rowGood row)
+    other-in : Front h → ItemFacts (h .kind) es → T (otherTold h (hasHalf is)) → T (rowGood row)
     unfolding otherTold groupingFits sectionAt halfFits
     other-in front f t =
         let other = other-kind f k in
@@ -278,7 +285,7 @@ module _ (h : Head) (es : List Entry) where
         (carry (sym (within-by false other)) (search (and-in, le→leb) depth 6)) (carry (sym (shift-by false other)) shift)
         (carry (sym (decimals-by false other)) decimals) (search and-right)
 
-    other-out : RowFacts row → T (halfFits row) → T (otherTold (h .shift) (h .flags) (h .decimals) (hasHalf is))
+    other-out : RowFacts row → T (halfFits row) → T (otherTold h (hasHalf is))
     unfolding otherTold groupingFits sectionAt halfFits
     other-out r half =
         let f = item-facts (h .kind) es (items-out r) in
@@ -299,20 +306,21 @@ module _ (h : Head) (es : List Entry) where
       absurd (refuted r (condition-out h (r .head) (r .condition))))
       (λ e. sym e)
 
-  row-number : h .kind ≡ 2 → Front h → (itemsOf (h .kind) es && numberTold (h .shift) (h .flags) (h .decimals) (tallyOf es)) ≡ rowGood row
+  row-number : h .kind ≡ 2 → Front h
+      → (numberItems es && numberTold h (integerPlaces is) (decimalPlaces is) (count isPercent is)) ≡ rowGood row
   unfolding rowGood
   row-number k front =
-      let told = numberTold (h .shift) (h .flags) (h .decimals) (tallyOf es) in
-      same-test (itemsOf (h .kind) es && told) (rowGood row)
-      (λ t. number-in k front (item-facts (h .kind) es (and-left (itemsOf (h .kind) es) told t)) (and-right (itemsOf (h .kind) es) told t))
-      (λ t. let r = row-facts row (and-left (rowFits row) (halfFits row) t) in
-      and-in (itemsOf (h .kind) es) told (items-out r) (number-out k r (and-right (rowFits row) (halfFits row) t)))
+      let told = numberTold h (integerPlaces is) (decimalPlaces is) (count isPercent is) in
+      same-test (numberItems es && told) (rowGood row)
+      (λ t. number-in k front (and-left (numberItems es) told t) (and-right (numberItems es) told t))
+      (λ t. let o = number-out k (row-facts row (and-left (rowFits row) (halfFits row) t)) (and-right (rowFits row) (halfFits row) t) in
+      and-in (numberItems es) told (o .0) (o .1))
 
   row-other : (h .kind ≡ 2 → ⊥) → Front h → (half : Bool) → (T (itemsOf (h .kind) es) → half ≡ hasHalf is)
-      → (otherTold (h .shift) (h .flags) (h .decimals) half && itemsOf (h .kind) es) ≡ rowGood row
+      → (otherTold h half && itemsOf (h .kind) es) ≡ rowGood row
   unfolding rowGood
   row-other k front half same =
-      let told : Bool → Bool = λ b. otherTold (h .shift) (h .flags) (h .decimals) b in
+      let told : Bool → Bool = λ b. otherTold h b in
       same-test (told half && itemsOf (h .kind) es) (rowGood row)
       (λ t. let i = and-right (told half) (itemsOf (h .kind) es) t in
       other-in k front (item-facts (h .kind) es i) (carry (ap told (same i)) (and-left (told half) (itemsOf (h .kind) es) t)))
@@ -320,40 +328,52 @@ module _ (h : Head) (es : List Entry) where
       let i = items-out r in
       and-in (told half) (itemsOf (h .kind) es) (carry (sym (ap told (same i))) (other-out k r (and-right (rowFits row) (halfFits row) t))) i)
 
-  -- by what the tests of the items and of the head answered
-  pub no-number : h .kind ≡ 2 → (b : Bool) → b ≡ itemsOf 2 es → not b ≡ true → false ≡ rowGood row
-  no-number k b e n = refused (λ r t. carry (ap (λ (x : ℕ). itemsOf x es) k ∙ sym e ∙ not-true b n) (items-out r))
+  other-answer : (h .kind ≡ 2 → ⊥) → Front h → (half : Bool) → (T (itemsOf (h .kind) es) → half ≡ hasHalf is) → itemsOf (h .kind) es ≡ true
+      → otherTold h half ≡ rowGood row
+  other-answer k front half same held = sym (and-true (otherTold h half)) ∙ rw held at (row-other k front half same)
 
-  pub number-answer : h .kind ≡ 2 → Front h → (b : Bool) → b ≡ itemsOf 2 es → not b ≡ false → (t : Tally) → t ≡ tallyOf es
-      → (r : Bool) → r ≡ numberTold (h .shift) (h .flags) (h .decimals) t → r ≡ rowGood row
-  number-answer k front b e n t tally r told =
-      let fits : itemsOf (h .kind) es ≡ true = ap (λ (x : ℕ). itemsOf x es) k ∙ sym e ∙ not-false b n in
-      told ∙ ap (numberTold (h .shift) (h .flags) (h .decimals)) tally ∙ rw fits at (row-number k front)
+  -- by what the items and the tests of the head answered
+  pub no-number : h .kind ≡ 2 → Front h → (n : NumberRow) → NumberTold es n → n .fits ≡ false → false ≡ rowGood row
+  no-number k front n t e = rw (sym (t .fits) ∙ e) at (row-number k front)
 
-  pub dated-answer : h .kind ≡ 4 → Front h → (t : Tally) → t ≡ tallyOf es → (a b : Bool)
-      → a ≡ otherTold (h .shift) (h .flags) (h .decimals) (t .halves) → b ≡ itemsOf 4 es → (a && b) ≡ rowGood row
-  dated-answer k front t tally a b e f =
-      let half : t .halves ≡ hasHalf is = ap (λ (x : Tally). x .halves) tally ∙ half-told es in
-      rw (e, f, ← k) (row-other (λ x. absurd (omega (arith, k, x))) front (t .halves) (λ i. half))
+  pub number-answer : h .kind ≡ 2 → Front h → (n : NumberRow) → NumberTold es n → n .fits ≡ true
+      → (r : Bool) → r ≡ numberTold h (n .integers) (n .decimals) (n .percents) → r ≡ rowGood row
+  number-answer k front n t e r told =
+      told ∙ rw (t .integers e, t .decimals e, t .percents e) (rw (sym (t .fits) ∙ e) at (row-number k front))
+
+  pub no-dates : h .kind ≡ 4 → (n : DatedRow) → DateTold es n → n .fits ≡ false → false ≡ rowGood row
+  no-dates k n t e = refused (λ r c. carry (ap (λ (x : ℕ). itemsOf x es) k ∙ sym (t .fits) ∙ e) (items-out r))
+
+  pub dated-answer : h .kind ≡ 4 → Front h → (n : DatedRow) → DateTold es n → n .fits ≡ true
+      → (r : Bool) → r ≡ otherTold h (n .halves) → r ≡ rowGood row
+  dated-answer k front n t f r e =
+      let held : itemsOf (h .kind) es ≡ true = ap (λ (x : ℕ). itemsOf x es) k ∙ sym (t .fits) ∙ f in
+      e ∙ other-answer (λ x. absurd (omega (arith, k, x))) front (n .halves) (λ i. t .halves f) held
+
+  pub no-bare : (b : Bool) → b ≡ itemsOf (h .kind) es → not b ≡ true → false ≡ rowGood row
+  no-bare b e n = refused (λ r c. carry (sym e ∙ not-true b n) (items-out r))
 
   -- only a date-time section has a half-day mark
-  pub bare-answer : (h .kind ≡ 2 → ⊥) → (h .kind ≡ 4 → ⊥) → Front h → (a b : Bool)
-      → a ≡ otherTold (h .shift) (h .flags) (h .decimals) false → b ≡ itemsOf (h .kind) es → (a && b) ≡ rowGood row
-  bare-answer k n front a b e f =
-      rw (e, f) (row-other k front false (λ i. sym (none-half (item-facts (h .kind) es i) n)))
+  pub bare-answer : (h .kind ≡ 2 → ⊥) → (h .kind ≡ 4 → ⊥) → Front h → (b : Bool) → b ≡ itemsOf (h .kind) es → not b ≡ false
+      → (r : Bool) → r ≡ otherTold h false → r ≡ rowGood row
+  bare-answer k n front b e t r told =
+      told ∙ other-answer k front false (λ i. sym (none-half (item-facts (h .kind) es i) n)) (sym e ∙ not-false b t)
 
 -- ---- the head as it was read
 pub rowed : (h : HeadWords) (head : Head) (es : List Entry) (r : Bool) → headFrom h ≡ head → r ≡ rowGood (rowWith (headFrom h) es) → r ≡ rowGood (rowWith head es)
 rowed h head es r e g = g ∙ ap (λ (x : Head). rowGood (rowWith x es)) e
 
--- it is read again behind the items: what was tested of it before holds of it
-pub front-of : (h first : HeadWords) (head : Head) → headFrom h ≡ head → headFrom first ≡ head → head .items ≤ 254
+-- what was tested of it before the items
+pub front-of : (h : HeadWords) (head : Head) → headFrom h ≡ head → head .items ≤ 254
     → (h .«whole_low» < 65536) × (h .«whole_high» < 65536) × (h .«millionths_low» < 65536) × (h .«millionths_high» < 65536)
-    → first .colour ≤ 56 → conditionTold (headFrom first) ≡ true → Front (headFrom h)
-front-of h first head e f few words colour condition =
-    record {
-      items = omega (arith, ap (λ (x : Head). x .items) e);
-      words = words;
-      colour = omega (arith, ap (λ (x : Head). x .colour) e, ap (λ (x : Head). x .colour) f);
-      condition = ap conditionTold (e ∙ sym f) ∙ condition;
-    }
+    → h .colour ≤ 56 → conditionTold (headFrom h) ≡ true → Front (headFrom h)
+front-of h head e few words colour condition =
+    record { items = omega (arith, ap (λ (x : Head). x .items) e); words = words; colour = colour; condition = condition }
+
+-- what is tested of it behind them, where it is read again
+module _ (h again : HeadWords) (head : Head) (e : headFrom h ≡ head) (f : headFrom again ≡ head) (r : Bool) where
+  pub number-again : (i d p : ℕ) → r ≡ numberTold (headFrom again) i d p → r ≡ numberTold (headFrom h) i d p
+  number-again i d p t = t ∙ ap (λ (x : Head). numberTold x i d p) (f ∙ sym e)
+
+  pub other-again : (half : Bool) → r ≡ otherTold (headFrom again) half → r ≡ otherTold (headFrom h) half
+  other-again half t = t ∙ ap (λ (x : Head). otherTold x half) (f ∙ sym e)

@@ -13,7 +13,6 @@ use Rattle.tables.specs.Encode.{hasHalf}
 use Rattle.tables.specs.Standing.{headStands, countedKinds}
 use Rattle.tables.specs.Decode.{wholeAt, millionthsAt, itemsAt, groupedAt}
 use Rattle.tables.specs.Rules.{shiftTells, rowFits}
-use Rattle.tallies.specs.declared.Tally.{Tally}
 
 -- both or neither
 abbrev pub agree : Bool → Bool → Bool
@@ -44,21 +43,15 @@ comparedTold operator negative whole millionths =
 unfoldable pub conditionTold : Head → Bool
 conditionTold h = comparedTold (h .operator) (h .negative) (wholeAt h) (millionthsAt h)
 
--- what a number section's head must say beside the tally of its items
-unfoldable pub numberTold : ℕ → ℕ → ℕ → Tally → Bool
-numberTold shift flags decimals t =
-    shiftTells shift (t .percents)
-    && (leb (t .integers) 20
-    && leb (t .decimals) 15
-    && leb (t .percents) 5
-    && eqb decimals (t .decimals)
-    && ltb flags 4
-    && (not (groupedAt flags) || leb 2 (t .integers)))
+-- what a number section's head must say beside its places and percents
+unfoldable pub numberTold : Head → ℕ → ℕ → ℕ → Bool
+numberTold h integers places percents =
+    shiftTells (h .shift) percents && (eqb (h .decimals) places && ltb (h .flags) 4 && (not (groupedAt (h .flags)) || leb 2 integers))
 
 -- another section's, which has a half-day mark or none
-unfoldable pub otherTold : ℕ → ℕ → ℕ → Bool → Bool
-otherTold shift flags decimals half =
-    eqb shift 0 && eqb decimals 0 && leb flags 7 && not (groupedAt flags) && agree (leb 4 flags) half
+unfoldable pub otherTold : Head → Bool → Bool
+otherTold h half =
+    eqb (h .shift) 0 && eqb (h .decimals) 0 && leb (h .flags) 7 && not (groupedAt (h .flags)) && agree (leb 4 (h .flags)) half
 
 abbrev pub rowWith : Head → List Entry → Row
 rowWith h es = record { head = h; entries = es }

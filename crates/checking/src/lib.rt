@@ -1,4 +1,4 @@
-// Whether words are a table: every table rule, in one pass over the items.
+// Whether words are a table: every table rule, those for items by a walk for each sort of section.
 ghost use mathlib.Core.Path.{_≡_};
 ghost use mathlib.Core.Bool.{false};
 ghost use Prim.Native.Nat.{_+_, _*_, _≤_, _<_};
@@ -18,11 +18,10 @@ use table_words::section_count;
 use tables::flags;
 use tables::heads;
 use tables::kinds;
-use tallies::Tally;
+use tallies::date_rows::dated_row;
 use tallies::is_bare;
-use tallies::is_dated;
-use tallies::is_number;
-use tallies::tally_of;
+use tallies::number_rows::NumberRow;
+use tallies::number_rows::number_row;
 use tallies::walk_words;
 
 fn agree(a: bool, b: bool) -> bool
@@ -88,57 +87,59 @@ fn shift_tells(shift: u16, percents: u16) -> bool
 }
 
 // The words of a number section's head that its items tell: grouping needs two integer places.
-fn number_fits(shift: u16, flags: u16, decimals: u16, t: Tally) -> bool
-    ensures { λ r. ⌜ r ≡ numberTold shift flags decimals t ⌝ }
+fn number_fits(h: HeadWords, items: NumberRow) -> bool
+    ensures { λ r. ⌜ r ≡ numberTold (headFrom h) (items .integers) (items .decimals) (items .percents) ⌝ }
 {
-    if !shift_tells(shift, t.percents) {
+    if !shift_tells(h.shift, items.percents) {
         return false;
     }
-    (t.integers <= 20)
-        & (t.decimals <= 15)
-        & (t.percents <= 5)
-        & (decimals == t.decimals)
-        & (flags < flags::TWELVE_HOUR)
-        & (!(flags % 2 == flags::GROUPING) | (2 <= t.integers))
+    (h.decimals == items.decimals)
+        & (h.flags < flags::TWELVE_HOUR)
+        & (!(h.flags % 2 == flags::GROUPING) | (2 <= items.integers))
 }
 
 // Those of another section's head: nothing is shifted, and no digits are grouped.
-fn other_fits(shift: u16, flags: u16, decimals: u16, half: bool) -> bool
-    ensures { λ r. ⌜ r ≡ otherTold shift flags decimals half ⌝ }
+fn other_fits(h: HeadWords, half: bool) -> bool
+    ensures { λ r. ⌜ r ≡ otherTold (headFrom h) half ⌝ }
 {
-    (shift == 0)
-        & (decimals == 0)
-        & (flags <= flags::ALL)
-        & !(flags % 2 == flags::GROUPING)
-        & agree(flags::TWELVE_HOUR <= flags, half)
+    (h.shift == 0)
+        & (h.decimals == 0)
+        & (h.flags <= flags::ALL)
+        & !(h.flags % 2 == flags::GROUPING)
+        & agree(flags::TWELVE_HOUR <= h.flags, half)
 }
 
 // The rules for section i that do not speak of where it stands. A word that another word or the items tell is in its range
-// where they are. The head is read again behind the items: what is kept over a call costs more than a second reading.
+// where they are. The head is read again behind the items: what is kept over them costs more than a second reading.
 fn row_fits(table: &[u16], i: usize, items: &[u16]) -> bool
     requires { ⌜ (i ≤ 3) × (13 + 12 * i ≤ length (now table)) × (length (now items) ≤ 508) × (headAt (drop (1 + 12 * i) (now table)) .items ≤ 254) ⌝ }
     ensures { λ r. ⌜ r ≡ rowGood (rowWith (headAt (drop (1 + 12 * i) (now (table .entry)))) (entriesIn (now (items .entry)))) ⌝ }
 {
-    let first = head_at(table, i);
-    if 56 < first.colour {
-        return false;
-    }
-    if !condition_fits(first) {
-        return false;
-    }
-    let w = walk_words(items);
     let h = head_at(table, i);
+    if 56 < h.colour {
+        return false;
+    }
+    if !condition_fits(h) {
+        return false;
+    }
     if h.kind == kinds::NUMBER {
-        if !is_number(w) {
+        let row = number_row(items);
+        if !row.fits {
             return false;
         }
-        return number_fits(h.shift, h.flags, h.decimals, tally_of(w));
+        return number_fits(head_at(table, i), row);
     }
     if h.kind == kinds::DATE_TIME {
-        let t = tally_of(w);
-        return other_fits(h.shift, h.flags, h.decimals, t.halves) & is_dated(w);
+        let row = dated_row(items);
+        if !row.fits {
+            return false;
+        }
+        return other_fits(head_at(table, i), row.halves);
     }
-    other_fits(h.shift, h.flags, h.decimals, false) & is_bare(w, h.kind)
+    if !is_bare(walk_words(items), h.kind) {
+        return false;
+    }
+    other_fits(head_at(table, i), false)
 }
 
 // The items of all heads.

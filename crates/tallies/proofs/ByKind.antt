@@ -63,20 +63,6 @@ madeBy k t g d p D N =
     eqb k (kindBy t g d p)
     && cond t (not g && (not D && not N)) (cond g (not D && not N) (cond d (not N) (cond p (not D) (not D && not N))))
 
-number-made : (t g d p D N : Bool) → madeBy 2 t g d p D N ≡ (not t && (not g && (not d && (p && not D))))
-number-made true g d p D N = refl
-number-made false true d p D N = refl
-number-made false false true p D N = refl
-number-made false false false true D N = refl
-number-made false false false false D N = refl
-
-date-made : (t g d p D N : Bool) → madeBy 4 t g d p D N ≡ (not t && (not g && (d && not N)))
-date-made true g d p D N = refl
-date-made false true d p D N = refl
-date-made false false true p D N = refl
-date-made false false false true D N = refl
-date-made false false false false D N = refl
-
 -- another section has neither date items nor number items
 other-made : (k : ℕ) (t g d p D N : Bool) → (k ≡ 2 → ⊥) → (k ≡ 4 → ⊥) → T (madeBy k t g d p D N) → T (not D && not N)
 other-made k true g d p D N a b m = and-right (not g) (not D && not N) (and-right (eqb k 3) _ m)
@@ -167,27 +153,13 @@ fits-back k w f =
     let faults : T (eqb (w .marks % 65536) 0) = same-eqb _ _ (f .faults) in
     search (and-in, le→leb) depth 8
 
--- what each kind of section asks of the numbers
-pub record NumberFacts (w : Walk) : Type 0 where
-  pub marks : w .marks ≡ 0
-  pub dates : w .dates ≡ 0
-  pub generals : w .others % 65536 ≡ 0
-  pub fill : w .others / 65536 ≤ 1
-  pub places : 0 < w .numbers % 4294967296
-  pub points : w .numbers / 4294967296 % 65536 ≤ 1
-  pub ends : T (eqb (w .unit) 65536 || ended (w .next))
-
+-- what such a section asks of the numbers
 pub record BareFacts (w : Walk) : Type 0 where
   pub numbers : w .numbers ≡ 0
   pub marks : w .marks ≡ 0
   pub dates : w .dates ≡ 0
 
--- the tests of a date-time section, of a literal section and of General, and of a text section
-abbrev pub datedTest : Walk → Bool
-datedTest w =
-    eqb (w .numbers) 0 && ltb 0 (w .dates) && eqb (w .marks % 65536) 0 && not (eqb (w .earlier) 5) && eqb (w .others % 65536) 0
-    && leb (w .others / 65536 % 65536) 1 && leb (w .others / 4294967296) 1 && noPlainTold (finishedOf w)
-
+-- the tests of a literal section and of General, and of a text section
 abbrev pub plainTest : ℕ → Walk → Bool
 plainTest n w = eqb (w .others % 65536) n && leb (w .others / 65536) 1
 
@@ -241,98 +213,7 @@ module _ (w : Walk) (l : Linked w) where
   made-is : (k : ℕ) → madeTold k w ≡ madeBy k texts generals dates places dated numbers
   made-is k = rw (numbers-are, places-are, either-positive (w .dates) (w .marks / 4294967296))
 
-  -- ---- a number section
-  number-flags : madeTold 2 w ≡ (not texts && (not generals && (not dates && (places && not dated))))
-  number-flags = made-is 2 ∙ number-made texts generals dates places dated numbers
-
-  number-out : Fits 2 w → NumberFacts w
-  number-out f =
-      let made : T (not texts && (not generals && (not dates && (places && not dated)))) = carry number-flags (f .made) in
-      let t : w .others / 281474976710656 % 65536 ≤ 0 = search (and-left, and-right, nltb→le) depth 8 in
-      let g : w .others % 65536 ≤ 0 = search (and-left, and-right, nltb→le) depth 8 in
-      let d : w .dates ≤ 0 = search (and-left, and-right, nltb→le) depth 8 in
-      let b : w .dates + w .marks / 4294967296 ≤ 0 = search (and-left, and-right, nltb→le) depth 8 in
-      let runs = l .dates (omega arith) in
-      let long = l .long runs in
-      let o = l .others in
-      let m = l .marks in
-      record {
-        marks = omega (arith, f .faults);
-        dates = omega arith;
-        generals = omega arith;
-        fill = omega (arith, f .fill);
-        places = search (and-left, and-right, ltb→lt) depth 8;
-        points = f .points;
-        ends = f .ends;
-      }
-
-  number-in : NumberFacts w → Fits 2 w
-  number-in f =
-      let o = l .others in
-      let runs = l .dates (f .dates) in
-      let t : T (not texts) = nought (w .others / 281474976710656 % 65536) (omega (arith, f .fill)) in
-      let g : T (not generals) = nought (w .others % 65536) (f .generals) in
-      let d : T (not dates) = nought (w .dates) (f .dates) in
-      let p : T places = some (w .numbers % 4294967296) (f .places) in
-      let b : T (not dated) = nought (w .dates + w .marks / 4294967296) (omega (arith, f .dates, f .marks)) in
-      let made : T (not texts && (not generals && (not dates && (places && not dated)))) = search and-in depth 6 in
-      record {
-        faults = omega (arith, f .marks);
-        waits = l .waits (f .dates);
-        ends = f .ends;
-        made = carry (sym number-flags) made;
-        generals = omega (arith, f .generals);
-        points = f .points;
-        elapsed = omega arith;
-        plain = l .plain runs;
-        fill = omega (arith, f .fill);
-      }
-
-  -- ---- a date-time section
-  date-flags : madeTold 4 w ≡ (not texts && (not generals && (dates && not numbers)))
-  date-flags = made-is 4 ∙ date-made texts generals dates places dated numbers
-
-  dated-out : Fits 4 w → T (datedTest w)
-  dated-out f =
-      let made : T (not texts && (not generals && (dates && not numbers))) = carry date-flags (f .made) in
-      let t : w .others / 281474976710656 % 65536 ≤ 0 = search (and-left, and-right, nltb→le) depth 8 in
-      let g : w .others % 65536 ≤ 0 = search (and-left, and-right, nltb→le) depth 8 in
-      let n : w .numbers ≤ 0 = search (and-left, and-right, nltb→le) depth 8 in
-      let o = l .others in
-      let none : T (eqb (w .numbers) 0) = same-eqb (w .numbers) 0 (omega arith) in
-      let some : T dates = search (and-left, and-right) depth 8 in
-      let faults : T (eqb (w .marks % 65536) 0) = same-eqb (w .marks % 65536) 0 (f .faults) in
-      let plain : T (eqb (w .others % 65536) 0) = same-eqb (w .others % 65536) 0 (omega arith) in
-      let one : T (leb (w .others / 65536 % 65536) 1) = le→leb (w .others / 65536 % 65536) 1 (f .fill) in
-      let runs : T (leb (w .others / 4294967296) 1) = le→leb (w .others / 4294967296) 1 (omega (arith, f .elapsed)) in
-      let apart : T (noPlainTold (finishedOf w)) = f .plain in
-      let waits : T (not (eqb (w .earlier) 5)) = f .waits in
-      search and-in depth 9
-
-  dated-in : T (datedTest w) → Fits 4 w
-  dated-in t =
-      let o = l .others in
-      let none : w .numbers ≡ 0 = search (and-left, and-right, eqb→eq) depth 9 in
-      let plain : w .others % 65536 ≡ 0 = search (and-left, and-right, eqb→eq) depth 9 in
-      let runs : w .others / 4294967296 ≤ 1 = search (and-left, and-right, leb→le) depth 8 in
-      let x : T (not texts) = nought (w .others / 281474976710656 % 65536) (omega arith) in
-      let g : T (not generals) = nought (w .others % 65536) plain in
-      let d : T dates = search (and-left, and-right) depth 9 in
-      let n : T (not numbers) = nought (w .numbers) none in
-      let made : T (not texts && (not generals && (dates && not numbers))) = search and-in depth 6 in
-      record {
-        faults = search (and-left, and-right, eqb→eq) depth 9;
-        waits = search (and-left, and-right) depth 9;
-        ends = or-right (eqb (w .unit) 65536) (ended (w .next)) (l .ends none);
-        made = carry (sym date-flags) made;
-        generals = omega arith;
-        points = omega arith;
-        elapsed = omega arith;
-        plain = search (and-left, and-right) depth 8;
-        fill = search (and-left, and-right, leb→le) depth 8;
-      }
-
-  -- ---- another section
+  -- ---- a section that is neither of numbers nor of dates
   bare-out : (k : ℕ) → (k ≡ 2 → ⊥) → (k ≡ 4 → ⊥) → Fits k w → BareFacts w
   bare-out k a b f =
       let none : T (not dated && not numbers) = other-made k texts generals dates places dated numbers a b (carry (made-is k) (f .made)) in
@@ -498,15 +379,6 @@ module _ (es : List Entry) (w : Walk) (k : Walked es w) where
 
   decided : (kind : ℕ) (test : Bool) → (T test → Fits kind w) → (Fits kind w → T test) → test ≡ itemsOf kind es
   decided kind test f g = same-test test (fitsTold kind w) (λ t. fits-back kind w (f t)) (λ t. g (fits kind w t)) ∙ told kind
-
-  pub number-told : (test : Bool) → (T test → NumberFacts w) → (NumberFacts w → T test) → test ≡ itemsOf 2 es
-  number-told test f g = decided 2 test (λ t. number-in w known (f t)) (λ h. g (number-out w known h))
-
-  pub number-refused : (NumberFacts w → ⊥) → false ≡ itemsOf 2 es
-  number-refused refuted = number-told false (λ t. absurd t) refuted
-
-  pub dated-told : datedTest w ≡ itemsOf 4 es
-  dated-told = decided 4 (datedTest w) (dated-in w known) (dated-out w known)
 
   pub bare-refused : (kind : ℕ) → (kind ≡ 2 → ⊥) → (kind ≡ 4 → ⊥) → (ltb 0 (w .numbers) || ltb 0 (w .marks) || ltb 0 (w .dates)) ≡ true
       → false ≡ itemsOf kind es

@@ -181,7 +181,7 @@ module _ (is : List Item) where
       (λ e n. by-elapsed (λ d. Same (elapsed d n)) (sym (and-true (not (any isHour is)))) (sym (and-true (not (any isMinute is)))) refl e)
       (λ h. refl)
 
-  no-plain-every : every (noPlain is) is
+  pub no-plain-every : every (noPlain is) is
       ≡ (not (any (isElapsedOf hours) is && any isHour is)
       && (not (any (isElapsedOf minutes) is && any isMinute is) && not (any (isElapsedOf seconds) is && any isSecond is)))
   no-plain-every =

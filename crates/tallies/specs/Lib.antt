@@ -1,2 +1,4 @@
 pub mod Tally
 pub mod Walk
+pub mod NumberRows
+pub mod DateRows

@@ -1,6 +1,18 @@
 // One pass over a section's item words: what its rules ask of its items.
+pub mod date_rows;
+mod earlier_runs;
+pub mod number_rows;
+
+use earlier_runs::HOUR_RUN;
+use earlier_runs::NO_RUN;
+use earlier_runs::OTHER_BEFORE;
+use earlier_runs::OTHER_RUN;
+use earlier_runs::SECOND_RUN;
+use earlier_runs::SECONDS_BEFORE;
+use earlier_runs::answers;
+use earlier_runs::minutes_run;
+use earlier_runs::month_run;
 ghost use mathlib.Core.Path.{_≡_};
-ghost use mathlib.Core.Bool.{cond};
 ghost use mathlib.Core.List.{List};
 ghost use Prim.Native.Nat.{_≤_};
 ghost use lib.ListN.{length};
@@ -8,7 +20,7 @@ ghost use Rattle.values.specs.Ranges.{between};
 ghost use Rattle.tables.specs.Words.{Entry, entriesIn};
 ghost use Rattle.tables.specs.Encode.{entry};
 ghost use Rattle.tallies.specs.Tally.{tallyOf, itemsOf, hasPlaces, hasNumberItems, kindTold, allowedTold, noPlainTold, itemsFitTold, withinTold, decimalsTold};
-ghost use Rattle.tallies.specs.Walk.{answered, lower, faultOf, tooLong, countedOf, datedOf, stepOf, startOf, Walked, Few, Weights};
+ghost use Rattle.tallies.specs.Walk.{lower, faultOf, tooLong, countedOf, datedOf, stepOf, startOf, Walked, Few, Weights};
 use tables::kinds;
 use tables::tags;
 use values::integers::is_between;
@@ -82,25 +94,6 @@ const PARTS: u64 = 281474976710656;
 const ANY_POWER: u64 = 65536;
 
 const DECIMAL_POWER: u64 = 15;
-
-// The nearest earlier run: none, hours, seconds or another. An m of 1 or 2 that nothing before it makes minutes waits for the next
-// run: said to be a month, it is wrong before seconds; said to be minutes, it is right before them alone.
-const NO_RUN: u64 = 0;
-
-const HOUR_RUN: u64 = 1;
-
-const SECOND_RUN: u64 = 2;
-
-const OTHER_RUN: u64 = 3;
-
-const MONTH_WAITS: u64 = 4;
-
-const MINUTES_WAIT: u64 = 5;
-
-// Whether the item just before is seconds.
-const OTHER_BEFORE: u64 = 0;
-
-const SECONDS_BEFORE: u64 = 1;
 
 // What is kept from one item to the next. Counts stand in numbers, a digit each: no section has more than 254 items. All
 // fields are of one width, and few, so that the compiler keeps them in registers.
@@ -214,16 +207,6 @@ fn point(w: Walk, a: u16) -> Walk
     counted(w, POINTS, 0, 0, a == 0, 0)
 }
 
-// Whether a run is right behind the nearest earlier one: an m that waits is what it is said to be.
-fn answers(earlier: u64, run: u64) -> bool
-    ensures { λ r. ⌜ r ≡ answered earlier run ⌝ }
-{
-    if run == SECOND_RUN {
-        return earlier != MONTH_WAITS;
-    }
-    earlier != MINUTES_WAIT
-}
-
 // A date or time run, by its weight, the answer of its own tests, its number, and whether it is seconds.
 fn dated(w: Walk, date: u64, fits: bool, run: u64, behind: u64) -> Walk
     requires { ⌜ Few 253 w × Weights 0 0 date 0 ⌝ }
@@ -234,18 +217,6 @@ fn dated(w: Walk, date: u64, fits: bool, run: u64, behind: u64) -> Walk
     d.earlier = run;
     d.behind = behind;
     d
-}
-
-fn month_run(short: bool) -> u64
-    ensures { λ r. ⌜ r ≡ cond short 4 3 ⌝ }
-{
-    if short { MONTH_WAITS } else { OTHER_RUN }
-}
-
-fn minutes_run(hours: bool) -> u64
-    ensures { λ r. ⌜ r ≡ cond hours 3 5 ⌝ }
-{
-    if hours { OTHER_RUN } else { MINUTES_WAIT }
 }
 
 // A month of 1 or 2 does not stand behind hours.
@@ -333,7 +304,7 @@ fn step(w: Walk, tag: u16, a: u16) -> Walk
 }
 
 // What the items of a walk tell: the digits of its numbers.
-pub fn tally_of(w: Walk) -> Tally
+fn tally_of(w: Walk) -> Tally
     ensures { λ r. ⌜ ((es : List Entry) → Walked es w → r ≡ tallyOf es) ⌝ }
 {
     Tally {
@@ -444,48 +415,7 @@ fn no_plain(t: Tally) -> bool
     true
 }
 
-// Whether the items of a walk keep the rules for a number section's items: every test on the way, no date item, no General
-// and no text, at most one fill and one point, a place.
-pub fn is_number(w: Walk) -> bool
-    ensures { λ r. ⌜ ((es : List Entry) → Walked es w → r ≡ itemsOf 2 es) ⌝ }
-{
-    if 0 < w.marks {
-        return false;
-    }
-    if 0 < w.dates {
-        return false;
-    }
-    if 0 < w.others % FILLS {
-        return false;
-    }
-    if 1 < w.others / FILLS {
-        return false;
-    }
-    if w.numbers % POINTS == 0 {
-        return false;
-    }
-    if 1 < w.numbers / POINTS % 65536 {
-        return false;
-    }
-    (w.unit == DECIMALS) | ((w.next == ANY_POWER) | (w.next == DECIMAL_POWER))
-}
-
-// Those for a date-time section's: no number item, no General and no text; one elapsed item, not beside its plain
-// equivalent.
-pub fn is_dated(w: Walk) -> bool
-    ensures { λ r. ⌜ ((es : List Entry) → Walked es w → r ≡ itemsOf 4 es) ⌝ }
-{
-    (w.numbers == 0)
-        & (0 < w.dates)
-        & (w.marks % 65536 == 0)
-        & (w.earlier != MINUTES_WAIT)
-        & (w.others % FILLS == 0)
-        & (w.others / FILLS % 65536 <= 1)
-        & (w.others / ELAPSED_RUNS <= 1)
-        & no_plain(tally_of(w))
-}
-
-// Those for a literal, General or text section's: neither a number item nor a date item.
+// Whether the items of a walk keep the rules for a literal, General or text section's: neither a number item nor a date item.
 pub fn is_bare(w: Walk, kind: u16) -> bool
     ensures { λ r. ⌜ ((es : List Entry) → Walked es w → (kind ≡ 2 → ⊥) → (kind ≡ 4 → ⊥) → r ≡ itemsOf kind es) ⌝ }
 {

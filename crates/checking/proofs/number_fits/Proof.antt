@@ -7,7 +7,6 @@ use Rattle.checking.specs.Checking.{numberTold}
 use borrow.Author.Needs.{needs}
 use Rattle.checking.proofs.number_fits.Statement.{statement}
 use Rattle.checking.proofs.number_fits.Tie as tie
-use Rattle.checking.proofs.shift_tells.Reads as shift-tells-reads
 
 returns : tie.Need-returns
 unfolding numberTold

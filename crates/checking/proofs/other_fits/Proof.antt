@@ -5,7 +5,6 @@ use Rattle.checking.specs.Checking.{otherTold}
 use borrow.Author.Needs.{needs}
 use Rattle.checking.proofs.other_fits.Statement.{statement}
 use Rattle.checking.proofs.other_fits.Tie as tie
-use Rattle.checking.proofs.agree.Reads as agree-reads
 
 returns : tie.Need-returns
 unfolding otherTold groupedAt

@@ -1,8 +1,8 @@
--- `tallies::answers` meets its contract.
+-- `tallies::earlier_runs::answers` meets its contract.
 -- Assumes nothing.
 use borrow.Author.Tests.{ne-eqb}
-use Rattle.tallies.proofs.answers.Statement.{statement}
-use Rattle.tallies.proofs.answers.Tie as tie
+use Rattle.tallies.proofs.earlier_runs.answers.Statement.{statement}
+use Rattle.tallies.proofs.earlier_runs.answers.Tie as tie
 
 returns : tie.Need-returns
 returns c = rw (c .if1 .taken)
