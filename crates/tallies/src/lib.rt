@@ -415,7 +415,7 @@ fn no_plain(t: Tally) -> bool
     true
 }
 
-// Whether the items of a walk keep the rules for a literal, General or text section's: neither a number item nor a date item.
+// Whether the items of a walk keep the rules for those of a literal, General or text section: neither a number item nor a date item.
 pub fn is_bare(w: Walk, kind: u16) -> bool
     ensures { λ r. ⌜ ((es : List Entry) → Walked es w → (kind ≡ 2 → ⊥) → (kind ≡ 4 → ⊥) → r ≡ itemsOf kind es) ⌝ }
 {
