@@ -13,7 +13,7 @@ use Rattle.lists.specs.Lists.{count}
 use Rattle.formats.specs.Tokens.{Token}
 use Rattle.formats.specs.Items.{literal, isFill}
 use Rattle.formats.specs.Kinds.{isFillToken, isPoint, isSecondsToken, isZero, runItem, tokenItems}
-use Rattle.formats.specs.Text.{digitAfter}
+use Rattle.formats.specs.Text.{digitAfter, along}
 use Rattle.formats.proofs.ByNumber.{numbered}
 use Rattle.marks.specs.Marks.{markRows, markToken, conditionOf}
 use Rattle.marks.proofs.ByForm.{by-form, fill-form, zero-form, point-form, seconds-form}
@@ -34,7 +34,7 @@ literals-fill [] = refl
 literals-fill (u ∷ us) = literals-fill us
 
 literals-words : (q : ℕ) (us : List ℕ) → itemsWords q (map literal us) ≡ literalWords us
-unfolding itemsWords entriesWords entriesFrom entryOf digitAfter literalWords
+unfolding itemsWords entriesWords entryOf digitAfter literalWords along
 literals-words q [] = refl
 literals-words q (u ∷ us) = ap (λ ws. 1 ∷ u ∷ ws) (literals-words q us)
 
@@ -65,12 +65,12 @@ abbrev wordsForm : Bool → ℕ → ℕ → List ℕ → ℕ → List ℕ
 wordsForm date q a us f = cond (eqb f 0) (literalWords (take a us)) (formWords date q a f)
 
 rows-words : (date : Bool) (q a : ℕ) (us : List ℕ) → map (tokenWords date q) (markRows a us) ≡ numbered (wordsForm date q a us) 0 25
-unfolding markRows conditionOf tokenWords itemsWords tokenItems runItem entriesWords entriesFrom entryOf digitAfter
+unfolding markRows conditionOf tokenWords itemsWords tokenItems runItem entriesWords entryOf digitAfter along
 rows-words true q a us = rw (literals-words q (take a us))
 rows-words false q a us = rw (literals-words q (take a us))
 
 pub words-form : (date : Bool) (q a : ℕ) (us : List ℕ) (f : ℕ) → tokenWords date q (markToken f a us) ≡ wordsForm date q a us f
-unfolding tokenWords itemsWords tokenItems entriesWords entriesFrom
+unfolding tokenWords itemsWords tokenItems entriesWords along
 words-form date q a us = by-form (tokenWords date q) (wordsForm date q a us) a us (rows-words date q a us)
     (λ f h. simp (ne-eqb f 0 (omega arith), ne-eqb f 1 (omega arith), ne-eqb f 2 (omega arith), ne-eqb f 3 (omega arith), ne-eqb f 4 (omega arith), ne-eqb f 5 (omega arith), ne-eqb f 6 (omega arith), ne-eqb f 7 (omega arith), ne-eqb f 8 (omega arith), ne-eqb f 9 (omega arith), ne-eqb f 10 (omega arith), ne-eqb f 12 (omega arith), ne-eqb f 13 (omega arith), ne-eqb f 14 (omega arith), ne-eqb f 15 (omega arith), ne-eqb f 16 (omega arith), ne-eqb f 17 (omega arith), ne-eqb f 18 (omega arith), ne-eqb f 19 (omega arith), ne-eqb f 20 (omega arith), ne-eqb f 21 (omega arith), ne-eqb f 22 (omega arith)))
 

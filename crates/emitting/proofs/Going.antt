@@ -20,6 +20,7 @@ use Rattle.writing.proofs.Laws.{rest-start, rest-put, rest-done}
 use Rattle.emitting.specs.declared.Walk.{Walk}
 use Rattle.emitting.specs.Emit.{emittedWords, emittedFrom, itemsWords, left, fillsLeft, Emitted}
 use Rattle.emitting.proofs.Walks.{body-emitted, fills-emitted}
+use Rattle.formats.specs.Text.{along}
 
 -- the walk before the first token
 abbrev pub walkFrom : ℕ → ℕ → ℕ → Walk
@@ -41,7 +42,7 @@ fills-start date ts at fills integers e = e ∙ sym (fills-emitted date false 0 
 
 -- and none at its end
 left-end : (date : Bool) (w : Walk) → left date w [] ≡ []
-unfolding left itemsWords emittedFrom lastFill entriesFrom entriesWords
+unfolding left itemsWords emittedFrom lastFill entriesWords along
 left-end date w = refl
 
 pub record Going (date : Bool) (code body old : List ℕ) (start : ℕ) (room : List ℕ) (w : Walk) (i : ℕ) : Type 0 where

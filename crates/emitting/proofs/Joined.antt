@@ -8,7 +8,7 @@ use Rattle.lists.specs.Lists.{any}
 use Rattle.lists.proofs.Bools.{by-cases}
 use Rattle.formats.specs.Items.{Item, fill, isFill}
 use Rattle.formats.specs.Kinds.{lastFill}
-use Rattle.formats.specs.Text.{digitAfter}
+use Rattle.formats.specs.Text.{digitAfter, along}
 use Rattle.tables.specs.Words.{Entry, entriesWords}
 use Rattle.tables.specs.Encode.{entryOf, entriesFrom}
 use Rattle.emitting.specs.Emit.{itemsWords}
@@ -19,7 +19,7 @@ digitsAfter q [] = q
 digitsAfter q (i ∷ is) = digitsAfter (digitAfter q i) is
 
 entries-append : (q : ℕ) (xs ys : List Item) → entriesFrom q (xs ++ ys) ≡ entriesFrom q xs ++ entriesFrom (digitsAfter q xs) ys
-unfolding entriesFrom digitsAfter
+unfolding digitsAfter along
 entries-append q [] ys = refl
 entries-append q (x ∷ xs) ys = ap (λ es. entryOf q x ∷ es) (entries-append (digitAfter q x) xs ys)
 

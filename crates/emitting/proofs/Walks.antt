@@ -14,7 +14,7 @@ use Rattle.formats.specs.Tokens as token
 use Rattle.formats.specs.Tokens.{Token, Letter}
 use Rattle.formats.specs.Items.{Item, fill, part, dateKind, sameKind, isFill}
 use Rattle.formats.specs.Kinds.{formOf, isFillToken, isZero, isSecondsToken, leadingZeros, partZeros, piecesFrom, pieceItems, plainItems, dateItems, bodyKind, bodyItems, runItem, tokenItems, lastFill}
-use Rattle.formats.specs.Text.{digitAfter}
+use Rattle.formats.specs.Text.{digitAfter, along}
 use Rattle.formats.proofs.Each.{by-token, by-letter}
 use Rattle.formats.proofs.FormedPieces.{zero-case, zeros-follow, zeros-point}
 use Rattle.marks.specs.Marks.{markRows, markToken}
@@ -145,7 +145,7 @@ module _ (f : ℕ) (date b : Bool) (q a : ℕ) (us : List ℕ) (ts : List Token)
 
   words-part : (n : ℕ) → n ≡ partZeros (date && b) t ts → eqb n 0 ≡ false
       → Words date b 0 q (t ∷ ts) ≡ (17 ∷ n ∷ []) ++ Words date (formSeconds f) n (formDigit f q) ts
-  unfolding itemsWords entriesWords entriesFrom entryOf digitAfter digitsAfter any
+  unfolding itemsWords entriesWords entryOf digitAfter digitsAfter any along
   words-part n e z =
       let s : Words date b 0 q (t ∷ ts) ≡ itemsWords q (lastFill (part n ∷ later n)) = rw (first n e, z) in
       s ∙ words-first q (part n ∷ []) (later n) refl ∙ rw (part-kept n e z)

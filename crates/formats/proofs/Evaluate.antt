@@ -1,7 +1,7 @@
 -- For cases that are computed: to open `evaluated` is to open every definition that a code's reading goes through.
 -- Assumes nothing.
 use Prim.Native.Nat.{ℕ}
-use mathlib.Core.List.{List}
+use mathlib.Core.List.{List, flatten}
 use Rattle.values.specs.declared.Ask.{Ask}
 use Rattle.formats.specs.Reading.{Reading}
 use Rattle.lists.specs.Lists.{every, any, count, firstFailing, isEmpty, overlay, isSome}
@@ -21,9 +21,9 @@ use Rattle.formats.specs.Accept.{placedOf, tokensOf, semicolons, joined,
 use Rattle.formats.specs.WellFormed.{conditionInRange, oneFill, isSeconds, partsFrom, partsFollow, settledTest, isSettled, groupingFits, dividingFits, sectionFits, sectionFormed, itemsInAll, allStand, wellFormed}
 use Rattle.formats.specs.Choice.{numberExact, instantExact, conditionExact, smaller, lessThan, compared, countedFrom, counted, fallback, reasonFor, conditionHolds, reasonHolds, chooseFrom, chooseFirst, choose, fourthFrom, textFrom, chooseText}
 use Rattle.formats.specs.Minus.{firstHasCondition, exceptionA, signFor, signUnits}
-use Rattle.formats.specs.Text.{insignificant, idleUnits, endsGroup, withSeparator, figureUnits, extraUnits, placeUnits, pointUnits, yearUnits, namedUnits, hourShown, partUnits, elapsedCount, halfUnits, itemUnits, digitAfter, itemsUnits, sectionUnits}
+use Rattle.formats.specs.Text.{insignificant, idleUnits, endsGroup, withSeparator, figureUnits, extraUnits, placeUnits, pointUnits, yearUnits, namedUnits, hourShown, partUnits, elapsedCount, halfUnits, itemUnits, digitAfter, itemsUnits, sectionUnits, along}
 use Rattle.formats.specs.Reading.{within, takesNumber, takesInstant, showsGeneral, sectionRounded, standingRounded, numberContext, instantContext, textContext, showsNought, numberSign, numberUnits, readNumber, readInstant, readText, readValue, reading, readAccepted, codeReading}
 
 unfoldable pub evaluated : List ℕ → Ask → List ℕ → ℕ → Reading
-unfolding every any count firstFailing isEmpty overlay isSome digit figures digitUnits widthUpTo width numeral scaled nearest rounded generalDecimals generalRounded generalTooWide withoutEndZeros pointed generalUnits gregorianLeap leap yearDays firstDay yearDayFrom yearDayOf monthDays monthDayFrom dateOf clockOf twelveHour afternoon sinceDayZero elapsedHours elapsedMinutes elapsedSeconds units monthNames weekdayNames monthName weekdayName shortName firstLetter before leading startsWith same quoted marked generalWord halfDayWord runAllowed runStep isDigit digitOf numberFrom colourNames namedFrom noLeadingZero colourDigits numbered elapsedInside decimalsOf wholeOf signedOf conditionInside firstForm insideOf closed bracketed firstRows firstIn bareLiterals stepBy stepAt onto afterStep lexFrom lex kindFrom itemMakes itemsKind kindOf itemAllowed noPlain itemsFit integerPlaces decimalPlaces runOfElapsed runOf nearer firstRun meansMinutes monthOrMinute settledItem settledFrom settled colourIn conditionIn afterColour partsOf tokenMakes bodyKind integerPlaceIn useOf usesFrom commaUses commasFit isSolidus startsWithPlace solidusFrom solidusFits isSecondsToken isZero leadingZeros partZeros piecesFrom runItem tokenItems pieceItems plainItems dateItems bodyItems lastFill millionthsOf conditionOf sectionOf noBracket fits standsAt elapsedShort sectionWithin writtenWithin withinLimits placedOf tokensOf semicolons joined split partsIn sectionsIn orElse lengthVerdict tokenVerdict countVerdict sectionVerdict kindVerdict whereVerdict limitVerdict verdict acceptedBy accept spanFrom spanBy sectionSpan sectionPart itemInRange conditionInRange oneFill isSeconds partsFrom partsFollow settledTest isSettled groupingFits dividingFits sectionFits sectionFormed itemsInAll allStand wellFormed numberExact instantExact conditionExact smaller lessThan compared countedFrom counted fallback reasonFor conditionHolds reasonHolds chooseFrom chooseFirst choose fourthFrom textFrom chooseText firstHasCondition exceptionA signFor signUnits insignificant idleUnits endsGroup withSeparator figureUnits extraUnits placeUnits pointUnits yearUnits namedUnits hourShown partUnits elapsedCount halfUnits itemUnits digitAfter itemsUnits sectionUnits within takesNumber takesInstant showsGeneral sectionRounded standingRounded numberContext instantContext textContext showsNought numberSign numberUnits readNumber readInstant readText readValue reading readAccepted codeReading
+unfolding every any count firstFailing isEmpty overlay isSome digit figures digitUnits widthUpTo width numeral scaled nearest rounded generalDecimals generalRounded generalTooWide withoutEndZeros pointed generalUnits gregorianLeap leap yearDays firstDay yearDayFrom yearDayOf monthDays monthDayFrom dateOf clockOf twelveHour afternoon sinceDayZero elapsedHours elapsedMinutes elapsedSeconds units monthNames weekdayNames monthName weekdayName shortName firstLetter before leading startsWith same quoted marked generalWord halfDayWord runAllowed runStep isDigit digitOf numberFrom colourNames namedFrom noLeadingZero colourDigits numbered elapsedInside decimalsOf wholeOf signedOf conditionInside firstForm insideOf closed bracketed firstRows firstIn bareLiterals stepBy stepAt onto afterStep lexFrom lex kindFrom itemMakes itemsKind kindOf itemAllowed noPlain itemsFit integerPlaces decimalPlaces runOfElapsed runOf nearer firstRun meansMinutes monthOrMinute settledItem settledFrom settled colourIn conditionIn afterColour partsOf tokenMakes bodyKind integerPlaceIn useOf usesFrom commaUses commasFit isSolidus startsWithPlace solidusFrom solidusFits isSecondsToken isZero leadingZeros partZeros piecesFrom runItem tokenItems pieceItems plainItems dateItems bodyItems lastFill millionthsOf conditionOf sectionOf noBracket fits standsAt elapsedShort sectionWithin writtenWithin withinLimits placedOf tokensOf semicolons joined split partsIn sectionsIn orElse lengthVerdict tokenVerdict countVerdict sectionVerdict kindVerdict whereVerdict limitVerdict verdict acceptedBy accept spanFrom spanBy sectionSpan sectionPart itemInRange conditionInRange oneFill isSeconds partsFrom partsFollow settledTest isSettled groupingFits dividingFits sectionFits sectionFormed itemsInAll allStand wellFormed numberExact instantExact conditionExact smaller lessThan compared countedFrom counted fallback reasonFor conditionHolds reasonHolds chooseFrom chooseFirst choose fourthFrom textFrom chooseText firstHasCondition exceptionA signFor signUnits insignificant idleUnits endsGroup withSeparator figureUnits extraUnits placeUnits pointUnits yearUnits namedUnits hourShown partUnits elapsedCount halfUnits itemUnits digitAfter itemsUnits sectionUnits within takesNumber takesInstant showsGeneral sectionRounded standingRounded numberContext instantContext textContext showsNought numberSign numberUnits readNumber readInstant readText readValue reading readAccepted codeReading along flatten
 evaluated code ask text room = codeReading code ask text room

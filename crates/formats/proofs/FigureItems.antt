@@ -14,20 +14,10 @@ use Rattle.lists.proofs.Counts.{any-count, any-same}
 use Rattle.figures.proofs.Digits.{mod-next}
 use Rattle.formats.specs.Tokens.{Place, isDigit}
 use Rattle.formats.specs.Items.{Item, literal, blank, fill, place, point, percent, general, at, year, month, day, hour, minute, second, part, elapsed, half, textKind, generalKind, dateKind, numberKind, literalKind, kindFrom, itemMakes, itemsKind, isPlace, isPoint, integerPlaces, decimalPlaces}
-use Rattle.formats.specs.Text.{Context, firstDigit, firstDecimal, insignificant, figureUnits, unitsBeyond, placeUnits, pointUnits, itemUnits, digitAfter, itemsUnits}
+use Rattle.formats.specs.Text.{Context, firstDigit, firstDecimal, insignificant, figureUnits, unitsBeyond, placeUnits, pointUnits, itemUnits, digitAfter, along, itemPieces}
 use Rattle.formats.specs.Figures.{readFrom, unitsRead, Counts, figurePieces}
 use Rattle.formats.proofs.FigureUnits.{digit-in, figure-aside, figure-read, extra-read, idle-nought, cut-exact}
 use Rattle.formats.proofs.Each.{by-item}
-
--- the pieces of a section's text, one an item
-unfoldable pub itemPieces : Context → ℕ → List Item → List (List ℕ)
-itemPieces c q [] = []
-itemPieces c q (i ∷ is) = itemUnits c q i ∷ itemPieces c (digitAfter q i) is
-
-pub pieces-joined : (c : Context) (q : ℕ) (is : List Item) → itemsUnits c q is ≡ flatten (itemPieces c q is)
-unfolding itemsUnits itemPieces flatten
-pieces-joined c q [] = refl
-pieces-joined c q (i ∷ is) = ap (λ (us : List ℕ). itemUnits c q i ++ us) (pieces-joined c (digitAfter q i) is)
 
 -- the units of the figure pieces
 abbrev figuresShown : Context → ℕ → List Item → List ℕ
@@ -94,7 +84,7 @@ module _ (c : Context) where
       → Behind (c .figures) k j v w → Counts (readFrom true v w (figuresShown c (k - 1) is)) (c .figures)
 
   decimals-place : (p : Place) (is : List Item) → Decimals is → Decimals (place p ∷ is)
-  unfolding figurePieces itemPieces itemUnits digitAfter any count insignificant
+  unfolding figurePieces itemUnits digitAfter any count insignificant along
   decimals-place p is rest zero j r v w sum noPoint places none seen = absurd (omega arith)
   decimals-place p is rest (suc q) j r v w sum noPoint places none seen =
       let n : ℕ = c .figures in
@@ -118,7 +108,7 @@ module _ (c : Context) where
       (rest q (suc j) r (n / 10 ^ q) (10 ^ suc j) sum-next noPoint places-next none (behind n q (suc j) sum-next))))
 
   decimals-read : (is : List Item) → Decimals is
-  unfolding readFrom figurePieces itemPieces itemUnits digitAfter any count
+  unfolding readFrom figurePieces itemUnits digitAfter any count along
   decimals-read [] = λ k j r v w sum noPoint places none seen.
       let f : k ≡ r = omega arith in
       seen .exact (rw f none)
@@ -180,7 +170,7 @@ module _ (c : Context) where
         → Counts (readFrom false (seen k) 1 (figuresShown c (14 + k) is)) (c .figures)
 
     integers-place : (p : Place) (is : List Item) → Integers is → Integers (place p ∷ is)
-    unfolding figurePieces itemPieces itemUnits digitAfter count integerPlaces decimalPlaces
+    unfolding figurePieces itemUnits digitAfter count integerPlaces decimalPlaces along
     integers-place p is rest zero places before some onePoint bound none = absurd (omega arith)
     integers-place p is rest (suc k) places before some onePoint bound none =
         let e : 14 + suc k ≡ 15 + k = omega arith in
@@ -190,7 +180,7 @@ module _ (c : Context) where
         (rw later at (rest k (omega arith) (omega arith) (λ z. absurd (true≢false (sym z ∙ later))) onePoint bound none))
 
     integers-read : (is : List Item) → Integers is
-    unfolding readFrom figurePieces itemPieces itemUnits digitAfter any count integerPlaces decimalPlaces
+    unfolding readFrom figurePieces itemUnits digitAfter any count integerPlaces decimalPlaces along
     integers-read [] = λ k places before some onePoint bound none.
         by-cases (eqb (c .integerPlaces) k) (λ e. absurd (true≢false (sym (some e)))) (λ e. rw (e, places) (omega arith))
     integers-read (i ∷ is) =

@@ -27,12 +27,12 @@ use Rattle.formats.specs.Limits.{sectionWithin}
 use Rattle.formats.specs.WellFormed.{sectionFormed, wellFormed, sectionFits}
 use Rattle.formats.specs.Choice.{Exact, numberExact, zeroExact, lessThan, counted, Reason, Choice, nothing, chosen, choose}
 use Rattle.formats.specs.Minus.{Sign, minus, notNegative, noItem, forNegatives, nought, isOwn, firstHasCondition, exceptionA, signFor, signUnits}
-use Rattle.formats.specs.Text.{placeUnits, pointUnits, itemUnits, digitAfter, sectionUnits}
+use Rattle.formats.specs.Text.{placeUnits, pointUnits, itemUnits, digitAfter, along, itemPieces, itemsUnits, sectionUnits}
 use Rattle.formats.specs.Accept.{sectionsIn, Accepted, sections, refusal, accept}
 use Rattle.formats.specs.Reading.{Look, Reading, refused, shown, lookOf, within, takesNumber, showsGeneral, sectionRounded, standingRounded, numberContext, showsNought, numberSign, numberUnits, readNumber, readValue, reading, readAccepted, codeReading}
 use Rattle.formats.specs.Figures.{unitsRead, Counts, FiguresOf, GeneralFigures, PieceOf, ofLiteral, ofBlank, ofFill, ofPercent, ofPlace, ofPoint, ofGeneral, ofAt, PiecesOf, empty, more, figurePieces, NumberShown}
 use Rattle.formats.proofs.FigureUnits.{place-plain, beyond-plain}
-use Rattle.formats.proofs.FigureItems.{itemPieces, pieces-joined, figures-read}
+use Rattle.formats.proofs.FigureItems.{figures-read}
 use Rattle.formats.proofs.GeneralFigures.{general-read}
 use Rattle.formats.proofs.Chosen.{chosen-passes}
 use Rattle.formats.proofs.Accepted.{accepted-sections, accepted-formed}
@@ -165,14 +165,14 @@ module _ (ss : List Section) (i : ℕ) (s : Section) (why : Reason) (x : Number)
       (λ n. dated) (λ n. dated) (λ n. dated) (λ n. dated) (λ n. dated) (λ n. dated) (λ n. dated) (λ e n. dated) (λ h. dated)
 
   each-piece : (q : ℕ) (is : List Item) → T (every (itemAllowed (kindOf s)) is) → PiecesOf x added is (itemPieces (numberContext s x) q is)
-  unfolding itemPieces
+  unfolding along
   each-piece q [] t = empty
   each-piece q (j ∷ is) t =
       more j (itemUnits (numberContext s x) q j) is (itemPieces (numberContext s x) (digitAfter q j) is)
       (piece q j (every-head (itemAllowed (kindOf s)) j is t)) (each-piece (digitAfter q j) is (every-tail (itemAllowed (kindOf s)) j is t))
 
   text-shown : choose ss (numberExact x) ≡ chosen i s why → NumberShown ss x (lookOf (numberUnits ss i s why x) (s .colour) i)
-  unfolding numberUnits sectionUnits
+  unfolding numberUnits sectionUnits itemsUnits
   text-shown e =
       record {
         taker = s;
@@ -181,7 +181,7 @@ module _ (ss : List Section) (i : ℕ) (s : Section) (why : Reason) (x : Number)
         pieces = pieces;
         goes = e;
         coloured = refl;
-        text = rw (sign-units (numberSign ss i s why x), pieces-joined (numberContext s x) (14 + (numberContext s x) .integerPlaces) (s .items));
+        text = rw (sign-units (numberSign ss i s why x));
         each = each-piece (14 + (numberContext s x) .integerPlaces) (s .items) (r .allowed);
         figures = section-figures;
       }

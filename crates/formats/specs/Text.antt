@@ -2,7 +2,7 @@
 -- Assumes nothing.
 use Prim.Native.Nat.{ℕ, zero, suc, _+_, _-_, _/_, _%_, _^_}
 use mathlib.Core.Bool.{Bool, true, false, cond, _&&_}
-use mathlib.Core.List.{List, [], _∷_, _++_}
+use mathlib.Core.List.{List, [], _∷_, _++_, flatten}
 use lib.Dec.{leb, ltb, eqb}
 use Rattle.figures.specs.Digits.{digit, digitUnit, digitUnits, numeral}
 use Rattle.calendar.specs.Date.{Date}
@@ -135,9 +135,21 @@ itemUnits c q (half h) = halfUnits h (afternoon (c .clock .hour))
 unfoldable pub digitAfter : ℕ → Item → ℕ
 digitAfter q i = cond (isPlace i) (q - 1) q
 
+-- one pass over a section's items, or over what stands for them, that tells each its digit: a text, a table's words and the rules for
+-- them are made of it
+unfoldable pub along : {A B : Type 0} → (A → Item) → (ℕ → A → B) → ℕ → List A → List B
+along item f q [] = []
+along item f q (x ∷ xs) = f q x ∷ along item f (digitAfter q (item x)) xs
+
+abbrev pub self : Item → Item
+self i = i
+
+-- the text of each item
+abbrev pub itemPieces : Context → ℕ → List Item → List (List ℕ)
+itemPieces c q is = along self (itemUnits c) q is
+
 unfoldable pub itemsUnits : Context → ℕ → List Item → List ℕ
-itemsUnits c q [] = []
-itemsUnits c q (i ∷ is) = itemUnits c q i ++ itemsUnits c (digitAfter q i) is
+itemsUnits c q is = flatten (itemPieces c q is)
 
 -- the items of a section: so its last integer place has the last integer digit, its first decimal place the first decimal digit
 unfoldable pub sectionUnits : Context → List Item → List ℕ

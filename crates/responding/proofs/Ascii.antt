@@ -6,7 +6,7 @@ use native.Mathlib.Omega.{arith}
 use native.Mathlib.Nat.{mod-eq-of-lt}
 use mathlib.Core.Path.{_≡_, refl, ap₂}
 use mathlib.Core.Bool.{Bool, true, false, cond, not, _&&_, _||_}
-use mathlib.Core.List.{List, [], _∷_, _++_, map}
+use mathlib.Core.List.{List, [], _∷_, _++_, map, flatten}
 use lib.ListN.{length, getD, take, drop}
 use lib.Dec.{T, leb, ltb, eqb, leb→le, le→leb}
 use Rattle.lists.specs.Lists.{every, isEmpty}
@@ -52,7 +52,7 @@ use Rattle.requests.specs.Request.{Request, request, fromEnd, fromValue, fromTh
 use Rattle.requests.specs.Request.{refused as unasked}
 use Rattle.responding.specs.Respond.{lineOf, fourLines, linesOf, responseOf}
 use Rattle.formats.specs.Minus.{Sign, minus, notNegative, noItem, forNegatives, nought, signUnits}
-use Rattle.formats.specs.Text.{Context, insignificant, idleUnits, endsGroup, withSeparator, figureUnits, extraUnits, placeUnits, pointUnits, yearUnits, namedUnits, partUnits, halfUnits, itemUnits, digitAfter, itemsUnits, sectionUnits}
+use Rattle.formats.specs.Text.{Context, insignificant, idleUnits, endsGroup, withSeparator, figureUnits, extraUnits, placeUnits, pointUnits, yearUnits, namedUnits, partUnits, halfUnits, itemUnits, digitAfter, itemsUnits, sectionUnits, along}
 use Rattle.formats.proofs.TokenRanges.{tokenPasses, partsPass, parts-pass, items-pass}
 use Rattle.formats.proofs.FormedItems.{settled-kept}
 
@@ -184,7 +184,7 @@ item-ascii c s q (elapsed e n) t = numeral-ascii n _
 item-ascii c s q (half h) t = half-ascii h _
 
 items-ascii : (c : Context) → Ascii (c .standing) → (q : ℕ) (is : List Item) → T (every literalAscii is) → Ascii (itemsUnits c q is)
-unfolding itemsUnits every
+unfolding itemsUnits every along flatten
 items-ascii c s q [] t = tt
 items-ascii c s q (i ∷ is) t =
     every-append isAscii (itemUnits c q i) (itemsUnits c (digitAfter q i) is)

@@ -5,7 +5,7 @@ use native.Mathlib.Nat.{mul-suc}
 use native.Mathlib.Omega.{arith}
 use mathlib.Core.Path.{_≡_, refl}
 use mathlib.Core.Bool.{Bool, true, false, cond, _&&_}
-use mathlib.Core.List.{List, [], _∷_, _++_}
+use mathlib.Core.List.{List, [], _∷_, _++_, flatten}
 use lib.ListN.{length, take, length-append, length-take, length-map}
 use lib.Dec.{T, leb, eqb}
 use borrow.Author.Tests.{leb-true}
@@ -19,7 +19,7 @@ use Rattle.calendar.specs.Clock.{afternoon}
 use Rattle.calendar.specs.Names.{units, shortName, firstLetter, monthName, weekdayName}
 use Rattle.formats.specs.Tokens.{Place, zeroPlace, hashPlace, spacePlace, HalfDay, short, long, runAllowed}
 use Rattle.formats.specs.Items.{Item, general, at, Kind, itemInRange, itemAllowed}
-use Rattle.formats.specs.Text.{Context, insignificant, idleUnits, endsGroup, withSeparator, figureUnits, extraUnits, unitsBeyond, atFirstInteger, placeUnits, pointUnits, yearUnits, namedUnits, hourShown, partUnits, elapsedCount, halfUnits, itemUnits, itemsUnits, digitAfter}
+use Rattle.formats.specs.Text.{Context, insignificant, idleUnits, endsGroup, withSeparator, figureUnits, extraUnits, unitsBeyond, atFirstInteger, placeUnits, pointUnits, yearUnits, namedUnits, hourShown, partUnits, elapsedCount, halfUnits, itemUnits, itemsUnits, digitAfter, along}
 use Rattle.formats.proofs.Each.{by-item}
 use Rattle.tables.specs.Words.{entriesIn}
 use Rattle.tables.specs.Decode.{itemAt, itemsAt}
@@ -147,7 +147,7 @@ module _ (c : Context) (k : Kind) (n : ℕ) (h : 82 ≤ n) (g : T (itemAllowed k
       (λ d r f. omega (arith, half-length d (afternoon (c .clock .hour))))
 
   items-short : (q : ℕ) (is : List Item) → T (every itemInRange is) → T (every (itemAllowed k) is) → length (itemsUnits c q is) ≤ n * length is
-  unfolding itemsUnits
+  unfolding itemsUnits along flatten
   items-short q [] r f = omega arith
   items-short q (i ∷ is) r f =
       let here = item-short q i (every-head itemInRange i is r) (every-head (itemAllowed k) i is f) in

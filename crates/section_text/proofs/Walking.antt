@@ -4,17 +4,17 @@ use Prim.Native.Nat.{ℕ, suc, _+_, _-_, _*_, _/_, _≤_, _<_}
 use native.Mathlib.Omega.{arith}
 use native.Mathlib.Nat.{sub-zero}
 use mathlib.Core.Path.{_≡_, subst}
-use mathlib.Core.List.{List, _∷_}
+use mathlib.Core.List.{List, _∷_, flatten}
 use lib.Dec.{T, eqb}
 use lib.ListN.{length, getD}
 use Rattle.lists.proofs.Bools.{and-left, and-right, every-head, every-tail}
 use Rattle.formats.specs.Items.{Kind, itemAllowed, isPlace}
 use Rattle.formats.specs.Where.{implies}
-use Rattle.formats.specs.Text.{Context, itemsUnits, digitAfter}
+use Rattle.formats.specs.Text.{Context, itemsUnits, digitAfter, along}
 use Rattle.tables.specs.Words.{Entry, entriesAt, entriesIn}
 use Rattle.tables.specs.Encode.{entry}
 use Rattle.tables.specs.Decode.{itemAt, itemsAt}
-use Rattle.tables.specs.Rules.{entryInRange, powersFrom}
+use Rattle.tables.specs.Rules.{entryInRange, powersFrom, allOf}
 use Rattle.tables.proofs.Words.{entriesLeft, entries-front}
 use Rattle.writing.specs.Put.{Put, Rest}
 use Rattle.writing.proofs.Laws.{rest-start, rest-put, rest-done}
@@ -26,14 +26,14 @@ module _ (k : Kind) (q : ℕ) (e : Entry) (es : List Entry) (f : EntriesFit k q 
   first-in-range = every-head entryInRange e es (f .inRange)
 
   pub first-fits : EntryFits k q e
-  unfolding itemsAt powersFrom
+  unfolding itemsAt powersFrom along allOf
   first-fits = record {
     allowed = every-head (itemAllowed k) (itemAt e) (itemsAt es) (f .allowed);
     power = and-left (implies (isPlace (itemAt e)) (eqb (e .argument) (suc q))) (powersFrom (digitAfter q (itemAt e)) es) (f .powers);
   }
 
   pub others-fit : EntriesFit k (digitAfter q (itemAt e)) es
-  unfolding itemsAt powersFrom
+  unfolding itemsAt powersFrom along allOf
   others-fit = record {
     inRange = every-tail entryInRange e es (f .inRange);
     allowed = every-tail (itemAllowed k) (itemAt e) (itemsAt es) (f .allowed);
@@ -48,7 +48,7 @@ pub record Left (old : List ℕ) (start : ℕ) (whole : List ℕ) (c : Context) 
 
 left-step : {P : Kind → Context → Type 0} {old whole room out : List ℕ} {start at r : ℕ} {c : Context} {k : Kind} (e : Entry) (es : List Entry)
     → P k c → ItemPut P e room at r out → Left old start whole c k room at (e ∷ es) → Left old start whole c k out r es
-unfolding itemsUnits itemsAt
+unfolding itemsUnits itemsAt along flatten
 left-step {c = c} {k} e es i p l = record {
   power = digitAfter (l .power) (itemAt e);
   fit = others-fit k (l .power) e es (l .fit);
@@ -97,7 +97,7 @@ module _ {P : Kind → Context → Type 0} {old : List ℕ} {start : ℕ} {words
   }
 
   pub walking-end : n ≤ k → OfText P words (λ us. Put old start us at room)
-  unfolding itemsUnits itemsAt entriesAt
+  unfolding itemsUnits itemsAt entriesAt along flatten
   walking-end h c kind q i f =
       let none : n - k ≡ 0 = omega arith in
       let l = inv .left c kind q i f in

@@ -12,7 +12,7 @@ use borrow.Author.Tests.{eqb-true, lt-leb, ne-eqb}
 use Rattle.lists.specs.Lists.{every}
 use Rattle.lists.proofs.Bools.{and-parts, by-cases, every-head, every-tail}
 use Rattle.formats.specs.Items.{Item, integerPlaces, Run, noRun, isHourRun, runOf, nearer, firstRun, settledItem, settledFrom, settled}
-use Rattle.formats.specs.Text.{digitAfter}
+use Rattle.formats.specs.Text.{digitAfter, along}
 use Rattle.formats.proofs.FormedItems.{settled-kept, places-settled}
 use Rattle.tables.specs.Words.{entriesWords}
 use Rattle.tables.specs.Encode.{tagOf, entryOf, entriesFrom, entriesOf}
@@ -80,7 +80,7 @@ entry-tag q i = refl
 step-cons : (is : List Item) (e : Run) (done : List ℕ) (j : Item) (js : List Item) (q : ℕ) → T (every isNoMinute (j ∷ js))
     → entriesWords (entriesOf (settled is)) [] ≡ done ++ wordsFrom q (settledFrom e (j ∷ js))
     → Going is (settledAt (done ++ wordsFrom q (j ∷ js)) (length done) (isHourRun e)) (hoursAfter (getD (done ++ wordsFrom q (j ∷ js)) (length done) 0) (isHourRun e)) (length done + 2)
-unfolding entriesWords entriesFrom settledFrom digitAfter
+unfolding entriesWords settledFrom digitAfter along
 step-cons is e done j js q m w =
     let l = firstRun js in
     let x = entryOf q (settledItem e l j) in
@@ -101,7 +101,7 @@ step-cons is e done j js q m w =
 
 pub going-step : {is : List Item} {room : List ℕ} {hours : Bool} {i : ℕ} (out : List ℕ) (r : Bool) → Going is room hours i → i + 1 < length room
     → r ≡ hoursAfter (getD room i 0) hours → out ≡ settledAt room i hours → Going is out r (i + 2)
-unfolding entriesWords entriesFrom
+unfolding entriesWords along
 going-step {is} {room} {hours} {i} out r g h a b = from (g .left) (g .months) (g .rest) (g .whole)
   where
     from : (js : List Item) → T (every isNoMinute js) → room ≡ g .done ++ wordsFrom (g .digit) js
@@ -111,7 +111,7 @@ going-step {is} {room} {hours} {i} out r g h a b = from (g .left) (g .months) (g
 
 -- nothing is left at the end
 pub going-end : {is : List Item} {room : List ℕ} {hours : Bool} {i : ℕ} → Going is room hours i → length room ≤ i + 1 → room ≡ entriesWords (entriesOf (settled is)) []
-unfolding entriesWords entriesFrom settledFrom
+unfolding entriesWords settledFrom along
 going-end {is} {room} {i = i} g h = from (g .left) (g .rest) (g .whole)
   where
     from : (js : List Item) → room ≡ g .done ++ wordsFrom (g .digit) js

@@ -16,6 +16,7 @@ use Rattle.formats.proofs.Each.{by-item, by-place, by-elapsed}
 use Rattle.tables.specs.Words.{entriesWords}
 use Rattle.tables.specs.Encode.{entry, tagOf, entryOf, entriesFrom}
 use Rattle.settling.specs.Settle.{isNoMinute, isRunTag, secondsIn, hoursAfter}
+use Rattle.formats.specs.Text.{along}
 
 -- the run of an item, before or behind another one
 abbrev Tells : Item → Type 0
@@ -34,7 +35,7 @@ tag-tells =
 
 -- the nearest run of items is seconds
 pub seconds-first : (q : ℕ) (is : List Item) → secondsIn (entriesWords (entriesFrom q is) []) ≡ isSecondRun (firstRun is)
-unfolding secondsIn entriesWords entriesFrom entryOf firstRun
+unfolding secondsIn entriesWords entryOf firstRun along
 seconds-first q [] = refl
 seconds-first q (i ∷ is) = rw (seconds-first _ is) (sym (tag-tells i (firstRun is) .0))
 

@@ -13,10 +13,10 @@ use Rattle.lists.specs.Lists.{every}
 use Rattle.lists.proofs.Bools.{and-left, and-right, every-tail, by-cases}
 use Rattle.formats.specs.Items.{Item, Section, isPlace, isPoint, integerPlaces}
 use Rattle.formats.specs.Where.{implies}
-use Rattle.formats.specs.Text.{digitAfter}
+use Rattle.formats.specs.Text.{digitAfter, along}
 use Rattle.tables.specs.Words.{Entry, entriesAt, entriesIn}
 use Rattle.tables.specs.Decode.{itemAt, itemsAt}
-use Rattle.tables.specs.Rules.{entryInRange, powersFrom}
+use Rattle.tables.specs.Rules.{entryInRange, powersFrom, allOf}
 use Rattle.tables.proofs.Words.{entriesLeft, entries-front}
 use Rattle.tables.proofs.BackEntries.{place-tag}
 use Rattle.table_words.specs.Sections.{ItemsOf}
@@ -24,13 +24,13 @@ use Rattle.showing.specs.Number.{firstArgument}
 
 -- a place's argument, and that another item changes no power
 first-argument : (q : ℕ) (e : Entry) (es : List Entry) → isPlace (itemAt e) ≡ true → T (powersFrom q (e ∷ es)) → e .argument ≡ suc q
-unfolding powersFrom
+unfolding powersFrom along allOf
 first-argument q e es h t =
     let p = and-left (implies (isPlace (itemAt e)) (eqb (e .argument) (suc q))) (powersFrom (digitAfter q (itemAt e)) es) t in
     eqb→eq (e .argument) (suc q) (rw h at p)
 
 powers-behind : (q : ℕ) (e : Entry) (es : List Entry) → isPlace (itemAt e) ≡ false → T (powersFrom q (e ∷ es)) → T (powersFrom q es)
-unfolding powersFrom digitAfter
+unfolding powersFrom digitAfter along allOf
 powers-behind q e es h t =
     let p = and-right (implies (isPlace (itemAt e)) (eqb (e .argument) (suc q))) (powersFrom (digitAfter q (itemAt e)) es) t in
     rw h at p

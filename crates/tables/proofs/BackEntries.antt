@@ -16,11 +16,11 @@ use Rattle.formats.specs.Items.{isPlace, Item, place, elapsed, half, itemInRang
 use Rattle.formats.specs.Where.{implies}
 use Rattle.formats.proofs.Each.{by-item, by-place, by-elapsed}
 use Rattle.formats.proofs.ByNumber.{by-number}
-use Rattle.formats.specs.Text.{digitAfter}
+use Rattle.formats.specs.Text.{digitAfter, along}
 use Rattle.tables.specs.Words.{Entry}
 use Rattle.tables.specs.Encode.{entry, entryOf, entriesFrom, tagOf}
 use Rattle.tables.specs.Decode.{halfAt, itemAt, itemsAt, itemsByTag}
-use Rattle.tables.specs.Rules.{entryInRange, powersFrom}
+use Rattle.tables.specs.Rules.{entryInRange, powersFrom, allOf, powerFits}
 
 -- what holds of each of the n numbers from k
 abbrev pub Span : (ℕ → Type 0) → ℕ → ℕ → Type 0
@@ -79,8 +79,6 @@ half-back a r =
     span-at (λ n. suc (halfIndex (halfAt n)) ≡ n) 1 2 a (refl, (refl, tt)) (f .0) (omega arith)
 
 -- a place's argument is what its power asks for; q is the power of the entry's digit and 15
-abbrev pub powerFits : ℕ → Entry → Bool
-powerFits q e = implies (isPlace (itemAt e)) (eqb (e .argument) (suc q))
 
 pub entry-back : (q : ℕ) (e : Entry) → T (entryInRange e) → T (powerFits q e) → entryOf q (itemAt e) ≡ e
 unfolding entryInRange itemAt entryOf
@@ -94,7 +92,7 @@ entry-back q =
     (also (λ a r f. rw (half-back a r)) tt)))))))))))))))))))))
 
 pub entries-back : (q : ℕ) (es : List Entry) → T (every entryInRange es) → T (powersFrom q es) → entriesFrom q (itemsAt es) ≡ es
-unfolding powersFrom entriesFrom itemsAt
+unfolding powersFrom itemsAt along allOf
 entries-back q [] r f = refl
 entries-back q (e ∷ es) r f =
     let here : T (powerFits q e) = and-left (powerFits q e) (powersFrom (digitAfter q (itemAt e)) es) f in

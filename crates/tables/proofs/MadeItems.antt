@@ -11,10 +11,10 @@ use Rattle.lists.specs.Lists.{every}
 use Rattle.lists.proofs.Bools.{and-in, by-cases, every-head, every-tail, every-cons}
 use Rattle.formats.specs.Items.{Item, place, elapsed, half, isPlace, integerPlaces, itemInRange}
 use Rattle.formats.specs.Where.{implies}
-use Rattle.formats.specs.Text.{digitAfter}
+use Rattle.formats.specs.Text.{digitAfter, along}
 use Rattle.tables.specs.Encode.{entryOf, entriesFrom, entriesOf}
 use Rattle.tables.specs.Decode.{halfAt, itemAt, itemsAt}
-use Rattle.tables.specs.Rules.{entryInRange, powersFrom, powersRunDown}
+use Rattle.tables.specs.Rules.{entryInRange, powersFrom, powersRunDown, allOf}
 use Rattle.formats.proofs.Each.{by-item, by-place, by-elapsed, by-half}
 
 -- an item's entry reads back as the item, whatever its arguments
@@ -28,12 +28,12 @@ item-back q =
     (by-half (λ h. itemAt (entryOf q (half h)) ≡ half h) refl refl)
 
 pub items-back : (q : ℕ) (is : List Item) → itemsAt (entriesFrom q is) ≡ is
-unfolding itemsAt entriesFrom
+unfolding itemsAt along
 items-back q [] = refl
 items-back q (i ∷ is) = rw (item-back q i, items-back (digitAfter q i) is)
 
 pub entries-length : (q : ℕ) (is : List Item) → length (entriesFrom q is) ≡ length is
-unfolding entriesFrom
+unfolding along
 entries-length q [] = refl
 entries-length q (i ∷ is) = ap suc (entries-length (digitAfter q i) is)
 
@@ -56,7 +56,7 @@ unfolding digitAfter
 after-most q i = by-cases (isPlace i) (λ e. rw e (omega arith)) (λ e. rw e (omega arith))
 
 pub entries-in-range : (q : ℕ) (is : List Item) → T (every itemInRange is) → q ≤ 34 → T (every entryInRange (entriesFrom q is))
-unfolding entriesFrom every
+unfolding every along
 entries-in-range q [] t h = tt
 entries-in-range q (i ∷ is) t h =
     every-cons entryInRange (entryOf q i) (entriesFrom (digitAfter q i) is)
@@ -71,7 +71,7 @@ power-stands q =
     tt tt tt tt (λ n. tt) (λ n. tt) (λ n. tt) (λ n. tt) (λ n. tt) (λ n. tt) (λ n. tt) (λ e n. tt) (λ h. tt)
 
 powers-from : (q : ℕ) (is : List Item) → T (powersFrom q (entriesFrom q is))
-unfolding entriesFrom powersFrom
+unfolding powersFrom along allOf
 powers-from q [] = tt
 powers-from q (i ∷ is) =
     rw (item-back q i)

@@ -11,7 +11,7 @@ use Rattle.formats.specs.Items.{Item, itemRow, Condition, Section, Kind, kindRo
 use Rattle.formats.specs.Where.{hasCondition}
 use Rattle.formats.specs.Choice.{counted}
 use Rattle.formats.specs.Minus.{firstHasCondition, exceptionA}
-use Rattle.formats.specs.Text.{digitAfter}
+use Rattle.formats.specs.Text.{along, self}
 use Rattle.tables.specs.Words.{Head, Entry, Row, tableWords}
 
 -- "kind (0 literal, 1 General, 2 number, 3 text, 4 date-time)" (R90)
@@ -103,9 +103,8 @@ tagOf i = itemRow i .number + itemRow i .variant
 unfoldable pub entryOf : ℕ → Item → Entry
 entryOf q i = entry (tagOf i) (cond (isPlace i) (suc q) (itemRow i .argument))
 
-unfoldable pub entriesFrom : ℕ → List Item → List Entry
-entriesFrom q [] = []
-entriesFrom q (i ∷ is) = entryOf q i ∷ entriesFrom (digitAfter q i) is
+abbrev pub entriesFrom : ℕ → List Item → List Entry
+entriesFrom q is = along self entryOf q is
 
 -- "the last integer place having 0 and the first decimal place -1" (R101)
 unfoldable pub entriesOf : List Item → List Entry

@@ -12,7 +12,7 @@ use Rattle.formats.specs.Where.{implies, hasCondition}
 use Rattle.formats.specs.WellFormed.{sectionFits, sectionsStand}
 use Rattle.formats.specs.Choice.{counted}
 use Rattle.formats.specs.Minus.{firstHasCondition}
-use Rattle.formats.specs.Text.{digitAfter}
+use Rattle.formats.specs.Text.{along}
 use Rattle.tables.specs.Words.{Head, Entry, Row, rowsIn, exactWords}
 use Rattle.tables.specs.Encode.{kindWord, flagsWord, noMinus, hasHalf, decimalsWord, tagOf}
 use Rattle.tables.specs.Decode.{wholeAt, millionthsAt, itemAt, itemsAt, groupedAt, thousandsAt, sectionAt, decode}
@@ -47,12 +47,16 @@ conditionFits h =
     implies (eqb (h .operator) 0) (eqb (h .negative) 0 && eqb (wholeAt h) 0 && eqb (millionthsAt h) 0)
     && implies (eqb (wholeAt h) 0 && eqb (millionthsAt h) 0) (eqb (h .negative) 0)
 
--- "powers run down by one" (R101): q is the power and 15 that the next place must have
+-- "powers run down by one" (R101): q is the power and 15 that a place must have
+abbrev pub powerFits : ℕ → Entry → Bool
+powerFits q e = implies (isPlace (itemAt e)) (eqb (e .argument) (suc q))
+
+unfoldable pub allOf : List Bool → Bool
+allOf [] = true
+allOf (b ∷ bs) = let r = allOf bs in b && r
+
 unfoldable pub powersFrom : ℕ → List Entry → Bool
-powersFrom q [] = true
-powersFrom q (e ∷ es) =
-    let r = powersFrom (digitAfter q (itemAt e)) es in
-    implies (isPlace (itemAt e)) (eqb (e .argument) (suc q)) && r
+powersFrom q es = allOf (along itemAt powerFits q es)
 
 -- "the last integer place having 0 and the first decimal place -1"
 unfoldable pub powersRunDown : List Entry → Bool

@@ -13,11 +13,11 @@ use Rattle.formats.specs.Items.{Item, Kind, textKind, generalKind, dateKind, nu
 use Rattle.formats.specs.WellFormed.{partsFrom, settledTest, isSeconds}
 use Rattle.formats.proofs.Each.{by-item, by-kind}
 use Rattle.formats.proofs.FigureItems.{makes-place}
-use Rattle.formats.specs.Text.{digitAfter}
+use Rattle.formats.specs.Text.{digitAfter, along}
 use Rattle.tables.specs.Words.{Entry}
 use Rattle.tables.specs.Encode.{kindWord}
 use Rattle.tables.specs.Decode.{itemAt, itemsAt}
-use Rattle.tables.specs.Rules.{powersFrom}
+use Rattle.tables.specs.Rules.{powersFrom, allOf}
 
 -- no item passes a test that none which the kind holds passes
 none-held : (k : Kind) (p : Item → Bool) → ((i : Item) → T (itemAllowed k i) → p i ≡ false) → (is : List Item) → T (every (itemAllowed k) is) → any p is ≡ false
@@ -125,7 +125,7 @@ module _ (is : List Item) (t : T (every (itemAllowed dateKind) is)) where
   date-points = none-count isPoint is (none-held dateKind isPoint (λ i a. date-item i a .1) is t)
 
 pub date-powers : (q : ℕ) (es : List Entry) → T (every (itemAllowed dateKind) (itemsAt es)) → T (powersFrom q es)
-unfolding powersFrom digitAfter itemsAt
+unfolding powersFrom digitAfter itemsAt along allOf
 date-powers q [] t = tt
 date-powers q (e ∷ es) t =
     rw (date-item (itemAt e) (every-head (itemAllowed dateKind) (itemAt e) (itemsAt es) t) .0) (date-powers q es (every-tail (itemAllowed dateKind) (itemAt e) (itemsAt es) t))

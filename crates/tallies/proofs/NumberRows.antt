@@ -16,11 +16,11 @@ use Rattle.lists.proofs.Counts.{any-count, positive-count}
 use Rattle.formats.specs.Items.{Item, half, numberKind, itemAllowed, itemsKind, itemsFit, isFill, isPlace, isPoint, isPercent, isGeneral, isElapsed, noPlain, noRun, integerPlaces, decimalPlaces}
 use Rattle.formats.proofs.ByNumber.{by-number}
 use Rattle.formats.specs.WellFormed.{oneFill, partsFrom, partsFollow, settledTest, isSettled}
-use Rattle.formats.specs.Text.{digitAfter}
+use Rattle.formats.specs.Text.{digitAfter, along}
 use Rattle.tables.specs.Words.{Entry, entriesAt, entriesIn}
 use Rattle.tables.specs.Encode.{entry, kindWord}
 use Rattle.tables.specs.Decode.{halfAt, itemAt, itemsAt, itemsByTag}
-use Rattle.tables.specs.Rules.{entryInRange, powersFrom, powersRunDown}
+use Rattle.tables.specs.Rules.{entryInRange, powersFrom, powersRunDown, allOf}
 use Rattle.tables.proofs.Words.{entriesLeft, entries-front}
 use Rattle.tables.proofs.BackEntries.{between-facts, span-at}
 use Rattle.tallies.proofs.Steps.{no-place-beyond}
@@ -89,7 +89,7 @@ pub record Turned (i d p : ℕ) (s : NumberWalk) (e : Entry) (es : List Entry) (
 
 -- opens all that an entry with a known tag computes by
 unfoldable computed : Entry → Item
-unfolding itemAt itemsAt every count integerPlaces decimalPlaces powersFrom digitAfter entryInRange itemAllowed
+unfolding itemAt itemsAt every count integerPlaces decimalPlaces powersFrom digitAfter entryInRange itemAllowed along allOf
 computed e = itemAt e
 
 module _ (i d p : ℕ) (s : NumberWalk) (a : ℕ) (es : List Entry) where
@@ -519,7 +519,7 @@ module _ (words : List ℕ) (n k : ℕ) (s : NumberWalk) (inv : Counting words n
     percents-are = let p : count isPercent all ≡ s .percents + 0 = rw none at (inv .known .percents) in omega arith
 
     all-taken : (s .first ≡ s .next → ⊥) → openEnd (s .point) (s .next) ≡ false → T (numberItems whole)
-    unfolding itemsAt every count integerPlaces powersFrom
+    unfolding itemsAt every count integerPlaces powersFrom along allOf
     all-taken f e =
         let t = ended (s .first) (s .point) (s .next) _ _ places f e in
         let k = inv .known in

@@ -12,11 +12,11 @@ use Rattle.lists.specs.Lists.{every, count}
 use Rattle.lists.proofs.Bools.{by-cases, true-T}
 use Rattle.tables.proofs.BackEntries.{between-facts, span-at, place-tag}
 use Rattle.formats.specs.Items.{Item, itemNumber, isPlace, isPoint, integerPlaces, decimalPlaces}
-use Rattle.formats.specs.Text.{digitAfter}
+use Rattle.formats.specs.Text.{digitAfter, along}
 use Rattle.tables.specs.Words.{Entry}
 use Rattle.tables.specs.Encode.{entry}
 use Rattle.tables.specs.Decode.{itemAt, itemsAt}
-use Rattle.tables.specs.Rules.{entryInRange, powersFrom, powersRunDown}
+use Rattle.tables.specs.Rules.{entryInRange, powersFrom, powersRunDown, allOf}
 use Rattle.tallies.specs.Walk.{lower, unitAfter, nextAfter, ended, powerTest}
 
 point-no-place : (i : Item) → isPoint i ≡ true → isPlace i ≡ false
@@ -83,7 +83,7 @@ unit-closed i = by-cases (isPoint i) (λ h. rw h) (λ h. rw h)
 
 pub closed-chain : (q : ℕ) → q ≤ 34 → (es : List Entry)
     → (chainFrom 65536 (suc q) es && every rangeTest es) ≡ (powersFrom q es && every entryInRange es)
-unfolding chainFrom powersFrom powerTest nextAfter digitAfter every
+unfolding chainFrom powersFrom powerTest nextAfter digitAfter every along allOf
 closed-chain q m [] = refl
 closed-chain q m (e ∷ es) =
     let a = e .argument in
@@ -108,7 +108,7 @@ ended-is q m = rw (started q m) (same-test (suc q) 15 q 14 (λ e. omega arith) (
 opened-chain : (q : ℕ) → q ≤ 34 → (es : List Entry)
     → (chainFrom 1 (suc q) es && every rangeTest es)
     ≡ (eqb q (14 + integerPlaces (itemsAt es)) && (powersFrom q es && every entryInRange es))
-unfolding chainFrom powersFrom powerTest nextAfter unitAfter digitAfter integerPlaces itemsAt every
+unfolding chainFrom powersFrom powerTest nextAfter unitAfter digitAfter integerPlaces itemsAt every along allOf
 opened-chain q m [] = rw (ended-is q m)
 opened-chain q m (e ∷ es) =
     let a = e .argument in
@@ -132,7 +132,7 @@ opened-chain q m (e ∷ es) =
 
 -- ---- from the start: "powers run down by one", and every range
 pub chain-start : (es : List Entry) → (chainFrom 1 65536 es && every rangeTest es) ≡ (powersRunDown es && every entryInRange es)
-unfolding chainFrom powersRunDown powersFrom powerTest nextAfter unitAfter digitAfter integerPlaces itemsAt every
+unfolding chainFrom powersRunDown powersFrom powerTest nextAfter unitAfter digitAfter integerPlaces itemsAt every along allOf
 chain-start [] = refl
 chain-start (e ∷ es) =
     let a = e .argument in
