@@ -1,6 +1,6 @@
-// The smaller and the greater of two numbers, and whether a number is in a range.
+// The smaller and the greater of two numbers, how far one is above the other, and whether a number is in a range.
 ghost use mathlib.Core.Path.{_≡_};
-ghost use Prim.Native.Nat.{min, max};
+ghost use Prim.Native.Nat.{_-_, min, max};
 ghost use Rattle.values.specs.Ranges.{between};
 
 pub fn least(a: usize, b: usize) -> usize
@@ -13,6 +13,13 @@ pub fn greatest(a: usize, b: usize) -> usize
     ensures { λ r. ⌜ r ≡ max a b ⌝ }
 {
     if a < b { b } else { a }
+}
+
+// By how much a is above b; 0 where it is not.
+pub fn excess(a: u32, b: u32) -> u32
+    ensures { λ r. ⌜ r ≡ a - b ⌝ }
+{
+    if b < a { a - b } else { 0 }
 }
 
 pub fn is_between(least: u16, greatest: u16, n: u16) -> bool

@@ -1,0 +1,9 @@
+pub mod Powered
+pub mod Least
+pub mod Search
+pub mod Mantissa
+pub mod Found
+pub mod Multiples
+pub mod Tells
+pub mod Small
+pub mod Cases

@@ -1,0 +1,3 @@
+pub mod Exponent
+pub mod Least
+pub mod Leading
