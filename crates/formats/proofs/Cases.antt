@@ -171,6 +171,45 @@ pub slips-right : All Right slips
 unfolding slips evaluated
 slips-right = all-equal read (λ (c : Case). c .answer) slips refl
 
+-- scientific sections (R126 to R129)
+unfoldable pub scientifics : List Case
+unfolding units seen
+scientifics =
+    shows "0.00E+00" (number (pos 1) 0) "1.00E+00" 0
+    -- the exponent is a multiple of the integer places, whatever stands between them, below 0 too
+    ∷ shows "#0.0E+0" (number (pos 12200000) 0) "12.2E+6" 0
+    ∷ shows "0-0E+0" (number (pos 1230) 0) "1-2E+2" 0
+    ∷ shows "##0.0E+0" (number (pos 3) 0) "3.0E+0" 0
+    ∷ shows "##0.0E+0" (number (pos 3) 1) "300.0E-3" 0
+    ∷ shows "000.0E+0" (number (pos 12) 0) "012.0E+0" 0
+    -- it is told after rounding
+    ∷ shows "0E+0" (number (pos 94) 2) "9E-1" 0
+    ∷ shows "0E+0" (number (pos 95) 2) "1E+0" 0
+    ∷ shows "0.0E+0" (number (pos 995) 2) "1.0E+1" 0
+    ∷ shows "##0.0E+0" (number (pos 99995) 2) "1.0E+3" 0
+    -- zero, by its marks; a number below 0 keeps its minus, however small
+    ∷ shows "#.00E+00" (number (pos 0) 0) ".00E+00" 0
+    ∷ shows "0E+0" (number (negsuc 0) 15) "-1E-15" 0
+    -- `E-` shows a minus or nothing, and the sign stands right behind the E; `#` shows no nought, and digits beyond the places go in at the first
+    ∷ shows "0E-00" (number (pos 5) 1) "5E-01" 0
+    ∷ shows "0E-0" (number (pos 5) 0) "5E0" 0
+    ∷ shows "0E+\"x\"0" (number (pos 5) 0) "5E+x0" 0
+    ∷ shows "0E+#" (number (pos 5) 0) "5E+" 0
+    ∷ shows "0E+0" (number (pos 1) 15) "1E-15" 0
+    -- literals anywhere, and a `/` that is not between two places; a point without decimals
+    ∷ shows "0E+0\"x\"0" (number (pos 1000000000000) 0) "1E+1x2" 0
+    ∷ shows "0\"x\"E+0" (number (pos 5) 0) "5xE+0" 0
+    ∷ shows "0/E+0" (number (pos 5) 0) "5/E+0" 0
+    ∷ shows "0.E+0" (number (pos 50) 0) "5.E+1" 0
+    -- chosen by the value, not by the mantissa; no instant
+    ∷ shows "[<1]0.0E+0;0" (number (pos 5) 2) "5.0E-2" 0
+    ∷ denies "0E+0" (instant 1 0) answer.Sort
+    ∷ []
+
+pub scientifics-right : All Right scientifics
+unfolding scientifics evaluated
+scientifics-right = all-equal read (λ (c : Case). c .answer) scientifics refl
+
 -- a code, and what the tests 1 to 6 say of it
 pub record Judged : Type 0 where
   pub code : List ℕ
@@ -192,15 +231,38 @@ judgements =
     ∷ refuses ";;;;x" answer.Token 4
     ∷ refuses "0\"abc" answer.Token 1
     ∷ refuses "0yyy;x" answer.Token 1
+    -- an E is `E+` or `E-`, capital and unbroken, and none stands in a bracket
+    ∷ refuses "0E0" answer.Token 1
+    ∷ refuses "0e+0" answer.Token 1
+    ∷ refuses "0E\"x\"+0" answer.Token 1
+    ∷ refuses "0E+0x" answer.Token 4
+    ∷ refuses "[>1E+2]General" answer.Token 0
     -- 3: before 4; a semicolon in quotes is none; a fifth semicolon
     ∷ refuses ".;;;;" answer.SectionCount 4
     ∷ refuses "0;\";\";0;0;0;0" answer.SectionCount 9
+    ∷ refuses "0E+0;;;;" answer.SectionCount 7
     -- 4: before 5; the first of two
     ∷ refuses "0;@;." answer.Kind 2
     ∷ refuses "0;.;." answer.Kind 1
     -- an elapsed m beside minutes, and beside a month
     ∷ refuses "[m]:mm:ss" answer.Kind 0
     ∷ record { code = units "[m] m d s"; says = fine }
+    -- scientific: no integer place, no exponent place, a second E or point; a point or `?` behind the E; a comma, a percent, a `/` between places
+    ∷ refuses "E+0" answer.Kind 0
+    ∷ refuses ".0E+0" answer.Kind 0
+    ∷ refuses "0E+" answer.Kind 0
+    ∷ refuses "0E+0E+0" answer.Kind 0
+    ∷ refuses "0..E+0" answer.Kind 0
+    ∷ refuses "0E+0." answer.Kind 0
+    ∷ refuses "0E+0?" answer.Kind 0
+    ∷ refuses "0,0E+0" answer.Kind 0
+    ∷ refuses "0E+0000," answer.Kind 0
+    ∷ refuses "0%E+0" answer.Kind 0
+    ∷ refuses "0/0E+0" answer.Kind 0
+    ∷ refuses "0E+0/0" answer.Kind 0
+    -- an E in a body of another kind
+    ∷ refuses "d E+0" answer.Kind 0
+    ∷ refuses "@E+" answer.Kind 0
     -- 5: before 6; the first of two; a condition on a text and on a third section; a fourth number section and a coloured one
     ∷ refuses "[>1234567890]0" answer.Standing 0
     ∷ refuses "0;@;@;0" answer.Standing 1
@@ -208,6 +270,9 @@ judgements =
     ∷ refuses "0;0;[>5]0" answer.Standing 2
     ∷ refuses "0;0;0;0" answer.Standing 3
     ∷ refuses "0;0;0;[Red]" answer.Standing 3
+    ∷ refuses "0;;;0E+0" answer.Standing 3
+    ∷ refuses "[>1]0E+0" answer.Standing 0
+    ∷ refuses "0E+0000;@;0" answer.Standing 1
     -- 6: the first of two, in a later section; one more than each limit, and all limits reached
     ∷ refuses "0;[>1234567890]0;000000000000000000000" answer.Limit 1
     ∷ refuses "000000000000000000000" answer.Limit 0
@@ -216,7 +281,9 @@ judgements =
     ∷ refuses "0,,,,,," answer.Limit 0
     ∷ refuses "[>1.0000000]General" answer.Limit 0
     ∷ refuses "[hhhhhhhhhh]" answer.Limit 0
+    ∷ refuses "0E+0000" answer.Limit 0
     ∷ record { code = units "[>123456789.123456]00000000000000000000.000000000000000%%%%%,,,,,;[hhhhhhhhh]"; says = fine }
+    ∷ record { code = units "00000000000000000000.000000000000000E+000"; says = fine }
     ∷ []
 
 pub judgements-right : All (λ (j : Judged). verdict (j .code) ≡ j .says) judgements

@@ -4,30 +4,31 @@
 use Prim.Native.Nat.{ℕ}
 use mathlib.Core.List.{List}
 use Rattle.formats.specs.Tokens as token
-use Rattle.formats.specs.Tokens.{Token, Letter, letterY, letterM, letterD, letterH, letterS, Written, Place, zeroPlace, hashPlace, spacePlace, Elapsed, hours, minutes, seconds, HalfDay, short, long, Comparison, equal, less, greater, atMost, atLeast, unequal}
-use Rattle.formats.specs.Items.{Item, literal, blank, fill, place, point, percent, general, at, year, month, day, hour, minute, second, part, elapsed, half, Kind, textKind, generalKind, dateKind, numberKind, literalKind}
+use Rattle.formats.specs.Tokens.{Token, Letter, letterY, letterM, letterD, letterH, letterS, Written, Place, zeroPlace, hashPlace, spacePlace, Elapsed, hours, minutes, seconds, HalfDay, short, long, ExponentMark, ePlus, eMinus, Comparison, equal, less, greater, atMost, atLeast, unequal}
+use Rattle.formats.specs.Items.{Item, literal, blank, fill, place, point, percent, general, at, year, month, day, hour, minute, second, part, elapsed, half, exponent, Kind, textKind, generalKind, dateKind, scientificKind, numberKind, literalKind}
 
 pub by-token {ℓ} : (P : Token → Type ℓ) → ((us : List ℕ) → P (token.literal us)) → ((u : ℕ) → P (token.bare u)) → ((u : ℕ) → P (token.blank u)) → ((u : ℕ) → P (token.fill u))
     → ((p : Place) → P (token.place p)) → P token.point → P token.comma → P token.percent → P token.at → P token.semicolon → P token.general
     → ((h : HalfDay) → P (token.half h)) → ((l : Letter) (n : ℕ) → P (token.run l n)) → ((e : Elapsed) (n : ℕ) → P (token.elapsed e n))
-    → ((n : ℕ) → P (token.colour n)) → ((w : Written) → P (token.condition w))
+    → ((n : ℕ) → P (token.colour n)) → ((w : Written) → P (token.condition w)) → ((m : ExponentMark) → P (token.exponent m))
     → (t : Token) → P t
-by-token P li ba bl fi pl po co pe a se ge ha ru el cl cn (token.literal us) = li us
-by-token P li ba bl fi pl po co pe a se ge ha ru el cl cn (token.bare u) = ba u
-by-token P li ba bl fi pl po co pe a se ge ha ru el cl cn (token.blank u) = bl u
-by-token P li ba bl fi pl po co pe a se ge ha ru el cl cn (token.fill u) = fi u
-by-token P li ba bl fi pl po co pe a se ge ha ru el cl cn (token.place p) = pl p
-by-token P li ba bl fi pl po co pe a se ge ha ru el cl cn token.point = po
-by-token P li ba bl fi pl po co pe a se ge ha ru el cl cn token.comma = co
-by-token P li ba bl fi pl po co pe a se ge ha ru el cl cn token.percent = pe
-by-token P li ba bl fi pl po co pe a se ge ha ru el cl cn token.at = a
-by-token P li ba bl fi pl po co pe a se ge ha ru el cl cn token.semicolon = se
-by-token P li ba bl fi pl po co pe a se ge ha ru el cl cn token.general = ge
-by-token P li ba bl fi pl po co pe a se ge ha ru el cl cn (token.half h) = ha h
-by-token P li ba bl fi pl po co pe a se ge ha ru el cl cn (token.run l n) = ru l n
-by-token P li ba bl fi pl po co pe a se ge ha ru el cl cn (token.elapsed e n) = el e n
-by-token P li ba bl fi pl po co pe a se ge ha ru el cl cn (token.colour n) = cl n
-by-token P li ba bl fi pl po co pe a se ge ha ru el cl cn (token.condition w) = cn w
+by-token P li ba bl fi pl po co pe a se ge ha ru el cl cn ex (token.literal us) = li us
+by-token P li ba bl fi pl po co pe a se ge ha ru el cl cn ex (token.bare u) = ba u
+by-token P li ba bl fi pl po co pe a se ge ha ru el cl cn ex (token.blank u) = bl u
+by-token P li ba bl fi pl po co pe a se ge ha ru el cl cn ex (token.fill u) = fi u
+by-token P li ba bl fi pl po co pe a se ge ha ru el cl cn ex (token.place p) = pl p
+by-token P li ba bl fi pl po co pe a se ge ha ru el cl cn ex token.point = po
+by-token P li ba bl fi pl po co pe a se ge ha ru el cl cn ex token.comma = co
+by-token P li ba bl fi pl po co pe a se ge ha ru el cl cn ex token.percent = pe
+by-token P li ba bl fi pl po co pe a se ge ha ru el cl cn ex token.at = a
+by-token P li ba bl fi pl po co pe a se ge ha ru el cl cn ex token.semicolon = se
+by-token P li ba bl fi pl po co pe a se ge ha ru el cl cn ex token.general = ge
+by-token P li ba bl fi pl po co pe a se ge ha ru el cl cn ex (token.half h) = ha h
+by-token P li ba bl fi pl po co pe a se ge ha ru el cl cn ex (token.run l n) = ru l n
+by-token P li ba bl fi pl po co pe a se ge ha ru el cl cn ex (token.elapsed e n) = el e n
+by-token P li ba bl fi pl po co pe a se ge ha ru el cl cn ex (token.colour n) = cl n
+by-token P li ba bl fi pl po co pe a se ge ha ru el cl cn ex (token.condition w) = cn w
+by-token P li ba bl fi pl po co pe a se ge ha ru el cl cn ex (token.exponent m) = ex m
 
 pub by-letter {ℓ} : (P : Letter → Type ℓ) → P letterY → P letterM → P letterD → P letterH → P letterS → (l : Letter) → P l
 by-letter P y m d h s letterY = y
@@ -40,24 +41,26 @@ pub by-item {ℓ} : (P : Item → Type ℓ) → ((u : ℕ) → P (literal u)) �
     → P point → P percent → P general → P at
     → ((n : ℕ) → P (year n)) → ((n : ℕ) → P (month n)) → ((n : ℕ) → P (day n)) → ((n : ℕ) → P (hour n))
     → ((n : ℕ) → P (minute n)) → ((n : ℕ) → P (second n)) → ((n : ℕ) → P (part n)) → ((e : Elapsed) (n : ℕ) → P (elapsed e n)) → ((h : HalfDay) → P (half h))
+    → ((m : ExponentMark) → P (exponent m))
     → (i : Item) → P i
-by-item P l b f pl po pe ge a y mo d ho mi se pa el ha (literal u) = l u
-by-item P l b f pl po pe ge a y mo d ho mi se pa el ha (blank u) = b u
-by-item P l b f pl po pe ge a y mo d ho mi se pa el ha (fill u) = f u
-by-item P l b f pl po pe ge a y mo d ho mi se pa el ha (place p) = pl p
-by-item P l b f pl po pe ge a y mo d ho mi se pa el ha point = po
-by-item P l b f pl po pe ge a y mo d ho mi se pa el ha percent = pe
-by-item P l b f pl po pe ge a y mo d ho mi se pa el ha general = ge
-by-item P l b f pl po pe ge a y mo d ho mi se pa el ha at = a
-by-item P l b f pl po pe ge a y mo d ho mi se pa el ha (year n) = y n
-by-item P l b f pl po pe ge a y mo d ho mi se pa el ha (month n) = mo n
-by-item P l b f pl po pe ge a y mo d ho mi se pa el ha (day n) = d n
-by-item P l b f pl po pe ge a y mo d ho mi se pa el ha (hour n) = ho n
-by-item P l b f pl po pe ge a y mo d ho mi se pa el ha (minute n) = mi n
-by-item P l b f pl po pe ge a y mo d ho mi se pa el ha (second n) = se n
-by-item P l b f pl po pe ge a y mo d ho mi se pa el ha (part n) = pa n
-by-item P l b f pl po pe ge a y mo d ho mi se pa el ha (elapsed e n) = el e n
-by-item P l b f pl po pe ge a y mo d ho mi se pa el ha (half h) = ha h
+by-item P l b f pl po pe ge a y mo d ho mi se pa el ha ex (literal u) = l u
+by-item P l b f pl po pe ge a y mo d ho mi se pa el ha ex (blank u) = b u
+by-item P l b f pl po pe ge a y mo d ho mi se pa el ha ex (fill u) = f u
+by-item P l b f pl po pe ge a y mo d ho mi se pa el ha ex (place p) = pl p
+by-item P l b f pl po pe ge a y mo d ho mi se pa el ha ex point = po
+by-item P l b f pl po pe ge a y mo d ho mi se pa el ha ex percent = pe
+by-item P l b f pl po pe ge a y mo d ho mi se pa el ha ex general = ge
+by-item P l b f pl po pe ge a y mo d ho mi se pa el ha ex at = a
+by-item P l b f pl po pe ge a y mo d ho mi se pa el ha ex (year n) = y n
+by-item P l b f pl po pe ge a y mo d ho mi se pa el ha ex (month n) = mo n
+by-item P l b f pl po pe ge a y mo d ho mi se pa el ha ex (day n) = d n
+by-item P l b f pl po pe ge a y mo d ho mi se pa el ha ex (hour n) = ho n
+by-item P l b f pl po pe ge a y mo d ho mi se pa el ha ex (minute n) = mi n
+by-item P l b f pl po pe ge a y mo d ho mi se pa el ha ex (second n) = se n
+by-item P l b f pl po pe ge a y mo d ho mi se pa el ha ex (part n) = pa n
+by-item P l b f pl po pe ge a y mo d ho mi se pa el ha ex (elapsed e n) = el e n
+by-item P l b f pl po pe ge a y mo d ho mi se pa el ha ex (half h) = ha h
+by-item P l b f pl po pe ge a y mo d ho mi se pa el ha ex (exponent m) = ex m
 
 pub by-place {ℓ} : (P : Place → Type ℓ) → P zeroPlace → P hashPlace → P spacePlace → (x : Place) → P x
 by-place P a b c zeroPlace = a
@@ -73,12 +76,17 @@ pub by-half {ℓ} : (P : HalfDay → Type ℓ) → P short → P long → (x : H
 by-half P a b short = a
 by-half P a b long = b
 
-pub by-kind {ℓ} : (P : Kind → Type ℓ) → P textKind → P generalKind → P dateKind → P numberKind → P literalKind → (x : Kind) → P x
-by-kind P a b c d e textKind = a
-by-kind P a b c d e generalKind = b
-by-kind P a b c d e dateKind = c
-by-kind P a b c d e numberKind = d
-by-kind P a b c d e literalKind = e
+pub by-exponent {ℓ} : (P : ExponentMark → Type ℓ) → P ePlus → P eMinus → (x : ExponentMark) → P x
+by-exponent P a b ePlus = a
+by-exponent P a b eMinus = b
+
+pub by-kind {ℓ} : (P : Kind → Type ℓ) → P textKind → P generalKind → P dateKind → P numberKind → P literalKind → P scientificKind → (x : Kind) → P x
+by-kind P a b c d e f textKind = a
+by-kind P a b c d e f generalKind = b
+by-kind P a b c d e f dateKind = c
+by-kind P a b c d e f numberKind = d
+by-kind P a b c d e f literalKind = e
+by-kind P a b c d e f scientificKind = f
 
 pub by-comparison {ℓ} : (P : Comparison → Type ℓ) → P equal → P less → P greater → P atMost → P atLeast → P unequal → (x : Comparison) → P x
 by-comparison P a b c d e f equal = a

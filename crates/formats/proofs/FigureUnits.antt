@@ -17,7 +17,7 @@ use Rattle.formats.specs.Tokens.{Place, zeroPlace, hashPlace, spacePlace
 use Rattle.formats.specs.Text.{Context, insignificant, idleUnits, endsGroup, withSeparator, figureUnits, extraUnits, unitsBeyond, atFirstInteger, placeUnits}
 use Rattle.formats.specs.Figures.{readFrom, Counts, isFigure}
 
-digit-test : (d : ℕ) → d < 10 → isDigit (48 + d) ≡ true
+pub digit-test : (d : ℕ) → d < 10 → isDigit (48 + d) ≡ true
 unfolding isDigit
 digit-test d h = rw (le-leb 48 (48 + d) (omega arith), le-leb (48 + d) 57 (omega arith))
 

@@ -2,21 +2,23 @@
 -- Assumes nothing.
 use Prim.Native.Nat.{ℕ, suc, _+_, _≤_}
 use native.Mathlib.Omega.{arith}
-use mathlib.Core.Path.{_≡_, refl, sym, _∙_}
+use mathlib.Core.Path.{_≡_, refl, sym, _∙_, ap}
 use mathlib.Core.Bool.{Bool, true, false, cond, not, _&&_, true≢false}
 use mathlib.Core.List.{List, [], _∷_, _++_, map, append-assoc}
 use lib.Dec.{T, leb, le→leb}
 use borrow.Author.Tests.{eqb-true, not-true}
 use Rattle.lists.specs.Lists.{any}
-use Rattle.lists.proofs.Bools.{by-cases, cond-both, and-left, and-right, T-true, true-T, implies-in}
+use Rattle.lists.proofs.Bools.{by-cases, cond-both, and-left, and-right, T-true, true-T, implies-in, and-in}
 use Rattle.formats.specs.Tokens as token
-use Rattle.formats.specs.Tokens.{Token, Letter, letterY, letterM, letterD, letterH, letterS}
+use Rattle.formats.specs.Tokens.{Token, Letter}
 use Rattle.formats.specs.Items as item
-use Rattle.formats.specs.Items.{Item, numberKind, sameKind, kindRow, integerPlaces, settled, noRun}
-use Rattle.formats.specs.Kinds.{formOf, isPlace, isPoint, isComma, Parts, bodyKind, CommaUse, divides, misplaced, isGrouping, integerPlaceTokens, integerPlaceIn, useOf, usesFrom, commaUses, runItem, tokenItems, plainItems, bodyItems, lastFill, sectionOf}
+use Rattle.formats.specs.Items.{Item, numberKind, sameKind, kindRow, integerPlaces, settled, noRun, Kind, textKind, generalKind, dateKind, scientificKind, literalKind, kindFrom, itemsKind, kindOf}
+use Rattle.formats.specs.Kinds.{formOf, isPlace, isPoint, isComma, Parts, bodyKind, CommaUse, divides, misplaced, isGrouping, integerPlaceTokens, integerPlaceIn, useOf, usesFrom, commaUses, runItem, tokenItems, plainItems, bodyItems, lastFill, sectionOf, isExponent, tokenMakes}
 use Rattle.formats.specs.WellFormed.{groupingFits}
 use Rattle.formats.proofs.FormedItems.{places-lastFill, places-settled}
 use Rattle.formats.proofs.Each.{by-token, by-letter}
+use Rattle.lists.proofs.Counts.{any-same, any-append}
+use Rattle.formats.proofs.FormedKinds.{kind-of-body}
 
 literals-places : (us : List ℕ) (is : List Item) → integerPlaces (map item.literal us ++ is) ≡ integerPlaces is
 unfolding integerPlaces
@@ -29,43 +31,58 @@ run-places l n is = by-letter (λ (k : Letter). integerPlaces (runItem k n ∷ i
 
 -- the integer places of a token's items in front of others
 pub token-places : (date : Bool) (t : Token) (is : List Item) → integerPlaces (tokenItems date t ++ is)
-    ≡ cond (isPoint t) (cond date (integerPlaces is) 0) (cond (isPlace t) (suc (integerPlaces is)) (integerPlaces is))
+    ≡ cond (isPoint t) (cond date (integerPlaces is) 0) (cond (isExponent t) 0 (cond (isPlace t) (suc (integerPlaces is)) (integerPlaces is)))
 unfolding integerPlaces tokenItems
 token-places date t is =
     by-token
     (λ (t : Token). integerPlaces (tokenItems date t ++ is)
-    ≡ cond (isPoint t) (cond date (integerPlaces is) 0) (cond (isPlace t) (suc (integerPlaces is)) (integerPlaces is)))
+    ≡ cond (isPoint t) (cond date (integerPlaces is) 0) (cond (isExponent t) 0 (cond (isPlace t) (suc (integerPlaces is)) (integerPlaces is))))
     (λ us. literals-places us is) (λ u. refl) (λ u. refl) (λ u. refl) (λ p. refl)
     (by-cases date (λ e. rw e) (λ e. rw e)) (by-cases date (λ e. rw e) (λ e. rw e))
-    refl refl refl refl (λ h. refl) (λ l n. run-places l n is) (λ e n. refl) (λ n. refl) (λ w. refl) t
+    refl refl refl refl (λ h. refl) (λ l n. run-places l n is) (λ e n. refl) (λ n. refl) (λ w. refl) (λ m. refl) t
 
 pub places-plain : (ts : List Token) → integerPlaces (plainItems ts) ≡ integerPlaceTokens ts
 unfolding plainItems integerPlaces integerPlaceTokens
 places-plain [] = refl
-places-plain (t ∷ ts) = token-places false t (plainItems ts) ∙ rw (places-plain ts)
+places-plain (t ∷ ts) = token-places false t (plainItems ts) ∙ rw (places-plain ts) (by-cases (isPoint t) (λ e. rw e) (λ e. rw e))
 
-place-in : (ts : List Token) → integerPlaceIn ts ≡ true → 1 ≤ integerPlaceTokens ts
+-- the first of these tokens is no E, and no later one is
+first-bare : (t : Token) (ts : List Token) → any isExponent (t ∷ ts) ≡ false → isExponent t ≡ false
+unfolding any
+first-bare t ts e = by-cases (isExponent t) (λ h. absurd (true≢false (rw h at e))) (λ h. h)
+
+later-bare : (t : Token) (ts : List Token) → any isExponent (t ∷ ts) ≡ false → any isExponent ts ≡ false
+unfolding any
+later-bare t ts e = rw (first-bare t ts e) at e
+
+place-in : (ts : List Token) → any isExponent ts ≡ false → integerPlaceIn ts ≡ true → 1 ≤ integerPlaceTokens ts
 unfolding integerPlaceIn integerPlaceTokens
-place-in [] e = absurd (true≢false (sym e))
-place-in (t ∷ ts) e =
+place-in [] b e = absurd (true≢false (sym e))
+place-in (t ∷ ts) b e =
+    let c : isExponent t ≡ false = first-bare t ts b in
     by-cases (isPoint t)
     (λ h. absurd (true≢false (sym (rw h at e))))
-    (λ h. rw h (by-cases (isPlace t) (λ k. rw k (omega arith)) (λ k. rw k (place-in ts (rw (h, k) at e)))))
+    (λ h. rw (h, c) (by-cases (isPlace t) (λ k. rw k (omega arith)) (λ k. rw k (place-in ts (later-bare t ts b) (rw (h, k) at e)))))
 
 -- the integer places of tokens that hold no point, and of those that follow
-places-append : (xs ys : List Token) → any isPoint xs ≡ false → integerPlaceTokens (xs ++ ys) ≡ integerPlaceTokens xs + integerPlaceTokens ys
+places-append : (xs ys : List Token) → any isExponent xs ≡ false → any isPoint xs ≡ false
+    → integerPlaceTokens (xs ++ ys) ≡ integerPlaceTokens xs + integerPlaceTokens ys
 unfolding any integerPlaceTokens
-places-append [] ys e = omega arith
-places-append (x ∷ xs) ys e =
+places-append [] ys b e = omega arith
+places-append (x ∷ xs) ys b e =
+    let c : isExponent x ≡ false = first-bare x xs b in
     by-cases (isPoint x)
     (λ h. absurd (true≢false (rw h at e)))
-    (λ h. let r = places-append xs ys (rw h at e) in rw h (by-cases (isPlace x) (λ k. rw k (omega arith)) (λ k. rw k r)))
+    (λ h.
+    let r = places-append xs ys (later-bare x xs b) (rw h at e) in
+    rw (h, c) (by-cases (isPlace x) (λ k. rw k (omega arith)) (λ k. rw k r)))
 
 -- a comma asks for grouping
 grouped-here : (before : List Token) (t : Token) (behind : List Token)
+    → any isExponent before ≡ false → any isExponent behind ≡ false
     → isComma t ≡ true → isGrouping (useOf before behind) ≡ true → 2 ≤ integerPlaceTokens (before ++ (t ∷ behind))
 unfolding useOf integerPlaceTokens
-grouped-here before t behind c e =
+grouped-here before t behind bb bh c e =
     let i = integerPlaceIn before in
     let p = not (any isPoint before) in
     let j = integerPlaceIn behind in
@@ -74,35 +91,63 @@ grouped-here before t behind c e =
     let a = and-left i p (and-left (i && p) j (true-T h)) in
     let b = and-right i p (and-left (i && p) j (true-T h)) in
     let n = not-true (any isPoint before) (T-true p b) in
-    let k = place-in before (T-true i a) in
-    let l = place-in behind (T-true j (and-right (i && p) j (true-T h))) in
-    rw (places-append before (t ∷ behind) n, eqb-true (formOf t) 8 c) (omega arith))
+    let k = place-in before bb (T-true i a) in
+    let l = place-in behind bh (T-true j (and-right (i && p) j (true-T h))) in
+    rw (places-append before (t ∷ behind) bb n, eqb-true (formOf t) 8 c) (omega arith))
     (λ h. absurd (true≢false (sym (rw h at e)
     ∙ cond-both (λ (u : CommaUse). isGrouping u ≡ false) (i && p && not j) refl
     (cond-both (λ (u : CommaUse). isGrouping u ≡ false) (any isPlace before && not (any isPlace behind)) {x = divides} {y = misplaced} refl refl))))
 
-grouped-two : (before ts : List Token) → any isGrouping (usesFrom before ts) ≡ true → 2 ≤ integerPlaceTokens (before ++ ts)
+grouped-two : (before ts : List Token) → any isExponent before ≡ false → any isExponent ts ≡ false
+    → any isGrouping (usesFrom before ts) ≡ true → 2 ≤ integerPlaceTokens (before ++ ts)
 unfolding any usesFrom
-grouped-two before [] e = absurd (true≢false (sym e))
-grouped-two before (t ∷ ts) e =
+grouped-two before [] bb bt e = absurd (true≢false (sym e))
+grouped-two before (t ∷ ts) bb bt e =
+    let bare : any isExponent (before ++ (t ∷ [])) ≡ false =
+    any-append isExponent before (t ∷ []) ∙ rw (bb, first-bare t ts bt) in
     let later : any isGrouping (usesFrom (before ++ (t ∷ [])) ts) ≡ true → 2 ≤ integerPlaceTokens (before ++ (t ∷ ts))
-    = λ g. rw (append-assoc before (t ∷ []) ts) at (grouped-two (before ++ (t ∷ [])) ts g) in
+    = λ g. rw (append-assoc before (t ∷ []) ts) at (grouped-two (before ++ (t ∷ [])) ts bare (later-bare t ts bt) g) in
     by-cases (isComma t)
-    (λ h. by-cases (isGrouping (useOf before ts)) (λ k. grouped-here before t ts h k) (λ k. later (rw (h, k) at e)))
+    (λ h. by-cases (isGrouping (useOf before ts)) (λ k. grouped-here before t ts bb (later-bare t ts bt) h k) (λ k. later (rw (h, k) at e)))
     (λ h. later (rw h at e))
 
 number-plain : (ts : List Token) → sameKind (bodyKind ts) numberKind ≡ true → bodyItems ts ≡ plainItems ts
 unfolding bodyItems
 number-plain ts e = rw (eqb-true (kindRow (bodyKind ts) .number) 2 e)
 
+-- a number section has no E
+made-exponent : (t : Token) → tokenMakes scientificKind t ≡ isExponent t
+unfolding tokenMakes
+made-exponent =
+    by-token (λ (t : Token). tokenMakes scientificKind t ≡ isExponent t) (λ us. refl) (λ u. refl) (λ u. refl) (λ u. refl) (λ p. refl)
+    refl refl refl refl refl refl (λ h. refl) (λ l n. refl) (λ e n. refl) (λ n. refl) (λ w. refl) (λ m. refl)
+
+no-scientific : (a b c d : Bool) (k : Kind) → sameKind (cond a textKind (cond b generalKind (cond c dateKind (cond d scientificKind k)))) numberKind ≡ true → d ≡ false
+no-scientific a b c false k e = refl
+no-scientific true b c true k e = absurd (true≢false (sym e))
+no-scientific false true c true k e = absurd (true≢false (sym e))
+no-scientific false false true true k e = absurd (true≢false (sym e))
+no-scientific false false false true k e = absurd (true≢false (sym e))
+
+pub number-bare : (ts : List Token) → sameKind (bodyKind ts) numberKind ≡ true → any isExponent ts ≡ false
+unfolding bodyKind kindFrom
+number-bare ts e =
+    sym (any-same (tokenMakes scientificKind) isExponent made-exponent ts)
+    ∙ no-scientific (any (tokenMakes textKind) ts) (any (tokenMakes generalKind) ts) (any (tokenMakes dateKind) ts) (any (tokenMakes scientificKind) ts)
+    (cond (any (tokenMakes numberKind) ts) numberKind literalKind) e
+
 pub grouping-fits : (p : Parts) → T (groupingFits (sectionOf p))
-unfolding groupingFits sectionOf settled commaUses
+unfolding groupingFits kindOf sectionOf settled commaUses any
 grouping-fits p =
     let ts = p .body in
     let n = sameKind (bodyKind ts) numberKind in
     let g = any isGrouping (usesFrom [] ts) in
-    implies-in (n && g) (leb 2 (integerPlaces (settled (lastFill (bodyItems ts)))))
+    let places = leb 2 (integerPlaces (settled (lastFill (bodyItems ts)))) in
+    let kind = sameKind (itemsKind (settled (lastFill (bodyItems ts)))) numberKind in
+    implies-in (n && g) (kind && places)
     (λ h.
-    let r = grouped-two [] ts (T-true g (and-right n g (true-T h))) in
-    le→leb 2 (integerPlaces (settled (lastFill (bodyItems ts))))
-    (rw (places-settled noRun (lastFill (bodyItems ts)), places-lastFill (bodyItems ts), number-plain ts (T-true n (and-left n g (true-T h))), places-plain ts) r))
+    let number : n ≡ true = T-true n (and-left n g (true-T h)) in
+    let r = grouped-two [] ts refl (number-bare ts number) (T-true g (and-right n g (true-T h))) in
+    and-in kind places (true-T (ap (λ k. sameKind k numberKind) (kind-of-body ts) ∙ number))
+    (le→leb 2 (integerPlaces (settled (lastFill (bodyItems ts))))
+    (rw (places-settled noRun (lastFill (bodyItems ts)), places-lastFill (bodyItems ts), number-plain ts number, places-plain ts) r)))

@@ -10,9 +10,9 @@ use Rattle.lists.specs.Lists.{any}
 use Rattle.lists.proofs.Bools.{by-cases, cond-both, cond-case, cond-self, or-cond}
 use Rattle.lists.proofs.Counts.{any-append}
 use Rattle.formats.specs.Tokens as token
-use Rattle.formats.specs.Tokens.{Token, Letter, letterY, letterM, letterD, letterH, letterS}
+use Rattle.formats.specs.Tokens.{Token, Letter}
 use Rattle.formats.specs.Items as item
-use Rattle.formats.specs.Items.{Item, Kind, textKind, generalKind, dateKind, numberKind, sameKind, kindFrom, itemMakes, itemsKind, settled}
+use Rattle.formats.specs.Items.{Item, Kind, textKind, generalKind, dateKind, scientificKind, numberKind, sameKind, kindFrom, itemMakes, itemsKind, settled}
 use Rattle.formats.specs.Kinds.{tokenMakes, bodyKind, isPoint, isZero, leadingZeros, partZeros, isSecondsToken, piecesFrom, runItem, tokenItems, pieceItems, plainItems, dateItems, bodyItems, lastFill}
 use Rattle.formats.proofs.FormedItems.{both-kept}
 use Rattle.formats.proofs.FormedPieces.{point-case, zero-case, zeros-follow, zeros-point}
@@ -38,7 +38,7 @@ module _ (k : Kind) where
       (cond-both (λ (i : Item). any (itemMakes k) (i ∷ []) ≡ false) b {x = item.literal 46} {y = item.point} refl refl)
       (cond-both (λ (is : List Item). any (itemMakes k) is ≡ false) b {x = item.literal 44 ∷ []} {y = []} refl refl)
       refl (cond-self (sameKind k textKind)) refl (cond-self (sameKind k generalKind)) (λ h. refl) run-makes (λ e n. cond-self (sameKind k dateKind))
-      (λ n. refl) (λ w. refl)
+      (λ n. refl) (λ w. refl) (λ m. cond-self (sameKind k scientificKind))
 
   -- a token's items in front of others
   token-front : (b : Bool) (t : Token) (is : List Item) → any (itemMakes k) (tokenItems b t ++ is) ≡ cond (tokenMakes k t) true (any (itemMakes k) is)
@@ -91,9 +91,9 @@ module _ (k : Kind) where
 
 -- the kind rests on which kinds are made; behind a date, a number is not looked for
 kind-same : (f g : Kind → Bool) → f textKind ≡ g textKind → f generalKind ≡ g generalKind → f dateKind ≡ g dateKind
-    → (g dateKind ≡ false → f numberKind ≡ g numberKind) → kindFrom f ≡ kindFrom g
+    → f scientificKind ≡ g scientificKind → (g dateKind ≡ false → f numberKind ≡ g numberKind) → kindFrom f ≡ kindFrom g
 unfolding kindFrom
-kind-same f g a b c d = by-cases (g dateKind) (λ h. rw (a, b, c, h)) (λ h. rw (a, b, c, h, d h))
+kind-same f g a b c s d = by-cases (g dateKind) (λ h. rw (a, b, c, h)) (λ h. rw (a, b, c, s, h, d h))
 
 no-date : (f : Kind → Bool) → f dateKind ≡ false → sameKind (kindFrom f) dateKind ≡ false
 unfolding kindFrom
@@ -101,7 +101,8 @@ no-date f h =
     rw h
     (cond-both (λ (j : Kind). sameKind j dateKind ≡ false) (f textKind) refl
     (cond-both (λ (j : Kind). sameKind j dateKind ≡ false) (f generalKind) refl
-    (cond-both (λ (j : Kind). sameKind j dateKind ≡ false) (f numberKind) refl refl)))
+    (cond-both (λ (j : Kind). sameKind j dateKind ≡ false) (f scientificKind) refl
+    (cond-both (λ (j : Kind). sameKind j dateKind ≡ false) (f numberKind) refl refl))))
 
 -- the kind of the items is the kind of the tokens
 pub kind-of-body : (ts : List Token) → itemsKind (settled (lastFill (bodyItems ts))) ≡ bodyKind ts
@@ -112,8 +113,8 @@ kind-of-body ts =
     cond-case (λ (is : List Item). itemsKind (settled (lastFill is)) ≡ bodyKind ts) (sameKind (bodyKind ts) dateKind)
     (λ e.
     kind-same (made (dateItems (piecesFrom false 0 ts))) making
-    (date-kept textKind refl ts) (date-kept generalKind refl ts) (date-kept dateKind refl ts)
+    (date-kept textKind refl ts) (date-kept generalKind refl ts) (date-kept dateKind refl ts) (date-kept scientificKind refl ts)
     (λ h. absurd (true≢false (sym e ∙ no-date making h))))
     (λ e.
     kind-same (made (plainItems ts)) making
-    (plain-kept textKind ts) (plain-kept generalKind ts) (plain-kept dateKind ts) (λ h. plain-kept numberKind ts))
+    (plain-kept textKind ts) (plain-kept generalKind ts) (plain-kept dateKind ts) (plain-kept scientificKind ts) (λ h. plain-kept numberKind ts))

@@ -3,16 +3,16 @@
 use Prim.Native.Nat.{ℕ, zero, suc, _≤_}
 use native.Mathlib.Omega.{arith}
 use mathlib.Core.Path.{_≡_, refl}
-use mathlib.Core.Bool.{Bool, true, false, _&&_}
+use mathlib.Core.Bool.{Bool, false, _&&_}
 use mathlib.Core.List.{List, [], _∷_, map}
 use lib.Dec.{T, leb, eqb, leb→le, le→leb}
 use borrow.Author.Tests.{eqb-false}
 use Rattle.lists.specs.Lists.{every}
-use Rattle.lists.proofs.Bools.{by-cases, cond-both, cond-case, and-left, and-right, and-in, true-T, every-head, every-tail, every-cons, every-append, implied, implies-in}
+use Rattle.lists.proofs.Bools.{cond-both, cond-case, and-left, and-right, and-in, true-T, every-head, every-tail, every-cons, implied, implies-in}
 use Rattle.lists.proofs.Counts.{every-map}
 use Rattle.values.specs.Ranges.{between}
 use Rattle.formats.specs.Tokens as token
-use Rattle.formats.specs.Tokens.{Token, Letter, letterY, letterM, letterD, letterH, letterS, HalfDay, runAllowed}
+use Rattle.formats.specs.Tokens.{Token, Letter, HalfDay, runAllowed}
 use Rattle.formats.specs.Items as item
 use Rattle.formats.specs.Items.{Item, isUnit, itemInRange, Run, meansMinutes, monthOrMinute, settledItem}
 use Rattle.formats.specs.Kinds.{Parts, runItem, tokenItems, sectionOf}
@@ -47,7 +47,7 @@ token-ranged d =
     (λ h. cond-both (λ (is : List Item). T (every rangedShort is)) d {x = item.literal 44 ∷ []} {y = []} tt tt)
     (λ h. tt) (λ h. tt) (λ h. tt) (λ h. tt) (λ k h. by-half (λ (x : HalfDay). T (every rangedShort (item.half x ∷ []))) tt tt k) (λ l n h. one (runItem l n) (run-ranged l n h))
     (λ e n h. one (item.elapsed e n) (implies-in (leb n 9) (leb 1 n && leb n 9) (λ s. and-in (leb 1 n) (leb n 9) h (true-T s))))
-    (λ n h. tt) (λ w h. tt)
+    (λ n h. tt) (λ w h. tt) (λ m h. tt)
 
 part-ranged : (n : ℕ) → n ≤ 3 → eqb n 0 ≡ false → T (rangedShort (item.part n))
 unfolding rangedShort elapsedShort itemInRange

@@ -7,7 +7,7 @@ use mathlib.Core.List.{List, [], _∷_, _++_, map}
 use lib.Dec.{T, eqb}
 use Rattle.lists.proofs.Bools.{by-cases, cond-both, T-true, true-T, implied, implies-in}
 use Rattle.formats.specs.Tokens as token
-use Rattle.formats.specs.Tokens.{Token, Letter, letterY, letterM, letterD, letterH, letterS, letterIndex, elapsedIndex}
+use Rattle.formats.specs.Tokens.{Token, Letter, letterIndex, elapsedIndex}
 use Rattle.formats.specs.Items as item
 use Rattle.formats.specs.Items.{Item, dateKind, sameKind, settled, noRun}
 use Rattle.formats.specs.Kinds.{bodyKind, isPoint, partZeros, isSecondsToken, piecesFrom, runItem, tokenItems, pieceItems, plainItems, dateItems, bodyItems, lastFill}
@@ -50,7 +50,7 @@ token-follows d t is c =
     (λ us f. literals-follow us is c f) (λ u f. f false tt) (λ u f. f false tt) (λ u f. f false tt) (λ p f. f false tt)
     (point-follows d is c) (comma-follows d is c) (λ f. f false tt) (λ f. f false tt) (λ f. f c tt) (λ f. f false tt) (λ h f. f false tt)
     (λ l n f. run-follows l n is c f) (λ e n f. f (eqb (elapsedIndex e) 2) (implies-in (eqb (elapsedIndex e) 2) (eqb (elapsedIndex e) 2) true-T))
-    (λ n f. f c tt) (λ w f. f c tt) t
+    (λ n f. f c tt) (λ w f. f c tt) (λ m f. f false tt) t
 
 plain-follow : (ts : List Token) (c : Bool) → T (partsFrom c (plainItems ts))
 unfolding plainItems partsFrom

@@ -11,7 +11,7 @@ use Rattle.lists.specs.Lists.{every, any, count}
 use Rattle.lists.proofs.Bools.{by-cases, cond-both, cond-case}
 use Rattle.calendar.specs.Names.{units}
 use Rattle.formats.specs.Tokens as token
-use Rattle.formats.specs.Tokens.{Letter, Token, Step, read, broken, before, leading, startsWith, quoted, marked, generalWord, halfDayWord, runAllowed, runStep, insideOf, bracketed, First, quote, backslash, underscore, asterisk, openBracket, capitalG, capitalA, other, letter, single, FirstRow, firstRows, firstIn, bareLiterals, stepBy, stepAt, Placed, Lexed, good, bad, onto, afterStep, lexFrom, lex}
+use Rattle.formats.specs.Tokens.{Letter, Token, Step, read, broken, before, leading, startsWith, quoted, marked, generalWord, halfDayWord, runAllowed, runStep, insideOf, bracketed, First, quote, backslash, underscore, asterisk, openBracket, capitalG, capitalA, other, letter, single, FirstRow, firstRows, firstIn, bareLiterals, stepBy, stepAt, Placed, Lexed, good, bad, onto, afterStep, lexFrom, lex, exponentWord, capitalE}
 use Rattle.formats.specs.Items.{Item, Run, noRun, runOf, nearer, settledFrom, settled, isFill, sameKind, dateKind}
 use Rattle.formats.specs.Kinds.{isSemicolon, isColour, isCondition, Parts, colourIn, afterColour, partsOf, bodyKind, Piece, isSecondsToken, partZeros, piecesFrom, tokenItems, pieceItems, plainItems, dateItems, bodyItems, lastFill, sectionOf}
 use Rattle.formats.specs.Accept.{placedOf, tokensOf, semicolons, joined, split, partsIn, sectionsIn}
@@ -60,6 +60,12 @@ half-light us vs =
     cond-both (InStep (Light us)) (startsWith (units "AM/PM") vs) (omega arith)
     (cond-both (InStep (Light us)) (startsWith (units "A/P") vs) (omega arith) tt)
 
+exponent-light : (us vs : List ℕ) → InStep (Light us) (exponentWord vs)
+unfolding exponentWord weight tokenItems
+exponent-light us vs =
+    cond-both (InStep (Light us)) (startsWith (units "E+") vs) (omega arith)
+    (cond-both (InStep (Light us)) (startsWith (units "E-") vs) (omega arith) tt)
+
 run-light : (l : Letter) (u : ℕ) (us : List ℕ) → InStep (Light us) (runStep l u us)
 unfolding runStep weight tokenItems
 run-light l u us = cond-both (InStep (Light us)) (runAllowed l (suc (leading (eqb u) us))) (omega arith) tt
@@ -84,6 +90,7 @@ by-light asterisk u us s = marked-light token.fill us (λ v. omega arith)
 by-light openBracket u us s = bracketed-light us
 by-light capitalG u us s = general-light us (u ∷ us)
 by-light capitalA u us s = half-light us (u ∷ us)
+by-light capitalE u us s = exponent-light us (u ∷ us)
 by-light (letter l) u us s = run-light l u us
 by-light (single t) u us s = light-one us t 0 (leb→le (weight t) 1 s)
 by-light other u us s = cond-both (InStep (Light us)) (any (eqb u) bareLiterals) (omega arith) tt
@@ -131,7 +138,7 @@ token-items =
     by-token (λ (t : Token). length (tokenItems false t) ≤ weight t)
     (λ us. omega arith) (λ u. omega arith) (λ u. omega arith) (λ u. omega arith) (λ p. omega arith)
     (omega arith) (omega arith) (omega arith) (omega arith) (omega arith) (omega arith)
-    (λ h. omega arith) (λ l n. omega arith) (λ e n. omega arith) (λ n. omega arith) (λ w. omega arith)
+    (λ h. omega arith) (λ l n. omega arith) (λ e n. omega arith) (λ n. omega arith) (λ w. omega arith) (λ m. omega arith)
 
 plain-items : (ts : List Token) → length (plainItems ts) ≤ weights ts
 unfolding plainItems weights

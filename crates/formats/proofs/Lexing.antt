@@ -16,7 +16,7 @@ use lib.Seq.{drop-drop, drop-nil}
 use Rattle.calendar.specs.Names.{units}
 use Rattle.lists.specs.Lists.{any}
 use Rattle.lists.proofs.Bools.{by-cases, cond-both, cond-case, or-false}
-use Rattle.formats.specs.Tokens.{Token, Step, read, broken, before, leading, startsWith, quoted, marked, generalWord, halfDayWord, runAllowed, runStep, numberFrom, insideOf, closed, bracketed, First, quote, backslash, underscore, asterisk, openBracket, capitalG, capitalA, letter, single, other, firstRows, firstIn, bareLiterals, stepBy, stepAt, Placed, Lexed, good, bad, onto, afterStep, lexFrom, lex}
+use Rattle.formats.specs.Tokens.{Token, Step, read, broken, before, leading, startsWith, quoted, marked, generalWord, halfDayWord, runAllowed, runStep, numberFrom, insideOf, closed, bracketed, First, quote, backslash, underscore, asterisk, openBracket, capitalG, capitalA, letter, single, other, firstRows, firstIn, bareLiterals, stepBy, stepAt, Placed, Lexed, good, bad, onto, afterStep, lexFrom, lex, exponentWord, capitalE}
 use Rattle.formats.specs.Starts.{StepIs, TokenStart, begin, next}
 
 -- what is skipped is dropped
@@ -104,6 +104,13 @@ half-within u us = cond-case (Within (length us)) (startsWith (units "AM/PM") (u
     (λ e. cond-case (Within (length us)) (startsWith (units "A/P") (u ∷ us))
     (λ f. omega (arith, word-most (units "A/P") (u ∷ us) f)) (λ f. tt))
 
+exponent-within : (u : ℕ) (us : List ℕ) → Within (length us) (exponentWord (u ∷ us))
+unfolding exponentWord units
+exponent-within u us = cond-case (Within (length us)) (startsWith (units "E+") (u ∷ us))
+    (λ e. omega (arith, word-most (units "E+") (u ∷ us) e))
+    (λ e. cond-case (Within (length us)) (startsWith (units "E-") (u ∷ us))
+    (λ f. omega (arith, word-most (units "E-") (u ∷ us) f)) (λ f. tt))
+
 by-within : (f : First) (u : ℕ) (us : List ℕ) → Within (length us) (stepBy f u us)
 unfolding stepBy runStep
 by-within quote u us = quoted-within us
@@ -113,6 +120,7 @@ by-within asterisk u us = marked-within _ us
 by-within openBracket u us = bracketed-within us
 by-within capitalG u us = general-within u us
 by-within capitalA u us = half-within u us
+by-within capitalE u us = exponent-within u us
 by-within (letter l) u us = cond-both (Within (length us)) (runAllowed l (suc (leading (eqb u) us))) (leading-most (eqb u) us) tt
 by-within (single t) u us = omega arith
 by-within other u us = cond-both (Within (length us)) (any (eqb u) bareLiterals) (omega arith) tt

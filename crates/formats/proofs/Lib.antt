@@ -15,7 +15,10 @@ pub mod FormedLengths
 pub mod FormedCondition
 pub mod Formed
 pub mod FigureUnits
+pub mod Cutting
 pub mod FigureItems
+pub mod ExponentUnits
+pub mod Scientific
 pub mod GeneralFigures
 pub mod Chosen
 pub mod Lexing

@@ -1,10 +1,10 @@
 -- What is promised of the units that a number is shown as holds.
 -- Assumes nothing.
-use mathlib.Core.Path.{_≡_, refl, sym, ap, subst}
+use mathlib.Core.Path.{_≡_, refl, sym, ap, subst, _∙_}
 use Prim.Native.Nat.{ℕ, _+_, _*_, _^_, _≤_, _<_}
 use native.Mathlib.Omega.{arith}
 use mathlib.Core.Bool.{Bool, true, false, cond, not, _&&_, or-true, true≢false}
-use mathlib.Core.List.{List, [], _∷_}
+use mathlib.Core.List.{List, [], _∷_, _++_, append-assoc, flatten}
 use borrow.Author.Tests.{eq-eqb}
 use lib.ListN.{length}
 use lib.Dec.{T, leb, eqb, leb→le, ltb→lt}
@@ -14,25 +14,27 @@ use Rattle.values.specs.declared.Number.{Number}
 use Rattle.values.specs.declared.Value.the-variants as value
 use Rattle.values.specs.declared.Ask.{Ask}
 use Rattle.values.specs.Ranges.{numberInRange}
-use Rattle.lists.specs.Lists.{every, count, isEmpty}
-use Rattle.lists.proofs.Bools.{cond-both, cond-case, and-left, and-right, every-head, every-tail, true-T, not-false}
+use Rattle.lists.specs.Lists.{every, any, count, isEmpty}
+use Rattle.lists.proofs.Bools.{no, by-cases, cond-both, cond-case, and-left, and-right, every-head, every-tail, true-T, not-false}
 use Rattle.figures.specs.Rounding.{Magnitude, scaled, rounded}
 use Rattle.figures.specs.Powers.{powered}
 use Rattle.figures.specs.General.{generalDecimals, generalRounded, generalTooWide, generalUnits}
 use Rattle.figures.proofs.Tens.{ten-pos}
 use Rattle.figures.proofs.Rounding.{half-unit, scaled-powered, scaled-small, rounded-small}
 use Rattle.calendar.specs.Names.{units}
-use Rattle.formats.specs.Items.{Item, isUnit, literal, blank, fill, place, point, percent, general, at, year, month, day, hour, minute, second, part, elapsed, half, Section, Kind, textKind, generalKind, dateKind, numberKind, literalKind, sameKind, kindOf, itemAllowed, isPoint, isPercent, itemsFit, integerPlaces, decimalPlaces}
+use Rattle.formats.specs.Items.{Item, isUnit, at, Section, Kind, showsPlaces, textKind, generalKind, dateKind, scientificKind, numberKind, literalKind, sameKind, kindOf, itemAllowed, isPoint, isPercent, isExponent, itemsFit, beforeE, fromE, integerPlaces, decimalPlaces, exponentPlaces}
 use Rattle.formats.specs.Limits.{sectionWithin}
 use Rattle.formats.specs.WellFormed.{sectionFormed, wellFormed, sectionFits}
 use Rattle.formats.specs.Choice.{Exact, numberExact, zeroExact, lessThan, counted, Reason, Choice, nothing, chosen, choose}
 use Rattle.formats.specs.Minus.{Sign, minus, notNegative, noItem, forNegatives, nought, isOwn, firstHasCondition, exceptionA, signFor, signUnits}
-use Rattle.formats.specs.Text.{placeUnits, pointUnits, itemUnits, digitAfter, along, itemPieces, itemsUnits, sectionUnits}
+use Rattle.formats.specs.Text.{Context, placeUnits, pointUnits, itemUnits, digitAfter, along, firstOf, itemPieces, itemsUnits, sectionUnits}
 use Rattle.formats.specs.Accept.{sectionsIn, Accepted, sections, refusal, accept}
-use Rattle.formats.specs.Reading.{Look, Reading, refused, shown, lookOf, within, takesNumber, showsGeneral, sectionRounded, standingRounded, numberContext, showsNought, numberSign, numberUnits, readNumber, readValue, reading, readAccepted, codeReading}
-use Rattle.formats.specs.Figures.{unitsRead, Counts, FiguresOf, GeneralFigures, PieceOf, ofLiteral, ofBlank, ofFill, ofPercent, ofPlace, ofPoint, ofGeneral, ofAt, PiecesOf, empty, more, figurePieces, NumberShown}
+use Rattle.formats.specs.Reading.{Look, Reading, refused, shown, lookOf, within, takesNumber, showsGeneral, sectionExponent, sectionRounded, standingRounded, numberContext, exponentContext, sectionText, showsNought, numberSign, numberUnits, readNumber, readValue, reading, readAccepted, codeReading}
+use Rattle.formats.specs.Figures.{unitsRead, Counts, FiguresOf, GeneralFigures, PieceOf, ofLiteral, ofBlank, ofFill, ofPercent, ofPlace, ofPoint, ofGeneral, ofAt, ofExponent, PiecesOf, empty, more, figurePieces, NumberShown}
 use Rattle.formats.proofs.FigureUnits.{place-plain, beyond-plain}
-use Rattle.formats.proofs.FigureItems.{figures-read}
+use Rattle.formats.proofs.FigureItems.{number-place, figures-read}
+use Rattle.formats.proofs.Cutting.{cut-joins, before-bare, every-before, every-from, held-bare}
+use Rattle.formats.proofs.Scientific.{scientificPieces, scientific-of}
 use Rattle.formats.proofs.GeneralFigures.{general-read}
 use Rattle.formats.proofs.Chosen.{chosen-passes}
 use Rattle.formats.proofs.Accepted.{accepted-sections, accepted-formed}
@@ -43,8 +45,16 @@ scaled-pos : (m s p t : ℕ) → 0 < (scaled m s p t) .below
 unfolding powered
 scaled-pos m s p t = rw (scaled-powered m s p t) (ten-pos (s + 3 * t))
 
+-- what a number section rounds
+rounded-scaled : (s : Section) (x : Number) → kindOf s ≡ numberKind
+    → sectionRounded s x
+    ≡ rounded (scaled (natAbs (x .coefficient)) (x .scale) (count isPercent (s .items)) (s .thousands)) (decimalPlaces (s .items))
+unfolding sectionRounded
+rounded-scaled s x kind = rw kind
+
 -- the rules that figures need
 record Rules (s : Section) : Type 0 where
+  formed : T (sectionFormed s)
   allowed : T (every (itemAllowed (kindOf s)) (s .items))
   onePoint : count isPoint (s .items) ≤ 1
   integers : integerPlaces (s .items) ≤ 20
@@ -95,11 +105,11 @@ standing-fits x range =
 
 general-shown : (k : Kind) → T (sameKind generalKind k) → showsGeneral k ≡ true
 unfolding showsGeneral
-general-shown = by-kind (λ k. T (sameKind generalKind k) → showsGeneral k ≡ true) absurd (λ t. refl) absurd absurd absurd
+general-shown = by-kind (λ k. T (sameKind generalKind k) → showsGeneral k ≡ true) absurd (λ t. refl) absurd absurd absurd absurd
 
 text-shows : (k : Kind) → T (sameKind textKind k) → showsGeneral k ≡ true
 unfolding showsGeneral
-text-shows = by-kind (λ k. T (sameKind textKind k) → showsGeneral k ≡ true) (λ t. refl) absurd absurd absurd absurd
+text-shows = by-kind (λ k. T (sameKind textKind k) → showsGeneral k ≡ true) (λ t. refl) absurd absurd absurd absurd absurd
 
 no-date : (k : Kind) → takesNumber k ≡ true → T (sameKind dateKind k) → ⊥
 unfolding takesNumber
@@ -108,6 +118,22 @@ no-date generalKind e t = t
 no-date dateKind e t = true≢false (sym e)
 no-date numberKind e t = t
 no-date literalKind e t = t
+no-date scientificKind e t = t
+
+-- the one kind that has scientific's number
+same-scientific : (k : Kind) → sameKind k scientificKind ≡ true → k ≡ scientificKind
+same-scientific = by-kind (λ (k : Kind). sameKind k scientificKind ≡ true → k ≡ scientificKind) no no no no no (λ e. refl)
+
+-- pieces in front of others
+flatten-joins : (ps qs : List (List ℕ)) → flatten (ps ++ qs) ≡ flatten ps ++ flatten qs
+unfolding flatten
+flatten-joins [] qs = refl
+flatten-joins (us ∷ ps) qs = rw (flatten-joins ps qs) (sym (append-assoc us (flatten ps) (flatten qs)))
+
+pieces-join : (x : Number) (added below : Bool) {is js : List Item} {ps qs : List (List ℕ)}
+    → PiecesOf x added below is ps → PiecesOf x added below js qs → PiecesOf x added below (is ++ js) (ps ++ qs)
+pieces-join x added below empty later = later
+pieces-join x added below (more i us is ps one rest) later = more i us _ _ one (pieces-join x added below rest later)
 
 -- a number that went to section i and is taken by it
 module _ (ss : List Section) (i : ℕ) (s : Section) (why : Reason) (x : Number)
@@ -119,13 +145,17 @@ module _ (ss : List Section) (i : ℕ) (s : Section) (why : Reason) (x : Number)
   unfolding numberSign
   unsigned e = rw e (nought-unsigned (numberExact x) s (exceptionA (counted ss) i (isOwn why) (firstHasCondition ss)))
 
-  abbrev pieces : List (List ℕ)
-  pieces = itemPieces (numberContext s x) (14 + (numberContext s x) .integerPlaces) (s .items)
+  unsigned-places : showsPlaces (kindOf s) ≡ true → sectionRounded s x ≡ 0 → added ≡ false
+  unfolding showsNought
+  unsigned-places shows z = unsigned (rw (shows, eq-eqb (sectionRounded s x) 0 z))
+
+  abbrev numberPieces : List (List ℕ)
+  numberPieces = itemPieces (numberContext s x) (firstOf (integerPlaces (s .items))) (s .items)
 
   section-figures : kindOf s ≡ numberKind
       → FiguresOf (scaled (natAbs (x .coefficient)) (x .scale) (count isPercent (s .items)) (s .thousands))
-      (decimalPlaces (s .items)) added (figurePieces (s .items) pieces)
-  unfolding numberContext sectionRounded kindOf
+      (decimalPlaces (s .items)) added (figurePieces (s .items) numberPieces)
+  unfolding numberContext kindOf
   section-figures kind =
       let m : ℕ = natAbs (x .coefficient) in
       let p : ℕ = count isPercent (s .items) in
@@ -133,10 +163,13 @@ module _ (ss : List Section) (i : ℕ) (s : Section) (why : Reason) (x : Number)
       let exact : Magnitude = scaled m (x .scale) p (s .thousands) in
       let pos : 0 < exact .below = scaled-pos m (x .scale) p (s .thousands) in
       let small : m < 10 ^ 15 = search (and-left, ltb→lt) in
-      figures-of exact d added (figurePieces (s .items) pieces) pos (r .decimals)
-      (figures-read (numberContext s x) (s .items) (scaled-small m (x .scale) p (s .thousands) d small (r .percents) (r .decimals)) refl
-      (r .integers) (r .decimals) (r .onePoint) kind (half-unit exact d pos (r .decimals) .whole))
-      (λ z. unsigned (unfold showsNought in rw (kind, eq-eqb (sectionRounded s x) 0 z)))
+      let e : sectionRounded s x ≡ rounded exact d = rounded-scaled s x kind in
+      let bare : any isExponent (s .items) ≡ false = held-bare (kindOf s) (s .items) (rw kind refl) (r .allowed) in
+      figures-of exact d added (figurePieces (s .items) numberPieces) pos (r .decimals)
+      (subst (Counts (unitsRead (figurePieces (s .items) numberPieces))) e
+      (figures-read (numberContext s x) (s .items) (rw e (scaled-small m (x .scale) p (s .thousands) d small (r .percents) (r .decimals))) refl
+      (r .integers) (r .decimals) (r .onePoint) bare (number-place (s .items) kind) (rw e (half-unit exact d pos (r .decimals) .whole))))
+      (λ z. unsigned-places (rw kind refl) (e ∙ z))
 
   general-figures : showsGeneral (kindOf s) ≡ true → GeneralFigures x added (generalUnits (standingRounded x))
   unfolding standingRounded generalRounded numberExact
@@ -153,38 +186,86 @@ module _ (ss : List Section) (i : ℕ) (s : Section) (why : Reason) (x : Number)
   dated : {P : Type 0} → T (sameKind dateKind (kindOf s)) → P
   dated a = absurd (no-date (kindOf s) takes a)
 
-  piece : (q : ℕ) (j : Item) → T (itemAllowed (kindOf s) j) → PieceOf x added j (itemUnits (numberContext s x) q j)
-  unfolding itemAllowed itemUnits pointUnits units numberContext
-  piece q =
-      by-item (λ (j : Item). T (itemAllowed (kindOf s) j) → PieceOf x added j (itemUnits (numberContext s x) q j))
-      (λ u a. ofLiteral u) (λ u a. ofBlank u) (λ u a. ofFill u)
-      (λ p a. ofPlace p (placeUnits (numberContext s x) p q) (place-plain (numberContext s x) p q))
-      (λ a. ofPoint _ (beyond-plain (numberContext s x) (eqb (integerPlaces (s .items)) 0) 14)) (λ a. ofPercent)
-      (λ a. ofGeneral _ (general-figures (general-shown (kindOf s) a)))
-      (λ a. ofAt _ (general-figures (text-shows (kindOf s) a)))
-      (λ n. dated) (λ n. dated) (λ n. dated) (λ n. dated) (λ n. dated) (λ n. dated) (λ n. dated) (λ e n. dated) (λ h. dated)
+  -- the pieces of items by a context that shows General's figures where the section shows them, and the exponent's sign where there is an E
+  module _ (c : Context) (below : Bool) (standing : showsGeneral (kindOf s) ≡ true → c .standing ≡ generalUnits (standingRounded x)) where
+    piece : (q : ℕ) (j : Item) → (isExponent j ≡ true → c .below ≡ below) → T (itemAllowed (kindOf s) j)
+        → PieceOf x added below j (itemUnits c q j)
+    unfolding itemAllowed itemUnits pointUnits units
+    piece q =
+        by-item (λ (j : Item). (isExponent j ≡ true → c .below ≡ below) → T (itemAllowed (kindOf s) j) → PieceOf x added below j (itemUnits c q j))
+        (λ u e a. ofLiteral u) (λ u e a. ofBlank u) (λ u e a. ofFill u) (λ p e a. ofPlace p (placeUnits c p q) (place-plain c p q))
+        (λ e a. ofPoint _ (beyond-plain c (eqb (c .integerPlaces) 0) 14)) (λ e a. ofPercent)
+        (λ e a. let shows = general-shown (kindOf s) a in rw (standing shows) (ofGeneral _ (general-figures shows)))
+        (λ e a. let shows = text-shows (kindOf s) a in rw (standing shows) (ofAt _ (general-figures shows)))
+        (λ n e. dated) (λ n e. dated) (λ n e. dated) (λ n e. dated) (λ n e. dated) (λ n e. dated) (λ n e. dated) (λ a n e. dated) (λ h e. dated)
+        (λ m e a. rw (e refl) (ofExponent m))
 
-  each-piece : (q : ℕ) (is : List Item) → T (every (itemAllowed (kindOf s)) is) → PiecesOf x added is (itemPieces (numberContext s x) q is)
-  unfolding along
-  each-piece q [] t = empty
-  each-piece q (j ∷ is) t =
-      more j (itemUnits (numberContext s x) q j) is (itemPieces (numberContext s x) (digitAfter q j) is)
-      (piece q j (every-head (itemAllowed (kindOf s)) j is t)) (each-piece (digitAfter q j) is (every-tail (itemAllowed (kindOf s)) j is t))
+    each-piece : (q : ℕ) (is : List Item) → (any isExponent is ≡ true → c .below ≡ below) → T (every (itemAllowed (kindOf s)) is)
+        → PiecesOf x added below is (itemPieces c q is)
+    unfolding along any
+    each-piece q [] sign t = empty
+    each-piece q (j ∷ is) sign t =
+        let next : ℕ = digitAfter (firstOf (c .integerPlaces)) q j in
+        more j (itemUnits c q j) is (itemPieces c next is)
+        (piece q j (λ e. sign (rw e)) (every-head (itemAllowed (kindOf s)) j is t))
+        (each-piece next is (λ e. sign (rw e (cond-both (λ (b : Bool). b ≡ true) (isExponent j) refl refl))) (every-tail (itemAllowed (kindOf s)) j is t))
 
-  text-shown : choose ss (numberExact x) ≡ chosen i s why → NumberShown ss x (lookOf (numberUnits ss i s why x) (s .colour) i)
-  unfolding numberUnits sectionUnits itemsUnits
-  text-shown e =
+  -- a section that is not scientific
+  plain-shown : sameKind (kindOf s) scientificKind ≡ false → choose ss (numberExact x) ≡ chosen i s why
+      → NumberShown ss x (lookOf (numberUnits ss i s why x) (s .colour) i)
+  unfolding numberUnits sectionText sectionUnits itemsUnits numberContext
+  plain-shown other e =
       record {
         taker = s;
         why = why;
         minus = added;
-        pieces = pieces;
+        below = false;
+        pieces = numberPieces;
         goes = e;
         coloured = refl;
-        text = rw (sign-units (numberSign ss i s why x));
-        each = each-piece (14 + (numberContext s x) .integerPlaces) (s .items) (r .allowed);
+        text = rw (sign-units (numberSign ss i s why x), other);
+        each = each-piece (numberContext s x) false (λ h. refl) (firstOf (integerPlaces (s .items))) (s .items) (λ h. refl) (r .allowed);
         figures = section-figures;
+        scientific = λ k. absurd (true≢false (rw k at other));
       }
+
+  -- the pieces before the E are the mantissa's, those from it on the exponent's
+  scientific-pieces : kindOf s ≡ scientificKind → PiecesOf x added ((sectionExponent s x) .below) (s .items) (scientificPieces s x)
+  unfolding showsGeneral exponentContext numberContext
+  scientific-pieces kind =
+      let is : List Item = s .items in
+      let below : Bool = (sectionExponent s x) .below in
+      let allowed : Item → Bool = itemAllowed (kindOf s) in
+      subst (λ (js : List Item). PiecesOf x added below js (scientificPieces s x)) (cut-joins is)
+      (pieces-join x added below
+      (each-piece (numberContext s x) below (λ h. refl) (firstOf (integerPlaces is)) (beforeE is)
+      (λ e. absurd (true≢false (sym e ∙ before-bare is))) (every-before allowed is (r .allowed)))
+      (each-piece (exponentContext s x) below (λ h. absurd (true≢false (sym (rw kind at h)))) (firstOf (exponentPlaces is)) (fromE is)
+      (λ e. refl) (every-from allowed is (r .allowed))))
+
+  scientific-shown : sameKind (kindOf s) scientificKind ≡ true → choose ss (numberExact x) ≡ chosen i s why
+      → NumberShown ss x (lookOf (numberUnits ss i s why x) (s .colour) i)
+  unfolding numberUnits sectionText sectionUnits itemsUnits numberContext exponentContext
+  scientific-shown same e =
+      let kind : kindOf s ≡ scientificKind = same-scientific (kindOf s) same in
+      let mantissas = itemPieces (numberContext s x) (firstOf (integerPlaces (s .items))) (beforeE (s .items)) in
+      let exponents = itemPieces (exponentContext s x) (firstOf (exponentPlaces (s .items))) (fromE (s .items)) in
+      record {
+        taker = s;
+        why = why;
+        minus = added;
+        below = (sectionExponent s x) .below;
+        pieces = scientificPieces s x;
+        goes = e;
+        coloured = refl;
+        text = rw (sign-units (numberSign ss i s why x), same, flatten-joins mantissas exponents);
+        each = scientific-pieces kind;
+        figures = λ k. absurd (true≢false (sym (rw k at same)));
+        scientific = λ k. scientific-of s x kind (r .formed) range added (unsigned-places (rw kind refl));
+      }
+
+  text-shown : choose ss (numberExact x) ≡ chosen i s why → NumberShown ss x (lookOf (numberUnits ss i s why x) (s .colour) i)
+  text-shown e = by-cases (sameKind (kindOf s) scientificKind) (λ h. scientific-shown h e) (λ h. plain-shown h e)
 
 -- of a reading that shows a text
 abbrev WhereShown : (Look → Type 0) → Reading → Type 0

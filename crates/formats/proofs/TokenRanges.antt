@@ -13,7 +13,7 @@ use Rattle.lists.specs.Lists.{every, any, isEmpty}
 use Rattle.lists.proofs.Bools.{and-left, and-right, and-in, true-T, by-cases, cond-both, cond-case, every-head, every-tail, every-cons, every-append, every-take}
 use Rattle.lists.proofs.Counts.{every-map, every-weaker}
 use Rattle.calendar.specs.Names.{units}
-use Rattle.formats.specs.Tokens.{Letter, Elapsed, hours, minutes, seconds, Comparison, equal, less, greater, atMost, atLeast, unequal, Written, Token, literal, bare, blank, fill, place, point, comma, percent, at, semicolon, general, half, run, elapsed, colour, condition, Step, read, broken, before, leading, startsWith, same, quoted, marked, generalWord, halfDayWord, runAllowed, runStep, isDigit, digitOf, numberFrom, colourNames, namedFrom, noLeadingZero, colourDigits, numbered, elapsedInside, decimalsOf, wholeOf, signedOf, conditionInside, firstForm, insideOf, closed, bracketed, First, quote, backslash, underscore, asterisk, openBracket, capitalG, capitalA, other, letter, single, FirstRow, firstRows, firstIn, bareLiterals, stepBy, stepAt, Placed, Lexed, good, bad, onto, afterStep, lexFrom, lex}
+use Rattle.formats.specs.Tokens.{Letter, Elapsed, hours, minutes, seconds, Comparison, equal, less, greater, atMost, atLeast, unequal, Written, Token, literal, bare, blank, fill, place, point, comma, percent, at, semicolon, general, half, run, elapsed, colour, condition, Step, read, broken, before, leading, startsWith, same, quoted, marked, generalWord, halfDayWord, runAllowed, runStep, isDigit, digitOf, numberFrom, colourNames, namedFrom, noLeadingZero, colourDigits, numbered, elapsedInside, decimalsOf, wholeOf, signedOf, conditionInside, firstForm, insideOf, closed, bracketed, First, quote, backslash, underscore, asterisk, openBracket, capitalG, capitalA, other, letter, single, FirstRow, firstRows, firstIn, bareLiterals, stepBy, stepAt, Placed, Lexed, good, bad, onto, afterStep, lexFrom, lex, exponent, exponentWord, capitalE}
 use Rattle.formats.specs.Items.{Item, isUnit, part, dateKind, sameKind, Run, noRun, runOf, nearer, firstRun, settledItem, settledFrom, settled}
 use Rattle.formats.specs.Kinds.{isSemicolon, isColour, isCondition, Parts, colourIn, conditionIn, afterColour, partsOf, bodyKind, isSecondsToken, partZeros, piecesFrom, tokenItems, pieceItems, plainItems, dateItems, bodyItems, lastFill, sectionOf}
 use Rattle.formats.specs.Accept.{placedOf, tokensOf, joined, split, partsIn}
@@ -46,6 +46,7 @@ tokenPasses f (run l n) = runAllowed l n
 tokenPasses f (elapsed e n) = leb 1 n
 tokenPasses f (colour n) = leb n 56
 tokenPasses f (condition w) = writtenInRange w
+tokenPasses f (exponent m) = true
 
 abbrev pub tokenInRange : Token → Bool
 tokenInRange = tokenPasses isUnit
@@ -186,6 +187,7 @@ singlePasses f asterisk = true
 singlePasses f openBracket = true
 singlePasses f capitalG = true
 singlePasses f capitalA = true
+singlePasses f capitalE = true
 singlePasses f other = true
 singlePasses f (letter l) = true
 singlePasses f (single t) = f t
@@ -257,6 +259,11 @@ module _ (test : ℕ → Bool) where
   half-ranged us =
       cond-both (InStep Ranged) (startsWith (units "AM/PM") us) tt (cond-both (InStep Ranged) (startsWith (units "A/P") us) tt tt)
 
+  exponent-ranged : (us : List ℕ) → InStep Ranged (exponentWord us)
+  unfolding exponentWord tokenPasses
+  exponent-ranged us =
+      cond-both (InStep Ranged) (startsWith (units "E+") us) tt (cond-both (InStep Ranged) (startsWith (units "E-") us) tt tt)
+
   bracketed-ranged : (us : List ℕ) → InStep Ranged (bracketed us)
   unfolding bracketed tokenPasses
   bracketed-ranged us =
@@ -273,6 +280,7 @@ module _ (test : ℕ → Bool) where
   by-ranged openBracket u us s t ts = bracketed-ranged us
   by-ranged capitalG u us s t ts = general-ranged (u ∷ us)
   by-ranged capitalA u us s t ts = half-ranged (u ∷ us)
+  by-ranged capitalE u us s t ts = exponent-ranged (u ∷ us)
   by-ranged (letter l) u us s t ts = run-ranged l u us
   by-ranged (single t) u us s p ts = s
   by-ranged other u us s t ts = cond-both (InStep Ranged) (any (eqb u) bareLiterals) t tt
@@ -322,14 +330,14 @@ module _ (test : ℕ → Bool) where
   colour-in =
       by-token (λ (t : Token). T (passes t) → T (leb (colourIn t) 56))
       (λ us h. tt) (λ u h. tt) (λ u h. tt) (λ u h. tt) (λ p h. tt) (λ h. tt) (λ h. tt) (λ h. tt) (λ h. tt) (λ h. tt) (λ h. tt)
-      (λ x h. tt) (λ l n h. tt) (λ e n h. tt) (λ n h. h) (λ w h. tt)
+      (λ x h. tt) (λ l n h. tt) (λ e n h. tt) (λ n h. h) (λ w h. tt) (λ m h. tt)
 
   pub condition-in : (t : Token) → T (passes t) → T (conditionDigits (conditionIn t))
   unfolding conditionIn conditionDigits tokenPasses
   condition-in =
       by-token (λ (t : Token). T (passes t) → T (conditionDigits (conditionIn t)))
       (λ us h. tt) (λ u h. tt) (λ u h. tt) (λ u h. tt) (λ p h. tt) (λ h. tt) (λ h. tt) (λ h. tt) (λ h. tt) (λ h. tt) (λ h. tt)
-      (λ x h. tt) (λ l n h. tt) (λ e n h. tt) (λ n h. tt) (λ w h. h)
+      (λ x h. tt) (λ l n h. tt) (λ e n h. tt) (λ n h. tt) (λ w h. h) (λ m h. tt)
 
   made-in-range : (c : ℕ) (w : Option Written) (ts : List Token)
       → T (leb c 56) → T (conditionDigits w) → T (every inSection ts) → T (partsPass test (record { colour = c; condition = w; body = ts }))

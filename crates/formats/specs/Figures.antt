@@ -1,20 +1,24 @@
--- "A number's decimal figures" (R75): how units of a text are read back as a number, and what is promised of the units that a number is
--- shown as.
+-- "A number's decimal figures" (R75, R126, R128): how units of a text are read back as a number, and what is promised of the units that a
+-- number is shown as.
 -- Assumes nothing.
 use mathlib.Core.Path.{_≡_}
-use Prim.Native.Nat.{ℕ, _+_, _*_, _^_}
+use Prim.Native.Nat.{ℕ, _+_, _*_, _^_, _≤_, _<_}
 use mathlib.Core.Bool.{Bool, false, cond, _&&_, _||_}
 use mathlib.Core.List.{List, [], _∷_, _++_, flatten}
 use lib.Dec.{T, eqb}
+use lib.ListN.{length, drop}
 use lib.IntN.{natAbs}
 use Rattle.values.specs.declared.Number.{Number}
 use Rattle.lists.specs.Lists.{every, count}
 use Rattle.figures.specs.Rounding.{Magnitude, scaled, rounded}
 use Rattle.figures.specs.General.{generalDecimals, generalUnits}
 use Rattle.figures.specs.Bounds.{Near}
-use Rattle.formats.specs.Tokens.{Place, isDigit, digitOf}
-use Rattle.formats.specs.Items.{Item, literal, blank, fill, place, point, percent, general, at, Section, numberKind, kindOf, isPlace, isPoint, isPercent, decimalPlaces}
+use Rattle.exponents.specs.Exponent.{Exponent, dividedBy}
+use Rattle.exponents.specs.Least.{LeastExponent}
+use Rattle.formats.specs.Tokens.{Place, ExponentMark, isDigit, digitOf}
+use Rattle.formats.specs.Items.{Item, literal, blank, fill, place, point, percent, general, at, exponent, Section, numberKind, scientificKind, kindOf, isPlace, isPoint, isPercent, beforeE, fromE, integerPlaces, decimalPlaces}
 use Rattle.formats.specs.Choice.{Reason, numberExact, chosen, choose}
+use Rattle.formats.specs.Text.{exponentUnits}
 use Rattle.formats.specs.Reading.{Look, standingRounded}
 
 -- Units read as a decimal number, the fraction v / w. A digit goes in behind those of v, and behind the point it makes the fraction ten
@@ -51,22 +55,24 @@ abbrev pub isFigure : ℕ → Bool
 isFigure u = isDigit u || eqb u 44 || eqb u 32
 
 -- What an item shows of the number x. A place's piece is digits, commas and spaces; the point's is such units, or none, and then a
--- point. No other item stands in a section that takes a number.
-pub data PieceOf (x : Number) (minus : Bool) : Item → List ℕ → Type 0 where
-  ofLiteral : (u : ℕ) → PieceOf x minus (literal u) (u ∷ [])
-  ofBlank : (u : ℕ) → PieceOf x minus (blank u) (32 ∷ [])
-  ofFill : (u : ℕ) → PieceOf x minus (fill u) []
-  ofPercent : PieceOf x minus percent (37 ∷ [])
-  ofPlace : (p : Place) (us : List ℕ) → T (every isFigure us) → PieceOf x minus (place p) us
-  ofPoint : (us : List ℕ) → T (every isFigure us) → PieceOf x minus point (us ++ (46 ∷ []))
-  ofGeneral : (us : List ℕ) → GeneralFigures x minus us → PieceOf x minus general us
-  ofAt : (us : List ℕ) → GeneralFigures x minus us → PieceOf x minus at us
+-- point. An E's piece is a capital E and its sign: a minus where the exponent is below 0, else a plus for `E+` and nothing for `E-`. No
+-- other item stands in a section that takes a number.
+pub data PieceOf (x : Number) (minus below : Bool) : Item → List ℕ → Type 0 where
+  ofLiteral : (u : ℕ) → PieceOf x minus below (literal u) (u ∷ [])
+  ofBlank : (u : ℕ) → PieceOf x minus below (blank u) (32 ∷ [])
+  ofFill : (u : ℕ) → PieceOf x minus below (fill u) []
+  ofPercent : PieceOf x minus below percent (37 ∷ [])
+  ofPlace : (p : Place) (us : List ℕ) → T (every isFigure us) → PieceOf x minus below (place p) us
+  ofPoint : (us : List ℕ) → T (every isFigure us) → PieceOf x minus below point (us ++ (46 ∷ []))
+  ofGeneral : (us : List ℕ) → GeneralFigures x minus us → PieceOf x minus below general us
+  ofAt : (us : List ℕ) → GeneralFigures x minus us → PieceOf x minus below at us
+  ofExponent : (m : ExponentMark) → PieceOf x minus below (exponent m) (exponentUnits m below)
 
 -- one piece an item, in order
-pub data PiecesOf (x : Number) (minus : Bool) : List Item → List (List ℕ) → Type 0 where
-  empty : PiecesOf x minus [] []
+pub data PiecesOf (x : Number) (minus below : Bool) : List Item → List (List ℕ) → Type 0 where
+  empty : PiecesOf x minus below [] []
   more : (i : Item) (us : List ℕ) (is : List Item) (pieces : List (List ℕ))
-      → PieceOf x minus i us → PiecesOf x minus is pieces → PiecesOf x minus (i ∷ is) (us ∷ pieces)
+      → PieceOf x minus below i us → PiecesOf x minus below is pieces → PiecesOf x minus below (i ∷ is) (us ∷ pieces)
 
 -- the units of the figure pieces, that is of places and of the point, in order
 unfoldable pub figurePieces : List Item → List (List ℕ) → List ℕ
@@ -74,19 +80,37 @@ figurePieces [] pieces = []
 figurePieces (i ∷ is) [] = []
 figurePieces (i ∷ is) (us ∷ pieces) = cond (isPlace i || isPoint i) us [] ++ figurePieces is pieces
 
+-- What the pieces of a scientific section's items `is` show of the exact number m, which has no sign (R126, R128); `below` says whether the E's
+-- piece has the sign of an exponent below 0.
+-- The exponent is the least multiple of n, the count of the integer places, that leaves 1 to n integer digits after rounding; of zero it is 0.
+-- The figure pieces before the E are figures of m / 10^exponent to the section's decimals, with 1 to n integer digits unless m is zero.
+-- The E's piece has the exponent's sign. The figure pieces behind it are digits alone, read as the exponent without its sign.
+pub record ScientificOf (m : Magnitude) (is : List Item) (minus below : Bool) (pieces : List (List ℕ)) : Type 0 where
+  pub exponent : Exponent
+  pub least : 0 < m .above → LeastExponent m (integerPlaces is) (decimalPlaces is) exponent
+  pub nought : m .above ≡ 0 → exponent ≡ record { size = 0; below = false }
+  pub mantissa : FiguresOf (dividedBy m exponent) (decimalPlaces is) minus (figurePieces (beforeE is) pieces)
+  pub digits : 0 < m .above → (10 ^ 15 ≤ mantissa .number) × (mantissa .number < 10 ^ (15 + integerPlaces is))
+  pub sign : below ≡ exponent .below
+  pub shown : Counts (unitsRead (figurePieces (fromE is) (drop (length (beforeE is)) pieces))) (exponent .size * 10 ^ 15)
+  pub plain : T (every isDigit (figurePieces (fromE is) (drop (length (beforeE is)) pieces)))
+
 -- What is seen where the number x is shown by the sections ss:
--- a minus in front or none, and then a piece for each item of the section that x goes to.
+-- a minus in front or none, and then a piece for each item of the section that x goes to; an E's piece is that of an exponent below 0 or not.
 -- Of a number section the figure pieces together are figures of the exact scaled number to the section's decimals.
+-- Of a scientific section those before the E are figures of the mantissa, and those behind it are the exponent.
 -- Of a section that shows General each piece of General or `@` is General's figures; a literal section has no figures.
 pub record NumberShown (ss : List Section) (x : Number) (look : Look) : Type 0 where
   pub taker : Section
   pub why : Reason
   pub minus : Bool
+  pub below : Bool
   pub pieces : List (List ℕ)
   pub goes : choose ss (numberExact x) ≡ chosen (look .section) taker why
   pub coloured : look .colour ≡ taker .colour
   pub text : look .text ≡ cond minus (45 ∷ []) [] ++ flatten pieces
-  pub each : PiecesOf x minus (taker .items) pieces
+  pub each : PiecesOf x minus below (taker .items) pieces
   pub figures : kindOf taker ≡ numberKind
       → FiguresOf (scaled (natAbs (x .coefficient)) (x .scale) (count isPercent (taker .items)) (taker .thousands))
       (decimalPlaces (taker .items)) minus (figurePieces (taker .items) pieces)
+  pub scientific : kindOf taker ≡ scientificKind → ScientificOf ((numberExact x) .size) (taker .items) minus below pieces

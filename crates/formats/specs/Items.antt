@@ -1,13 +1,13 @@
 -- A section as it is understood (R30 to R33, R41, R42, R45): what a code's section and a table's section both stand for.
 -- Assumes nothing.
-use Prim.Native.Nat.{ℕ, zero, suc, _+_}
+use Prim.Native.Nat.{ℕ, suc, _+_}
 use mathlib.Core.Bool.{Bool, true, false, cond, not, _&&_, _||_}
 use mathlib.Core.List.{List, [], _∷_}
 use mathlib.Core.Option.{Option, none, some}
 use lib.Dec.{leb, ltb, eqb}
 use Rattle.values.specs.Ranges.{between}
 use Rattle.lists.specs.Lists.{every, any, count}
-use Rattle.formats.specs.Tokens.{Place, placeIndex, Elapsed, hours, minutes, seconds, elapsedIndex, HalfDay, halfIndex, Comparison, letterY, letterM, letterD, letterH, letterS, runAllowed}
+use Rattle.formats.specs.Tokens.{Place, placeIndex, Elapsed, hours, minutes, seconds, elapsedIndex, HalfDay, halfIndex, ExponentMark, exponentIndex, Comparison, letterY, letterM, letterD, letterH, letterS, runAllowed}
 
 -- a date or time item has the length of its run
 pub data Item : Type 0 where
@@ -17,6 +17,7 @@ pub data Item : Type 0 where
   year month day hour minute second part : ℕ → Item
   elapsed : Elapsed → ℕ → Item
   half : HalfDay → Item
+  exponent : ExponentMark → Item
 
 -- compared with a value: a number of millionths with its sign, which is false at zero
 pub record Condition : Type 0 where
@@ -33,7 +34,7 @@ pub record Section : Type 0 where
   pub items : List Item
 
 pub data Kind : Type 0 where
-  textKind generalKind dateKind numberKind literalKind : Kind
+  textKind generalKind dateKind scientificKind numberKind literalKind : Kind
 
 -- what is to be known of a kind
 pub record KindRow : Type 0 where
@@ -43,20 +44,27 @@ pub record KindRow : Type 0 where
   pub takesInstant : Bool
   -- General is what it shows of a number
   pub showsGeneral : Bool
+  -- its places show the digits of a rounded number
+  pub showsPlaces : Bool
 
 -- a row with its fields in their order
-abbrev kind : ℕ → Bool → Bool → Bool → KindRow
-kind n takesN takesI shows = record { number = n; takesNumber = takesN; takesInstant = takesI; showsGeneral = shows }
+abbrev kind : ℕ → Bool → Bool → Bool → Bool → KindRow
+kind n takesN takesI asGeneral byPlaces =
+    record { number = n; takesNumber = takesN; takesInstant = takesI; showsGeneral = asGeneral; showsPlaces = byPlaces }
 
--- the kinds: "0 literal, 1 General, 2 number, 3 text, 4 date-time". "Number sections and General refuse instants; date-time refuses
--- numbers (11). Literal sections take both." A text section is chosen only where N = 0: "a number appears as General wherever `@` stands;
--- an instant is 11". (R59, R62, R90)
+-- the kinds: "0 literal, 1 General, 2 number, 3 text, 4 date-time", "kind 5" scientific. "Number sections and General refuse instants; date-time refuses
+-- numbers (11). Literal sections take both." "scientific sections (instants are 11)". A text section is chosen only where N = 0: "a number appears as General wherever `@` stands;
+-- an instant is 11". (R59, R62, R90, R131)
 abbrev pub kindRow : Kind → KindRow
-kindRow literalKind = kind 0 true true false
-kindRow generalKind = kind 1 true false true
-kindRow numberKind = kind 2 true false false
-kindRow textKind = kind 3 true false true
-kindRow dateKind = kind 4 false true false
+kindRow literalKind = kind 0 true true false false
+kindRow generalKind = kind 1 true false true false
+kindRow numberKind = kind 2 true false false true
+kindRow textKind = kind 3 true false true false
+kindRow dateKind = kind 4 false true false false
+kindRow scientificKind = kind 5 true false false true
+
+abbrev pub showsPlaces : Kind → Bool
+showsPlaces k = kindRow k .showsPlaces
 
 abbrev pub sameKind : Kind → Kind → Bool
 sameKind j k = eqb (kindRow j .number) (kindRow k .number)
@@ -115,13 +123,13 @@ anyKind k = true
 
 -- the items: "1 literal, 2 blank, 3 fill (each with its unit); 4, 5, 6 places `0 # ?`; 7 point, 8 percent, 9 General, 10 at; 11 year,
 -- 12 month, 13 day, 14 hour, 15 minute, 16 second, 17 part of a second, 18 to 20 elapsed h, m, s (run length); 21 half-day (1 A/P,
--- 2 AM/PM)". A body holds its kind's items, "with literals, blanks and fills anywhere". (R31, R94, R97)
+-- 2 AM/PM)", "22 (E+, 0) and 23 (E-, 0)". A body holds its kind's items, "with literals, blanks and fills anywhere". (R31, R94, R97, R131)
 abbrev pub itemRow : Item → ItemRow
 itemRow (literal u) = row 1 0 u isUnit none anyKind noRun
 itemRow (blank u) = row 2 0 u isUnit none anyKind noRun
 itemRow (fill u) = row 3 0 u isUnit none anyKind noRun
-itemRow (place p) = row 4 (placeIndex p) 0 noArgument (some numberKind) (sameKind numberKind) noRun
-itemRow point = row 7 0 0 noArgument none (sameKind numberKind) noRun
+itemRow (place p) = row 4 (placeIndex p) 0 noArgument (some numberKind) showsPlaces noRun
+itemRow point = row 7 0 0 noArgument none showsPlaces noRun
 itemRow percent = row 8 0 0 noArgument none (sameKind numberKind) noRun
 itemRow general = row 9 0 0 noArgument (some generalKind) (sameKind generalKind) noRun
 itemRow at = row 10 0 0 noArgument (some textKind) (sameKind textKind) noRun
@@ -134,6 +142,7 @@ itemRow (second n) = row 16 0 n (runAllowed letterS) (some dateKind) (sameKind d
 itemRow (part n) = row 17 0 n (between 1 3) none (sameKind dateKind) noRun
 itemRow (elapsed e n) = row 18 (elapsedIndex e) n (between 1 9) (some dateKind) (sameKind dateKind) (runOfElapsed e)
 itemRow (half h) = row 21 0 (suc (halfIndex h)) (between 1 2) none (sameKind dateKind) noRun
+itemRow (exponent m) = row 22 (exponentIndex m) 0 noArgument (some scientificKind) (sameKind scientificKind) noRun
 
 abbrev pub itemNumber : Item → ℕ
 itemNumber i = itemRow i .number
@@ -143,6 +152,10 @@ isFill i = eqb (itemNumber i) 3
 
 abbrev pub isPlace : Item → Bool
 isPlace i = eqb (itemNumber i) 4
+
+-- a place `?`
+abbrev pub isSpace : Item → Bool
+isSpace i = isPlace i && eqb (itemRow i .variant) 2
 
 abbrev pub isPoint : Item → Bool
 isPoint i = eqb (itemNumber i) 7
@@ -174,6 +187,9 @@ isElapsed i = eqb (itemNumber i) 18
 abbrev pub isHalf : Item → Bool
 isHalf i = eqb (itemNumber i) 21
 
+abbrev pub isExponent : Item → Bool
+isExponent i = eqb (itemNumber i) 22
+
 -- an elapsed item that counts this unit
 abbrev pub isElapsedOf : Elapsed → Item → Bool
 isElapsedOf e i = isElapsed i && eqb (itemRow i .variant) (elapsedIndex e)
@@ -194,13 +210,15 @@ unfoldable pub itemMakes : Kind → Item → Bool
 itemMakes k i = isKind k (itemRow i .makes)
 
 -- the kind of a body, by whether a part of it makes it of a kind: "with an `@` [..] text; with `General`, General; with a date
--- token, date-time; with a place, number; with literals [..] only or empty, literal" (R30)
+-- token, date-time; [..] with a place, number; with literals [..] only or empty, literal"; with an E it is scientific, unless `@`, General
+-- or a date token is in it (R30, R127)
 unfoldable pub kindFrom : (Kind → Bool) → Kind
 kindFrom made =
     cond (made textKind) textKind
     (cond (made generalKind) generalKind
     (cond (made dateKind) dateKind
-    (cond (made numberKind) numberKind literalKind)))
+    (cond (made scientificKind) scientificKind
+    (cond (made numberKind) numberKind literalKind))))
 
 unfoldable pub itemsKind : List Item → Kind
 itemsKind is = kindFrom (λ (k : Kind). any (itemMakes k) is)
@@ -220,8 +238,42 @@ isPlain variant i = eqb (itemNumber i) (14 + variant)
 unfoldable pub noPlain : List Item → Item → Bool
 noPlain is i = not (isElapsed i && any (isPlain (itemRow i .variant)) is)
 
+-- the items before the E, all where there is none; and those from the E on (R127)
+unfoldable pub beforeE : List Item → List Item
+beforeE [] = []
+beforeE (i ∷ is) = let r = beforeE is in cond (isExponent i) [] (i ∷ r)
+
+unfoldable pub fromE : List Item → List Item
+fromE [] = []
+fromE (i ∷ is) = let r = fromE is in cond (isExponent i) (i ∷ is) r
+
+-- the integer places stand before the point, the decimal places behind it, both before the E (R33, R127)
+unfoldable pub integerPlaces : List Item → ℕ
+integerPlaces [] = 0
+integerPlaces (i ∷ is) = let r = integerPlaces is in cond (isPoint i || isExponent i) 0 (cond (isPlace i) (suc r) r)
+
+unfoldable pub decimalPlaces : List Item → ℕ
+decimalPlaces [] = 0
+decimalPlaces (i ∷ is) =
+    let r = decimalPlaces is in cond (isPoint i) (count isPlace (beforeE is)) (cond (isExponent i) 0 r)
+
+-- "all places behind the E are exponent places" (R127)
+unfoldable pub exponentPlaces : List Item → ℕ
+exponentPlaces is = count isPlace (fromE is)
+
+-- "one `E+` or `E-` somewhere after an integer place, with 1 to 3 exponent places `0` or `#` behind it"; "a second E, a point or `?` behind
+-- the E, [..] no exponent place or no integer place in such a section is 4" (R127, R129)
+unfoldable pub exponentFits : List Item → Bool
+exponentFits is =
+    not (any isExponent is)
+    || (leb (count isExponent is) 1
+    && leb 1 (integerPlaces is)
+    && leb 1 (exponentPlaces is)
+    && not (any isPoint (fromE is))
+    && not (any isSpace (fromE is)))
+
 -- the rules for items: what their kind may hold; "General (once"; "at most one point"; "At most one elapsed token, and not
--- beside its plain equivalent" (R31 to R33, R41)
+-- beside its plain equivalent"; those for an E (R31 to R33, R41, R127, R129)
 unfoldable pub itemsFit : List Item → Bool
 itemsFit is =
     every (itemAllowed (itemsKind is)) is
@@ -229,15 +281,7 @@ itemsFit is =
     && leb (count isPoint is) 1
     && leb (count isElapsed is) 1
     && every (noPlain is) is
-
--- the integer places stand before the point, the decimal places behind it (R33)
-unfoldable pub integerPlaces : List Item → ℕ
-integerPlaces [] = 0
-integerPlaces (i ∷ is) = let r = integerPlaces is in cond (isPoint i) 0 (cond (isPlace i) (suc r) r)
-
-unfoldable pub decimalPlaces : List Item → ℕ
-decimalPlaces [] = 0
-decimalPlaces (i ∷ is) = let r = decimalPlaces is in cond (isPoint i) (count isPlace is) r
+    && exponentFits is
 
 -- the first of two that is a run
 unfoldable pub nearer : Run → Run → Run

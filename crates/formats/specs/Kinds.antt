@@ -8,9 +8,9 @@ use lib.ListN.{length}
 use lib.Dec.{eqb}
 use Rattle.lists.specs.Lists.{every, any, count}
 use Rattle.formats.specs.Tokens as token
-use Rattle.formats.specs.Tokens.{Token, placeIndex, halfIndex, Letter, letterY, letterM, letterD, letterH, letterS, letterIndex, elapsedIndex, Written, numberFrom}
+use Rattle.formats.specs.Tokens.{Token, placeIndex, halfIndex, exponentIndex, Letter, letterY, letterM, letterD, letterH, letterS, letterIndex, elapsedIndex, Written, numberFrom}
 use Rattle.formats.specs.Items as item
-use Rattle.formats.specs.Items.{Item, Condition, Section, Kind, generalKind, numberKind, textKind, dateKind, sameKind, isKind, kindFrom, isFill, itemsFit, settled}
+use Rattle.formats.specs.Items.{Item, Condition, Section, Kind, generalKind, numberKind, textKind, dateKind, scientificKind, sameKind, isKind, kindFrom, isFill, itemsFit, settled}
 
 -- what is to be known of a token beside the items that it makes
 pub record TokenRow : Type 0 where
@@ -47,6 +47,7 @@ tokenRow (token.run l n) = row 15 (letterIndex l) n (some dateKind)
 tokenRow (token.elapsed e n) = row 20 (elapsedIndex e) n (some dateKind)
 tokenRow (token.colour n) = row 23 0 n none
 tokenRow (token.condition w) = record { form = 24; variant = 0; argument = 0; makes = none; written = some w }
+tokenRow (token.exponent m) = row 25 (exponentIndex m) 0 (some scientificKind)
 
 abbrev pub formOf : Token → ℕ
 formOf t = tokenRow t .form
@@ -71,6 +72,9 @@ isColour t = eqb (formOf t) 23
 
 abbrev pub isCondition : Token → Bool
 isCondition t = eqb (formOf t) 24
+
+abbrev pub isExponent : Token → Bool
+isExponent t = eqb (formOf t) 25
 
 -- "At most one colour, then at most one condition, then the body." (R29)
 pub record Parts : Type 0 where
@@ -125,10 +129,10 @@ unfoldable pub integerPlaceIn : List Token → Bool
 integerPlaceIn [] = false
 integerPlaceIn (t ∷ ts) = let r = integerPlaceIn ts in cond (isPoint t) false (cond (isPlace t) true r)
 
--- and how many do
+-- and how many integer places do: before their first point and before an E
 unfoldable pub integerPlaceTokens : List Token → ℕ
 integerPlaceTokens [] = 0
-integerPlaceTokens (t ∷ ts) = let r = integerPlaceTokens ts in cond (isPoint t) 0 (cond (isPlace t) (suc r) r)
+integerPlaceTokens (t ∷ ts) = let r = integerPlaceTokens ts in cond (isPoint t || isExponent t) 0 (cond (isPlace t) (suc r) r)
 
 -- the use of a comma, by the tokens of its body before it and behind it: between integer places it groups; between the last integer
 -- place and the point or end it divides; after the last place of all it divides
@@ -147,9 +151,11 @@ usesFrom before (t ∷ ts) = let r = usesFrom (before ++ (t ∷ [])) ts in cond 
 unfoldable pub commaUses : List Token → List CommaUse
 commaUses ts = usesFrom [] ts
 
--- "Date-time: comma is a literal." (R36, R40)
+-- "Date-time: comma is a literal." A scientific section has none. (R36, R40, R129)
 unfoldable pub commasFit : List Token → Bool
-commasFit ts = sameKind (bodyKind ts) dateKind || not (any isMisplaced (commaUses ts))
+commasFit ts =
+    cond (sameKind (bodyKind ts) scientificKind) (not (any isComma ts))
+    (sameKind (bodyKind ts) dateKind || not (any isMisplaced (commaUses ts)))
 
 -- "A `/` directly between two places is 4; any other is a literal." (R38)
 unfoldable pub isSolidus : Token → Bool
@@ -228,6 +234,7 @@ tokenItems ofDate (token.run l n) = runItem l n ∷ []
 tokenItems ofDate (token.elapsed e n) = item.elapsed e n ∷ []
 tokenItems ofDate (token.colour n) = []
 tokenItems ofDate (token.condition w) = []
+tokenItems ofDate (token.exponent m) = item.exponent m ∷ []
 
 unfoldable pub pieceItems : Piece → List Item
 pieceItems (whole t) = tokenItems true t

@@ -1,25 +1,24 @@
--- "Limits (6)" (R51 to R53): "20 integer places, 15 decimal places, 5 percents, 5 dividing commas, condition numbers of 9 digits before and
--- 6 after the point, elapsed runs of 9."
+-- "Limits (6)" (R51 to R53, R130): "20 integer places, 15 decimal places, 5 percents, 5 dividing commas, condition numbers of 9 digits before and
+-- 6 after the point, elapsed runs of 9." "more than 3 exponent places is 6"
 -- Assumes nothing.
-use Prim.Native.Nat.{ℕ}
 use mathlib.Core.Bool.{Bool, true, not, _&&_, _||_}
-use mathlib.Core.List.{List}
 use mathlib.Core.Option.{Option, none, some}
 use lib.ListN.{length}
 use lib.Dec.{leb}
 use Rattle.lists.specs.Lists.{every, count}
 use Rattle.formats.specs.Tokens.{Written}
-use Rattle.formats.specs.Items.{Item, itemRow, Section, isPercent, isElapsed, integerPlaces, decimalPlaces}
+use Rattle.formats.specs.Items.{Item, itemRow, Section, isPercent, isElapsed, integerPlaces, decimalPlaces, exponentPlaces}
 use Rattle.formats.specs.Kinds.{Parts, sectionOf}
 
 unfoldable pub elapsedShort : Item → Bool
 elapsedShort i = not (isElapsed i) || leb (itemRow i .argument) 9
 
--- the limits on a section, whether a code or a table gives it (R51, R53)
+-- the limits on a section, whether a code or a table gives it (R51, R53, R130)
 unfoldable pub sectionWithin : Section → Bool
 sectionWithin s =
     leb (integerPlaces (s .items)) 20
     && leb (decimalPlaces (s .items)) 15
+    && leb (exponentPlaces (s .items)) 3
     && leb (count isPercent (s .items)) 5
     && leb (s .thousands) 5
     && every elapsedShort (s .items)

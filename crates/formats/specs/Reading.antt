@@ -1,10 +1,10 @@
--- The reading (R108, R109); what is left of choice and minus (R59, R61, R62, R65, R66); which figures are shown (R67, R68, R78, R79).
+-- The reading (R108, R109); what is left of choice and minus (R59, R61, R62, R65, R66); which figures are shown (R67, R68, R78, R79, R126, R128).
 -- "A reading of an accepted code, or of a table that passes, takes a value and the text room's length. It gives the first of
 -- showing's refusals after 8 that applies, or 0 with text, colour and section."
 -- Assumes nothing.
-use Prim.Native.Nat.{ℕ, zero, suc}
+use Prim.Native.Nat.{ℕ, _*_, _^_}
 use mathlib.Core.Bool.{Bool, false, cond, not, _&&_, _||_}
-use mathlib.Core.List.{List, [], _∷_, _++_}
+use mathlib.Core.List.{List, [], _++_}
 use lib.ListN.{length}
 use lib.Dec.{leb, eqb}
 use lib.IntN.{natAbs}
@@ -18,12 +18,13 @@ use Rattle.values.specs.declared.Value.the-variants as value
 use Rattle.values.specs.declared.Ask.{Ask}
 use Rattle.values.specs.Ranges.{inRange}
 use Rattle.lists.specs.Lists.{any, count}
-use Rattle.figures.specs.Rounding.{Magnitude, scaled, rounded}
+use Rattle.figures.specs.Rounding.{scaled, rounded}
 use Rattle.figures.specs.General.{generalRounded, generalTooWide, generalUnits}
+use Rattle.exponents.specs.Exponent.{Exponent, exponentOf, mantissaOf}
 use Rattle.calendar.specs.Date.{dateOf}
 use Rattle.calendar.specs.Clock.{clockOf, sinceDayZero}
-use Rattle.formats.specs.Items.{Section, Kind, kindRow, numberKind, sameKind, kindOf, isPercent, isHalf, integerPlaces, decimalPlaces}
-use Rattle.formats.specs.Choice.{Exact, numberExact, instantExact, Choice, nothing, chosen, Reason, choose, counted, TextChoice, itself, textIn, chooseText}
+use Rattle.formats.specs.Items.{Section, Kind, kindRow, showsPlaces, scientificKind, sameKind, kindOf, isPercent, isHalf, beforeE, fromE, integerPlaces, decimalPlaces, exponentPlaces}
+use Rattle.formats.specs.Choice.{numberExact, instantExact, Choice, nothing, chosen, Reason, choose, counted, TextChoice, itself, textIn, chooseText}
 use Rattle.formats.specs.Minus.{Sign, isOwn, firstHasCondition, exceptionA, signFor, signUnits}
 use Rattle.formats.specs.Text.{Context, sectionUnits}
 use Rattle.formats.specs.Accept.{Accepted, sections, refusal, accept}
@@ -55,10 +56,17 @@ takesInstant k = kindRow k .takesInstant
 unfoldable pub showsGeneral : Kind → Bool
 showsGeneral k = kindRow k .showsGeneral
 
--- the rounded number of a number section: the exact scaled number to its decimals (R67, R68)
+-- the exponent of a number in a scientific section (R126)
+unfoldable pub sectionExponent : Section → Number → Exponent
+sectionExponent s x = exponentOf ((numberExact x) .size) (integerPlaces (s .items)) (decimalPlaces (s .items))
+
+-- the rounded number of a number section: the exact scaled number to its decimals (R67, R68); of a scientific section the mantissa, which
+-- the exponent scales (R128)
 unfoldable pub sectionRounded : Section → Number → ℕ
 sectionRounded s x =
-    rounded (scaled (natAbs (x .coefficient)) (x .scale) (count isPercent (s .items)) (s .thousands)) (decimalPlaces (s .items))
+    cond (sameKind (kindOf s) scientificKind)
+    (mantissaOf ((numberExact x) .size) (integerPlaces (s .items)) (decimalPlaces (s .items)))
+    (rounded (scaled (natAbs (x .coefficient)) (x .scale) (count isPercent (s .items)) (s .thousands)) (decimalPlaces (s .items)))
 
 -- the rounded number of General
 unfoldable pub standingRounded : Number → ℕ
@@ -76,6 +84,22 @@ numberContext s x =
       clock = clockOf 0;
       twelve = false;
       elapsed = 0;
+      below = false;
+    }
+
+-- what the items from the E on show of it: "The exponent is shown like an integer part" (R128)
+unfoldable pub exponentContext : Section → Number → Context
+exponentContext s x =
+    record {
+      figures = (sectionExponent s x) .size * 10 ^ 15;
+      grouped = false;
+      integerPlaces = exponentPlaces (s .items);
+      standing = [];
+      date = dateOf 0;
+      clock = clockOf 0;
+      twelve = false;
+      elapsed = 0;
+      below = (sectionExponent s x) .below;
     }
 
 -- what they show of an instant
@@ -90,6 +114,7 @@ instantContext s d m =
       clock = clockOf (m .0);
       twelve = any isHalf (s .items);
       elapsed = sinceDayZero (d .0) (m .0);
+      below = false;
     }
 
 -- what they show of a text: "General there stands for the text" (R61)
@@ -104,12 +129,20 @@ textContext text =
       clock = clockOf 0;
       twelve = false;
       elapsed = 0;
+      below = false;
     }
+
+-- a section's text of a number, without the added minus
+unfoldable pub sectionText : Section → Number → List ℕ
+sectionText s x =
+    cond (sameKind (kindOf s) scientificKind)
+    (sectionUnits (numberContext s x) (beforeE (s .items)) ++ sectionUnits (exponentContext s x) (fromE (s .items)))
+    (sectionUnits (numberContext s x) (s .items))
 
 -- "it shows places or General and these round to zero" (R65)
 unfoldable pub showsNought : Section → Number → Bool
 showsNought s x =
-    sameKind (kindOf s) numberKind && eqb (sectionRounded s x) 0
+    showsPlaces (kindOf s) && eqb (sectionRounded s x) 0
     || showsGeneral (kindOf s) && eqb (standingRounded x) 0
 
 -- the added minus of a number that went to section i for this reason
@@ -118,7 +151,7 @@ numberSign ss i s why x =
     signFor (numberExact x) s (exceptionA (counted ss) i (isOwn why) (firstHasCondition ss)) (showsNought s x)
 
 unfoldable pub numberUnits : List Section → ℕ → Section → Reason → Number → List ℕ
-numberUnits ss i s why x = signUnits (numberSign ss i s why x) ++ sectionUnits (numberContext s x) (s .items)
+numberUnits ss i s why x = signUnits (numberSign ss i s why x) ++ sectionText s x
 
 -- 10, 11, 12, 13 of a number (R62, R79)
 unfoldable pub readNumber : List Section → Number → ℕ → Choice → Reading

@@ -8,8 +8,8 @@ use Rattle.figures.specs.Digits.{digit, digitUnit, digitUnits, numeral}
 use Rattle.calendar.specs.Date.{Date}
 use Rattle.calendar.specs.Clock.{Clock, twelveHour, afternoon, elapsedHours, elapsedMinutes, elapsedSeconds}
 use Rattle.calendar.specs.Names.{units, monthName, weekdayName, shortName, firstLetter}
-use Rattle.formats.specs.Tokens.{Place, zeroPlace, hashPlace, spacePlace, Elapsed, hours, minutes, seconds, HalfDay, short, long}
-use Rattle.formats.specs.Items.{Item, literal, blank, fill, place, point, percent, general, at, year, month, day, hour, minute, second, part, elapsed, half, isPlace}
+use Rattle.formats.specs.Tokens.{Place, zeroPlace, hashPlace, spacePlace, Elapsed, hours, minutes, seconds, HalfDay, short, long, ExponentMark, ePlus, eMinus}
+use Rattle.formats.specs.Items.{Item, literal, blank, fill, place, point, percent, general, at, year, month, day, hour, minute, second, part, elapsed, half, exponent, isPlace, isExponent}
 
 -- all that the items of a section show
 pub record Context : Type 0 where
@@ -21,6 +21,8 @@ pub record Context : Type 0 where
   pub clock : Clock
   pub twelve : Bool
   pub elapsed : ℕ
+  -- the exponent is below 0
+  pub below : Bool
 
 -- "The rounded number is forty digits by value, 25 before the point and 15 after." (R69) It is a count of 10^-15, and each of its digits is
 -- told by its power of ten and 15, from the first down.
@@ -111,6 +113,13 @@ halfUnits short false = units "A"
 halfUnits long true = units "PM"
 halfUnits long false = units "AM"
 
+-- "`E-` shows only a minus, `E+` at 0 a plus" (R128): a capital E and its sign
+unfoldable pub exponentUnits : ExponentMark → Bool → List ℕ
+exponentUnits ePlus true = units "E-"
+exponentUnits ePlus false = units "E+"
+exponentUnits eMinus true = units "E-"
+exponentUnits eMinus false = units "E"
+
 -- an item's text (R74); q tells the digit of a place
 unfoldable pub itemUnits : Context → ℕ → Item → List ℕ
 itemUnits c q (literal u) = u ∷ []
@@ -130,27 +139,32 @@ itemUnits c q (second n) = numeral n (c .clock .second)
 itemUnits c q (part n) = partUnits n (c .clock .thousandth)
 itemUnits c q (elapsed e n) = numeral n (elapsedCount e (c .elapsed))
 itemUnits c q (half h) = halfUnits h (afternoon (c .clock .hour))
+itemUnits c q (exponent m) = exponentUnits m (c .below)
 
--- the digit after an item: each place has the next lower power
-unfoldable pub digitAfter : ℕ → Item → ℕ
-digitAfter q i = cond (isPlace i) (q - 1) q
+-- the digit after an item: each place has the next lower power, and behind an E the digit is `anew`
+unfoldable pub digitAfter : ℕ → ℕ → Item → ℕ
+digitAfter anew q i = cond (isExponent i) anew (cond (isPlace i) (q - 1) q)
 
 -- one pass over a section's items, or over what stands for them, that tells each its digit: a text, a table's words and the rules for
 -- them are made of it
-unfoldable pub along : {A B : Type 0} → (A → Item) → (ℕ → A → B) → ℕ → List A → List B
-along item f q [] = []
-along item f q (x ∷ xs) = f q x ∷ along item f (digitAfter q (item x)) xs
+unfoldable pub along : {A B : Type 0} → (A → Item) → (ℕ → A → B) → ℕ → ℕ → List A → List B
+along item f anew q [] = []
+along item f anew q (x ∷ xs) = f q x ∷ along item f anew (digitAfter anew q (item x)) xs
 
 abbrev pub self : Item → Item
 self i = i
 
+-- the digit of the first place: so the last integer place has the last integer digit, the first decimal place the first decimal digit
+abbrev pub firstOf : ℕ → ℕ
+firstOf integerPlaces = firstDecimal + integerPlaces
+
 -- the text of each item
 abbrev pub itemPieces : Context → ℕ → List Item → List (List ℕ)
-itemPieces c q is = along self (itemUnits c) q is
+itemPieces c q is = along self (itemUnits c) (firstOf (c .integerPlaces)) q is
 
 unfoldable pub itemsUnits : Context → ℕ → List Item → List ℕ
 itemsUnits c q is = flatten (itemPieces c q is)
 
--- the items of a section: so its last integer place has the last integer digit, its first decimal place the first decimal digit
+-- the items of a section, or of the part of a section that this context is of
 unfoldable pub sectionUnits : Context → List Item → List ℕ
-sectionUnits c is = itemsUnits c (firstDecimal + c .integerPlaces) is
+sectionUnits c is = itemsUnits c (firstOf (c .integerPlaces)) is

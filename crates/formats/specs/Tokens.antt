@@ -1,4 +1,4 @@
--- "Tokens" (R14 to R27): the tokens of a code, read from its units.
+-- "Tokens" (R14 to R27, R127): the tokens of a code, read from its units.
 -- Assumes nothing.
 use Prim.Native.Nat.{ℕ, zero, suc, _+_, _-_, _*_}
 use Prim.Native.Char.{Char, code}
@@ -7,7 +7,7 @@ use mathlib.Core.Bool.{Bool, true, false, cond, not, _&&_, _||_}
 use mathlib.Core.List.{List, [], _∷_, map}
 use mathlib.Core.Option.{Option, none, some}
 use lib.ListN.{length, take, drop}
-use lib.Dec.{leb, ltb, eqb}
+use lib.Dec.{leb, eqb}
 use Rattle.lists.specs.Lists.{every, any, isEmpty}
 use Rattle.calendar.specs.Names.{units}
 
@@ -52,6 +52,15 @@ abbrev pub halfIndex : HalfDay → ℕ
 halfIndex short = 0
 halfIndex long = 1
 
+-- `E+` and `E-` (R127)
+pub data ExponentMark : Type 0 where
+  ePlus eMinus : ExponentMark
+
+-- each counted from 0, in this order
+abbrev pub exponentIndex : ExponentMark → ℕ
+exponentIndex ePlus = 0
+exponentIndex eMinus = 1
+
 -- `= < > <= >= <>`
 pub data Comparison : Type 0 where
   equal less greater atMost atLeast unequal : Comparison
@@ -73,6 +82,7 @@ pub data Token : Type 0 where
   elapsed : Elapsed → ℕ → Token
   colour : ℕ → Token
   condition : Written → Token
+  exponent : ExponentMark → Token
 
 -- a token and how many units follow its first one, or a unit that starts no token or a broken one
 pub data Step : Type 0 where
@@ -116,6 +126,12 @@ unfoldable pub halfDayWord : List ℕ → Step
 halfDayWord us =
     cond (startsWith (units "AM/PM") us) (read (half long) 4)
     (cond (startsWith (units "A/P") us) (read (half short) 2) broken)
+
+-- `E+`, `E-` (R127)
+unfoldable pub exponentWord : List ℕ → Step
+exponentWord us =
+    cond (startsWith (units "E+") us) (read (exponent ePlus) 1)
+    (cond (startsWith (units "E-") us) (read (exponent eMinus) 1) broken)
 
 -- "Runs: y of 2 or 4, m of 1 to 5, d of 1 to 4, h of 1 or 2, s of 1 or 2." (R23)
 unfoldable pub runAllowed : Letter → ℕ → Bool
@@ -215,7 +231,7 @@ bracketed us = let n = before 93 us in cond (eqb n (length us)) broken (closed n
 
 -- what a token may start with
 pub data First : Type 0 where
-  quote backslash underscore asterisk openBracket capitalG capitalA other : First
+  quote backslash underscore asterisk openBracket capitalG capitalA capitalE other : First
   letter : Letter → First
   single : Token → First
 
@@ -226,11 +242,11 @@ pub record FirstRow : Type 0 where
 abbrev pub row : Char → First → FirstRow
 row c f = record { unit = code c; first = f }
 
--- a row for each unit that starts a token (R16, R21); the literals without quotes stand apart
+-- a row for each unit that starts a token (R16, R21, R127); the literals without quotes stand apart
 unfoldable pub firstRows : List FirstRow
 firstRows =
     row "\"" quote ∷ row "\\" backslash ∷ row "_" underscore ∷ row "*" asterisk ∷ row "[" openBracket
-    ∷ row "G" capitalG ∷ row "A" capitalA
+    ∷ row "G" capitalG ∷ row "A" capitalA ∷ row "E" capitalE
     ∷ row "y" (letter letterY) ∷ row "m" (letter letterM) ∷ row "d" (letter letterD) ∷ row "h" (letter letterH) ∷ row "s" (letter letterS)
     ∷ row "0" (single (place zeroPlace)) ∷ row "#" (single (place hashPlace)) ∷ row "?" (single (place spacePlace))
     ∷ row "." (single point) ∷ row "," (single comma) ∷ row "%" (single percent) ∷ row "@" (single at) ∷ row ";" (single semicolon) ∷ []
@@ -251,6 +267,7 @@ stepBy asterisk u us = marked fill us
 stepBy openBracket u us = bracketed us
 stepBy capitalG u us = generalWord (u ∷ us)
 stepBy capitalA u us = halfDayWord (u ∷ us)
+stepBy capitalE u us = exponentWord (u ∷ us)
 stepBy (letter l) u us = runStep l u us
 stepBy (single t) u us = read t 0
 stepBy other u us = cond (any (eqb u) bareLiterals) (read (bare u) 0) broken

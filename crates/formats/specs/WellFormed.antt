@@ -1,8 +1,8 @@
 -- What holds of the sections that a code is accepted as, and of those that a table which passes stands for: the table rules that speak
 -- of sections (R96 to R100, R102, R103, R106).
 -- Assumes nothing.
-use Prim.Native.Nat.{ℕ, zero, suc, _+_, _^_}
-use mathlib.Core.Bool.{Bool, true, false, cond, not, _&&_, _||_}
+use Prim.Native.Nat.{ℕ, _+_, _^_}
+use mathlib.Core.Bool.{Bool, true, false, not, _&&_, _||_}
 use mathlib.Core.List.{List, [], _∷_}
 use mathlib.Core.Option.{Option, none, some}
 use lib.ListN.{length}
@@ -10,7 +10,7 @@ use lib.Dec.{leb, ltb, eqb}
 use Rattle.values.specs.Ranges.{between}
 use Rattle.lists.specs.Lists.{every, count, firstFailing, isSome}
 use Rattle.formats.specs.Tokens.{seconds}
-use Rattle.formats.specs.Items.{Item, Condition, Section, Kind, numberKind, sameKind, kindOf, itemNumber, isFill, isSecond, isPart, isElapsedOf, itemInRange, itemsFit, integerPlaces, Run, noRun, runOf, nearer, firstRun, settledItem}
+use Rattle.formats.specs.Items.{Item, Condition, Section, numberKind, sameKind, kindOf, itemNumber, isFill, isSecond, isPart, isElapsedOf, itemInRange, itemsFit, integerPlaces, Run, noRun, runOf, nearer, firstRun, settledItem}
 use Rattle.formats.specs.Where.{implies, standsAt}
 use Rattle.formats.specs.Limits.{sectionWithin}
 
@@ -45,9 +45,9 @@ settledTest earlier (i ∷ is) =
 unfoldable pub isSettled : List Item → Bool
 isSettled is = settledTest noRun is
 
--- "grouping only with two integer places" (R102)
+-- "grouping only with two integer places" (R102), and only of a number section (R131)
 unfoldable pub groupingFits : Section → Bool
-groupingFits s = implies (s .grouped) (leb 2 (integerPlaces (s .items)))
+groupingFits s = implies (s .grouped) (sameKind (kindOf s) numberKind && leb 2 (integerPlaces (s .items)))
 
 -- only a number section divides
 unfoldable pub dividingFits : Section → Bool

@@ -17,7 +17,7 @@ use Rattle.formats.proofs.FormedItems.{dropped, fills-kept}
 use Rattle.grammar.specs.Bodies.{Behind, behindOther, NFAbsTimeToken, NFPartAbsHour, NFPartAbsSecond, NFPartAbsMinute, NFDateTimeToken, NFPartYear, NFPartMonth, NFPartMonth-long, NFPartDay, NFPartHour, NFPartMinute, NFPartMinute-seconds, NFPartSecond, absolute, NFPartSubSecond, tenths, hundredths, thousandths, Between, DateTimeRest, rest-end, rest-token, rest-sub-second, rest-between, DateTimeFrom, from-token, from-between, isAbsolute, NFDateTime}
 use Rattle.grammar.proofs.Tests.{every-in, every-all, every-none}
 use Rattle.grammar.proofs.Quiet.{passed-over}
-use Rattle.grammar.proofs.Kept.{sorts, count-kept, allowed-kept, foreign, no-integers, no-decimals}
+use Rattle.grammar.proofs.Kept.{sorts, count-kept, allowed-kept, foreign, no-integers, no-decimals, no-exponents}
 use Rattle.grammar.proofs.Facts.{kept, Fitting}
 use Rattle.grammar.proofs.Plain.{inBody, has, kind-date, kind-has}
 use Rattle.grammar.proofs.PlainBodies.{body-tokens, body-brackets, NoSemicolon}
@@ -192,6 +192,7 @@ date-fits ts d =
     let points : count item.isPoint (bodyItems ts) ≡ 0 = foreign dateKind 7 refl (bodyItems ts) a in
     let percents : count item.isPercent (bodyItems ts) ≡ 0 = foreign dateKind 8 refl (bodyItems ts) a in
     let generals : count item.isGeneral (bodyItems ts) ≡ 0 = foreign dateKind 9 refl (bodyItems ts) a in
+    let (exponent, exponents) = no-exponents (bodyItems ts) (foreign dateKind 22 refl (bodyItems ts) a) in
     let once : count isElapsed (bodyItems ts) ≤ 1 = rw (items, rest-elapsed rest) (d .absolute-once) in (
       h,
       record {
@@ -203,8 +204,10 @@ date-fits ts d =
         points = omega arith;
         elapseds = rw (count-kept 18 refl refl (bodyItems ts)) once;
         apart = dates-apart (d .abs) (kept ts) dated;
+        exponent = exponent;
         wholes = omega (arith, no-integers (bodyItems ts) places);
-        decimals = omega (arith, no-decimals (bodyItems ts) places);
+        decimals = omega (arith, no-decimals (bodyItems ts) points);
+        exponents = omega arith;
         percents = omega arith;
         divisions = rw h (omega arith);
         short = date-short (d .abs) (kept ts) dated;

@@ -71,7 +71,7 @@ data Sorted : Item → Type 0 where
 sorted : (i : Item) → Sorted i
 sorted =
     by-item Sorted (λ u. calm refl) (λ u. calm refl) (λ u. calm refl) (λ p. calm refl) (calm refl) (calm refl) (calm refl) (calm refl)
-    (λ n. calm refl) (λ n. calm refl) (λ n. calm refl) (λ n. calm refl) (λ n. calm refl) (λ n. calm refl) (λ n. calm refl) timed (λ h. calm refl)
+    (λ n. calm refl) (λ n. calm refl) (λ n. calm refl) (λ n. calm refl) (λ n. calm refl) (λ n. calm refl) (λ n. calm refl) timed (λ h. calm refl) (λ m. calm refl)
 
 -- a test that only an elapsed item may fail
 unless-elapsed : (f : Item → Bool) → ((i : Item) → isElapsed i ≡ false → f i ≡ true) → (is : List Item) → count isElapsed is ≡ 0 → every f is ≡ true

@@ -13,7 +13,7 @@ use lib.Dec.{leb, eqb}
 use borrow.Author.Tests.{eqb-true, eqb-false, leb-true, leb-false, le-leb, lt-leb}
 use Rattle.lists.specs.Lists.{every}
 use Rattle.lists.proofs.Bools.{no, and-parts, by-cases}
-use Rattle.formats.specs.Tokens.{Token, literal, bare, blank, fill, place, point, comma, percent, at, semicolon, general, half, run, elapsed, colour, condition, HalfDay, Place, zeroPlace, hashPlace, spacePlace, Letter, letterY, letterM, letterD, letterH, letterS, Elapsed, hours, minutes, seconds, elapsedIndex}
+use Rattle.formats.specs.Tokens.{Token, literal, bare, blank, fill, place, point, comma, percent, at, semicolon, general, half, run, elapsed, colour, condition, exponent, HalfDay, Place, zeroPlace, hashPlace, spacePlace, Letter, letterY, letterM, letterD, letterH, letterS, Elapsed, hours, minutes, seconds, elapsedIndex}
 use Rattle.formats.specs.Items as item
 use Rattle.formats.specs.Items.{Item, textKind, generalKind, dateKind, Run, hourRun, secondRun, otherRun, isHourRun, isSecondRun, runOf, runOfElapsed, nearer, firstRun, meansMinutes, monthOrMinute, settledItem, settledFrom}
 use Rattle.formats.specs.Kinds.{formOf, isPoint, isPlace, startsWithPlace, noBracket, tokenMakes, whole, isSecondsToken, isZero, leadingZeros, partZeros, piecesFrom, runItem, tokenItems, pieceItems, dateItems}
@@ -97,7 +97,7 @@ seconds-front t is =
     (λ u. refl) (λ u. refl) (λ u. refl) (λ p. refl) refl refl refl refl refl refl (λ h. refl)
     (λ l n. by-letter (λ (k : Letter). isSecondRun (firstRun (runItem k n ∷ is)) ≡ isSecondsToken (run k n)) refl refl refl refl refl l)
     (λ x n. by-elapsed (λ (d : Elapsed). isSecondRun (firstRun (item.elapsed d n ∷ is)) ≡ isSecondsToken (elapsed d n)) refl refl refl x)
-    (λ n. refl) (λ w. refl) t
+    (λ n. refl) (λ w. refl) (λ m. refl) t
 
 seconds-next : (b : Bool) (skip : ℕ) (ts : List Token) → skip ≤ leadingZeros ts → isSecondRun (firstRun (dateItems (piecesFrom b skip ts))) ≡ beforeSeconds ts
 unfolding piecesFrom dateItems pieceItems leadingZeros beforeSeconds firstRun runOf nearer
@@ -274,6 +274,7 @@ module _ (abs : Option Elapsed) where
   token-from (elapsed x n) ts b r h i e f = elapsed-from x n ts b r (rw (whole-items (direct b) (elapsed x n) ts refl) at e) f
   token-from (colour n) ts b r h i e f = no i
   token-from (condition w) ts b r h i e f = no i
+  token-from (exponent m) ts b r h i e f = no (rw (whole-items (direct b) (exponent m) ts refl) at e)
 
   pub rest-of : (ts : List Token) → every inBody ts ≡ true → From ts
   unfolding piecesFrom

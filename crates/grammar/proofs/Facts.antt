@@ -9,11 +9,11 @@ use borrow.Author.Tests.{le-leb}
 use Rattle.lists.specs.Lists.{every, count}
 use Rattle.lists.proofs.Bools.{and-left, and-right, T-true, true-T}
 use Rattle.formats.specs.Tokens.{Token}
-use Rattle.formats.specs.Items.{Item, numberKind, sameKind, itemAllowed, itemsKind, isGeneral, isPoint, isPercent, isElapsed, noPlain, itemsFit, integerPlaces, decimalPlaces, settled}
+use Rattle.formats.specs.Items.{Item, numberKind, sameKind, itemAllowed, itemsKind, isGeneral, isPoint, isPercent, isElapsed, noPlain, itemsFit, integerPlaces, decimalPlaces, exponentPlaces, exponentFits, settled}
 use Rattle.formats.specs.Kinds.{Parts, bodyKind, commaUses, isDividing, commasFit, solidusFits, bodyItems, lastFill, sectionOf, noBracket, fits}
 use Rattle.formats.specs.Limits.{elapsedShort, sectionWithin}
 use Rattle.formats.proofs.FormedKinds.{kind-of-body}
-use Rattle.grammar.proofs.Kept.{count-kept, allowed-kept, integers-kept, decimals-kept}
+use Rattle.grammar.proofs.Kept.{count-kept, allowed-kept, integers-kept, decimals-kept, exponents-kept, exponent-kept}
 
 -- the items that a body makes, with its last fill alone and its runs of m settled
 abbrev pub kept : List Token → List Item
@@ -28,8 +28,10 @@ pub record Fitting (ts : List Token) : Type 0 where
   pub points : count isPoint (bodyItems ts) ≤ 1
   pub elapseds : count isElapsed (kept ts) ≤ 1
   pub apart : every (noPlain (kept ts)) (kept ts) ≡ true
+  pub exponent : exponentFits (bodyItems ts) ≡ true
   pub wholes : integerPlaces (bodyItems ts) ≤ 20
   pub decimals : decimalPlaces (bodyItems ts) ≤ 15
+  pub exponents : exponentPlaces (bodyItems ts) ≤ 3
   pub percents : count isPercent (bodyItems ts) ≤ 5
   pub divisions : cond (sameKind (bodyKind ts) numberKind) (count isDividing (commaUses ts)) 0 ≤ 5
   pub short : every elapsedShort (kept ts) ≡ true
@@ -50,8 +52,10 @@ fitting p f w =
       points = rw (count-kept 7 refl refl is) at (leb→le (count isPoint (kept ts)) 1 (search (and-left, and-right) depth 10));
       elapseds = leb→le (count isElapsed (kept ts)) 1 (search (and-left, and-right) depth 10);
       apart = T-true (every (noPlain (kept ts)) (kept ts)) (search (and-left, and-right) depth 10);
+      exponent = rw (exponent-kept is) at (T-true (exponentFits (kept ts)) (search (and-left, and-right) depth 10));
       wholes = rw (integers-kept is) at (leb→le (integerPlaces (kept ts)) 20 (search (and-left, and-right) depth 10));
       decimals = rw (decimals-kept is) at (leb→le (decimalPlaces (kept ts)) 15 (search (and-left, and-right) depth 10));
+      exponents = rw (exponents-kept is) at (leb→le (exponentPlaces (kept ts)) 3 (search (and-left, and-right) depth 10));
       percents = rw (count-kept 8 refl refl is) at (leb→le (count isPercent (kept ts)) 5 (search (and-left, and-right) depth 10));
       divisions = leb→le (cond (sameKind (bodyKind ts) numberKind) (count isDividing (commaUses ts)) 0) 5 (search (and-left, and-right) depth 10);
       short = T-true (every elapsedShort (kept ts)) (search (and-left, and-right) depth 10);
@@ -74,6 +78,8 @@ fits-fitting p f =
       le-leb (count isPoint is) 1 (f .points),
       le-leb (count isElapsed (kept (p .body))) 1 (f .elapseds),
       f .apart,
+      exponent-kept is,
+      f .exponent,
     )
 
 pub within-fitting : (p : Parts) → Fitting (p .body) → sectionWithin (sectionOf p) ≡ true
@@ -85,6 +91,8 @@ within-fitting p f =
       le-leb (integerPlaces is) 20 (f .wholes),
       decimals-kept is,
       le-leb (decimalPlaces is) 15 (f .decimals),
+      exponents-kept is,
+      le-leb (exponentPlaces is) 3 (f .exponents),
       count-kept 8 refl refl is,
       le-leb (count isPercent is) 5 (f .percents),
       le-leb (cond (sameKind (bodyKind (p .body)) numberKind) (count isDividing (commaUses (p .body))) 0) 5 (f .divisions),

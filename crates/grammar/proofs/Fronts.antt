@@ -15,10 +15,10 @@ use borrow.Author.Tests.{ne-eqb, eq-eqb, eqb-true, le-leb, not-true}
 use Rattle.lists.specs.Lists.{every, any, isEmpty, All}
 use Rattle.lists.proofs.Bools.{by-cases, cond-left, cond-right, not-so}
 use Rattle.calendar.specs.Names.{units}
-use Rattle.formats.specs.Tokens.{Token, literal, bare, run, elapsed, colour, condition, Letter, letterY, letterM, letterD, letterH, letterS, Elapsed, hours, minutes, seconds, Comparison, equal, less, greater, atMost, atLeast, unequal, Step, read, broken, before, leading, startsWith, same, quoted, marked, generalWord, halfDayWord, runAllowed, runStep, isDigit, digitOf, numberFrom, colourNames, namedFrom, noLeadingZero, colourDigits, numbered, elapsedInside, decimalsOf, wholeOf, signedOf, conditionInside, firstForm, insideOf, closed, bracketed, FirstRow, letter, other, firstRows, firstIn, bareLiterals, stepBy, stepAt}
+use Rattle.formats.specs.Tokens.{Token, literal, bare, run, elapsed, colour, condition, Letter, letterY, letterM, letterD, letterH, letterS, Elapsed, hours, minutes, seconds, Comparison, equal, less, greater, atMost, atLeast, unequal, Step, read, broken, before, leading, startsWith, same, quoted, marked, generalWord, halfDayWord, exponentWord, runAllowed, runStep, isDigit, digitOf, numberFrom, colourNames, namedFrom, noLeadingZero, colourDigits, numbered, elapsedInside, decimalsOf, wholeOf, signedOf, conditionInside, firstForm, insideOf, closed, bracketed, FirstRow, letter, other, firstRows, firstIn, bareLiterals, stepBy, stepAt}
 use Rattle.formats.specs.Kinds.{isColour, colourIn}
 use Rattle.grammar.proofs.Tests.{every-parts}
-use Rattle.grammar.specs.Units.{Ended, WholeRun, Bracketed, ASCII-DIGIT, NFPartCompOper, oper-less, oper-at-most, oper-unequal, oper-equal, oper-greater, oper-at-least, NFPartIntNum, int-num, NFPartCondNum, cond-num-whole, cond-num-point, cond-num-minus, NFPart1To56, one-digit, two-digits, fifty, fifties, INTL-COLOR, black, blue, cyan, green, magenta, red, white, yellow, bareUnits, BareLiteral, Spells, NFPartYear-2, NFPartYear-4, NFPartMonth, NFPartDay, NFPartHour, NFPartAbsHour, NFPartMinute, NFPartAbsMinute, NFPartSecond, NFPartAbsSecond, NFPartCond, NFPartColor-name, NFPartColor-number, NFPartNumToken1-number-sign, NFPartNumToken1-question-mark, NFPartNumToken1-zero, ASCII-PERCENT-SIGN, ASCII-COMMERCIAL-AT, ASCII-SEMICOLON, LITERAL-CHAR, LITERAL-CHAR-REPEAT, LITERAL-STRING, LITERAL-CHAR-SPACE, INTL-CHAR-DECIMAL-SEP, INTL-CHAR-NUMGRP-SEP, bare-literal, INTL-NUMFMT-GENERAL, INTL-AMPM-long, INTL-AMPM-short}
+use Rattle.grammar.specs.Units.{Ended, WholeRun, Bracketed, ASCII-DIGIT, NFPartCompOper, oper-less, oper-at-most, oper-unequal, oper-equal, oper-greater, oper-at-least, NFPartIntNum, int-num, NFPartCondNum, cond-num-whole, cond-num-point, cond-num-minus, NFPart1To56, one-digit, two-digits, fifty, fifties, INTL-COLOR, black, blue, cyan, green, magenta, red, white, yellow, bareUnits, BareLiteral, sign-plus, sign-minus, Spells, NFPartYear-2, NFPartYear-4, NFPartMonth, NFPartDay, NFPartHour, NFPartAbsHour, NFPartMinute, NFPartAbsMinute, NFPartSecond, NFPartAbsSecond, NFPartCond, NFPartColor-name, NFPartColor-number, NFPartExponential, NFPartNumToken1-number-sign, NFPartNumToken1-question-mark, NFPartNumToken1-zero, ASCII-PERCENT-SIGN, ASCII-COMMERCIAL-AT, ASCII-SEMICOLON, LITERAL-CHAR, LITERAL-CHAR-REPEAT, LITERAL-STRING, LITERAL-CHAR-SPACE, INTL-CHAR-DECIMAL-SEP, INTL-CHAR-NUMGRP-SEP, bare-literal, INTL-NUMFMT-GENERAL, INTL-AMPM-long, INTL-AMPM-short}
 
 -- the step from the first of the units
 abbrev pub stepOf : List ℕ → Step
@@ -350,7 +350,7 @@ unfolding stepAt stepBy firstRows any every bareLiterals units
 bare-step {u} us m = rw (no-row bareUnits u m firstRows refl, m)
 
 pub spells-front : {t : Token} {us vs : List ℕ} → Spells t us vs → Front t us vs
-unfolding stepAt stepBy firstIn firstRows marked generalWord halfDayWord startsWith units runAllowed every colourIn
+unfolding stepAt stepBy firstIn firstRows marked generalWord halfDayWord exponentWord startsWith units runAllowed every colourIn
 spells-front {us = us} {vs = vs} (NFPartYear-2 r) = run-front letterY _ us vs (omega arith) refl r
 spells-front {us = us} {vs = vs} (NFPartYear-4 r) = run-front letterY _ us vs (omega arith) refl r
 spells-front {us = us} {vs = vs} (NFPartMonth {n = n} h k r) = run-front letterM n us vs h (rw (le-leb 1 n h, le-leb n 5 k)) r
@@ -368,6 +368,8 @@ spells-front {us = us} {vs = vs} (NFPartColor-name {n = n} {ws = ws} d b) =
 spells-front {us = us} {vs = vs} (NFPartColor-number {n = n} {ws = ws} d b) =
     bracket-front (colour n) (units "Color" ++ ws) us vs
     (open-append (units "Color") ws (open-from (units "Color") tt) (number-open n ws d)) (number-inside n ws d) (number-shown n ws d) b
+spells-front (NFPartExponential sign-plus e) = record { more = 1; step = rw e; left = rw e; shown = refl }
+spells-front (NFPartExponential sign-minus e) = record { more = 1; step = rw e; left = rw e; shown = refl }
 spells-front NFPartNumToken1-number-sign = record { more = 0; step = refl; left = refl; shown = refl }
 spells-front NFPartNumToken1-question-mark = record { more = 0; step = refl; left = refl; shown = refl }
 spells-front NFPartNumToken1-zero = record { more = 0; step = refl; left = refl; shown = refl }

@@ -1,15 +1,17 @@
--- What the items of a body keep once fills are left out and runs of m are settled, and what the items of a kind cannot be.
+-- What the items of a body keep once fills are left out and runs of m are settled, what the items of a kind cannot be, and the rules for an
+-- E as facts about the items.
 -- Assumes nothing.
-use Prim.Native.Nat.{ℕ, suc}
+use Prim.Native.Nat.{ℕ, suc, _≤_}
 use native.Mathlib.Omega.{arith}
-use mathlib.Core.Path.{_≡_, refl, sym, ap, _∙_}
-use mathlib.Core.Bool.{Bool, true, false, cond, _&&_, _||_}
+use mathlib.Core.Path.{_≡_, refl, ap, _∙_}
+use mathlib.Core.Bool.{Bool, true, false, cond, not, _||_, or-true}
 use mathlib.Core.List.{List, [], _∷_}
-use lib.Dec.{leb, eqb}
-use borrow.Author.Tests.{eqb-true}
+use lib.Dec.{T, leb, eqb, leb→le}
+use borrow.Author.Tests.{eqb-true, le-leb, not-true}
 use Rattle.lists.specs.Lists.{every, any, count}
-use Rattle.lists.proofs.Bools.{no, by-cases, cond-both, T-true, and-left, true-T}
-use Rattle.formats.specs.Items.{Item, literal, blank, fill, place, point, percent, general, at, year, month, day, hour, minute, second, part, elapsed, half, Kind, textKind, generalKind, dateKind, numberKind, sameKind, itemAllowed, isFill, isPlace, isPoint, integerPlaces, decimalPlaces, Run, noRun, runOf, nearer, firstRun, settledFrom, settled, itemNumber}
+use Rattle.lists.proofs.Bools.{no, by-cases, cond-both, T-true, and-left, and-right, true-T}
+use Rattle.lists.proofs.Counts.{any-count}
+use Rattle.formats.specs.Items.{Item, fill, month, minute, Kind, textKind, generalKind, dateKind, scientificKind, numberKind, sameKind, showsPlaces, itemAllowed, isPlace, isSpace, isPoint, isExponent, beforeE, fromE, integerPlaces, decimalPlaces, exponentPlaces, exponentFits, settled, itemNumber}
 use Rattle.formats.specs.Kinds.{lastFill}
 use Rattle.formats.proofs.FormedItems.{both-kept}
 use Rattle.formats.proofs.Each.{by-item}
@@ -27,13 +29,17 @@ count-kept k g h = both-kept (count (λ (i : Item). eqb (itemNumber i) k)) (λ i
 unfoldable pub sorts : Kind → ℕ → Bool
 sorts k n =
     leb n 3
-    || cond (leb n 8) (sameKind numberKind k) (cond (eqb n 9) (sameKind generalKind k) (cond (eqb n 10) (sameKind textKind k) (sameKind dateKind k)))
+    || cond (leb n 7) (showsPlaces k)
+    (cond (eqb n 8) (sameKind numberKind k)
+    (cond (eqb n 9) (sameKind generalKind k)
+    (cond (eqb n 10) (sameKind textKind k)
+    (cond (eqb n 22) (sameKind scientificKind k) (sameKind dateKind k)))))
 
 pub allowed-sorts : (k : Kind) (i : Item) → itemAllowed k i ≡ sorts k (itemNumber i)
 unfolding itemAllowed sorts
 allowed-sorts k =
     by-item (λ (i : Item). itemAllowed k i ≡ sorts k (itemNumber i)) (λ u. refl) (λ u. refl) (λ u. refl) (λ p. refl) refl refl refl refl
-    (λ n. refl) (λ n. refl) (λ n. refl) (λ n. refl) (λ n. refl) (λ n. refl) (λ n. refl) (λ e n. refl) (λ h. refl)
+    (λ n. refl) (λ n. refl) (λ n. refl) (λ n. refl) (λ n. refl) (λ n. refl) (λ n. refl) (λ e n. refl) (λ h. refl) (λ m. refl)
 
 pub allowed-kept : (k : Kind) (is : List Item) → every (itemAllowed k) (settled (lastFill is)) ≡ every (itemAllowed k) is
 unfolding every itemAllowed
@@ -54,7 +60,7 @@ foreign k n f (i ∷ is) e =
     allowed-rest true e = e
     allowed-rest false e = no e
 
--- ---- no place: no integer and no decimal places
+-- ---- no place: no integer places; no point: no decimal places
 
 pub no-integers : (is : List Item) → count isPlace is ≡ 0 → integerPlaces is ≡ 0
 unfolding integerPlaces count
@@ -62,26 +68,120 @@ no-integers [] e = refl
 no-integers (i ∷ is) e =
     by-cases (isPlace i)
     (λ h. let z : suc (count isPlace is) ≡ 0 = rw h at e in absurd (omega arith))
-    (λ h. rw h (cond-both (λ (n : ℕ). n ≡ 0) (isPoint i) refl (no-integers is (rw h at e))))
+    (λ h. rw h (cond-both (λ (n : ℕ). n ≡ 0) (isPoint i || isExponent i) refl (no-integers is (rw h at e))))
 
-pub no-decimals : (is : List Item) → count isPlace is ≡ 0 → decimalPlaces is ≡ 0
+pub no-decimals : (is : List Item) → count isPoint is ≡ 0 → decimalPlaces is ≡ 0
 unfolding decimalPlaces count
 no-decimals [] e = refl
 no-decimals (i ∷ is) e =
-    by-cases (isPlace i)
-    (λ h. let z : suc (count isPlace is) ≡ 0 = rw h at e in absurd (omega arith))
-    (λ h. cond-both (λ (n : ℕ). n ≡ 0) (isPoint i) (rw h at e) (no-decimals is (rw h at e)))
+    by-cases (isPoint i)
+    (λ h. let z : suc (count isPoint is) ≡ 0 = rw h at e in absurd (omega arith))
+    (λ h. rw h (cond-both (λ (n : ℕ). n ≡ 0) (isExponent i) refl (no-decimals is (rw h at e))))
 
--- ---- the places before and behind the point
+-- ---- the places before and behind the point, and from the E on
 
 pub integers-kept : (is : List Item) → integerPlaces (settled (lastFill is)) ≡ integerPlaces is
 unfolding integerPlaces
 integers-kept = both-kept integerPlaces (λ i is js e. rw e) (λ u is. refl) (λ n is. refl)
 
+places-before : (i : Item) (is js : List Item) → count isPlace (beforeE is) ≡ count isPlace (beforeE js) → count isPlace (beforeE (i ∷ is)) ≡ count isPlace (beforeE (i ∷ js))
+unfolding beforeE count
+places-before i is js e = by-cases (isExponent i) (λ h. rw h) (λ h. rw (h, e))
+
 pub decimals-kept : (is : List Item) → decimalPlaces (settled (lastFill is)) ≡ decimalPlaces is
-unfolding decimalPlaces count
+unfolding decimalPlaces beforeE count
 decimals-kept is =
     ap (λ (p : ℕ × ℕ). p .1)
-    (both-kept (λ (js : List Item). (count isPlace js, decimalPlaces js))
-    (λ i js ks e. ap {B = ℕ × ℕ} (λ (p : ℕ × ℕ). (cond (isPlace i) (suc (p .0)) (p .0), cond (isPoint i) (p .0) (p .1))) e)
+    (both-kept {A = ℕ × ℕ} (λ (js : List Item). (count isPlace (beforeE js), decimalPlaces js))
+    (λ i js ks e.
+    let b = places-before i js ks (ap (λ (p : ℕ × ℕ). p .0) e) in
+    let d = ap (λ (p : ℕ × ℕ). cond (isPoint i) (p .0) (cond (isExponent i) 0 (p .1))) e in
+    λ j. (b j, d j))
     (λ u is. refl) (λ n is. refl) is)
+
+-- what is kept of items is kept of those from the E on
+module _ {A : Type 0} (h : List Item → A) (on : (i : Item) (is js : List Item) → h is ≡ h js → h (i ∷ is) ≡ h (i ∷ js))
+    (over : (u : ℕ) (is : List Item) → h (fill u ∷ is) ≡ h is) (same : (n : ℕ) (is : List Item) → h (minute n ∷ is) ≡ h (month n ∷ is)) where
+  from-on : (i : Item) (is js : List Item) → h is ≡ h js → h (fromE is) ≡ h (fromE js) → h (fromE (i ∷ is)) ≡ h (fromE (i ∷ js))
+  unfolding fromE
+  from-on i is js e f = by-cases (isExponent i) (λ k. rw k (on i is js e)) (λ k. rw k f)
+
+  from-kept : (is : List Item) → h (fromE (settled (lastFill is))) ≡ h (fromE is)
+  unfolding fromE
+  from-kept is =
+      ap (λ (p : A × A). p .1)
+      (both-kept {A = A × A} (λ (js : List Item). (h js, h (fromE js)))
+      (λ i js ks e.
+      let a = on i js ks (ap (λ (p : A × A). p .0) e) in
+      let b = from-on i js ks (ap (λ (p : A × A). p .0) e) (ap (λ (p : A × A). p .1) e) in
+      λ j. (a j, b j))
+      (λ u js. let a = over u js in λ j. (a j, h (fromE js))) (λ n js. let a = same n js in λ j. (a j, h (fromE js))) is)
+
+pub exponents-kept : (is : List Item) → exponentPlaces (settled (lastFill is)) ≡ exponentPlaces is
+unfolding exponentPlaces count
+exponents-kept = from-kept (count isPlace) (λ i is js e. rw e) (λ u is. refl) (λ n is. refl)
+
+any-from-kept : (f : Item → Bool) → ((u : ℕ) → f (fill u) ≡ false) → ((n : ℕ) → f (minute n) ≡ f (month n))
+    → (is : List Item) → any f (fromE (settled (lastFill is))) ≡ any f (fromE is)
+unfolding any
+any-from-kept f g s = from-kept (any f) (λ i is js e. rw e) (λ u is. rw (g u)) (λ n is. rw (s n))
+
+pub exponent-kept : (is : List Item) → exponentFits (settled (lastFill is)) ≡ exponentFits is
+unfolding exponentFits any
+exponent-kept is =
+    let some-kept : any isExponent (settled (lastFill is)) ≡ any isExponent is = both-kept (any isExponent) (λ i js ks e. rw e) (λ u js. refl) (λ n js. refl) is in
+    rw (
+      some-kept,
+      count-kept 22 refl refl is,
+      integers-kept is,
+      exponents-kept is,
+      any-from-kept isPoint (λ u. refl) (λ n. refl) is,
+      any-from-kept isSpace (λ u. refl) (λ n. refl) is,
+    )
+
+-- ---- the rules for an E, where there is none, and where there is one
+
+from-none : (is : List Item) → count isExponent is ≡ 0 → fromE is ≡ []
+unfolding fromE count
+from-none [] e = refl
+from-none (i ∷ is) e =
+    by-cases (isExponent i)
+    (λ h. let z : suc (count isExponent is) ≡ 0 = rw h at e in absurd (omega arith))
+    (λ h. rw h (from-none is (rw h at e)))
+
+pub no-exponents : (is : List Item) → count isExponent is ≡ 0 → (exponentFits is ≡ true) × (exponentPlaces is ≡ 0)
+unfolding exponentFits exponentPlaces count
+no-exponents is e =
+    (by-cases (any isExponent is) (λ h. absurd (omega (arith, any-count isExponent is h))) (λ h. rw h), rw (from-none is e))
+
+pub record Exponential (is : List Item) : Type 0 where
+  pub marks : count isExponent is ≤ 1
+  pub integers : 1 ≤ integerPlaces is
+  pub exponents : 1 ≤ exponentPlaces is
+  pub no-point : any isPoint (fromE is) ≡ false
+  pub no-space : any isSpace (fromE is) ≡ false
+
+pub exponential : (is : List Item) → any isExponent is ≡ true → exponentFits is ≡ true → Exponential is
+unfolding exponentFits
+exponential is h f =
+    let all : T (exponentFits is) = true-T f in
+    let rules = rw h at all in
+    record {
+      marks = leb→le (count isExponent is) 1 (search (and-left, and-right) depth 8);
+      integers = leb→le 1 (integerPlaces is) (search (and-left, and-right) depth 8);
+      exponents = leb→le 1 (exponentPlaces is) (search (and-left, and-right) depth 8);
+      no-point = not-true (any isPoint (fromE is)) (T-true (not (any isPoint (fromE is))) (search (and-left, and-right) depth 8));
+      no-space = not-true (any isSpace (fromE is)) (T-true (not (any isSpace (fromE is))) (search (and-left, and-right) depth 8));
+    }
+
+pub exponential-fits : (is : List Item) → Exponential is → exponentFits is ≡ true
+unfolding exponentFits
+exponential-fits is e =
+    rw (
+      le-leb (count isExponent is) 1 (e .marks),
+      le-leb 1 (integerPlaces is) (e .integers),
+      le-leb 1 (exponentPlaces is) (e .exponents),
+      e .no-point,
+      e .no-space,
+      or-true (not (any isExponent is)),
+    )

@@ -7,8 +7,11 @@ pub mod Kept
 pub mod Facts
 pub mod Plain
 pub mod PlainBodies
+pub mod Solidus
 pub mod Numbers
 pub mod NumberBodies
+pub mod Scientific
+pub mod ScientificBodies
 pub mod DateItems
 pub mod Dates
 pub mod DateBodies

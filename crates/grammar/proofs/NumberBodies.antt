@@ -1,28 +1,24 @@
 -- Level 2, number bodies: they fit their kind and keep the limits exactly when NFNumber derives them.
 -- Assumes nothing.
-use Prim.Native.Nat.{ℕ, suc, _≤_}
+use Prim.Native.Nat.{suc, _≤_}
 use native.Mathlib.Omega.{arith}
 use mathlib.Core.Path.{_≡_, refl, sym, ap, _∙_}
-use mathlib.Core.Bool.{Bool, true, false, cond, _&&_, true≢false, and-false}
-use mathlib.Core.List.{List, [], _∷_, _++_}
-use mathlib.Core.Logic.{_≢_}
-use lib.Dec.{eqb}
-use borrow.Author.Tests.{eqb-true}
+use mathlib.Core.Bool.{true, false}
+use mathlib.Core.List.{List}
 use Rattle.lists.specs.Lists.{every, any, count}
-use Rattle.lists.proofs.Bools.{no, and-parts, by-cases}
-use Rattle.formats.specs.Tokens.{Token, bare, place, Place}
+use Rattle.formats.specs.Tokens.{Token}
 use Rattle.formats.specs.Items as item
-use Rattle.formats.specs.Items.{textKind, generalKind, dateKind, numberKind, integerPlaces, itemAllowed}
-use Rattle.formats.specs.Kinds as kind
-use Rattle.formats.specs.Kinds.{isPlace, isPoint, bodyKind, tokenMakes, isDividing, commasFit, isSolidus, startsWithPlace, solidusFrom, solidusFits, tokenItems, plainItems, bodyItems}
+use Rattle.formats.specs.Items.{textKind, generalKind, dateKind, scientificKind, numberKind, Item, integerPlaces, itemAllowed}
+use Rattle.formats.specs.Kinds.{isPlace, isPoint, bodyKind, tokenMakes, isDividing, commasFit, solidusFits, tokenItems, plainItems, bodyItems}
 use Rattle.formats.proofs.CommaUses.{commaUsesFrom, comma-uses}
-use Rattle.grammar.specs.Bodies.{free-string, free-repeat, free-space, free-bare, leading, isPercent, wholePlaces, decimalPlaces, NFNumber}
+use Rattle.grammar.specs.Bodies.{leading, isPercent, wholePlaces, decimalPlaces, NFNumber}
 use Rattle.grammar.proofs.Quiet.{free-quiet, free-percent, free-kept, passed-over, quiet-any, quiet-wholes, quiet-decimals}
-use Rattle.grammar.proofs.Kept.{sorts, count-kept, foreign}
+use Rattle.grammar.proofs.Kept.{sorts, count-kept, foreign, no-exponents}
 use Rattle.grammar.proofs.DateItems.{short-none, plain-none}
 use Rattle.grammar.proofs.Facts.{kept, Fitting}
 use Rattle.grammar.proofs.Plain.{v-free, v-comma, v-place, v-point, v-percent, Views, v-end, v-next, views-body, views-allowed, has, free-has, views-has, kind-number, kind-has}
 use Rattle.grammar.proofs.PlainBodies.{free-count, plain-body, plain-facts, body-brackets, NoSemicolon}
+use Rattle.grammar.proofs.Solidus.{no-fraction-of, solidus-of}
 use Rattle.grammar.proofs.Numbers.{num-of, num-counted}
 
 -- ---- the items of a number's body are counted as its tokens are
@@ -31,13 +27,13 @@ abbrev Alike : List Token → Type 0
 Alike ts =
     (count item.isPoint (plainItems ts) ≡ count isPoint ts)
     × (count item.isPercent (plainItems ts) ≡ count isPercent ts)
-    × (count item.isPlace (plainItems ts) ≡ count isPlace ts)
+    × (count item.isPlace (item.beforeE (plainItems ts)) ≡ count isPlace ts)
     × (integerPlaces (plainItems ts) ≡ wholePlaces ts)
     × (item.decimalPlaces (plainItems ts) ≡ decimalPlaces ts)
     × (has numberKind ts ≡ any isPlace ts)
 
 alike : {ts : List Token} → Views numberKind ts → Alike ts
-unfolding count plainItems tokenItems integerPlaces wholePlaces item.decimalPlaces decimalPlaces any tokenMakes
+unfolding count plainItems tokenItems item.beforeE integerPlaces wholePlaces item.decimalPlaces decimalPlaces any tokenMakes
 alike v-end = (refl, refl, refl, refl, refl, refl)
 alike (v-next {t = t} {ts = ts} (v-free g) vs) =
     let (p, q, r, w, d, h) = alike vs in
@@ -45,7 +41,7 @@ alike (v-next {t = t} {ts = ts} (v-free g) vs) =
     let quiet = free-quiet g in (
       free-count 7 refl refl refl is g ∙ p ∙ sym (passed-over isPoint t ts (quiet .no-point)),
       free-count 8 refl refl refl is g ∙ q ∙ sym (passed-over isPercent t ts (free-percent g)),
-      free-count 4 refl refl refl is g ∙ r ∙ sym (passed-over isPlace t ts (quiet .no-place)),
+      free-kept (λ (js : List Item). count item.isPlace (item.beforeE js)) false (λ u js. refl) (λ u js. refl) (λ u js. refl) is g ∙ r ∙ sym (passed-over isPlace t ts (quiet .no-place)),
       free-kept integerPlaces false (λ u js. refl) (λ u js. refl) (λ u js. refl) is g ∙ w ∙ sym (quiet-wholes ts quiet),
       free-kept item.decimalPlaces false (λ u js. refl) (λ u js. refl) (λ u js. refl) is g ∙ d ∙ sym (quiet-decimals ts quiet),
       free-has numberKind ts g ∙ h ∙ sym (quiet-any ts quiet),
@@ -55,76 +51,12 @@ alike (v-next v-place vs) = let (p, q, r, w, d, h) = alike vs in (p, q, ap suc r
 alike (v-next v-point vs) = let (p, q, r, w, d, h) = alike vs in (ap suc p, q, r, refl, r, h)
 alike (v-next v-percent vs) = let (p, q, r, w, d, h) = alike vs in (p, ap suc q, r, w, d, h)
 
--- ---- "A `/` directly between two places"
-
-abbrev NoFraction : List Token → Type 0
-NoFraction ts = (before behind : List Token) (p q : Place) → ts ≢ before ++ place p ∷ bare 47 ∷ place q ∷ behind
-
-fraction-seen : (b : Bool) (before behind : List Token) (p q : Place) → solidusFrom b (before ++ place p ∷ bare 47 ∷ place q ∷ behind) ≡ true → ⊥
-unfolding solidusFrom isSolidus startsWithPlace
-fraction-seen b [] behind p q e = true≢false (sym (rw (and-false b) at e))
-fraction-seen b (t ∷ before) behind p q e =
-    fraction-seen (kind.isPlace t) before behind p q (tail (b && isSolidus t && startsWithPlace (before ++ place p ∷ bare 47 ∷ place q ∷ behind)) e)
-  where
-    tail : (c : Bool) {r : Bool} → cond c false r ≡ true → r ≡ true
-    tail true e = no e
-    tail false e = e
-
-pub no-fraction-of : (ts : List Token) → solidusFrom false ts ≡ true → NoFraction ts
-no-fraction-of ts e before behind p q h = fraction-seen false before behind p q (rw h at e)
-
-place-first : {ts : List Token} → Views numberKind ts → startsWithPlace ts ≡ true → (q : Place) × (behind : List Token) × (ts ≡ place q ∷ behind)
-unfolding startsWithPlace
-place-first v-end e = no e
-place-first (v-next (v-free (free-string us)) vs) e = no e
-place-first (v-next (v-free (free-repeat u)) vs) e = no e
-place-first (v-next (v-free (free-space u)) vs) e = no e
-place-first (v-next (v-free (free-bare u)) vs) e = no e
-place-first (v-next v-comma vs) e = no e
-place-first (v-next {ts = ts} (v-place {q = q}) vs) e = (q, ts, refl)
-place-first (v-next v-point vs) e = no e
-place-first (v-next v-percent vs) e = no e
-
--- behind a place no solidus with a place behind it
-abbrev NoHalf : Bool → List Token → Type 0
-NoHalf b ts = b ≡ true → (behind : List Token) (q : Place) → ts ≢ bare 47 ∷ place q ∷ behind
-
-tail-fraction : {t : Token} {ts : List Token} → NoFraction (t ∷ ts) → NoFraction ts
-tail-fraction {t} n before behind p q e = n (t ∷ before) behind p q (ap (_∷_ t) e)
-
-never : {ts : List Token} → NoHalf false ts
-never e behind q h = true≢false (sym e)
-
-solidus-at : (b : Bool) (u : ℕ) {ts : List Token} → Views numberKind ts → NoHalf b (bare u ∷ ts) → solidusFrom false ts ≡ true → solidusFrom b (bare u ∷ ts) ≡ true
-unfolding solidusFrom isSolidus
-solidus-at b u {ts} vs h r =
-    by-cases (b && eqb u 47 && startsWithPlace ts)
-    (λ e.
-    let (bu, s) = and-parts (b && eqb u 47) (startsWithPlace ts) e in
-    let (is-b, is-u) = and-parts b (eqb u 47) bu in
-    let (q, behind, at-q) = place-first vs s in
-    absurd (h is-b behind q (ap (λ (v : ℕ). bare v ∷ ts) (eqb-true u 47 is-u) ∙ ap (_∷_ (bare 47)) at-q)))
-    (λ e. rw e r)
-
-solidus-of : {ts : List Token} → Views numberKind ts → (b : Bool) → NoHalf b ts → NoFraction ts → solidusFrom b ts ≡ true
-unfolding solidusFrom isSolidus
-solidus-of v-end b h n = refl
-solidus-of (v-next (v-free (free-string us)) vs) b h n = rw (and-false b) (solidus-of vs false never (tail-fraction n))
-solidus-of (v-next (v-free (free-repeat u)) vs) b h n = rw (and-false b) (solidus-of vs false never (tail-fraction n))
-solidus-of (v-next (v-free (free-space u)) vs) b h n = rw (and-false b) (solidus-of vs false never (tail-fraction n))
-solidus-of (v-next (v-free (free-bare u)) vs) b h n = solidus-at b u vs h (solidus-of vs false never (tail-fraction n))
-solidus-of (v-next v-comma vs) b h n = rw (and-false b) (solidus-of vs false never (tail-fraction n))
-solidus-of (v-next (v-place {q = p}) vs) b h n =
-    rw (and-false b) (solidus-of vs true (λ e behind q k. n [] behind p q (ap (_∷_ (place p)) k)) (tail-fraction n))
-solidus-of (v-next v-point vs) b h n = rw (and-false b) (solidus-of vs false never (tail-fraction n))
-solidus-of (v-next v-percent vs) b h n = rw (and-false b) (solidus-of vs false never (tail-fraction n))
-
 -- ---- NFNumber
 
 pub derive-number : (ts : List Token) → NoSemicolon ts → bodyKind ts ≡ numberKind → Fitting ts → NFNumber ts
 unfolding solidusFits
 derive-number ts s h f =
-    let p = plain-facts ts numberKind h refl refl s f in
+    let p = plain-facts ts numberKind h refl refl refl s f in
     let vs = p .views in
     let items = plain-body ts numberKind h refl in
     let (points, percents, places, wholes, decimals, has-place) = alike vs in
@@ -148,25 +80,29 @@ number-fits ts d =
     let c = num-counted (d .num) in
     let vs = c .views in
     let (points, percents, places, wholes, decimals, has-place) = alike vs in
-    let h = kind-number ts (views-has vs textKind refl) (views-has vs generalKind refl) (views-has vs dateKind refl) (has-place ∙ c .holds .ahead) in
+    let h = kind-number ts (views-has vs textKind refl refl) (views-has vs generalKind refl refl) (views-has vs dateKind refl refl)
+    (views-has vs scientificKind refl refl) (has-place ∙ c .holds .ahead) in
     let items = plain-body ts numberKind h refl in
     let few = c .holds .points in
     let a : every (itemAllowed numberKind) (bodyItems ts) ≡ true = rw items (views-allowed vs) in
     let generals : count item.isGeneral (bodyItems ts) ≡ 0 = foreign numberKind 9 refl (bodyItems ts) a in
     let elapseds : count item.isElapsed (kept ts) ≡ 0 = count-kept 18 refl refl (bodyItems ts) ∙ foreign numberKind 18 refl (bodyItems ts) a in
+    let (exponent, exponents) = no-exponents (bodyItems ts) (foreign numberKind 22 refl (bodyItems ts) a) in
     let divided = d .divisions-most in (
       h,
       record {
         brackets = body-brackets ts (views-body vs);
         commas = rw (h, comma-uses ts, c .holds .placed);
-        solidus = solidus-of vs false never (d .no-fraction);
+        solidus = solidus-of ts (d .no-fraction);
         allowed = rw h a;
         generals = omega arith;
         points = rw (items, points) few;
         elapseds = omega arith;
         apart = plain-none (kept ts) elapseds;
+        exponent = exponent;
         wholes = rw (items, wholes) (omega (arith, d .wholes-most));
         decimals = rw (items, decimals) (omega (arith, d .decimals-most));
+        exponents = omega arith;
         percents = rw (items, percents) (d .percents-most);
         divisions = rw (h, comma-uses ts, c .counted) divided;
         short = short-none (kept ts) elapseds;

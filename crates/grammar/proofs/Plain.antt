@@ -7,9 +7,9 @@ use mathlib.Core.List.{List, [], _∷_, map}
 use Rattle.lists.specs.Lists.{every, any}
 use Rattle.lists.proofs.Bools.{no, and-parts, by-cases}
 use Rattle.lists.proofs.Counts.{every-both}
-use Rattle.formats.specs.Tokens.{Token, literal, bare, blank, fill, place, point, comma, percent, at, semicolon, general, half, run, elapsed, colour, condition, Place, Letter}
+use Rattle.formats.specs.Tokens.{Token, literal, bare, blank, fill, place, point, comma, percent, at, semicolon, general, half, run, elapsed, colour, condition, exponent, Place, Letter, ExponentMark}
 use Rattle.formats.specs.Items as item
-use Rattle.formats.specs.Items.{Kind, textKind, generalKind, dateKind, numberKind, literalKind, sameKind, itemAllowed, kindFrom}
+use Rattle.formats.specs.Items.{Kind, textKind, generalKind, dateKind, scientificKind, numberKind, literalKind, sameKind, showsPlaces, itemAllowed, kindFrom}
 use Rattle.formats.specs.Kinds.{isSemicolon, noBracket, tokenMakes, bodyKind, tokenItems, runItem, plainItems}
 use Rattle.formats.proofs.Each.{by-letter, by-kind}
 use Rattle.grammar.specs.Bodies.{Free, free-string, free-repeat, free-space, free-bare}
@@ -28,6 +28,9 @@ pub data View : Kind → Token → Type 0 where
   v-percent : View numberKind percent
   v-at : View textKind at
   v-general : View generalKind general
+  v-scaled-place : {q : Place} → View scientificKind (place q)
+  v-scaled-point : View scientificKind point
+  v-exponent : {m : ExponentMark} → View scientificKind (exponent m)
 
 -- the same of each token of a body
 pub data Views (k : Kind) : List Token → Type 0 where
@@ -47,18 +50,19 @@ view k (literal us) d b a = v-free (free-string us)
 view k (bare u) d b a = v-free (free-bare u)
 view k (blank u) d b a = v-free (free-space u)
 view k (fill u) d b a = v-free (free-repeat u)
-view k (place q) d b a = by-kind (λ (j : Kind). allowed j (place q) ≡ true → View j (place q)) no no no (λ e. v-place) no k a
-view k point d b a = by-kind (λ (j : Kind). allowed j point ≡ true → View j point) no no no (λ e. v-point) no k a
+view k (place q) d b a = by-kind (λ (j : Kind). allowed j (place q) ≡ true → View j (place q)) no no no (λ e. v-place) no (λ e. v-scaled-place) k a
+view k point d b a = by-kind (λ (j : Kind). allowed j point ≡ true → View j point) no no no (λ e. v-point) no (λ e. v-scaled-point) k a
 view k comma d b a = v-comma
-view k percent d b a = by-kind (λ (j : Kind). allowed j percent ≡ true → View j percent) no no no (λ e. v-percent) no k a
-view k at d b a = by-kind (λ (j : Kind). allowed j at ≡ true → View j at) (λ e. v-at) no no no no k a
+view k percent d b a = by-kind (λ (j : Kind). allowed j percent ≡ true → View j percent) no no no (λ e. v-percent) no no k a
+view k at d b a = by-kind (λ (j : Kind). allowed j at ≡ true → View j at) (λ e. v-at) no no no no no k a
 view k semicolon d b a = no b
-view k general d b a = by-kind (λ (j : Kind). allowed j general ≡ true → View j general) no (λ e. v-general) no no no k a
+view k general d b a = by-kind (λ (j : Kind). allowed j general ≡ true → View j general) no (λ e. v-general) no no no no k a
 view k (half h) d b a = no (rw d at a)
 view k (run l n) d b a = no (rw (run-allowed k l n, d) at a)
 view k (elapsed e n) d b a = no (rw d at a)
 view k (colour n) d b a = no b
 view k (condition w) d b a = no b
+view k (exponent m) d b a = by-kind (λ (j : Kind). allowed j (exponent m) ≡ true → View j (exponent m)) no no no no no (λ e. v-exponent) k a
 
 pub all-views : (k : Kind) → sameKind dateKind k ≡ false → (ts : List Token) → every inBody ts ≡ true → every (itemAllowed k) (plainItems ts) ≡ true → Views k ts
 unfolding plainItems
@@ -86,6 +90,9 @@ view-allowed k t v-point = (refl, refl)
 view-allowed k t v-percent = (refl, refl)
 view-allowed k t v-at = (refl, refl)
 view-allowed k t v-general = (refl, refl)
+view-allowed k t v-scaled-place = (refl, refl)
+view-allowed k t v-scaled-point = (refl, refl)
+view-allowed k t v-exponent = (refl, refl)
 
 pub views-body : {k : Kind} {ts : List Token} → Views k ts → every inBody ts ≡ true
 unfolding every
@@ -112,17 +119,20 @@ free-has k ts (free-repeat u) = refl
 free-has k ts (free-space u) = refl
 free-has k ts (free-bare u) = refl
 
--- no token of a body makes another kind
-pub views-has : {k : Kind} {ts : List Token} → Views k ts → (j : Kind) → sameKind j k ≡ false → has j ts ≡ false
+-- no token of a body makes another kind, but for the places of a scientific one
+pub views-has : {k : Kind} {ts : List Token} → Views k ts → (j : Kind) → sameKind j k ≡ false → (showsPlaces k && sameKind j numberKind) ≡ false → has j ts ≡ false
 unfolding any tokenMakes
-views-has v-end j f = refl
-views-has (v-next {ts = ts} (v-free g) vs) j f = free-has j ts g ∙ views-has vs j f
-views-has (v-next v-comma vs) j f = views-has vs j f
-views-has (v-next v-place vs) j f = rw f (views-has vs j f)
-views-has (v-next v-point vs) j f = views-has vs j f
-views-has (v-next v-percent vs) j f = views-has vs j f
-views-has (v-next v-at vs) j f = rw f (views-has vs j f)
-views-has (v-next v-general vs) j f = rw f (views-has vs j f)
+views-has v-end j f g = refl
+views-has (v-next {ts = ts} (v-free x) vs) j f g = free-has j ts x ∙ views-has vs j f g
+views-has (v-next v-comma vs) j f g = views-has vs j f g
+views-has (v-next v-place vs) j f g = rw f (views-has vs j f g)
+views-has (v-next v-point vs) j f g = views-has vs j f g
+views-has (v-next v-percent vs) j f g = views-has vs j f g
+views-has (v-next v-at vs) j f g = rw f (views-has vs j f g)
+views-has (v-next v-general vs) j f g = rw f (views-has vs j f g)
+views-has (v-next v-scaled-place vs) j f g = rw g (views-has vs j f g)
+views-has (v-next v-scaled-point vs) j f g = views-has vs j f g
+views-has (v-next v-exponent vs) j f g = rw f (views-has vs j f g)
 
 pub kind-text : (ts : List Token) → has textKind ts ≡ true → bodyKind ts ≡ textKind
 unfolding bodyKind kindFrom
@@ -136,13 +146,19 @@ pub kind-date : (ts : List Token) → has textKind ts ≡ false → has generalK
 unfolding bodyKind kindFrom
 kind-date ts a b c = rw (a, b, c)
 
-pub kind-number : (ts : List Token) → has textKind ts ≡ false → has generalKind ts ≡ false → has dateKind ts ≡ false → has numberKind ts ≡ true → bodyKind ts ≡ numberKind
+pub kind-scientific : (ts : List Token) → has textKind ts ≡ false → has generalKind ts ≡ false → has dateKind ts ≡ false → has scientificKind ts ≡ true → bodyKind ts ≡ scientificKind
 unfolding bodyKind kindFrom
-kind-number ts a b c d = rw (a, b, c, d)
+kind-scientific ts a b c d = rw (a, b, c, d)
 
-pub kind-literal : (ts : List Token) → has textKind ts ≡ false → has generalKind ts ≡ false → has dateKind ts ≡ false → has numberKind ts ≡ false → bodyKind ts ≡ literalKind
+pub kind-number : (ts : List Token) → has textKind ts ≡ false → has generalKind ts ≡ false → has dateKind ts ≡ false → has scientificKind ts ≡ false
+    → has numberKind ts ≡ true → bodyKind ts ≡ numberKind
 unfolding bodyKind kindFrom
-kind-literal ts a b c d = rw (a, b, c, d)
+kind-number ts a b c d e = rw (a, b, c, d, e)
+
+pub kind-literal : (ts : List Token) → has textKind ts ≡ false → has generalKind ts ≡ false → has dateKind ts ≡ false → has scientificKind ts ≡ false
+    → has numberKind ts ≡ false → bodyKind ts ≡ literalKind
+unfolding bodyKind kindFrom
+kind-literal ts a b c d e = rw (a, b, c, d, e)
 
 -- a body of a kind other than literal has a token that makes it so
 pub kind-has : (k : Kind) → sameKind k literalKind ≡ false → (ts : List Token) → bodyKind ts ≡ k → has k ts ≡ true
@@ -151,9 +167,10 @@ kind-has k e ts h =
     by-cases (has textKind ts) (λ a. found textKind (rw a at h) a) (λ a.
     by-cases (has generalKind ts) (λ b. found generalKind (rw (a, b) at h) b) (λ b.
     by-cases (has dateKind ts) (λ c. found dateKind (rw (a, b, c) at h) c) (λ c.
-    by-cases (has numberKind ts) (λ d. found numberKind (rw (a, b, c, d) at h) d) (λ d.
-    let last : literalKind ≡ k = rw (a, b, c, d) at h in
-    absurd (true≢false (rw (← last) at e))))))
+    by-cases (has scientificKind ts) (λ d. found scientificKind (rw (a, b, c, d) at h) d) (λ d.
+    by-cases (has numberKind ts) (λ n. found numberKind (rw (a, b, c, d, n) at h) n) (λ n.
+    let last : literalKind ≡ k = rw (a, b, c, d, n) at h in
+    absurd (true≢false (rw (← last) at e)))))))
   where
     found : (j : Kind) → j ≡ k → has j ts ≡ true → has k ts ≡ true
     found j f g = rw f at g

@@ -83,4 +83,4 @@ known =
     by-token (λ (t : Token). (isSemicolon t ≡ true → t ≡ semicolon) × (isColour t ≡ true → t ≡ colour (colourIn t)) × (isCondition t ≡ true → (w : Written) × (t ≡ condition w)))
     (λ us. (no, no, no)) (λ u. (no, no, no)) (λ u. (no, no, no)) (λ u. (no, no, no)) (λ p. (no, no, no)) (no, no, no) (no, no, no) (no, no, no) (no, no, no)
     ((λ e. refl), no, no) (no, no, no) (λ h. (no, no, no)) (λ l n. (no, no, no)) (λ x n. (no, no, no))
-    (λ n. (no, (λ e. refl), no)) (λ w. (no, no, (λ e. (w, refl))))
+    (λ n. (no, (λ e. refl), no)) (λ w. (no, no, (λ e. (w, refl)))) (λ m. (no, no, no))

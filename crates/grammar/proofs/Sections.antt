@@ -12,14 +12,14 @@ use borrow.Author.Tests.{leb-true, le-leb, eqb-true, not-true}
 use Rattle.lists.specs.Lists.{every, isSome}
 use Rattle.lists.proofs.Bools.{no, and-parts, by-cases, and-left, and-right, T-true, true-T}
 use Rattle.formats.specs.Tokens.{Token, at, colour, condition, Written}
-use Rattle.formats.specs.Items.{Kind, textKind, generalKind, dateKind, numberKind, literalKind, sameKind}
+use Rattle.formats.specs.Items.{Kind, textKind, generalKind, dateKind, scientificKind, numberKind, literalKind, sameKind}
 use Rattle.formats.specs.Kinds.{isColour, isCondition, noBracket, Parts, colourIn, conditionIn, afterColour, partsOf, bodyKind, conditionOf, sectionOf, fits}
 use Rattle.formats.specs.Where.{implies, standsAt}
 use Rattle.formats.specs.Limits.{sectionWithin, writtenWithin, withinLimits}
 use Rattle.formats.proofs.Formed.{kind-of-section}
-use Rattle.grammar.specs.Bodies.{Literals, NFGeneral, NFNumber, NFDateTime, NFText}
+use Rattle.grammar.specs.Bodies.{Literals, NFGeneral, NFNumber, NFScientific, NFDateTime, NFText}
 use Rattle.grammar.specs.Codes as codes
-use Rattle.grammar.specs.Codes.{OptColor, no-color, color, NFPartCond, OptCond, no-cond, some-cond, NFAnyBy, any-number, any-text, any-date, any-general, any-literal, NFAnyNoCond, Fourth, fourth-text, fourth-general, fourth-literal}
+use Rattle.grammar.specs.Codes.{OptColor, no-color, color, NFPartCond, OptCond, no-cond, some-cond, NFAnyBy, any-number, any-scientific, any-text, any-date, any-general, any-literal, NFAnyNoCond, Fourth, fourth-text, fourth-general, fourth-literal}
 use Rattle.grammar.proofs.Tests.{every-parts}
 use Rattle.grammar.proofs.Quiet.{known}
 use Rattle.grammar.proofs.Fronts.{colourShown}
@@ -28,6 +28,8 @@ use Rattle.grammar.proofs.Plain.{views-body}
 use Rattle.grammar.proofs.PlainBodies.{body-plain, NoSemicolon, literals-facts, general-facts, text-facts, derive-literals, literals-fit, derive-general, general-fits, derive-text, text-fits}
 use Rattle.grammar.proofs.Numbers.{num-counted}
 use Rattle.grammar.proofs.NumberBodies.{derive-number, number-fits}
+use Rattle.grammar.proofs.Scientific.{scientific-summed}
+use Rattle.grammar.proofs.ScientificBodies.{derive-scientific, scientific-fits}
 use Rattle.grammar.proofs.DateBodies.{date-tokens, derive-date, date-fits}
 
 -- ---- bodies
@@ -37,6 +39,7 @@ abbrev pub Body : Kind → List Token → Type 0
 Body textKind ts = NFText ts
 Body generalKind ts = NFGeneral ts
 Body dateKind ts = NFDateTime ts
+Body scientificKind ts = NFScientific ts
 Body numberKind ts = NFNumber ts
 Body literalKind ts = Literals ts
 
@@ -44,6 +47,7 @@ derive-body : (k : Kind) (ts : List Token) → NoSemicolon ts → bodyKind ts �
 derive-body textKind = derive-text
 derive-body generalKind = derive-general
 derive-body dateKind = derive-date
+derive-body scientificKind = derive-scientific
 derive-body numberKind = derive-number
 derive-body literalKind = derive-literals
 
@@ -51,6 +55,7 @@ body-fits : (k : Kind) (ts : List Token) → Body k ts → (bodyKind ts ≡ k) �
 body-fits textKind = text-fits
 body-fits generalKind = general-fits
 body-fits dateKind = date-fits
+body-fits scientificKind = scientific-fits
 body-fits numberKind = number-fits
 body-fits literalKind = literals-fit
 
@@ -184,6 +189,7 @@ opt-cond n i c k conditioned w e = some-cond (early-condition n i c k e) (part-c
 pub any-of : (n i : ℕ) {s : List Token} → Derived n i s → NFAnyBy (eqb (suc i) n) (ltb i 2) s
 unfolding isSome
 any-of n i (derived {c = h} numberKind c d b w e) = any-number (opt-color c) (opt-cond n i h numberKind d w e) b
+any-of n i (derived {c = h} scientificKind c d b w e) = any-scientific (opt-color c) (opt-cond n i h scientificKind d w e) b
 any-of n i (derived {c = h} textKind c unconditioned b w e) = any-text (text-last n i h false e) (opt-color c) b
 any-of n i (derived {c = h} textKind c conditioned b w e) = text-uncond n i h e
 any-of n i (derived {c = h} dateKind c d b w e) = any-date (opt-color c) (opt-cond n i h dateKind d w e) b
@@ -193,6 +199,7 @@ any-of n i (derived {c = h} literalKind c d b w e) = any-literal (opt-color c) (
 -- a body without a condition
 uncond-of : {s us : List Token} (k : Kind) → OptColor s us → Body k us → NFAnyNoCond s
 uncond-of numberKind c b = any-number c no-cond b
+uncond-of scientificKind c b = any-scientific c no-cond b
 uncond-of textKind c b = any-text refl c b
 uncond-of dateKind c b = any-date c no-cond b
 uncond-of generalKind c b = any-general c no-cond b
@@ -203,6 +210,7 @@ unfolding isSome standsBy
 fourth-of (derived {c = n} {o = o} k (colored h) d b w e) = coloured-fourth n (isSome o) k h e
 fourth-of (derived k uncolored conditioned b w e) = no (early-condition 4 3 0 k e)
 fourth-of (derived numberKind uncolored unconditioned b w e) = no e
+fourth-of (derived scientificKind uncolored unconditioned b w e) = no e
 fourth-of (derived textKind uncolored unconditioned b w e) = fourth-text b
 fourth-of (derived dateKind uncolored unconditioned b w e) = no e
 fourth-of (derived generalKind uncolored unconditioned b w e) = fourth-general b
@@ -212,6 +220,7 @@ pub one-of : {s : List Token} → Derived 1 0 s → codes.All s
 unfolding isSome standsBy
 one-of (derived k c unconditioned b w e) = codes.all-one (uncond-of k (opt-color c) b)
 one-of (derived numberKind c conditioned b w e) = no e
+one-of (derived scientificKind c conditioned b w e) = no e
 one-of (derived textKind c conditioned b w e) = no e
 one-of (derived dateKind c conditioned b w e) = no e
 one-of (derived generalKind c conditioned b w e) = codes.all-condition (opt-color c) (part-cond conditioned w) b
@@ -223,6 +232,7 @@ body-tokens : (k : Kind) (ts : List Token) → Body k ts → NoSemicolon ts
 body-tokens textKind ts d = body-plain ts (views-body ((text-facts d) .0))
 body-tokens generalKind ts d = body-plain ts (views-body ((general-facts d) .0))
 body-tokens dateKind ts d = body-plain ts (date-tokens ts d)
+body-tokens scientificKind ts d = body-plain ts (views-body ((scientific-summed (d .num)) .views))
 body-tokens numberKind ts d = body-plain ts (views-body ((num-counted (d .num)) .views))
 body-tokens literalKind ts d = body-plain ts (views-body ((literals-facts {k = literalKind} d) .0))
 
@@ -318,6 +328,7 @@ module _ (n i : ℕ) (text cond : Bool) (p : placed n i text cond ≡ true) wher
   pub any-passes : {s : List Token} → NFAnyBy text cond s → Passes n i s
   unfolding isSome
   any-passes (any-number c d b) = maybe-passes numberKind refl c d b
+  any-passes (any-scientific c d b) = maybe-passes scientificKind refl c d b
   any-passes (any-text {us = us} t c b) = let u = uncond c (((body-fits textKind us b) .1) .brackets) in passes n i textKind (u .parted) b (texted t (u .shade))
   any-passes (any-date c d b) = maybe-passes dateKind refl c d b
   any-passes (any-general c d b) = maybe-passes generalKind refl c d b

@@ -17,8 +17,8 @@ use Rattle.lists.proofs.Bools.{no, and-parts, by-cases, cond-case, or-false}
 use Rattle.calendar.specs.Names.{units}
 use Rattle.formats.proofs.Lexing.{number-grows, before-most, leading-most}
 use Rattle.grammar.proofs.Fronts.{letterUnit, conditionToken}
-use Rattle.formats.specs.Tokens.{Token, literal, blank, fill, run, elapsed, colour, Letter, letterY, letterM, letterD, letterH, letterS, Elapsed, hours, minutes, seconds, Comparison, equal, less, greater, atMost, atLeast, unequal, Step, read, broken, before, leading, startsWith, same, quoted, marked, generalWord, halfDayWord, runAllowed, runStep, isDigit, digitOf, numberFrom, colourNames, namedFrom, noLeadingZero, colourDigits, numbered, elapsedInside, decimalsOf, wholeOf, signedOf, conditionInside, firstForm, insideOf, closed, bracketed, First, FirstRow, other, firstRows, firstIn, bareLiterals, stepBy, stepAt}
-use Rattle.grammar.specs.Units.{Ended, WholeRun, Bracketed, ASCII-DIGIT, NFPartCompOper, oper-less, oper-at-most, oper-unequal, oper-equal, oper-greater, oper-at-least, NFPartIntNum, int-num, NFPartCondNum, cond-num-whole, cond-num-point, cond-num-minus, NFPartNumber1To6, NFPartNumber1To9, NFPart1To56, one-digit, two-digits, fifty, fifties, INTL-COLOR, black, blue, cyan, green, magenta, red, white, yellow, Spells, NFPartYear-2, NFPartYear-4, NFPartMonth, NFPartDay, NFPartHour, NFPartAbsHour, NFPartAbsMinute, NFPartSecond, NFPartAbsSecond, NFPartCond, NFPartColor-name, NFPartColor-number, NFPartNumToken1-number-sign, NFPartNumToken1-question-mark, NFPartNumToken1-zero, ASCII-PERCENT-SIGN, ASCII-COMMERCIAL-AT, ASCII-SEMICOLON, LITERAL-CHAR, LITERAL-CHAR-REPEAT, LITERAL-STRING, LITERAL-CHAR-SPACE, INTL-CHAR-DECIMAL-SEP, INTL-CHAR-NUMGRP-SEP, bare-literal, INTL-NUMFMT-GENERAL, INTL-AMPM-long, INTL-AMPM-short}
+use Rattle.formats.specs.Tokens.{Token, literal, blank, fill, run, elapsed, colour, Letter, letterY, letterM, letterD, letterH, letterS, Elapsed, hours, minutes, seconds, Comparison, equal, less, greater, atMost, atLeast, unequal, Step, read, broken, before, leading, startsWith, same, quoted, marked, generalWord, halfDayWord, exponentWord, runAllowed, runStep, isDigit, digitOf, numberFrom, colourNames, namedFrom, noLeadingZero, colourDigits, numbered, elapsedInside, decimalsOf, wholeOf, signedOf, conditionInside, firstForm, insideOf, closed, bracketed, First, FirstRow, other, firstRows, firstIn, bareLiterals, stepBy, stepAt}
+use Rattle.grammar.specs.Units.{Ended, WholeRun, Bracketed, ASCII-DIGIT, NFPartCompOper, oper-less, oper-at-most, oper-unequal, oper-equal, oper-greater, oper-at-least, NFPartIntNum, int-num, NFPartCondNum, cond-num-whole, cond-num-point, cond-num-minus, NFPartNumber1To6, NFPartNumber1To9, NFPart1To56, one-digit, two-digits, fifty, fifties, INTL-COLOR, black, blue, cyan, green, magenta, red, white, yellow, sign-plus, sign-minus, Spells, NFPartYear-2, NFPartYear-4, NFPartMonth, NFPartDay, NFPartHour, NFPartAbsHour, NFPartAbsMinute, NFPartSecond, NFPartAbsSecond, NFPartCond, NFPartColor-name, NFPartColor-number, NFPartExponential, NFPartNumToken1-number-sign, NFPartNumToken1-question-mark, NFPartNumToken1-zero, ASCII-PERCENT-SIGN, ASCII-COMMERCIAL-AT, ASCII-SEMICOLON, LITERAL-CHAR, LITERAL-CHAR-REPEAT, LITERAL-STRING, LITERAL-CHAR-SPACE, INTL-CHAR-DECIMAL-SEP, INTL-CHAR-NUMGRP-SEP, bare-literal, INTL-NUMFMT-GENERAL, INTL-AMPM-long, INTL-AMPM-short}
 
 -- ---- facts from tests
 
@@ -87,6 +87,12 @@ unfolding halfDayWord units
 half-good us =
     cond-case (Good 65 us) (startsWith (units "AM/PM") (65 ∷ us)) (λ e. INTL-AMPM-long (starts-with (units "AM/PM") (65 ∷ us) e))
     (λ e. cond-case (Good 65 us) (startsWith (units "A/P") (65 ∷ us)) (λ e. INTL-AMPM-short (starts-with (units "A/P") (65 ∷ us) e)) (λ e. tt))
+
+exponent-good : (us : List ℕ) → Good 69 us (exponentWord (69 ∷ us))
+unfolding exponentWord units
+exponent-good us =
+    cond-case (Good 69 us) (startsWith (units "E+") (69 ∷ us)) (λ e. NFPartExponential sign-plus (starts-with (units "E+") (69 ∷ us) e))
+    (λ e. cond-case (Good 69 us) (startsWith (units "E-") (69 ∷ us)) (λ e. NFPartExponential sign-minus (starts-with (units "E-") (69 ∷ us) e)) (λ e. tt))
 
 -- ---- runs
 
@@ -356,11 +362,11 @@ abbrev RowGood : FirstRow → Type 0
 RowGood r = FirstGood (r .unit) (r .first)
 
 -- the rows of the table, from the last ones on
-signs-good : All RowGood (drop 16 firstRows)
+signs-good : All RowGood (drop 17 firstRows)
 unfolding firstRows stepBy
 signs-good = ((λ us. INTL-CHAR-NUMGRP-SEP), ((λ us. ASCII-PERCENT-SIGN), ((λ us. ASCII-COMMERCIAL-AT), ((λ us. ASCII-SEMICOLON), tt))))
 
-places-good : All RowGood (drop 12 firstRows)
+places-good : All RowGood (drop 13 firstRows)
 unfolding firstRows stepBy
 places-good =
     ((λ us. NFPartNumToken1-zero), ((λ us. NFPartNumToken1-number-sign), ((λ us. NFPartNumToken1-question-mark), ((λ us. INTL-CHAR-DECIMAL-SEP), signs-good))))
@@ -368,7 +374,7 @@ places-good =
 words-good : All RowGood (drop 4 firstRows)
 unfolding firstRows stepBy
 words-good =
-    (bracketed-good, (general-good, (half-good, (run-good letterY, (run-good letterM, (run-good letterD, (run-good letterH, (run-good letterS, places-good))))))))
+    (bracketed-good, (general-good, (half-good, (exponent-good, (run-good letterY, (run-good letterM, (run-good letterD, (run-good letterH, (run-good letterS, places-good)))))))))
 
 marks-good : All RowGood (drop 1 firstRows)
 unfolding firstRows stepBy

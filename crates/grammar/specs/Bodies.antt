@@ -1,5 +1,5 @@
--- The published grammar (R116). Level 2, tokens to bodies (R31 to R42, R51, R53, R125): the rules NFGeneral, NFNumber, NFDateTime and NFText of
--- 004, over the tokens that `Units` spells.
+-- The published grammar (R116). Level 2, tokens to bodies (R31 to R42, R51, R53, R125, R127, R129, R130): the rules NFGeneral, NFNumber,
+-- NFDateTime and NFText of 004, over the tokens that `Units` spells.
 -- Assumes nothing.
 use Prim.Native.Nat.{ℕ, suc, _≤_}
 use Prim.Native.Char.{code}
@@ -10,11 +10,12 @@ use mathlib.Core.Option.{Option, some}
 use mathlib.Core.Path.{_≡_}
 use lib.Dec.{eqb}
 use Rattle.lists.specs.Lists.{count}
-use Rattle.formats.specs.Tokens.{Token, literal, bare, blank, fill, place, point, comma, percent, at, general, half, run, elapsed, Place, zeroPlace, HalfDay, letterY, letterM, letterD, letterH, letterS, Elapsed, hours, minutes, seconds}
+use Rattle.formats.specs.Tokens.{Token, literal, bare, blank, fill, place, point, comma, percent, at, general, half, run, elapsed, exponent, Place, zeroPlace, hashPlace, HalfDay, ExponentMark, letterY, letterM, letterD, letterH, letterS, Elapsed, hours, minutes, seconds}
 use Rattle.formats.specs.Kinds.{formOf, isPlace, isPoint, isSecondsToken}
 
 -- A constructor is a production. The comment above it says "004" where the production is from there, "narrowed" where 01 cuts it,
--- and "added" where it is 01's own, with 01's sentence. It holds for the constructors below it, up to the next comment.
+-- and "added" where it is 01's own, with 01's sentence. It holds for the constructors below it, up to the next comment. For scientific
+-- numbers the sentences are those of 02, P1.
 
 -- ---- what may stand anywhere
 
@@ -107,18 +108,62 @@ unfoldable pub decimalPlaces : List Token → ℕ
 decimalPlaces [] = 0
 decimalPlaces (t ∷ ts) = let r = decimalPlaces ts in cond (isPoint t) (count isPlace ts) r
 
+-- added, "A `/` directly between two places is 4"
+abbrev pub NoFraction : List Token → Type 0
+NoFraction ts = (before behind : List Token) (p q : Place) → ts ≢ before ++ place p ∷ bare (code "/") ∷ place q ∷ behind
+
 -- NFNumber = NFPartNum [NFPartExponential NFPartNum] *INTL-CHAR-NUMGRP-SEP *INTL-AMPM
+-- without its [NFPartExponential NFPartNum], which is 01's number section
 pub record NFNumber (ts : List Token) : Type 0 where
-  -- 004, narrowed, "Not now: scientific codes, [..] a half-day mark outside a date section"; the commas at its end are NFPartNum's
+  -- 004, narrowed, "Not now: [..] a half-day mark outside a date section"; the commas at its end are NFPartNum's
   pub divisions : ℕ
   pub num : NFPartNum leading divisions ts
-  -- added, "A `/` directly between two places is 4"
-  pub no-fraction : (before behind : List Token) (p q : Place) → ts ≢ before ++ place p ∷ bare (code "/") ∷ place q ∷ behind
+  pub no-fraction : NoFraction ts
   -- added, "Limits (6): 20 integer places, 15 decimal places, 5 percents, 5 dividing commas"
   pub wholes-most : wholePlaces ts ≤ 20
   pub decimals-most : decimalPlaces ts ≤ 15
   pub percents-most : count isPercent ts ≤ 5
   pub divisions-most : divisions ≤ 5
+
+-- ---- NFNumber with its [NFPartExponential NFPartNum], which is 02's scientific section
+
+-- Where in it the tokens left stand: before the point and the E; behind the point; behind the E.
+pub data Side : Type 0 where
+  beforePoint behindPoint behindE : Side
+
+-- NFPartNum NFPartExponential NFPartNum, narrowed, "Refusals: comma, percent, a second E, a point or `?` behind the E"; the numbers are those
+-- of the integer, the decimal and the exponent places
+pub data NFPartScientific : Side → ℕ → ℕ → ℕ → List Token → Type 0 where
+  -- 004, as everywhere
+  scientific-free : {s : Side} {i d x : ℕ} {t : Token} {ts : List Token} → Free t → NFPartScientific s i d x ts → NFPartScientific s i d x (t ∷ ts)
+  -- 004: NFPartNumToken1
+  integer-place : {i d x : ℕ} {q : Place} {ts : List Token} → NFPartScientific beforePoint i d x ts → NFPartScientific beforePoint (suc i) d x (place q ∷ ts)
+  decimal-place : {i d x : ℕ} {q : Place} {ts : List Token} → NFPartScientific behindPoint i d x ts → NFPartScientific behindPoint i (suc d) x (place q ∷ ts)
+  -- 004: NFPartNumToken1, narrowed, "exponent places `0` or `#`"
+  exponent-zero : {i d x : ℕ} {ts : List Token} → NFPartScientific behindE i d x ts → NFPartScientific behindE i d (suc x) (place zeroPlace ∷ ts)
+  exponent-number-sign : {i d x : ℕ} {ts : List Token} → NFPartScientific behindE i d x ts → NFPartScientific behindE i d (suc x) (place hashPlace ∷ ts)
+  -- 004: INTL-CHAR-DECIMAL-SEP, narrowed as in a number, and not behind the E
+  scientific-point : {i d x : ℕ} {ts : List Token} → NFPartScientific behindPoint i d x ts → NFPartScientific beforePoint i d x (point ∷ ts)
+  -- 004: NFPartExponential
+  integers-E : {i d x : ℕ} {m : ExponentMark} {ts : List Token} → NFPartScientific behindE i d x ts → NFPartScientific beforePoint i d x (exponent m ∷ ts)
+  decimals-E : {i d x : ℕ} {m : ExponentMark} {ts : List Token} → NFPartScientific behindE i d x ts → NFPartScientific behindPoint i d x (exponent m ∷ ts)
+  -- the end, narrowed, "one `E+` or `E-`": not before it
+  scientific-end : NFPartScientific behindE 0 0 0 []
+
+pub record NFScientific (ts : List Token) : Type 0 where
+  -- 004, narrowed as NFNumber is; no comma stands at its end
+  pub integers : ℕ
+  pub decimals : ℕ
+  pub exponents : ℕ
+  pub num : NFPartScientific beforePoint integers decimals exponents ts
+  pub no-fraction : NoFraction ts
+  -- added, "no exponent place or no integer place in such a section is 4"
+  pub integers-least : 1 ≤ integers
+  pub exponents-least : 1 ≤ exponents
+  -- added, the limits of a number, and "more than 3 exponent places is 6"
+  pub integers-most : integers ≤ 20
+  pub decimals-most : decimals ≤ 15
+  pub exponents-most : exponents ≤ 3
 
 -- ---- NFDateTime
 

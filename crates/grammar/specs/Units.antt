@@ -1,5 +1,5 @@
--- The published grammar (R116). Level 1, units to tokens (R14 to R27): the lexical rules of 004, from NFPartYear to INTL-AMPM, and how a
--- code's units spell its tokens.
+-- The published grammar (R116). Level 1, units to tokens (R14 to R27, R127): the lexical rules of 004, from NFPartExponential to INTL-AMPM, and
+-- how a code's units spell its tokens.
 -- Assumes nothing.
 use Prim.Native.Nat.{ℕ, _+_, _*_, _≤_}
 use Prim.Native.Char.{code}
@@ -11,7 +11,7 @@ use lib.ListN.{replicate}
 use lib.Dec.{eqb}
 use Rattle.lists.specs.Lists.{any, All}
 use Rattle.calendar.specs.Names.{units}
-use Rattle.formats.specs.Tokens.{Token, literal, bare, blank, fill, place, point, comma, percent, at, semicolon, general, half, run, elapsed, colour, condition, zeroPlace, hashPlace, spacePlace, letterY, letterM, letterD, letterH, letterS, hours, minutes, seconds, short, long, Comparison, equal, less, greater, atMost, atLeast, unequal, digitOf}
+use Rattle.formats.specs.Tokens.{Token, literal, bare, blank, fill, place, point, comma, percent, at, semicolon, general, half, run, elapsed, colour, condition, exponent, zeroPlace, hashPlace, spacePlace, letterY, letterM, letterD, letterH, letterS, hours, minutes, seconds, short, long, ExponentMark, ePlus, eMinus, Comparison, equal, less, greater, atMost, atLeast, unequal, digitOf}
 
 -- A constructor is a production. The comment above it says "004" where the production is from there, "narrowed" where 01 cuts it,
 -- and "added" where it is 01's own, with 01's sentence. It holds for the constructors below it, up to the next comment. A token takes
@@ -96,6 +96,11 @@ bareUnits = units "$-+/():!^&'~{}<>= "
 abbrev pub BareLiteral : ℕ → Type 0
 BareLiteral u = any (eqb u) bareUnits ≡ true
 
+-- 004: NFPartSign = ASCII-PLUS-SIGN / ASCII-HYPHEN-MINUS
+pub data NFPartSign : ExponentMark → ℕ → Type 0 where
+  sign-plus : NFPartSign ePlus (code "+")
+  sign-minus : NFPartSign eMinus (code "-")
+
 -- a token, the units that begin with it, the units that are left
 pub data Spells : Token → List ℕ → List ℕ → Type 0 where
   -- 004: NFPartYear = 2(ASCII-SMALL-LETTER-Y) / 4(ASCII-SMALL-LETTER-Y), narrowed to whole runs
@@ -124,6 +129,8 @@ pub data Spells : Token → List ℕ → List ℕ → Type 0 where
   -- 004: NFPartColor = "[" (INTL-COLOR / (NFPartStrColor NFPart1To56)) "]", whose inner brackets 004 forgets
   NFPartColor-name : {n : ℕ} {ws us vs : List ℕ} → INTL-COLOR n ws → Bracketed ws us vs → Spells (colour n) us vs
   NFPartColor-number : {n : ℕ} {ws us vs : List ℕ} → NFPart1To56 n ws → Bracketed (units "Color" ++ ws) us vs → Spells (colour n) us vs
+  -- 004: NFPartExponential = ASCII-CAPITAL-LETTER-E NFPartSign
+  NFPartExponential : {m : ExponentMark} {u : ℕ} {us vs : List ℕ} → NFPartSign m u → us ≡ code "E" ∷ u ∷ vs → Spells (exponent m) us vs
   -- 004: NFPartNumToken1, and ASCII-PERCENT-SIGN, ASCII-COMMERCIAL-AT and ASCII-SEMICOLON, which stand for themselves
   NFPartNumToken1-number-sign : {us : List ℕ} → Spells (place hashPlace) (code "#" ∷ us) us
   NFPartNumToken1-question-mark : {us : List ℕ} → Spells (place spacePlace) (code "?" ∷ us) us

@@ -1,6 +1,6 @@
 -- Rows that fit the table rules are the rows of the sections that they stand for, and those are well formed.
 -- Assumes nothing.
-use Prim.Native.Nat.{ℕ, suc, _+_}
+use Prim.Native.Nat.{ℕ, suc}
 use mathlib.Core.Path.{_≡_, refl, sym, _∙_}
 use mathlib.Core.Bool.{Bool}
 use mathlib.Core.List.{List, [], _∷_, map}
@@ -8,7 +8,7 @@ use lib.ListN.{length}
 use lib.Dec.{T, eqb→eq, le→leb}
 use Rattle.lists.specs.Lists.{every, count}
 use Rattle.lists.proofs.Bools.{and-left, and-right, and-in, nought-unless, every-head, every-tail, every-cons}
-use Rattle.formats.specs.Items.{numberKind, sameKind, kindOf, itemsKind, isPercent, itemsFit, integerPlaces, itemInRange}
+use Rattle.formats.specs.Items.{numberKind, sameKind, kindOf, itemsKind, isPercent, itemsFit, integerPlaces, itemInRange, exponentPlaces}
 use Rattle.formats.specs.Limits.{sectionWithin}
 use Rattle.formats.specs.WellFormed.{conditionInRange, oneFill, partsFollow, isSettled, groupingFits, dividingFits, sectionFormed, sectionFits}
 use Rattle.tables.specs.Words.{Head, Row}
@@ -19,6 +19,7 @@ use Rattle.tables.proofs.Words.{Counted}
 use Rattle.tables.proofs.Ranges.{HeadRanges, head-ranges}
 use Rattle.tables.proofs.BackEntries.{entries-back, items-ranged, items-length}
 use Rattle.tables.proofs.BackHead.{condition-facts, ConditionBack, condition-back, condition-ranged, low-back, high-back, shift-back}
+use Rattle.formats.specs.Text.{firstOf}
 
 -- the rules for one row as facts
 pub record RowFacts (r : Row) : Type 0 where
@@ -97,7 +98,7 @@ row-back n i firstHas r t g counted =
     let f : RowFacts r = row-facts r t in
     let heads : headOf n i firstHas (sectionAt r) ≡ r .head = head-back n i firstHas r f g counted in
     let bodies : entriesOf (sectionAt r .items) ≡ r .entries =
-    entries-back (14 + integerPlaces (itemsAt (r .entries))) (r .entries) (f .entries) (f .powers) in
+    entries-back (firstOf (exponentPlaces (itemsAt (r .entries)))) (firstOf (integerPlaces (itemsAt (r .entries)))) (r .entries) (f .entries) (f .powers) in
     λ j. record { head = heads j; entries = bodies j }
 
 dividing : (r : Row) → T (dividingFits (sectionAt r))

@@ -3,7 +3,7 @@
 use Prim.Native.Nat.{ℕ, zero, suc, _+_, _≤_, _<_}
 use native.Mathlib.Omega.{arith}
 use mathlib.Core.Path.{_≡_, refl, sym}
-use mathlib.Core.Bool.{Bool}
+use mathlib.Core.Bool.{true, false, true≢false}
 use mathlib.Core.List.{List, [], _∷_}
 use lib.ListN.{length, length-map, List·getD-eq-default}
 use lib.Dec.{T, eqb, leb→le, eqb→eq}
@@ -12,9 +12,8 @@ use Rattle.values.specs.Ranges.{between}
 use Rattle.lists.specs.Lists.{every}
 use Rattle.lists.proofs.Bools.{and-left, and-right, by-cases, every-head, every-tail, every-cons}
 use Rattle.formats.specs.Tokens.{halfIndex}
-use Rattle.formats.specs.Items.{isPlace, Item, place, elapsed, half, itemInRange}
-use Rattle.formats.specs.Where.{implies}
-use Rattle.formats.proofs.Each.{by-item, by-place, by-elapsed}
+use Rattle.formats.specs.Items.{isPlace, Item, place, elapsed, half, itemInRange, exponent, isExponent}
+use Rattle.formats.proofs.Each.{by-item, by-place, by-elapsed, by-exponent}
 use Rattle.formats.proofs.ByNumber.{by-number}
 use Rattle.formats.specs.Text.{digitAfter, along}
 use Rattle.tables.specs.Words.{Entry}
@@ -43,33 +42,46 @@ span-at P k (suc n) t ps least most =
 pub between-facts : (least greatest n : ℕ) → T (between least greatest n) → (least ≤ n) × (n ≤ greatest)
 between-facts least greatest n t = search (and-left, and-right, leb→le)
 
--- a number of no item is read as the last
-pub late-tag : (t a : ℕ) → 20 < t → itemAt (entry t a) ≡ half (halfAt a)
+-- a number of no item is read as 21
+pub late-tag : (t a : ℕ) → 23 < t → itemAt (entry t a) ≡ half (halfAt a)
 unfolding itemAt
 late-tag t a h = List·getD-eq-default (itemsByTag a) (half (halfAt a)) h
+
+-- a number from 21 on that is no E's is read as a half-day mark
+pub half-tag : (t a : ℕ) → 21 ≤ t → isExponent (itemAt (entry t a)) ≡ false → itemAt (entry t a) ≡ half (halfAt a)
+unfolding itemAt
+half-tag t a h e =
+    by-cases (eqb t 21) (λ f. rw (eqb-true t 21 f))
+    (λ f. by-cases (eqb t 22) (λ g. absurd (true≢false (rw (eqb-true t 22 g) at e)))
+    (λ g. by-cases (eqb t 23) (λ i. absurd (true≢false (rw (eqb-true t 23 i) at e)))
+    (λ i. late-tag t a (last (eqb-false t 21 f) (eqb-false t 22 g) (eqb-false t 23 i)))))
+  where
+    last : (t ≡ 21 → ⊥) → (t ≡ 22 → ⊥) → (t ≡ 23 → ⊥) → 23 < t
+    last f g i = omega arith
 
 pub place-tag : (t a : ℕ) → isPlace (itemAt (entry t a)) ≡ between 4 6 t
 unfolding itemAt
 place-tag t a =
-    by-number isPlace (λ (n : ℕ). between 4 6 n) (itemsByTag a) 21 (half (halfAt a)) refl
+    by-number isPlace (λ (n : ℕ). between 4 6 n) (itemsByTag a) 24 (half (halfAt a)) refl
     (λ n h. sym (simp (le-leb 4 n (omega arith), lt-leb n 6 (omega arith)))) t
 
 -- an entry in its range has one of the tags
-tag-most : (i : Item) → T (between 1 21 (tagOf i))
+tag-most : (i : Item) → T (between 1 23 (tagOf i))
 tag-most =
-    by-item (λ i. T (between 1 21 (tagOf i))) (λ u. tt) (λ u. tt) (λ u. tt) (by-place (λ p. T (between 1 21 (tagOf (place p)))) tt tt tt)
+    by-item (λ i. T (between 1 23 (tagOf i))) (λ u. tt) (λ u. tt) (λ u. tt) (by-place (λ p. T (between 1 23 (tagOf (place p)))) tt tt tt)
     tt tt tt tt (λ n. tt) (λ n. tt) (λ n. tt) (λ n. tt) (λ n. tt) (λ n. tt) (λ n. tt)
-    (λ e n. by-elapsed (λ d. T (between 1 21 (tagOf (elapsed d n)))) tt tt tt e) (λ h. tt)
+    (λ e n. by-elapsed (λ d. T (between 1 23 (tagOf (elapsed d n)))) tt tt tt e) (λ h. tt)
+    (by-exponent (λ m. T (between 1 23 (tagOf (exponent m)))) tt tt)
 
-pub tag-known : (e : Entry) → T (entryInRange e) → (1 ≤ e .tag) × (e .tag ≤ 21)
+pub tag-known : (e : Entry) → T (entryInRange e) → (1 ≤ e .tag) × (e .tag ≤ 23)
 unfolding entryInRange
-tag-known e t = rw (← eqb→eq (tagOf (itemAt e)) (e .tag) (and-left (eqb (tagOf (itemAt e)) (e .tag)) _ t)) (between-facts 1 21 (tagOf (itemAt e)) (tag-most (itemAt e)))
+tag-known e t = rw (← eqb→eq (tagOf (itemAt e)) (e .tag) (and-left (eqb (tagOf (itemAt e)) (e .tag)) _ t)) (between-facts 1 23 (tagOf (itemAt e)) (tag-most (itemAt e)))
 
 -- what holds at each tag holds of every entry in its range
-pub by-tag : (P : Entry → Type 0) → Span (λ t. (a : ℕ) → T (entryInRange (entry t a)) → P (entry t a)) 1 21
+pub by-tag : (P : Entry → Type 0) → Span (λ t. (a : ℕ) → T (entryInRange (entry t a)) → P (entry t a)) 1 23
     → (e : Entry) → T (entryInRange e) → P e
 by-tag P ps e r =
-    span-at (λ t. (a : ℕ) → T (entryInRange (entry t a)) → P (entry t a)) 1 21 (e .tag) ps
+    span-at (λ t. (a : ℕ) → T (entryInRange (entry t a)) → P (entry t a)) 1 23 (e .tag) ps
     (tag-known e r .0) (omega (arith, tag-known e r)) (e .argument) r
 
 half-back : (a : ℕ) → T (between 1 2 a) → suc (halfIndex (halfAt a)) ≡ a
@@ -89,17 +101,17 @@ entry-back q =
     (also (λ a r f. rw (eqb→eq a 0 r)) (also (λ a r f. rw (eqb→eq a 0 r)) (also (λ a r f. rw (eqb→eq a 0 r)) (also (λ a r f. rw (eqb→eq a 0 r))
     (also (λ a r f. refl) (also (λ a r f. refl) (also (λ a r f. refl) (also (λ a r f. refl) (also (λ a r f. refl)
     (also (λ a r f. refl) (also (λ a r f. refl) (also (λ a r f. refl) (also (λ a r f. refl) (also (λ a r f. refl)
-    (also (λ a r f. rw (half-back a r)) tt)))))))))))))))))))))
+    (also (λ a r f. rw (half-back a r)) (also (λ a r f. rw (eqb→eq a 0 r)) (also (λ a r f. rw (eqb→eq a 0 r)) tt)))))))))))))))))))))))
 
-pub entries-back : (q : ℕ) (es : List Entry) → T (every entryInRange es) → T (powersFrom q es) → entriesFrom q (itemsAt es) ≡ es
+pub entries-back : (anew q : ℕ) (es : List Entry) → T (every entryInRange es) → T (powersFrom anew q es) → entriesFrom anew q (itemsAt es) ≡ es
 unfolding powersFrom itemsAt along allOf
-entries-back q [] r f = refl
-entries-back q (e ∷ es) r f =
-    let here : T (powerFits q e) = and-left (powerFits q e) (powersFrom (digitAfter q (itemAt e)) es) f in
-    let later : T (powersFrom (digitAfter q (itemAt e)) es) = and-right (powerFits q e) (powersFrom (digitAfter q (itemAt e)) es) f in
+entries-back anew q [] r f = refl
+entries-back anew q (e ∷ es) r f =
+    let here : T (powerFits q e) = and-left (powerFits q e) (powersFrom anew (digitAfter anew q (itemAt e)) es) f in
+    let later : T (powersFrom anew (digitAfter anew q (itemAt e)) es) = and-right (powerFits q e) (powersFrom anew (digitAfter anew q (itemAt e)) es) f in
     rw (
       entry-back q e (every-head entryInRange e es r) here,
-      entries-back (digitAfter q (itemAt e)) es (every-tail entryInRange e es r) later,
+      entries-back anew (digitAfter anew q (itemAt e)) es (every-tail entryInRange e es r) later,
     )
 
 pub item-ranged : (e : Entry) → T (entryInRange e) → T (itemInRange (itemAt e))
@@ -109,7 +121,7 @@ item-ranged =
     (also (λ a r. r) (also (λ a r. r) (also (λ a r. r)
     (also (λ a r. tt) (also (λ a r. tt) (also (λ a r. tt) (also (λ a r. tt) (also (λ a r. tt) (also (λ a r. tt) (also (λ a r. tt)
     (also (λ a r. r) (also (λ a r. r) (also (λ a r. r) (also (λ a r. r) (also (λ a r. r) (also (λ a r. r) (also (λ a r. r) (also (λ a r. r) (also (λ a r. r) (also (λ a r. r)
-    (also (λ a r. rw (half-back a r) r) tt)))))))))))))))))))))
+    (also (λ a r. rw (half-back a r) r) (also (λ a r. tt) (also (λ a r. tt) tt)))))))))))))))))))))))
 
 pub items-ranged : (es : List Entry) → T (every entryInRange es) → T (every itemInRange (itemsAt es))
 unfolding itemsAt every

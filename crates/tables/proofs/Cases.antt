@@ -29,7 +29,7 @@ abbrev pub makes : String → List ℕ → Made
 makes c ws = record { code = c; words = ws }
 
 -- 01's own example; flag 2 on a literal and on a date section; a half-day mark; a part of a second; a condition below zero and one
--- at minus zero; literals of a date; a dividing comma; the last fill
+-- at minus zero; literals of a date; a dividing comma; the last fill; a scientific section
 unfoldable pub made : List Made
 made =
     makes "0" (1 ∷ 2 ∷ 0 ∷ 0 ∷ 0 ∷ 0 ∷ 0 ∷ 0 ∷ 0 ∷ 15 ∷ 0 ∷ 0 ∷ 1 ∷ 4 ∷ 16 ∷ [])
@@ -42,6 +42,7 @@ made =
     ∷ makes "d.," (1 ∷ 4 ∷ 0 ∷ 0 ∷ 0 ∷ 0 ∷ 0 ∷ 0 ∷ 0 ∷ 0 ∷ 0 ∷ 0 ∷ 3 ∷ 13 ∷ 1 ∷ 1 ∷ 46 ∷ 1 ∷ 44 ∷ [])
     ∷ makes "0," (1 ∷ 2 ∷ 0 ∷ 0 ∷ 0 ∷ 0 ∷ 0 ∷ 0 ∷ 0 ∷ 12 ∷ 0 ∷ 0 ∷ 1 ∷ 4 ∷ 16 ∷ [])
     ∷ makes "*a0*b" (1 ∷ 2 ∷ 0 ∷ 0 ∷ 0 ∷ 0 ∷ 0 ∷ 0 ∷ 0 ∷ 15 ∷ 0 ∷ 0 ∷ 2 ∷ 4 ∷ 16 ∷ 3 ∷ 98 ∷ [])
+    ∷ makes "0.00E+00" (1 ∷ 5 ∷ 0 ∷ 0 ∷ 0 ∷ 0 ∷ 0 ∷ 0 ∷ 0 ∷ 0 ∷ 0 ∷ 2 ∷ 7 ∷ 4 ∷ 16 ∷ 7 ∷ 0 ∷ 4 ∷ 15 ∷ 4 ∷ 14 ∷ 22 ∷ 0 ∷ 4 ∷ 17 ∷ 4 ∷ 16 ∷ [])
     ∷ []
 
 abbrev pub wordsMade : Made → List ℕ
@@ -83,9 +84,9 @@ brokenTables =
     -- a minus zero; a number without an operator
     ∷ (1 ∷ 1 ∷ 0 ∷ 1 ∷ 1 ∷ 0 ∷ 0 ∷ 0 ∷ 0 ∷ 0 ∷ 0 ∷ 0 ∷ 1 ∷ 9 ∷ 0 ∷ [])
     ∷ (1 ∷ 1 ∷ 0 ∷ 0 ∷ 0 ∷ 5 ∷ 0 ∷ 0 ∷ 0 ∷ 0 ∷ 0 ∷ 0 ∷ 1 ∷ 9 ∷ 0 ∷ [])
-    -- items out of range: tags 0 and 22; runs of three y and of ten elapsed h; a part of four digits; a point with an argument
+    -- items out of range: tags 0 and 24; runs of three y and of ten elapsed h; a part of four digits; a point with an argument
     ∷ (1 ∷ plain 4 0 4 0 2 (13 ∷ 1 ∷ 0 ∷ 1 ∷ []))
-    ∷ (1 ∷ plain 4 0 4 0 2 (13 ∷ 1 ∷ 22 ∷ 1 ∷ []))
+    ∷ (1 ∷ plain 4 0 4 0 2 (13 ∷ 1 ∷ 24 ∷ 1 ∷ []))
     ∷ (1 ∷ plain 4 0 0 0 1 (11 ∷ 3 ∷ []))
     ∷ (1 ∷ plain 4 0 0 0 1 (18 ∷ 10 ∷ []))
     ∷ (1 ∷ plain 4 0 0 0 2 (16 ∷ 1 ∷ 17 ∷ 4 ∷ []))
@@ -127,6 +128,22 @@ brokenTables =
     -- decimal places: none told where there is one; one told where there is none
     ∷ (1 ∷ plain 2 15 0 0 2 (7 ∷ 0 ∷ 4 ∷ 15 ∷ []))
     ∷ (1 ∷ plain 4 0 0 1 2 (16 ∷ 1 ∷ 17 ∷ 1 ∷ []))
+    -- scientific: shift 15; flag 1; no decimal place told; powers that go on behind the E, and that end at 1; four exponent places; a `?`
+    -- and a point behind the E; no exponent place; no integer place; a second E; a percent; an E in a number section; kind 6
+    ∷ (1 ∷ plain 5 15 0 0 3 (4 ∷ 16 ∷ 22 ∷ 0 ∷ 4 ∷ 16 ∷ []))
+    ∷ (1 ∷ plain 5 0 1 0 4 (4 ∷ 17 ∷ 4 ∷ 16 ∷ 22 ∷ 0 ∷ 4 ∷ 16 ∷ []))
+    ∷ (1 ∷ plain 5 0 0 0 5 (4 ∷ 16 ∷ 7 ∷ 0 ∷ 4 ∷ 15 ∷ 22 ∷ 0 ∷ 4 ∷ 16 ∷ []))
+    ∷ (1 ∷ plain 5 0 0 0 3 (4 ∷ 17 ∷ 22 ∷ 0 ∷ 4 ∷ 16 ∷ []))
+    ∷ (1 ∷ plain 5 0 0 0 3 (4 ∷ 16 ∷ 22 ∷ 0 ∷ 4 ∷ 17 ∷ []))
+    ∷ (1 ∷ plain 5 0 0 0 6 (4 ∷ 16 ∷ 22 ∷ 0 ∷ placesDown 4 19 []))
+    ∷ (1 ∷ plain 5 0 0 0 3 (4 ∷ 16 ∷ 22 ∷ 0 ∷ 6 ∷ 16 ∷ []))
+    ∷ (1 ∷ plain 5 0 0 0 4 (4 ∷ 16 ∷ 22 ∷ 0 ∷ 4 ∷ 16 ∷ 7 ∷ 0 ∷ []))
+    ∷ (1 ∷ plain 5 0 0 0 2 (4 ∷ 16 ∷ 22 ∷ 0 ∷ []))
+    ∷ (1 ∷ plain 5 0 0 1 4 (7 ∷ 0 ∷ 4 ∷ 15 ∷ 22 ∷ 0 ∷ 4 ∷ 16 ∷ []))
+    ∷ (1 ∷ plain 5 0 0 0 4 (4 ∷ 16 ∷ 22 ∷ 0 ∷ 22 ∷ 0 ∷ 4 ∷ 16 ∷ []))
+    ∷ (1 ∷ plain 5 0 0 0 4 (4 ∷ 16 ∷ 8 ∷ 0 ∷ 22 ∷ 0 ∷ 4 ∷ 16 ∷ []))
+    ∷ (1 ∷ plain 2 15 0 0 3 (4 ∷ 16 ∷ 22 ∷ 0 ∷ 4 ∷ 16 ∷ []))
+    ∷ (1 ∷ plain 6 0 0 0 3 (4 ∷ 16 ∷ 22 ∷ 0 ∷ 4 ∷ 16 ∷ []))
     ∷ []
 
 pub broken-refused : any passes brokenTables ≡ false
@@ -134,8 +151,8 @@ unfolding brokenTables evaluatedTable
 broken-refused = refl
 
 -- tables that pass: 254 items; all places and percents that may be; five dividing commas; the greatest condition; a point and decimals
--- alone; a percent and a comma; equal runs side by side; an elapsed run of nine; minutes before seconds; an empty
--- section
+-- alone; a percent and a comma; equal runs side by side; an elapsed run of nine; minutes before seconds; all places that a scientific
+-- section may have; an empty section
 unfoldable pub soundTables : List (List ℕ)
 unfolding copies placesDown
 soundTables =
@@ -148,6 +165,7 @@ soundTables =
     ∷ (1 ∷ plain 4 0 0 0 2 (11 ∷ 2 ∷ 11 ∷ 2 ∷ []))
     ∷ (1 ∷ plain 4 0 0 0 1 (18 ∷ 9 ∷ []))
     ∷ (1 ∷ plain 4 0 0 0 3 (12 ∷ 1 ∷ 15 ∷ 2 ∷ 16 ∷ 1 ∷ []))
+    ∷ (1 ∷ plain 5 0 0 15 40 (placesDown 20 35 (7 ∷ 0 ∷ placesDown 15 15 (23 ∷ 0 ∷ placesDown 3 18 []))))
     ∷ (1 ∷ plain 0 0 0 0 0 [])
     ∷ []
 

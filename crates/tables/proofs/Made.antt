@@ -1,6 +1,6 @@
 -- The rows made from sections that are formed: they read back as the sections, and they fit.
 -- Assumes nothing.
-use Prim.Native.Nat.{ℕ, suc, _+_, _≤_}
+use Prim.Native.Nat.{ℕ, suc, _≤_}
 use native.Mathlib.Omega.{arith}
 use mathlib.Core.Path.{_≡_, refl, sym}
 use mathlib.Core.Bool.{Bool, false, cond}
@@ -9,7 +9,7 @@ use lib.ListN.{length}
 use lib.Dec.{T, eqb→eq, eqb-refl}
 use Rattle.lists.specs.Lists.{every, count}
 use Rattle.lists.proofs.Bools.{and-in, by-cases, every-head, every-tail, every-cons}
-use Rattle.formats.specs.Items.{Section, numberKind, sameKind, kindOf, isPercent, integerPlaces}
+use Rattle.formats.specs.Items.{Section, numberKind, sameKind, kindOf, isPercent, integerPlaces, exponentPlaces}
 use Rattle.formats.specs.WellFormed.{dividingFits, sectionFormed, itemsInAll}
 use Rattle.tables.specs.Encode.{kindWord, shiftWord, flagsWord, noMinus, hasHalf, decimalsWord, headOf, entriesOf, rowOf, rowsFrom}
 use Rattle.tables.specs.Decode.{thousandsAt, sectionAt}
@@ -17,6 +17,7 @@ use Rattle.tables.specs.Rules.{headInRange, entryInRange, rowInRange, sh
 use Rattle.tables.proofs.Words.{Counted}
 use Rattle.tables.proofs.MadeItems.{items-back, entries-length, entries-in-range, powers-run-down}
 use Rattle.tables.proofs.MadeHeads.{Formed, formed, within-limits, says, condition-back, condition-fits, grouped-back, thousands-back, shift-tells, head-in-range}
+use Rattle.formats.specs.Text.{firstOf}
 
 -- only a number section divides
 undivided : (s : Section) → T (dividingFits s) → sameKind (kindOf s) numberKind ≡ false → s .thousands ≡ 0
@@ -37,7 +38,7 @@ unfolding sectionAt rowOf headOf entriesOf kindOf
 section-back n i firstHas s t =
     let f = formed s t in
     rw (
-      items-back (14 + integerPlaces (s .items)) (s .items),
+      items-back (firstOf (exponentPlaces (s .items))) (firstOf (integerPlaces (s .items))) (s .items),
       condition-back (headOf n i firstHas s) (s .condition) (says n i firstHas s),
       grouped-back (s .grouped) (noMinus n i firstHas s) (hasHalf (s .items)),
       thousands-at s f,
@@ -52,7 +53,7 @@ module _ (n i : ℕ) (firstHas : Bool) (s : Section) (t : T (sectionFormed s)) w
       let w = within-limits s (f .within) in
       and-in (headInRange (headOf n i firstHas s)) (every entryInRange (entriesOf (s .items)))
       (head-in-range n i firstHas s t h)
-      (entries-in-range (14 + integerPlaces (s .items)) (s .items) (f .items-in-range) (omega arith))
+      (entries-in-range (firstOf (exponentPlaces (s .items))) (firstOf (integerPlaces (s .items))) (s .items) (f .items-in-range) (omega arith) (omega arith))
 
   kind-fits : T (kindFits (rowOf n i firstHas s))
   unfolding kindFits rowOf headOf
@@ -114,4 +115,4 @@ pub made-counted : (n i : ℕ) (firstHas : Bool) (ss : List Section) → Counted
 unfolding rowsFrom rowOf headOf entriesOf
 made-counted n i firstHas [] = tt
 made-counted n i firstHas (s ∷ ss) =
-    (sym (entries-length (14 + integerPlaces (s .items)) (s .items)), made-counted n (suc i) firstHas ss)
+    (sym (entries-length (firstOf (exponentPlaces (s .items))) (firstOf (integerPlaces (s .items))) (s .items)), made-counted n (suc i) firstHas ss)

@@ -1,6 +1,6 @@
 -- The entries made from items: they read back as the items, are in range, and their powers run down.
 -- Assumes nothing.
-use Prim.Native.Nat.{ℕ, suc, _+_, _≤_}
+use Prim.Native.Nat.{ℕ, suc, _≤_}
 use native.Mathlib.Omega.{arith}
 use mathlib.Core.Path.{_≡_, refl, ap}
 use mathlib.Core.List.{List, [], _∷_}
@@ -9,13 +9,13 @@ use lib.Dec.{T, leb, eqb, le→leb, eqb-refl}
 use Rattle.values.specs.Ranges.{between}
 use Rattle.lists.specs.Lists.{every}
 use Rattle.lists.proofs.Bools.{and-in, by-cases, every-head, every-tail, every-cons}
-use Rattle.formats.specs.Items.{Item, place, elapsed, half, isPlace, integerPlaces, itemInRange}
+use Rattle.formats.specs.Items.{Item, place, elapsed, half, isPlace, integerPlaces, itemInRange, exponent, isExponent, exponentPlaces}
 use Rattle.formats.specs.Where.{implies}
-use Rattle.formats.specs.Text.{digitAfter, along}
+use Rattle.formats.specs.Text.{digitAfter, along, firstOf}
 use Rattle.tables.specs.Encode.{entryOf, entriesFrom, entriesOf}
 use Rattle.tables.specs.Decode.{halfAt, itemAt, itemsAt}
 use Rattle.tables.specs.Rules.{entryInRange, powersFrom, powersRunDown, allOf}
-use Rattle.formats.proofs.Each.{by-item, by-place, by-elapsed, by-half}
+use Rattle.formats.proofs.Each.{by-item, by-place, by-elapsed, by-half, by-exponent}
 
 -- an item's entry reads back as the item, whatever its arguments
 pub item-back : (q : ℕ) (i : Item) → itemAt (entryOf q i) ≡ i
@@ -26,16 +26,17 @@ item-back q =
     refl refl refl refl (λ n. refl) (λ n. refl) (λ n. refl) (λ n. refl) (λ n. refl) (λ n. refl) (λ n. refl)
     (λ e n. by-elapsed (λ d. itemAt (entryOf q (elapsed d n)) ≡ elapsed d n) refl refl refl e)
     (by-half (λ h. itemAt (entryOf q (half h)) ≡ half h) refl refl)
+    (by-exponent (λ m. itemAt (entryOf q (exponent m)) ≡ exponent m) refl refl)
 
-pub items-back : (q : ℕ) (is : List Item) → itemsAt (entriesFrom q is) ≡ is
+pub items-back : (anew q : ℕ) (is : List Item) → itemsAt (entriesFrom anew q is) ≡ is
 unfolding itemsAt along
-items-back q [] = refl
-items-back q (i ∷ is) = rw (item-back q i, items-back (digitAfter q i) is)
+items-back anew q [] = refl
+items-back anew q (i ∷ is) = rw (item-back q i, items-back anew (digitAfter anew q i) is)
 
-pub entries-length : (q : ℕ) (is : List Item) → length (entriesFrom q is) ≡ length is
+pub entries-length : (anew q : ℕ) (is : List Item) → length (entriesFrom anew q is) ≡ length is
 unfolding along
-entries-length q [] = refl
-entries-length q (i ∷ is) = ap suc (entries-length (digitAfter q i) is)
+entries-length anew q [] = refl
+entries-length anew q (i ∷ is) = ap suc (entries-length anew (digitAfter anew q i) is)
 
 power-in-range : (q : ℕ) → q ≤ 34 → T (between 1 35 (suc q))
 power-in-range q h = and-in (leb 1 (suc q)) (leb (suc q) 35) (le→leb 1 (suc q) (omega arith)) (le→leb (suc q) 35 (omega arith))
@@ -49,35 +50,40 @@ entry-in-range q =
     (λ n t h. t) (λ n t h. t) (λ n t h. t) (λ n t h. t) (λ n t h. t) (λ n t h. t) (λ n t h. t)
     (λ e n t h. by-elapsed (λ d. T (entryInRange (entryOf q (elapsed d n)))) t t t e)
     (λ k t h. by-half (λ x. T (entryInRange (entryOf q (half x)))) tt tt k)
+    (λ m t h. by-exponent (λ x. T (entryInRange (entryOf q (exponent x)))) tt tt m)
 
--- a digit after an item is none above it
-after-most : (q : ℕ) (i : Item) → digitAfter q i ≤ q
+-- a digit after an item is none above the first ones
+after-most : (anew q : ℕ) (i : Item) → anew ≤ 34 → q ≤ 34 → digitAfter anew q i ≤ 34
 unfolding digitAfter
-after-most q i = by-cases (isPlace i) (λ e. rw e (omega arith)) (λ e. rw e (omega arith))
+after-most anew q i g h =
+    by-cases (isExponent i) (λ e. rw e g) (λ e. rw e (by-cases (isPlace i) (λ f. rw f (omega arith)) (λ f. rw f h)))
 
-pub entries-in-range : (q : ℕ) (is : List Item) → T (every itemInRange is) → q ≤ 34 → T (every entryInRange (entriesFrom q is))
+pub entries-in-range : (anew q : ℕ) (is : List Item) → T (every itemInRange is) → anew ≤ 34 → q ≤ 34 → T (every entryInRange (entriesFrom anew q is))
 unfolding every along
-entries-in-range q [] t h = tt
-entries-in-range q (i ∷ is) t h =
-    every-cons entryInRange (entryOf q i) (entriesFrom (digitAfter q i) is)
+entries-in-range anew q [] t g h = tt
+entries-in-range anew q (i ∷ is) t g h =
+    every-cons entryInRange (entryOf q i) (entriesFrom anew (digitAfter anew q i) is)
     (entry-in-range q i (every-head itemInRange i is t) h)
-    (entries-in-range (digitAfter q i) is (every-tail itemInRange i is t) (omega (arith, after-most q i)))
+    (entries-in-range anew (digitAfter anew q i) is (every-tail itemInRange i is t) g (after-most anew q i g h))
 
 -- a place's entry has its power
 power-stands : (q : ℕ) (i : Item) → T (implies (isPlace i) (eqb (entryOf q i .argument) (suc q)))
 unfolding entryOf
 power-stands q =
     by-item (λ i. T (implies (isPlace i) (eqb (entryOf q i .argument) (suc q)))) (λ u. tt) (λ u. tt) (λ u. tt) (λ p. eqb-refl (suc q))
-    tt tt tt tt (λ n. tt) (λ n. tt) (λ n. tt) (λ n. tt) (λ n. tt) (λ n. tt) (λ n. tt) (λ e n. tt) (λ h. tt)
+    tt tt tt tt (λ n. tt) (λ n. tt) (λ n. tt) (λ n. tt) (λ n. tt) (λ n. tt) (λ n. tt) (λ e n. tt) (λ h. tt) (λ m. tt)
 
-powers-from : (q : ℕ) (is : List Item) → T (powersFrom q (entriesFrom q is))
+powers-from : (anew q : ℕ) (is : List Item) → T (powersFrom anew q (entriesFrom anew q is))
 unfolding powersFrom along allOf
-powers-from q [] = tt
-powers-from q (i ∷ is) =
+powers-from anew q [] = tt
+powers-from anew q (i ∷ is) =
     rw (item-back q i)
-    (and-in (implies (isPlace i) (eqb (entryOf q i .argument) (suc q))) (powersFrom (digitAfter q i) (entriesFrom (digitAfter q i) is))
-    (power-stands q i) (powers-from (digitAfter q i) is))
+    (and-in (implies (isPlace i) (eqb (entryOf q i .argument) (suc q))) (powersFrom anew (digitAfter anew q i) (entriesFrom anew (digitAfter anew q i) is))
+    (power-stands q i) (powers-from anew (digitAfter anew q i) is))
 
 pub powers-run-down : (is : List Item) → T (powersRunDown (entriesOf is))
 unfolding powersRunDown entriesOf
-powers-run-down is = rw (items-back (14 + integerPlaces is) is) (powers-from (14 + integerPlaces is) is)
+powers-run-down is =
+    let anew : ℕ = firstOf (exponentPlaces is) in
+    let q : ℕ = firstOf (integerPlaces is) in
+    rw (items-back anew q is) (powers-from anew q is)

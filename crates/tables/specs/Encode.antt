@@ -1,20 +1,20 @@
 -- The table made from sections (R89 to R94, R101).
 -- Assumes nothing.
-use Prim.Native.Nat.{ℕ, zero, suc, _+_, _-_, _*_, _/_, _%_, _^_}
+use Prim.Native.Nat.{ℕ, suc, _+_, _-_, _*_, _/_, _%_, _^_}
 use mathlib.Core.Bool.{Bool, true, false, cond}
 use mathlib.Core.List.{List, [], _∷_}
 use mathlib.Core.Option.{Option, none, some}
 use lib.ListN.{length}
 use Rattle.lists.specs.Lists.{any, count}
 use Rattle.formats.specs.Tokens.{Comparison, equal, less, greater, atMost, atLeast, unequal}
-use Rattle.formats.specs.Items.{Item, itemRow, Condition, Section, Kind, kindRow, numberKind, sameKind, kindOf, isPlace, isPercent, isHalf, integerPlaces, decimalPlaces}
+use Rattle.formats.specs.Items.{Item, itemRow, Condition, Section, Kind, kindRow, showsPlaces, numberKind, sameKind, kindOf, isPlace, isPercent, isHalf, integerPlaces, decimalPlaces, exponentPlaces}
 use Rattle.formats.specs.Where.{hasCondition}
 use Rattle.formats.specs.Choice.{counted}
 use Rattle.formats.specs.Minus.{firstHasCondition, exceptionA}
-use Rattle.formats.specs.Text.{along, self}
+use Rattle.formats.specs.Text.{along, self, firstOf}
 use Rattle.tables.specs.Words.{Head, Entry, Row, tableWords}
 
--- "kind (0 literal, 1 General, 2 number, 3 text, 4 date-time)" (R90)
+-- "kind (0 literal, 1 General, 2 number, 3 text, 4 date-time)", 5 scientific (R90, R131)
 unfoldable pub kindWord : Kind → ℕ
 kindWord k = kindRow k .number
 
@@ -71,9 +71,9 @@ noMinus n i firstHas s = exceptionA n i (hasCondition s) firstHas
 unfoldable pub hasHalf : List Item → Bool
 hasHalf is = any isHalf is
 
--- "decimal places" of a number section, else 0 (R93)
+-- "decimal places" of a number or scientific section, else 0 (R93, R131)
 unfoldable pub decimalsWord : Section → ℕ
-decimalsWord s = cond (sameKind (kindOf s) numberKind) (decimalPlaces (s .items)) 0
+decimalsWord s = cond (showsPlaces (kindOf s)) (decimalPlaces (s .items)) 0
 
 unfoldable pub headOf : ℕ → ℕ → Bool → Section → Head
 headOf n i firstHas s =
@@ -103,12 +103,12 @@ tagOf i = itemRow i .number + itemRow i .variant
 unfoldable pub entryOf : ℕ → Item → Entry
 entryOf q i = entry (tagOf i) (cond (isPlace i) (suc q) (itemRow i .argument))
 
-abbrev pub entriesFrom : ℕ → List Item → List Entry
-entriesFrom q is = along self entryOf q is
+abbrev pub entriesFrom : ℕ → ℕ → List Item → List Entry
+entriesFrom anew q is = along self entryOf anew q is
 
--- "the last integer place having 0 and the first decimal place -1" (R101)
+-- "the last integer place having 0 and the first decimal place -1" (R101), "exponent places down to power 0" (R131)
 unfoldable pub entriesOf : List Item → List Entry
-entriesOf is = entriesFrom (14 + integerPlaces is) is
+entriesOf is = entriesFrom (firstOf (exponentPlaces is)) (firstOf (integerPlaces is)) is
 
 unfoldable pub rowOf : ℕ → ℕ → Bool → Section → Row
 rowOf n i firstHas s = record { head = headOf n i firstHas s; entries = entriesOf (s .items) }

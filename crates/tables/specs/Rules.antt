@@ -1,26 +1,25 @@
 -- "Table rules" (R95 to R104, R113): a test for each clause of their sentence.
 -- Assumes nothing.
-use Prim.Native.Nat.{ℕ, zero, suc, _+_, _-_, _*_}
-use mathlib.Core.Bool.{Bool, true, cond, not, _&&_}
-use mathlib.Core.List.{List, [], _∷_, map}
-use lib.ListN.{length}
-use lib.Dec.{leb, ltb, eqb}
+use Prim.Native.Nat.{ℕ, suc, _+_, _*_}
+use mathlib.Core.Bool.{Bool, true, cond, _&&_}
+use mathlib.Core.List.{List, [], _∷_}
+use lib.Dec.{leb, eqb}
 use Rattle.values.specs.Ranges.{between}
-use Rattle.lists.specs.Lists.{every, any, count}
-use Rattle.formats.specs.Items.{Item, itemRow, isUnit, Section, numberKind, sameKind, kindOf, isPercent, isPlace, integerPlaces}
-use Rattle.formats.specs.Where.{implies, hasCondition}
+use Rattle.lists.specs.Lists.{every, count}
+use Rattle.formats.specs.Items.{itemRow, isUnit, numberKind, sameKind, kindOf, isPercent, isPlace, integerPlaces, exponentPlaces}
+use Rattle.formats.specs.Where.{implies}
 use Rattle.formats.specs.WellFormed.{sectionFits, sectionsStand}
 use Rattle.formats.specs.Choice.{counted}
 use Rattle.formats.specs.Minus.{firstHasCondition}
-use Rattle.formats.specs.Text.{along}
+use Rattle.formats.specs.Text.{along, firstOf}
 use Rattle.tables.specs.Words.{Head, Entry, Row, rowsIn, exactWords}
 use Rattle.tables.specs.Encode.{kindWord, flagsWord, noMinus, hasHalf, decimalsWord, tagOf}
-use Rattle.tables.specs.Decode.{wholeAt, millionthsAt, itemAt, itemsAt, groupedAt, thousandsAt, sectionAt, decode}
+use Rattle.tables.specs.Decode.{wholeAt, millionthsAt, itemAt, itemsAt, thousandsAt, sectionAt, decode}
 
 -- "every word in its range" (R97)
 unfoldable pub headInRange : Head → Bool
 headInRange h =
-    leb (h .kind) 4
+    leb (h .kind) 5
     && leb (h .colour) 56
     && leb (h .operator) 6
     && leb (h .negative) 1
@@ -55,12 +54,12 @@ unfoldable pub allOf : List Bool → Bool
 allOf [] = true
 allOf (b ∷ bs) = let r = allOf bs in b && r
 
-unfoldable pub powersFrom : ℕ → List Entry → Bool
-powersFrom q es = allOf (along itemAt powerFits q es)
+unfoldable pub powersFrom : ℕ → ℕ → List Entry → Bool
+powersFrom anew q es = allOf (along itemAt powerFits anew q es)
 
--- "the last integer place having 0 and the first decimal place -1"
+-- "the last integer place having 0 and the first decimal place -1", "exponent places down to power 0" (R131)
 unfoldable pub powersRunDown : List Entry → Bool
-powersRunDown es = powersFrom (14 + integerPlaces (itemsAt es)) es
+powersRunDown es = powersFrom (firstOf (exponentPlaces (itemsAt es))) (firstOf (integerPlaces (itemsAt es))) es
 
 -- "the shift, beside the percents, must tell 0 to 5 dividing commas" (R104)
 unfoldable pub shiftTells : ℕ → ℕ → Bool

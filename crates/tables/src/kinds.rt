@@ -8,3 +8,5 @@ pub const NUMBER: u16 = 2;
 pub const TEXT: u16 = 3;
 
 pub const DATE_TIME: u16 = 4;
+
+pub const SCIENTIFIC: u16 = 5;

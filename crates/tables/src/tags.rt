@@ -40,3 +40,7 @@ pub const ELAPSED_MINUTES: u16 = 19;
 pub const ELAPSED_SECONDS: u16 = 20;
 
 pub const HALF_DAY: u16 = 21;
+
+pub const EXPONENT_PLUS: u16 = 22;
+
+pub const EXPONENT_MINUS: u16 = 23;
