@@ -2,17 +2,17 @@
 -- Assumes nothing.
 use Prim.Native.Nat.{ℕ, _+_, _≤_, _<_}
 use mathlib.Core.Path.{_≡_, refl, sym, ap, _∙_}
-use mathlib.Core.Bool.{Bool, true, false, cond, _&&_, _||_}
-use mathlib.Core.List.{List, [], _∷_}
+use mathlib.Core.Bool.{Bool, true, false, cond, _&&_, _||_, true≢false}
+use mathlib.Core.List.{List, [], _∷_, _++_}
 use native.Mathlib.Omega.{arith}
 use lib.Dec.{leb, ltb, eqb}
-use borrow.Author.Tests.{eqb-true, le-leb, lt-leb, lt-ltb, le-ltb, ne-eqb}
+use borrow.Author.Tests.{eqb-true, le-leb, lt-leb, ne-eqb}
 use lib.ListN.{length, getD}
 use Rattle.lists.specs.Lists.{any, count}
 use Rattle.lists.proofs.Bools.{by-cases}
-use Rattle.lists.proofs.Counts.{any-count, none-count}
+use Rattle.lists.proofs.Counts.{positive-count}
 use Rattle.formats.specs.Tokens.{Token}
-use Rattle.formats.specs.Kinds.{formOf, isPlace, isPoint, isComma, CommaUse, groups, divides, misplaced, isGrouping, isDividing, isMisplaced, integerPlaceIn, commaUses}
+use Rattle.formats.specs.Kinds.{formOf, isPlace, isPoint, isComma, CommaUse, groups, divides, misplaced, isGrouping, isDividing, isMisplaced, integerPlaceIn, usesFrom, commaUses}
 use Rattle.formats.proofs.CommaUses.{commaUse, commaUsesFrom, comma-uses}
 use Rattle.marks.specs.Marks.{markRows, markToken, conditionOf, tokensIn}
 use Rattle.bodies.specs.declared.commas.Commas.{Commas}
@@ -30,7 +30,12 @@ nothingScanned = record { point = false; place = false; held = 0; misplaced = 0;
 
 -- at the end the commas held divide
 abbrev scanCommas : Scan → Commas
-scanCommas s = record { misplaced = ltb 0 (s .misplaced); grouped = ltb 0 (s .grouping); thousands = s .dividing + s .held }
+scanCommas s =
+    record {
+      misplaced = ltb 0 (s .misplaced);
+      grouped = ltb 0 (s .grouping);
+      thousands = s .dividing + s .held;
+    }
 
 scan-form : (s : Scan) (f a : ℕ) (us : List ℕ) → scanToken s (markToken f a us) ≡ scanForm s f
 unfolding markRows conditionOf
@@ -128,11 +133,6 @@ module _ (f : CommaUse → Bool) where
       let start : total s ts ≡ count f (commaUsesFrom false false ts) = omega arith in
       ap (count f) (comma-uses ts) ∙ sym start ∙ total-all s ts ∙ total-end (passed scanToken s ts)
 
-any-some : {A : Type 0} (f : A → Bool) (xs : List A) → any f xs ≡ ltb 0 (count f xs)
-any-some f xs = by-cases (any f xs)
-    (λ e. e ∙ sym (lt-ltb 0 (count f xs) (any-count f xs e)))
-    (λ e. e ∙ sym (le-ltb 0 (count f xs) (omega (arith, none-count f xs e))))
-
 -- one pass gives the commas
 pub commas-scanned : (ts : List Token) → scanCommas (passed scanToken nothingScanned ts) ≡ commasOf ts
 unfolding commasOf
@@ -141,7 +141,18 @@ commas-scanned ts =
     let a : count isMisplaced (commaUses ts) ≡ s .misplaced = uses-counted isMisplaced ts ∙ omega arith in
     let b : count isGrouping (commaUses ts) ≡ s .grouping = uses-counted isGrouping ts ∙ omega arith in
     let d : count isDividing (commaUses ts) ≡ s .dividing + s .held = uses-counted isDividing ts ∙ omega arith in
-    rw (any-some isMisplaced (commaUses ts), any-some isGrouping (commaUses ts), a, b, d)
+    rw (← (positive-count isMisplaced (commaUses ts)), ← (positive-count isGrouping (commaUses ts)), a, b, d)
+
+-- without a comma there is no use
+uses-none : (before ts : List Token) → any isComma ts ≡ false → usesFrom before ts ≡ []
+unfolding any usesFrom
+uses-none before [] e = refl
+uses-none before (t ∷ ts) e =
+    by-cases (isComma t) (λ h. absurd (true≢false (rw h at e))) (λ h. rw h (uses-none (before ++ (t ∷ [])) ts (rw h at e)))
+
+pub commas-none : (ts : List Token) → any isComma ts ≡ false → record { misplaced = false; grouped = false; thousands = 0 } ≡ commasOf ts
+unfolding commasOf commaUses any count
+commas-none ts e = rw (uses-none [] ts e)
 
 -- ---- the pass
 module _ (s r : Scan) (f : ℕ) where

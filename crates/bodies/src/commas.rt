@@ -8,6 +8,8 @@ ghost use mathlib.Core.Path.{_≡_};
 ghost use mathlib.Core.List.{List};
 ghost use Prim.Native.Nat.{ℕ, _≤_};
 ghost use lib.ListN.{length};
+ghost use Rattle.lists.specs.Lists.{any};
+ghost use Rattle.formats.specs.Kinds.{isComma};
 ghost use Rattle.marks.specs.Marks.{tokensIn};
 ghost use Rattle.bodies.specs.Uses.{met, atComma, atPoint, atPlace, scanForm, commasOf};
 
@@ -91,7 +93,7 @@ fn scan_token(s: Scan, form: u16) -> Scan
 }
 
 // The commas of a body: at its end those held divide.
-pub fn commas_of(body: &[u16]) -> Commas
+fn scan_body(body: &[u16]) -> Commas
     requires { ⌜ length (now body) ≤ 762 ⌝ }
     ensures { λ r. ⌜ ((code : List ℕ) → r ≡ commasOf (tokensIn code (now (body .entry)))) ⌝ }
 {
@@ -112,5 +114,20 @@ pub fn commas_of(body: &[u16]) -> Commas
         misplaced: 0 < s.misplaced,
         grouped: 0 < s.grouping,
         thousands: s.dividing + s.held,
+    }
+}
+
+// The commas of a body; `some` says whether there is one at all, and without one nothing is looked at.
+pub fn commas_of(body: &[u16], some: bool) -> Commas
+    requires { ⌜ (length (now body) ≤ 762) × ((code : List ℕ) → some ≡ any isComma (tokensIn code (now body))) ⌝ }
+    ensures { λ r. ⌜ ((code : List ℕ) → r ≡ commasOf (tokensIn code (now (body .entry)))) ⌝ }
+{
+    if some {
+        return scan_body(body);
+    }
+    Commas {
+        misplaced: false,
+        grouped: false,
+        thousands: 0,
     }
 }

@@ -9,13 +9,13 @@ use mathlib.Core.Option.{some}
 use native.Mathlib.Decide.{decLe}
 use lib.ListN.{length, take, drop, length-take, length-drop, drop-of-length-le}
 use lib.Seq.{take-all}
-use lib.Dec.{T, leb→le}
+use lib.Dec.{T, leb→le, ltb, eqb}
 use Rattle.calendar.specs.Names.{units}
-use Rattle.lists.specs.Lists.{count, isSome}
-use Rattle.lists.proofs.Bools.{and-left, and-right, true-T}
+use Rattle.lists.specs.Lists.{any, count, isSome}
+use Rattle.lists.proofs.Bools.{and-left, and-right, true-T, cond-both, by-cases}
 use Rattle.formats.specs.Tokens.{Token, Written, startsWith, conditionInside}
-use Rattle.formats.specs.Items.{Item, integerPlaces, sameKind, dateKind, settled}
-use Rattle.formats.specs.Kinds.{isFillToken, Parts, partsOf, conditionOf, sectionOf, fits, commasFit, bodyKind, bodyItems, lastFill}
+use Rattle.formats.specs.Items.{Item, sameKind, dateKind, settled}
+use Rattle.formats.specs.Kinds.{isComma, isFillToken, Parts, partsOf, conditionOf, sectionOf, fits, commasFit, bodyKind, bodyItems, lastFill}
 use Rattle.formats.specs.Limits.{writtenWithin, sectionWithin, withinLimits}
 use Rattle.tables.specs.Words.{Entry, entriesIn}
 use Rattle.tables.specs.Encode.{operatorWord, negativeWord, wholePart, millionthsPart, bit, entriesOf, shiftWord}
@@ -23,7 +23,7 @@ use Rattle.tables.specs.Decode.{itemsAt}
 use Rattle.tables.specs.Standing.{shiftOf}
 use Rattle.tables.proofs.Words.{length-entries, entries-in-words}
 use Rattle.tables.proofs.Standing.{sectionKind, shift-word}
-use Rattle.tables.proofs.MadeItems.{items-back, entries-length}
+use Rattle.tables.proofs.MadeItems.{items-back}
 use Rattle.marks.specs.Marks.{tokensIn}
 use Rattle.writing.specs.Put.{Put}
 use Rattle.bodies.specs.declared.conditions.Compared.{Compared}
@@ -40,8 +40,9 @@ use Rattle.tallies.specs.declared.Tally.{Tally}
 use Rattle.tallies.specs.Tally.{tallyOf, kindTold, withinTold}
 use Rattle.tallies.proofs.Told.{percents-are, half-told, items-fit-told, within-told, decimals-told, section-kind-told}
 use Rattle.drafting.specs.declared.Body.{Body}
-use Rattle.drafting.specs.Draft.{bodyWords, ConditionAs, headingCondition, noCondition, thousandsBy, fitsBy, bodyBy, BodyOf, DraftOf}
-use Rattle.drafting.proofs.Settled.{put-read}
+use Rattle.drafting.specs.Draft.{bodyWords, ConditionAs, headingCondition, noCondition, thousandsBy, fitsBy, bodyBy, BodyOf, DraftOf, shiftTold}
+use Rattle.drafting.proofs.Settled.{entries-many, put-read}
+use borrow.Author.Tests.{lt-ltb}
 
 -- ---- the condition
 conditioned : (w : Written) (r : Compared) → ComparedBy w r → ConditionAs (some w) r
@@ -89,8 +90,7 @@ module _ (ts : List Token) where
   items = settled (lastFill (bodyItems ts))
 
   pub body-length : length (bodyWords ts) ≡ 2 * length items
-  unfolding entriesOf
-  body-length = omega (arith, length-entries (entriesOf items) [], entries-length (14 + integerPlaces items) items)
+  body-length = omega (arith, length-entries (entriesOf items) [], entries-many items)
 
   pub body-entries : entriesIn (bodyWords ts) ≡ entriesOf items
   body-entries = entries-in-words (entriesOf items)
@@ -101,13 +101,23 @@ within-bounds t thousands e =
     let w : T (withinTold t thousands) = true-T e in
     (search (and-left, and-right, leb→le), search (and-left, and-right, leb→le))
 
+-- a section with an E is no number section, and is not shifted
+pub no-shift : (t : Tally) (thousands : ℕ) → 0 < t .exponents → shiftTold t thousands ≡ 0
+unfolding shiftOf
+no-shift t thousands h =
+    let none : eqb (kindTold t) 2 ≡ false =
+    cond-both (λ (k : ℕ). eqb k 2 ≡ false) (t .texts) refl
+    (cond-both (λ (k : ℕ). eqb k 2 ≡ false) (ltb 0 (t .generals)) refl
+    (cond-both (λ (k : ℕ). eqb k 2 ≡ false) (t .dating) refl (rw (lt-ltb 0 (t .exponents) h)))) in
+    by-cases (withinTold t thousands) (λ w. rw (w, none)) (λ w. rw w)
+
 module _ (p : Parts) where
   abbrev entries : List Entry
   entries = entriesOf (items (p .body))
 
   section-items : (sectionOf p) .items ≡ itemsAt entries
   unfolding sectionOf entriesOf
-  section-items = sym (items-back _ (items (p .body)))
+  section-items = sym (items-back _ _ (items (p .body)))
 
   thousands-same : thousandsBy (factsOf (p .body)) (commasOf (p .body)) ≡ (sectionOf p) .thousands
   unfolding sectionOf factsOf commasOf
@@ -146,6 +156,10 @@ put-place s x e = rw e x
 pub facts-date : (f : Facts) (ts : List Token) → f ≡ factsOf ts → f .date ≡ sameKind (bodyKind ts) dateKind
 unfolding factsOf
 facts-date f ts e = ap (λ (g : Facts). g .date) e
+
+pub facts-commas : (f : Facts) (ts : List Token) → f ≡ factsOf ts → f .commas ≡ any isComma ts
+unfolding factsOf
+facts-commas f ts e = ap (λ (g : Facts). g .commas) e
 
 pub facts-fills : (f : Facts) (ts : List Token) → f ≡ factsOf ts → f .fills ≡ count isFillToken ts
 unfolding factsOf

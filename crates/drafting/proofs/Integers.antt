@@ -1,100 +1,196 @@
--- The integer places of a body's items, from its tokens.
+-- The integer places and the exponent places of a body's items, from its tokens.
 -- Assumes nothing.
 use Prim.Native.Nat.{ℕ, zero, suc, _+_, _-_, _*_, _≤_, _<_, min}
 use native.Mathlib.Omega.{arith}
 use mathlib.Core.Path.{_≡_, refl, sym, _∙_, ap}
-use mathlib.Core.Bool.{Bool, true, false, cond, _&&_, true≢false}
-use mathlib.Core.List.{List, [], _∷_}
+use mathlib.Core.Bool.{Bool, true, false, cond, not, _&&_, _||_, true≢false}
+use mathlib.Core.List.{List, [], _∷_, _++_, map}
 use lib.ListN.{length, drop, getD}
 use lib.Dec.{ltb, eqb}
 use borrow.Author.Tests.{lt-ltb, le-ltb, eqb-true}
 use native.Mathlib.Nat.{zero-min}
+use Rattle.lists.specs.Lists.{count}
 use Rattle.lists.proofs.Bools.{by-cases, and-parts}
-use Rattle.formats.specs.Tokens as token
-use Rattle.formats.specs.Tokens.{Token}
-use Rattle.formats.specs.Items.{integerPlaces, sameKind, dateKind}
-use Rattle.formats.specs.Kinds.{formOf, integerPlaceTokens, isPlace, isPoint, isZero, isSecondsToken, leadingZeros, partZeros, Piece, whole, secondPart, piecesFrom, pieceItems, dateItems, bodyKind, bodyItems}
+use Rattle.lists.proofs.Counts.{count-least}
+use Rattle.formats.specs.Tokens.{Token, Letter, Place, ExponentMark}
+use Rattle.formats.specs.Items as item
+use Rattle.formats.specs.Items.{Item, fromE, integerPlaces, exponentPlaces, sameKind, dateKind}
+use Rattle.formats.specs.Kinds.{formOf, integerPlaceTokens, isPlace, isPoint, isExponent, isZero, isSecondsToken, leadingZeros, partZeros, Piece, whole, secondPart, piecesFrom, runItem, tokenItems, pieceItems, plainItems, dateItems, bodyKind, bodyItems}
+use Rattle.formats.proofs.Each.{by-token, by-letter}
 use Rattle.formats.proofs.FormedGrouping.{token-places, places-plain}
 use Rattle.marks.specs.Marks.{markToken, tokenAt, tokensIn}
+use Rattle.marks.proofs.ByForm.{zero-form, place-form, point-form, seconds-form, exponent-form}
+use Rattle.marks.proofs.Words.{tokens-first, tokens-end, tokens-length}
 use Rattle.bodies.specs.declared.facts.Facts.{Facts}
 use Rattle.bodies.specs.Forms.{placeForm}
-use Rattle.bodies.specs.Bodies.{factsOf}
-use Rattle.marks.proofs.ByForm.{place-form}
-use Rattle.marks.proofs.Words.{tokens-first, tokens-end, tokens-length}
-use Rattle.emitting.specs.Emit.{formSeconds}
-use Rattle.emitting.proofs.Forms.{tells}
+use Rattle.bodies.specs.Bodies.{exponentPlaceTokens, factsOf}
+use Rattle.bodies.proofs.Bodies.{integers-few}
 use Rattle.drafting.specs.declared.places.Parting.{Parting}
-use Rattle.drafting.specs.Draft.{datePlaces, partForm}
+use Rattle.drafting.specs.declared.places.Places.{Places}
+use Rattle.drafting.specs.Places.{placesOf, isAside, datePlaces, datePlacesOf, partForm}
 
 -- one more where it is a place
 abbrev more : Bool → ℕ → ℕ
 more b n = cond b (suc n) n
 
--- ---- the places of a date
-point-place : (t : Token) → isPoint t ≡ true → isPlace t ≡ false
-point-place t e = rw (eqb-true (formOf t) 7 e) refl
+-- ---- the places of a token's items
+-- a number told of items that only places and E's change
+module _ (told atPlace atE : List Item → ℕ)
+    (passes : (i : Item) (is : List Item) → item.isPlace i ≡ false → item.isExponent i ≡ false → told (i ∷ is) ≡ told is)
+    (place : (p : Place) (is : List Item) → told (item.place p ∷ is) ≡ atPlace is)
+    (exponent : (m : ExponentMark) (is : List Item) → told (item.exponent m ∷ is) ≡ atE is) where
+  literals-told : (us : List ℕ) (is : List Item) → told (map item.literal us ++ is) ≡ told is
+  literals-told [] is = refl
+  literals-told (u ∷ us) is = passes (item.literal u) (map item.literal us ++ is) refl refl ∙ literals-told us is
 
--- the items of a token that belongs to no part, with those that follow
-piece-places : (n : ℕ) (t : Token) (ps : List Piece) → (eqb n 0 ≡ false → isPlace t ≡ false)
-    → integerPlaces (dateItems (cond (eqb n 0) (whole t ∷ ps) (secondPart n ∷ ps))) ≡ more (isPlace t) (integerPlaces (dateItems ps))
-unfolding dateItems pieceItems integerPlaces
-piece-places n t ps h = by-cases (eqb n 0)
-    (λ e. rw e (token-places true t (dateItems ps) ∙ by-cases (isPoint t) (λ p. rw (p, point-place t p)) (λ p. rw p)))
-    (λ e. rw (e, h e))
+  run-told : (l : Letter) (n : ℕ) (is : List Item) → told (runItem l n ∷ is) ≡ told is
+  unfolding runItem
+  run-told l n is =
+      by-letter (λ (k : Letter). told (runItem k n ∷ is) ≡ told is)
+      (passes (item.year n) is refl refl) (passes (item.month n) is refl refl) (passes (item.day n) is refl refl)
+      (passes (item.hour n) is refl refl) (passes (item.second n) is refl refl) l
+
+  token-told : (date : Bool) (t : Token) (is : List Item)
+      → told (tokenItems date t ++ is) ≡ cond (isExponent t) (atE is) (cond (isPlace t) (atPlace is) (told is))
+  unfolding tokenItems
+  token-told date t is =
+      by-token (λ (t : Token). told (tokenItems date t ++ is) ≡ cond (isExponent t) (atE is) (cond (isPlace t) (atPlace is) (told is)))
+      (λ us. literals-told us is) (λ u. passes (item.literal u) is refl refl) (λ u. passes (item.blank u) is refl refl) (λ u. passes (item.fill u) is refl refl) (λ p. place p is)
+      (by-cases date (λ e. rw e (passes (item.literal 46) is refl refl)) (λ e. rw e (passes item.point is refl refl)))
+      (by-cases date (λ e. rw e (passes (item.literal 44) is refl refl)) (λ e. rw e))
+      (passes item.percent is refl refl) (passes item.at is refl refl) refl (passes item.general is refl refl)
+      (λ h. passes (item.half h) is refl refl) (λ l n. run-told l n is) (λ e n. passes (item.elapsed e n) is refl refl) (λ n. refl) (λ w. refl) (λ m. exponent m is) t
+
+token-count : (date : Bool) (t : Token) (is : List Item) → count item.isPlace (tokenItems date t ++ is) ≡ more (isPlace t) (count item.isPlace is)
+unfolding count
+token-count date t is =
+    token-told (count item.isPlace) (λ (js : List Item). suc (count item.isPlace js)) (count item.isPlace) (λ i js p e. rw p) (λ p js. refl) (λ m js. refl) date t is
+    ∙ by-cases (isExponent t) (λ e. rw (eqb-true (formOf t) 25 e)) (λ e. rw e)
+
+token-exponents : (date : Bool) (t : Token) (is : List Item) → exponentPlaces (tokenItems date t ++ is) ≡ cond (isExponent t) (count item.isPlace is) (exponentPlaces is)
+unfolding exponentPlaces fromE count
+token-exponents date t is =
+    token-told exponentPlaces exponentPlaces (count item.isPlace) (λ i js p e. rw e) (λ p js. refl) (λ m js. refl) date t is
+    ∙ by-cases (isPlace t) (λ p. rw p) (λ p. rw p)
+
+-- the places of items on one side of the first E, where one stands before them or not
+abbrev sidePlaces : Bool → Bool → List Item → ℕ
+sidePlaces false false is = integerPlaces is
+sidePlaces false true is = 0
+sidePlaces true false is = exponentPlaces is
+sidePlaces true true is = count item.isPlace is
+
+token-side : (b met : Bool) (t : Token) (is : List Item)
+    → sidePlaces b met (tokenItems true t ++ is) ≡ more (isPlace t && isAside b met) (sidePlaces b (met || isExponent t) is)
+token-side false false t is =
+    token-places true t is
+    ∙ by-cases (isPoint t) (λ p. rw (eqb-true (formOf t) 7 p))
+    (λ p. by-cases (isExponent t) (λ e. rw (eqb-true (formOf t) 25 e)) (λ e. by-cases (isPlace t) (λ q. rw (p, e, q)) (λ q. rw (p, e, q))))
+token-side false true t is = by-cases (isPlace t) (λ q. rw q) (λ q. rw q)
+token-side true false t is =
+    token-exponents true t is
+    ∙ by-cases (isExponent t) (λ e. rw (eqb-true (formOf t) 25 e)) (λ e. by-cases (isPlace t) (λ q. rw (e, q)) (λ q. rw (e, q)))
+token-side true true t is = token-count true t is ∙ by-cases (isPlace t) (λ q. rw q) (λ q. rw q)
+
+part-side : (b met : Bool) (n : ℕ) (is : List Item) → sidePlaces b met (item.part n ∷ is) ≡ sidePlaces b met is
+unfolding integerPlaces exponentPlaces fromE count
+part-side false false n is = refl
+part-side false true n is = refl
+part-side true false n is = refl
+part-side true true n is = refl
+
+none-side : (b met : Bool) → sidePlaces b met [] ≡ 0
+unfolding integerPlaces exponentPlaces fromE count
+none-side false false = refl
+none-side false true = refl
+none-side true false = refl
+none-side true true = refl
 
 zeros-room : (b : Bool) (t : Token) (ts : List Token) → partZeros b t ts ≡ min (cond (b && isPoint t) 3 0) (leadingZeros ts)
 unfolding partZeros
 zeros-room b t ts = by-cases (b && isPoint t) (λ e. rw e) (λ e. rw (e, zero-min (leadingZeros ts)))
 
-part-no-place : (b : Bool) (t : Token) (ts : List Token) → eqb (partZeros b t ts) 0 ≡ false → isPlace t ≡ false
+-- a token that starts a part is a point
+part-point : (b : Bool) (t : Token) (ts : List Token) → eqb (partZeros b t ts) 0 ≡ false → isPoint t ≡ true
 unfolding partZeros
-part-no-place b t ts e = by-cases (b && isPoint t)
-    (λ p. point-place t (and-parts b (isPoint t) p .1))
+part-point b t ts e = by-cases (b && isPoint t)
+    (λ p. and-parts b (isPoint t) p .1)
     (λ p. absurd (true≢false (rw p at e)))
 
--- a token that belongs to no part
-module _ (b : Bool) (t : Token) (ts : List Token) where
-  abbrev room : ℕ
-  room = cond (b && isPoint t) 3 0
+-- ---- the places of a date
+module _ (b : Bool) where
+  -- the items of a token that belongs to no part, with those that follow
+  piece-places : (met : Bool) (n : ℕ) (t : Token) (ps : List Piece) → (eqb n 0 ≡ false → isPoint t ≡ true)
+      → sidePlaces b met (dateItems (cond (eqb n 0) (whole t ∷ ps) (secondPart n ∷ ps)))
+      ≡ more (isPlace t && isAside b met) (sidePlaces b (met || isExponent t) (dateItems ps))
+  unfolding dateItems pieceItems
+  piece-places met n t ps h = by-cases (eqb n 0)
+      (λ e. rw e (token-side b met t (dateItems ps)))
+      (λ e. rw (e, eqb-true (formOf t) 7 (h e)) (part-side b met n (dateItems ps) ∙ by-cases met (λ m. rw m) (λ m. rw m)))
 
-  other-date : integerPlaces (dateItems (piecesFrom (isSecondsToken t) (min room (leadingZeros ts)) ts)) ≡ datePlaces (isSecondsToken t) room ts
-      → integerPlaces (dateItems (piecesFrom b 0 (t ∷ ts))) ≡ more (isPlace t) (datePlaces (isSecondsToken t) room ts)
-  unfolding piecesFrom
-  other-date ih =
-      piece-places (partZeros b t ts) t (piecesFrom (isSecondsToken t) (partZeros b t ts) ts) (part-no-place b t ts)
-      ∙ ap (λ (n : ℕ). more (isPlace t) n) (rw (zeros-room b t ts) ih)
+  -- a token that belongs to no part
+  module _ (met behind : Bool) (t : Token) (ts : List Token) where
+    abbrev room : ℕ
+    room = cond (behind && isPoint t) 3 0
 
--- the zeros that belong to a part are passed over
-places-skip : (b : Bool) (left : ℕ) (ts : List Token) (skip : ℕ) → skip ≡ min left (leadingZeros ts)
-    → integerPlaces (dateItems (piecesFrom b skip ts)) ≡ datePlaces b left ts
-unfolding datePlaces piecesFrom dateItems integerPlaces leadingZeros
-places-skip b left [] skip e = refl
-places-skip b left (t ∷ ts) zero e =
-    let later = other-date b t ts (places-skip (isSecondsToken t) (room b t ts) ts (min (room b t ts) (leadingZeros ts)) refl) in
-    by-cases (isZero t)
-    (λ z. let y = rw z at e in let none : ltb 0 left ≡ false = le-ltb 0 left (omega arith) in rw (z, none) later)
-    (λ z. rw z later)
-places-skip b left (t ∷ ts) (suc skip) e =
-    by-cases (isZero t)
-    (λ z. let y = rw z at e in
-    let some : ltb 0 left ≡ true = lt-ltb 0 left (omega arith) in
-    rw (z, some) (places-skip false (left - 1) ts skip (omega arith)))
-    (λ z. let y = rw z at e in absurd (omega arith))
+    abbrev later : ℕ
+    later = datePlaces b (met || isExponent t) (isSecondsToken t) room ts
+
+    other-date : sidePlaces b (met || isExponent t) (dateItems (piecesFrom (isSecondsToken t) (min room (leadingZeros ts)) ts)) ≡ later
+        → sidePlaces b met (dateItems (piecesFrom behind 0 (t ∷ ts))) ≡ more (isPlace t && isAside b met) later
+    unfolding piecesFrom
+    other-date ih =
+        piece-places met (partZeros behind t ts) t (piecesFrom (isSecondsToken t) (partZeros behind t ts) ts) (part-point behind t ts)
+        ∙ ap (λ (n : ℕ). more (isPlace t && isAside b met) n) (rw (zeros-room behind t ts) ih)
+
+  -- the zeros that belong to a part are passed over
+  places-skip : (met behind : Bool) (left : ℕ) (ts : List Token) (skip : ℕ) → skip ≡ min left (leadingZeros ts)
+      → sidePlaces b met (dateItems (piecesFrom behind skip ts)) ≡ datePlaces b met behind left ts
+  unfolding datePlaces piecesFrom dateItems leadingZeros
+  places-skip met behind left [] skip e = none-side b met
+  places-skip met behind left (t ∷ ts) zero e =
+      let n = room met behind t ts in
+      let all = other-date met behind t ts (places-skip (met || isExponent t) (isSecondsToken t) n ts (min n (leadingZeros ts)) refl) in
+      by-cases (isZero t)
+      (λ z. let y = rw z at e in let none : ltb 0 left ≡ false = le-ltb 0 left (omega arith) in rw (z, none) all)
+      (λ z. rw z all)
+  places-skip met behind left (t ∷ ts) (suc skip) e =
+      by-cases (isZero t)
+      (λ z. let y = rw z at e in
+      let some : ltb 0 left ≡ true = lt-ltb 0 left (omega arith) in
+      rw (z, some) (places-skip met false (left - 1) ts skip (omega arith)))
+      (λ z. let y = rw z at e in absurd (omega arith))
 
 -- ---- the places of a body
-pub places-body : (ts : List Token)
-    → integerPlaces (bodyItems ts) ≡ cond (sameKind (bodyKind ts) dateKind) (datePlaces false 0 ts) (integerPlaceTokens ts)
-unfolding bodyItems
-places-body ts = by-cases (sameKind (bodyKind ts) dateKind)
-    (λ e. rw e (places-skip false 0 ts 0 (sym (zero-min (leadingZeros ts)))))
-    (λ e. rw e (places-plain ts))
+count-plain : (ts : List Token) → count item.isPlace (plainItems ts) ≡ count isPlace ts
+unfolding plainItems count
+count-plain [] = refl
+count-plain (t ∷ ts) = token-count false t (plainItems ts) ∙ rw (count-plain ts)
 
-places-few : (ts : List Token) → integerPlaceTokens ts ≤ length ts
-unfolding integerPlaceTokens
-places-few [] = omega arith
-places-few (t ∷ ts) =
-    let r = places-few ts in
-    by-cases (isPoint t) (λ p. rw p (omega arith)) (λ p. rw p (by-cases (isPlace t) (λ q. rw q (omega arith)) (λ q. rw q (omega arith))))
+exponents-plain : (ts : List Token) → exponentPlaces (plainItems ts) ≡ exponentPlaceTokens ts
+unfolding plainItems exponentPlaces fromE exponentPlaceTokens count
+exponents-plain [] = refl
+exponents-plain (t ∷ ts) = token-exponents false t (plainItems ts) ∙ rw (exponents-plain ts, count-plain ts)
+
+-- the places of a body by whether it is a date
+abbrev placesBy : Bool → List Token → Places
+placesBy date ts = cond date (datePlacesOf ts) (record { integers = integerPlaceTokens ts; exponents = exponentPlaceTokens ts })
+
+pub places-body : (ts : List Token) → placesOf (bodyItems ts) ≡ placesBy (sameKind (bodyKind ts) dateKind) ts
+unfolding bodyItems
+places-body ts =
+    let start = sym (zero-min (leadingZeros ts)) in
+    by-cases (sameKind (bodyKind ts) dateKind)
+    (λ e. rw (e, places-skip false false false 0 ts 0 start, places-skip true false false 0 ts 0 start))
+    (λ e. rw (e, places-plain ts, exponents-plain ts))
+
+exponents-few : (ts : List Token) → exponentPlaceTokens ts ≤ length ts
+unfolding exponentPlaceTokens
+exponents-few [] = omega arith
+exponents-few (t ∷ ts) =
+    let r = exponents-few ts in
+    let s = count-least isPlace ts in
+    by-cases (isExponent t) (λ e. rw e (omega arith)) (λ e. rw e (omega arith))
 
 module _ (f : Facts) (ws : List ℕ) (same : (code : List ℕ) → f ≡ factsOf (tokensIn code ws)) where
   date-told : (code : List ℕ) → sameKind (bodyKind (tokensIn code ws)) dateKind ≡ f .date
@@ -105,43 +201,77 @@ module _ (f : Facts) (ws : List ℕ) (same : (code : List ℕ) → f ≡ factsOf
   unfolding factsOf
   places-told code = sym (ap (λ (g : Facts). g .places) (same code))
 
-  pub places-dated : (n : ℕ) → ((code : List ℕ) → n ≡ datePlaces false 0 (tokensIn code ws)) → f .date ≡ true
-      → (code : List ℕ) → n ≡ integerPlaces (bodyItems (tokensIn code ws))
-  places-dated n h e code = h code ∙ sym (places-body (tokensIn code ws) ∙ rw (date-told code, e))
+  exponents-told : (code : List ℕ) → exponentPlaceTokens (tokensIn code ws) ≡ f .exponents
+  unfolding factsOf
+  exponents-told code = sym (ap (λ (g : Facts). g .exponents) (same code))
 
-  pub places-other : f .date ≡ false → (code : List ℕ) → f .places ≡ integerPlaces (bodyItems (tokensIn code ws))
-  places-other e code = sym (places-told code) ∙ sym (places-body (tokensIn code ws) ∙ rw (date-told code, e))
+  pub places-dated : (r : Places) → ((code : List ℕ) → r ≡ datePlacesOf (tokensIn code ws)) → f .date ≡ true
+      → (code : List ℕ) → r ≡ placesOf (bodyItems (tokensIn code ws))
+  places-dated r h e code = h code ∙ sym (places-body (tokensIn code ws) ∙ rw (date-told code, e))
 
-  pub places-bound : length ws ≤ 762 → f .places ≤ 254
-  places-bound h = omega (arith, places-told [], places-few (tokensIn [] ws), tokens-length [] ws)
+  pub places-other : f .date ≡ false → (code : List ℕ) → record { integers = f .places; exponents = f .exponents } ≡ placesOf (bodyItems (tokensIn code ws))
+  places-other e code = rw (← (places-told code), ← (exponents-told code)) (sym (places-body (tokensIn code ws) ∙ rw (date-told code, e)))
+
+  pub places-bound : length ws ≤ 762 → (f .places ≤ 254) × (f .exponents ≤ 254)
+  places-bound h =
+      let n = tokens-length [] ws in
+      (omega (arith, places-told [], integers-few (tokensIn [] ws)), omega (arith, exponents-told [], exponents-few (tokensIn [] ws)))
 
 -- ---- the pass over a date's tokens
-part-step : (s : Parting) (f a : ℕ) (us : List ℕ) (ts : List Token)
-    → s .places + datePlaces (s .behind) (s .left) (markToken f a us ∷ ts)
-    ≡ (partForm s f) .places + datePlaces ((partForm s f) .behind) ((partForm s f) .left) ts
-unfolding datePlaces formSeconds
-part-step s f a us ts =
-    let t = tells f a us in
-    rw (t .zero, t .seconds, t .point, place-form f a us)
-    (by-cases (eqb f 4 && ltb 0 (s .left)) (λ e. rw e) (λ e. rw e (by-cases (placeForm f) (λ p. rw p (omega arith)) (λ p. rw p))))
+-- the places met on one side of the E
+abbrev aside : Bool → Parting → ℕ
+aside behindE s = cond behindE (s .exponents) (s .integers)
 
-part-few : (s : Parting) (f : ℕ) → (partForm s f) .places ≤ s .places + 1
-part-few s f = by-cases (eqb f 4 && ltb 0 (s .left)) (λ e. rw e (omega arith)) (λ e. rw e (by-cases (placeForm f) (λ p. rw p (omega arith)) (λ p. rw p (omega arith))))
+-- those, and those of the tokens behind
+abbrev total : Bool → Parting → List Token → ℕ
+total behindE s ts = aside behindE s + datePlaces behindE (s .exponent) (s .behind) (s .left) ts
+
+step-more : (b met p : Bool) (i e n : ℕ)
+    → cond b e i + cond (p && isAside b met) (suc n) n ≡ cond b (cond (p && met) (e + 1) e) (cond (p && not met) (i + 1) i) + n
+step-more true true true i e n = omega arith
+step-more true false true i e n = omega arith
+step-more false true true i e n = omega arith
+step-more false false true i e n = omega arith
+step-more true met false i e n = refl
+step-more false met false i e n = refl
+
+part-step : (b : Bool) (s : Parting) (f a : ℕ) (us : List ℕ) (ts : List Token) → total b s (markToken f a us ∷ ts) ≡ total b (partForm s f) ts
+unfolding datePlaces
+part-step b s f a us ts =
+    rw (zero-form f a us, seconds-form f a us, point-form f a us, place-form f a us, exponent-form f a us)
+    (by-cases (eqb f 4 && ltb 0 (s .left)) (λ e. rw e) (λ e. rw e (step-more b (s .exponent) (placeForm f) (s .integers) (s .exponents) _)))
+
+part-few : (s : Parting) (f : ℕ) → (partForm s f) .integers + (partForm s f) .exponents ≤ s .integers + s .exponents + 1
+part-few s f = by-cases (eqb f 4 && ltb 0 (s .left)) (λ e. rw e (omega arith)) (λ e. rw e (go (placeForm f) (s .exponent) (s .integers) (s .exponents)))
+  where
+    go : (p met : Bool) (i e : ℕ) → cond (p && not met) (i + 1) i + cond (p && met) (e + 1) e ≤ i + e + 1
+    go true true i e = omega arith
+    go true false i e = omega arith
+    go false met i e = omega arith
 
 -- what the loop of `date_places` keeps
 pub record Passing (ws : List ℕ) (i : ℕ) (s : Parting) : Type 0 where
   pub small : length ws ≤ 762
   pub inside : i ≤ length ws
-  pub few : 3 * s .places ≤ i
-  pub same : (code : List ℕ) → datePlaces false 0 (tokensIn code ws) ≡ s .places + datePlaces (s .behind) (s .left) (tokensIn code (drop i ws))
+  pub few : 3 * (s .integers + s .exponents) ≤ i
+  pub same : (b : Bool) (code : List ℕ) → datePlaces b false false 0 (tokensIn code ws) ≡ total b s (tokensIn code (drop i ws))
 
-pub passing-start : (ws : List ℕ) → length ws ≤ 762 → Passing ws 0 (record { behind = false; left = 0; places = 0 })
-passing-start ws h = record { small = h; inside = omega arith; few = omega arith; same = λ code. omega arith }
+abbrev pub nothingParted : Parting
+nothingParted = record { behind = false; left = 0; exponent = false; integers = 0; exponents = 0 }
+
+pub passing-start : (ws : List ℕ) → length ws ≤ 762 → Passing ws 0 nothingParted
+passing-start ws h =
+    record { small = h; inside = omega arith; few = omega arith; same = λ b code. by-cases b (λ e. rw e (omega arith)) (λ e. rw e (omega arith)) }
 
 module _ {ws : List ℕ} {i : ℕ} {s : Parting} (inv : Passing ws i s) where
-  pub passing-end : length ws ≤ i + 2 → ((code : List ℕ) → s .places ≡ datePlaces false 0 (tokensIn code ws)) × (s .places ≤ 254)
+  passing-side : length ws ≤ i + 2 → (b : Bool) (code : List ℕ) → aside b s ≡ datePlaces b false false 0 (tokensIn code ws)
   unfolding datePlaces
-  passing-end h = ((λ code. let e = rw (tokens-end code ws i h) at (inv .same code) in omega arith), omega (arith, inv .few, inv .inside, inv .small))
+  passing-side h b code = let e = rw (tokens-end code ws i h) at (inv .same b code) in omega arith
+
+  pub passing-end : length ws ≤ i + 2
+      → ((code : List ℕ) → record { integers = s .integers; exponents = s .exponents } ≡ datePlacesOf (tokensIn code ws)) × (s .integers ≤ 254) × (s .exponents ≤ 254)
+  passing-end h =
+      ((λ code. rw (passing-side h false code, passing-side h true code)), omega (arith, inv .few, inv .inside, inv .small), omega (arith, inv .few, inv .inside, inv .small))
 
   pub passing-step : i + 2 < length ws → (r : Parting) → r ≡ partForm s (getD ws i 0) → Passing ws (i + 3) r
   unfolding tokenAt
@@ -149,5 +279,5 @@ module _ {ws : List ℕ} {i : ℕ} {s : Parting} (inv : Passing ws i s) where
     small = inv .small;
     inside = omega arith;
     few = omega (arith, part-few s (getD ws i 0), inv .few);
-    same = λ code. inv .same code ∙ rw (tokens-first code ws i h) (part-step s (getD ws i 0) (getD ws (i + 1) 0) (drop (suc (getD ws (i + 2) 0)) code) (tokensIn code (drop (i + 3) ws)));
+    same = λ b code. inv .same b code ∙ rw (tokens-first code ws i h) (part-step b s (getD ws i 0) (getD ws (i + 1) 0) (drop (suc (getD ws (i + 2) 0)) code) (tokensIn code (drop (i + 3) ws)));
   })

@@ -12,7 +12,7 @@ use Rattle.lists.specs.Lists.{every}
 use Rattle.lists.proofs.Bools.{cond-both}
 use Rattle.lists.proofs.Counts.{every-map}
 use Rattle.formats.specs.Tokens.{Token, Letter}
-use Rattle.formats.specs.Items.{Item, literal, point, integerPlaces, noRun, settled}
+use Rattle.formats.specs.Items.{Item, literal, point, noRun, settled}
 use Rattle.formats.specs.Kinds.{runItem, tokenItems, bodyItems, lastFill}
 use Rattle.formats.proofs.Each.{by-token, by-letter}
 use Rattle.formats.proofs.ItemCount.{settled-length}
@@ -44,22 +44,26 @@ token-pass date =
     (λ h. cond-both (λ (i : Item). T (every isNoMinute (i ∷ []))) date {x = literal 46} {y = point} tt tt)
     (λ h. cond-both (λ (is : List Item). T (every isNoMinute is)) date {x = literal 44 ∷ []} {y = []} tt tt)
     (λ h. tt) (λ h. tt) (λ h. tt) (λ h. tt) (λ x h. tt)
-    (λ l n h. by-letter (λ (k : Letter). T (every isNoMinute (runItem k n ∷ []))) tt tt tt tt tt l) (λ e n h. tt) (λ n h. tt) (λ w h. tt)
+    (λ l n h. by-letter (λ (k : Letter). T (every isNoMinute (runItem k n ∷ []))) tt tt tt tt tt l) (λ e n h. tt) (λ n h. tt) (λ w h. tt) (λ m h. tt)
 
 pub no-minutes : (ts : List Token) → T (every isNoMinute (lastFill (bodyItems ts)))
 no-minutes ts = body-pass (λ (t : Token). true) isNoMinute token-pass (λ n h e. tt) ts (all-pass ts)
 
+pub entries-many : (is : List Item) → length (entriesOf is) ≡ length is
+unfolding entriesOf
+entries-many is = entries-length _ _ is
+
 -- settling keeps how many words there are
 pub settled-size : (ts : List Token) → length (bodyWords ts) ≡ length (emittedWords ts)
-unfolding entriesOf settled
+unfolding settled
 settled-size ts =
     let is = lastFill (bodyItems ts) in
     omega (
       arith,
       length-entries (entriesOf is) [],
       length-entries (entriesOf (settled is)) [],
-      entries-length (14 + integerPlaces is) is,
-      entries-length (14 + integerPlaces (settled is)) (settled is),
+      entries-many is,
+      entries-many (settled is),
       settled-length noRun is,
     )
 

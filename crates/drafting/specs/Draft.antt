@@ -1,17 +1,17 @@
 -- What one section of a code is drafted as, and what the tests and the heads ask of drafts.
 -- Assumes nothing.
-use Prim.Native.Nat.{ℕ, suc, _+_, _-_, _*_}
+use Prim.Native.Nat.{ℕ, _+_, _*_}
 use mathlib.Core.Path.{_≡_}
 use mathlib.Core.Bool.{Bool, true, false, cond, not, _&&_, _||_}
 use mathlib.Core.List.{List, [], _∷_, _++_}
 use mathlib.Core.Option.{Option, none, some}
 use lib.ListN.{length, take}
-use lib.Dec.{ltb, eqb}
+use lib.Dec.{eqb}
 use Rattle.lists.specs.Lists.{isEmpty}
 use Rattle.formats.specs.Tokens.{Token, Written, lex}
 use Rattle.formats.specs.Items.{kindOf, settled}
 use Rattle.formats.specs.Accept.{placedOf, tokensOf, partsIn}
-use Rattle.formats.specs.Kinds.{Parts, partsOf, conditionIn, conditionOf, sectionOf, fits, bodyItems, lastFill, isPlace, isPoint, isZero, isSecondsToken}
+use Rattle.formats.specs.Kinds.{Parts, partsOf, conditionIn, conditionOf, sectionOf, fits, bodyItems, lastFill}
 use Rattle.formats.specs.Limits.{writtenWithin, withinLimits, sectionWithin}
 use Rattle.tables.specs.Words.{entriesWords}
 use Rattle.tables.specs.Encode.{kindWord, operatorWord, negativeWord, wholePart, millionthsPart, bit, shiftWord, hasHalf, decimalsWord, entriesOf}
@@ -24,36 +24,15 @@ use Rattle.drafting.specs.declared.sections.Next.{Next}
 use Rattle.drafting.specs.declared.sections.Drafts.{Drafts}
 use Rattle.writing.specs.Put.{Put}
 use Rattle.bodies.specs.Sections.{firstSection}
-use Rattle.drafting.specs.declared.places.Parting.{Parting}
 use Rattle.bodies.specs.declared.sections.Heading.{Heading}
 use Rattle.bodies.specs.declared.facts.Facts.{Facts}
 use Rattle.bodies.specs.declared.commas.Commas.{Commas}
-use Rattle.bodies.specs.Forms.{placeForm}
 use Rattle.tallies.specs.declared.Tally.{Tally}
 use Rattle.tallies.specs.Tally.{kindTold, itemsFitTold, withinTold, decimalsTold}
 
 -- the words of a body's items in the table
 abbrev pub bodyWords : List Token → List ℕ
 bodyWords ts = entriesWords (entriesOf (settled (lastFill (bodyItems ts)))) []
-
--- the places of a date's items: those of its tokens but the zeros of a part of a second; behind: the token just before is s, ss or
--- an elapsed s; `left` zeros may still belong to a part
-unfoldable pub datePlaces : Bool → ℕ → List Token → ℕ
-datePlaces behind left [] = 0
-datePlaces behind left (t ∷ ts) =
-    let inPart = datePlaces false (left - 1) ts in
-    let other = datePlaces (isSecondsToken t) (cond (behind && isPoint t) 3 0) ts in
-    cond (isZero t && ltb 0 left) inPart (cond (isPlace t) (suc other) other)
-
--- the places met with one token more, by its form
-abbrev pub partForm : Parting → ℕ → Parting
-partForm s f =
-    cond (eqb f 4 && ltb 0 (s .left)) (record { behind = false; left = s .left - 1; places = s .places })
-    (record {
-      behind = eqb f 19 || eqb f 22;
-      left = cond (s .behind && eqb f 7) 3 0;
-      places = cond (placeForm f) (s .places + 1) (s .places);
-    })
 
 -- the condition of a section, if it has one, as numbers; they are only told where its digits are within the limits
 pub record ConditionAs (o : Option Written) (r : Compared) : Type 0 where
@@ -89,8 +68,12 @@ thousandsBy f c = cond (f .number) (c .thousands) 0
 abbrev pub shiftTold : Tally → ℕ → ℕ
 shiftTold t thousands = cond (withinTold t thousands) (shiftOf (kindTold t) (t .percents) thousands) 0
 
+-- a scientific section has no comma, a date any
+abbrev pub commasFitBy : Facts → Commas → Bool
+commasFitBy f c = cond (f .scientific) (not (f .commas)) (f .date || not (c .misplaced))
+
 abbrev pub fitsBy : Facts → Commas → Tally → Bool
-fitsBy f c t = f .plain && (f .date || not (c .misplaced)) && f .solidus && itemsFitTold t
+fitsBy f c t = f .plain && commasFitBy f c && f .solidus && itemsFitTold t
 
 abbrev pub bodyBy : Facts → Commas → Tally → ℕ → Body
 bodyBy f c t items =

@@ -1,7 +1,8 @@
 // One section of a code: what its tokens say of it, with the words of its items.
 use super::Body;
 use super::Draft;
-use super::places::integer_places;
+use super::places::Places;
+use super::places::places_of;
 use bodies::commas::Commas;
 use bodies::commas::commas_of;
 use bodies::conditions::Compared;
@@ -15,23 +16,28 @@ use settling::settle;
 use tables::kinds;
 use tallies::Tally;
 use tallies::decimals_word;
+use tallies::exponent_decimals;
+use tallies::exponent_items_fit;
+use tallies::exponent_kind;
+use tallies::exponent_within;
 use tallies::items_fit;
 use tallies::kind;
 use tallies::tally_words;
 use tallies::within;
 ghost use mathlib.Core.Path.{_≡_};
-ghost use mathlib.Core.Bool.{true};
-ghost use Prim.Native.Nat.{suc, _+_, _*_, _≤_};
+ghost use mathlib.Core.Bool.{true, _&&_};
+ghost use Prim.Native.Nat.{suc, _+_, _*_, _≤_, _<_};
 ghost use lib.Dec.{T};
 ghost use lib.ListN.{length, take, drop};
 ghost use Rattle.lists.specs.Lists.{every, isSome};
 ghost use Rattle.formats.specs.Tokens.{conditionInside};
-ghost use Rattle.formats.specs.Items.{integerPlaces};
 ghost use Rattle.formats.specs.Kinds.{Parts, partsOf, bodyItems};
 ghost use Rattle.marks.specs.Marks.{tokensIn};
 ghost use Rattle.writing.specs.Put.{Put};
 ghost use Rattle.bodies.specs.Bodies.{factsOf};
-ghost use Rattle.drafting.specs.Draft.{bodyWords, ConditionAs, headingCondition, noCondition, thousandsBy, shiftTold, fitsBy, bodyBy, BodyOf, DraftOf, hasDigit};
+ghost use Rattle.drafting.specs.Draft.{bodyWords, ConditionAs, headingCondition, noCondition, thousandsBy, shiftTold, commasFitBy, bodyBy, BodyOf, DraftOf, hasDigit};
+ghost use Rattle.tallies.specs.Tally.{NoExponent};
+ghost use Rattle.drafting.specs.Places.{placesOf};
 
 pub fn no_condition() -> Compared
     ensures { λ r. ⌜ r ≡ noCondition ⌝ }
@@ -69,6 +75,7 @@ fn thousands_of(f: Facts, c: Commas) -> u16
 
 // The head's shift, of a section within the limits.
 fn shift_of(t: Tally, thousands: u16) -> u16
+    requires { ⌜ NoExponent t ⌝ }
     ensures { λ r. ⌜ r ≡ shiftTold t thousands ⌝ }
 {
     if !within(t, thousands) {
@@ -80,19 +87,52 @@ fn shift_of(t: Tally, thousands: u16) -> u16
     15 + 2 * t.percents - 3 * thousands
 }
 
-fn fits(f: Facts, c: Commas, t: Tally) -> bool
-    ensures { λ r. ⌜ r ≡ fitsBy f c t ⌝ }
+// A scientific section has no comma, a date any; elsewhere none is misplaced.
+fn commas_fit(f: Facts, c: Commas) -> bool
+    ensures { λ r. ⌜ r ≡ commasFitBy f c ⌝ }
 {
-    f.plain & (f.date | !c.misplaced) & f.solidus & items_fit(t)
+    if f.scientific {
+        return !f.commas;
+    }
+    f.date | !c.misplaced
 }
 
-// A body by what its tokens and its items say.
-fn body_of(f: Facts, c: Commas, t: Tally, items: u16) -> Body
+// Whether a body fits whose items do, or do not.
+fn fits(f: Facts, c: Commas, items: bool) -> bool
+    ensures { λ r. ⌜ r ≡ (f .plain && commasFitBy f c && f .solidus && items) ⌝ }
+{
+    f.plain & commas_fit(f, c) & f.solidus & items
+}
+
+// A body with an E among its items, by what its tokens and its items say.
+fn exponent_body(f: Facts, c: Commas, t: Tally, items: u16) -> Body
+    requires { ⌜ 0 < t .exponents ⌝ }
     ensures { λ r. ⌜ r ≡ bodyBy f c t items ⌝ }
 {
     let thousands = thousands_of(f, c);
     Body {
-        fits: fits(f, c, t),
+        fits: fits(f, c, exponent_items_fit(t)),
+        within: exponent_within(t, thousands),
+        kind: exponent_kind(t),
+        shift: 0,
+        grouped: f.number & c.grouped,
+        twelve: t.halves,
+        decimals: exponent_decimals(t),
+        items,
+    }
+}
+
+// A body by what its tokens and its items say. (Most have no E, and pay for this test alone.)
+fn body_of(f: Facts, c: Commas, t: Tally, items: u16) -> Body
+    requires { ⌜ (t .exponents ≤ 0 → NoExponent t) ⌝ }
+    ensures { λ r. ⌜ r ≡ bodyBy f c t items ⌝ }
+{
+    if 0 < t.exponents {
+        return exponent_body(f, c, t, items);
+    }
+    let thousands = thousands_of(f, c);
+    Body {
+        fits: fits(f, c, items_fit(t)),
         within: within(t, thousands),
         kind: kind(t),
         shift: shift_of(t, thousands),
@@ -108,15 +148,24 @@ fn put_settled(
     code: &[u16],
     body: &[u16],
     f: Facts,
-    places: u16,
+    places: Places,
     items: &mut [u16],
     at: usize,
 ) -> usize
     requires { ⌜ (length (now code) ≤ 254) × (length (now body) ≤ 762) × (length (now items) ≤ 508) × (at + length (bodyWords (tokensIn (now code) (now body))) ≤ length (now items)) ⌝ }
-    requires { ⌜ (f ≡ factsOf (tokensIn (now code) (now body))) × (places ≤ 254) × (places ≡ integerPlaces (bodyItems (tokensIn (now code) (now body)))) ⌝ }
+    requires { ⌜ (f ≡ factsOf (tokensIn (now code) (now body))) × (places ≡ placesOf (bodyItems (tokensIn (now code) (now body)))) × (places .integers ≤ 254) × (places .exponents ≤ 254) ⌝ }
     ensures { λ r. ⌜ Put (now (items .entry)) at (bodyWords (tokensIn (now (code .entry)) (now (body .entry)))) r (now (items .exit)) ⌝ }
 {
-    let end = put_items(code, body, f.date, f.fills, places, items, at);
+    let end = put_items(
+        code,
+        body,
+        f.date,
+        f.fills,
+        places.integers,
+        places.exponents,
+        items,
+        at,
+    );
     settle(&mut items[at..end]);
     end
 }
@@ -128,8 +177,8 @@ fn draft_body(code: &[u16], body: &[u16], items: &mut [u16], at: usize) -> Body
     ensures put { λ r. ⌜ Put (now (items .entry)) at (bodyWords (tokensIn (now (code .entry)) (now (body .entry)))) (at + 2 * r .items) (now (items .exit)) ⌝ }
 {
     let f = facts_of(body);
-    let c = commas_of(body);
-    let places = integer_places(body, f);
+    let c = commas_of(body, f.commas);
+    let places = places_of(body, f);
     let end = put_settled(code, body, f, places, items, at);
     let t = tally_words(&items[at..end]);
     let size = end - at;

@@ -18,25 +18,25 @@ use Rattle.formats.proofs.ByNumber.{numbered}
 use Rattle.marks.specs.Marks.{markRows, markToken, conditionOf}
 use Rattle.marks.proofs.ByForm.{by-form, fill-form, zero-form, point-form, seconds-form}
 use Rattle.tables.specs.Words.{entriesWords}
-use Rattle.tables.specs.Encode.{entryOf, entriesFrom}
-use Rattle.emitting.specs.Emit.{formSeconds, formDigit, tokenWords, formWords, itemsWords, literalWords}
+use Rattle.tables.specs.Encode.{entryOf}
+use Rattle.emitting.specs.Emit.{formSeconds, formDigit, formWords, itemsWords, literalWords}
 use Rattle.emitting.proofs.Joined.{digitsAfter}
 
 -- the units of a literal are no place and no fill
-literals-digit : (q : ℕ) (us : List ℕ) → digitsAfter q (map literal us) ≡ q
+literals-digit : (anew q : ℕ) (us : List ℕ) → digitsAfter anew q (map literal us) ≡ q
 unfolding digitsAfter digitAfter
-literals-digit q [] = refl
-literals-digit q (u ∷ us) = literals-digit q us
+literals-digit anew q [] = refl
+literals-digit anew q (u ∷ us) = literals-digit anew q us
 
 pub literals-fill : (us : List ℕ) → count isFill (map literal us) ≡ 0
 unfolding count
 literals-fill [] = refl
 literals-fill (u ∷ us) = literals-fill us
 
-literals-words : (q : ℕ) (us : List ℕ) → itemsWords q (map literal us) ≡ literalWords us
+literals-words : (anew q : ℕ) (us : List ℕ) → itemsWords anew q (map literal us) ≡ literalWords us
 unfolding itemsWords entriesWords entryOf digitAfter literalWords along
-literals-words q [] = refl
-literals-words q (u ∷ us) = ap (λ ws. 1 ∷ u ∷ ws) (literals-words q us)
+literals-words anew q [] = refl
+literals-words anew q (u ∷ us) = ap (λ ws. 1 ∷ u ∷ ws) (literals-words anew q us)
 
 -- whether a token is a point, a zero, a fill or seconds
 pub record Told (f : ℕ) (t : Token) : Type 0 where
@@ -50,29 +50,31 @@ unfolding formSeconds
 tells f a us = record { point = point-form f a us; zero = zero-form f a us; fill = fill-form f a us; seconds = seconds-form f a us }
 
 -- the digit that a token leaves behind, by its items and by its form
-rows-leave : (date : Bool) (q a : ℕ) (us : List ℕ) → map (λ (t : Token). digitsAfter q (tokenItems date t)) (markRows a us) ≡ numbered (λ f. formDigit f q) 0 25
+rows-leave : (date : Bool) (anew q a : ℕ) (us : List ℕ)
+    → map (λ (t : Token). digitsAfter anew q (tokenItems date t)) (markRows a us) ≡ numbered (λ f. formDigit anew f q) 0 27
 unfolding markRows conditionOf formDigit tokenItems runItem digitsAfter digitAfter
-rows-leave true q a us = rw (literals-digit q (take a us))
-rows-leave false q a us = rw (literals-digit q (take a us))
+rows-leave true anew q a us = rw (literals-digit anew q (take a us))
+rows-leave false anew q a us = rw (literals-digit anew q (take a us))
 
-pub behind : (date : Bool) (q a : ℕ) (us : List ℕ) (f : ℕ) → digitsAfter q (tokenItems date (markToken f a us)) ≡ formDigit f q
+pub behind : (date : Bool) (anew q a : ℕ) (us : List ℕ) (f : ℕ) → digitsAfter anew q (tokenItems date (markToken f a us)) ≡ formDigit anew f q
 unfolding formDigit tokenItems digitsAfter
-behind date q a us = by-form (λ (t : Token). digitsAfter q (tokenItems date t)) (λ f. formDigit f q) a us (rows-leave date q a us)
-    (λ n h. rw (lt-leb n 6 (omega arith), le-leb 4 n (omega arith)))
+behind date anew q a us = by-form (λ (t : Token). digitsAfter anew q (tokenItems date t)) (λ f. formDigit anew f q) a us (rows-leave date anew q a us)
+    (λ n h. rw (lt-leb n 6 (omega arith), le-leb 4 n (omega arith), lt-leb n 26 (omega arith), le-leb 25 n (omega arith)))
 
--- the words of a token by its form: those of a quoted literal are its units'
+-- the words of a token by its form: those of a quoted literal are its units'; no item of a token stands behind an E
 abbrev wordsForm : Bool → ℕ → ℕ → List ℕ → ℕ → List ℕ
 wordsForm date q a us f = cond (eqb f 0) (literalWords (take a us)) (formWords date q a f)
 
-rows-words : (date : Bool) (q a : ℕ) (us : List ℕ) → map (tokenWords date q) (markRows a us) ≡ numbered (wordsForm date q a us) 0 25
-unfolding markRows conditionOf tokenWords itemsWords tokenItems runItem entriesWords entryOf digitAfter along
-rows-words true q a us = rw (literals-words q (take a us))
-rows-words false q a us = rw (literals-words q (take a us))
+rows-words : (date : Bool) (anew q a : ℕ) (us : List ℕ)
+    → map (λ (t : Token). itemsWords anew q (tokenItems date t)) (markRows a us) ≡ numbered (wordsForm date q a us) 0 27
+unfolding markRows conditionOf itemsWords tokenItems runItem entriesWords entryOf digitAfter along
+rows-words true anew q a us = rw (literals-words anew q (take a us))
+rows-words false anew q a us = rw (literals-words anew q (take a us))
 
-pub words-form : (date : Bool) (q a : ℕ) (us : List ℕ) (f : ℕ) → tokenWords date q (markToken f a us) ≡ wordsForm date q a us f
-unfolding tokenWords itemsWords tokenItems entriesWords along
-words-form date q a us = by-form (tokenWords date q) (wordsForm date q a us) a us (rows-words date q a us)
-    (λ f h. simp (ne-eqb f 0 (omega arith), ne-eqb f 1 (omega arith), ne-eqb f 2 (omega arith), ne-eqb f 3 (omega arith), ne-eqb f 4 (omega arith), ne-eqb f 5 (omega arith), ne-eqb f 6 (omega arith), ne-eqb f 7 (omega arith), ne-eqb f 8 (omega arith), ne-eqb f 9 (omega arith), ne-eqb f 10 (omega arith), ne-eqb f 12 (omega arith), ne-eqb f 13 (omega arith), ne-eqb f 14 (omega arith), ne-eqb f 15 (omega arith), ne-eqb f 16 (omega arith), ne-eqb f 17 (omega arith), ne-eqb f 18 (omega arith), ne-eqb f 19 (omega arith), ne-eqb f 20 (omega arith), ne-eqb f 21 (omega arith), ne-eqb f 22 (omega arith)))
+pub words-form : (date : Bool) (anew q a : ℕ) (us : List ℕ) (f : ℕ) → itemsWords anew q (tokenItems date (markToken f a us)) ≡ wordsForm date q a us f
+unfolding itemsWords tokenItems entriesWords along
+words-form date anew q a us = by-form (λ (t : Token). itemsWords anew q (tokenItems date t)) (wordsForm date q a us) a us (rows-words date anew q a us)
+    (λ f h. simp (ne-eqb f 0 (omega arith), ne-eqb f 1 (omega arith), ne-eqb f 2 (omega arith), ne-eqb f 3 (omega arith), ne-eqb f 4 (omega arith), ne-eqb f 5 (omega arith), ne-eqb f 6 (omega arith), ne-eqb f 7 (omega arith), ne-eqb f 8 (omega arith), ne-eqb f 9 (omega arith), ne-eqb f 10 (omega arith), ne-eqb f 12 (omega arith), ne-eqb f 13 (omega arith), ne-eqb f 14 (omega arith), ne-eqb f 15 (omega arith), ne-eqb f 16 (omega arith), ne-eqb f 17 (omega arith), ne-eqb f 18 (omega arith), ne-eqb f 19 (omega arith), ne-eqb f 20 (omega arith), ne-eqb f 21 (omega arith), ne-eqb f 22 (omega arith), ne-eqb f 25 (omega arith), ne-eqb f 26 (omega arith)))
 
 -- a place's words, by its power
 pub power-words : (tag r q : ℕ) → r ≡ q + 1 → tag ∷ r ∷ [] ≡ tag ∷ suc q ∷ []

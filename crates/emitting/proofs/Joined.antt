@@ -14,23 +14,23 @@ use Rattle.tables.specs.Encode.{entryOf, entriesFrom}
 use Rattle.emitting.specs.Emit.{itemsWords}
 
 -- the digit behind items
-unfoldable pub digitsAfter : ℕ → List Item → ℕ
-digitsAfter q [] = q
-digitsAfter q (i ∷ is) = digitsAfter (digitAfter q i) is
+unfoldable pub digitsAfter : ℕ → ℕ → List Item → ℕ
+digitsAfter anew q [] = q
+digitsAfter anew q (i ∷ is) = digitsAfter anew (digitAfter anew q i) is
 
-entries-append : (q : ℕ) (xs ys : List Item) → entriesFrom q (xs ++ ys) ≡ entriesFrom q xs ++ entriesFrom (digitsAfter q xs) ys
+entries-append : (anew q : ℕ) (xs ys : List Item) → entriesFrom anew q (xs ++ ys) ≡ entriesFrom anew q xs ++ entriesFrom anew (digitsAfter anew q xs) ys
 unfolding digitsAfter along
-entries-append q [] ys = refl
-entries-append q (x ∷ xs) ys = ap (λ es. entryOf q x ∷ es) (entries-append (digitAfter q x) xs ys)
+entries-append anew q [] ys = refl
+entries-append anew q (x ∷ xs) ys = ap (λ es. entryOf q x ∷ es) (entries-append anew (digitAfter anew q x) xs ys)
 
 words-append : (xs ys : List Entry) → entriesWords (xs ++ ys) [] ≡ entriesWords xs [] ++ entriesWords ys []
 unfolding entriesWords
 words-append [] ys = refl
 words-append (x ∷ xs) ys = rw (words-append xs ys)
 
-pub items-append : (q : ℕ) (xs ys : List Item) → itemsWords q (xs ++ ys) ≡ itemsWords q xs ++ itemsWords (digitsAfter q xs) ys
+pub items-append : (anew q : ℕ) (xs ys : List Item) → itemsWords anew q (xs ++ ys) ≡ itemsWords anew q xs ++ itemsWords anew (digitsAfter anew q xs) ys
 unfolding itemsWords
-items-append q xs ys = rw (entries-append q xs ys) (words-append (entriesFrom q xs) (entriesFrom (digitsAfter q xs) ys))
+items-append anew q xs ys = rw (entries-append anew q xs ys) (words-append (entriesFrom anew q xs) (entriesFrom anew (digitsAfter anew q xs) ys))
 
 -- items without a fill stay as they are
 pub fill-append : (xs ys : List Item) → any isFill xs ≡ false → lastFill (xs ++ ys) ≡ xs ++ lastFill ys
@@ -40,9 +40,9 @@ fill-append (x ∷ xs) ys h =
     by-cases (isFill x) (λ e. absurd (true≢false (rw e at h))) (λ e. rw e (ap (λ is. x ∷ is) (fill-append xs ys (rw e at h))))
 
 -- the words of items before others, where the first are no fill
-pub words-first : (q : ℕ) (xs ys : List Item) → any isFill xs ≡ false
-    → itemsWords q (lastFill (xs ++ ys)) ≡ itemsWords q xs ++ itemsWords (digitsAfter q xs) (lastFill ys)
-words-first q xs ys h = rw (fill-append xs ys h) (items-append q xs (lastFill ys))
+pub words-first : (anew q : ℕ) (xs ys : List Item) → any isFill xs ≡ false
+    → itemsWords anew q (lastFill (xs ++ ys)) ≡ itemsWords anew q xs ++ itemsWords anew (digitsAfter anew q xs) (lastFill ys)
+words-first anew q xs ys h = rw (fill-append xs ys h) (items-append anew q xs (lastFill ys))
 
 -- a fill goes where a later one stands, else it is written
 pub fill-goes : (u : ℕ) (ys : List Item) → any isFill ys ≡ true → lastFill (fill u ∷ ys) ≡ lastFill ys

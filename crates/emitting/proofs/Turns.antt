@@ -22,7 +22,7 @@ use Rattle.writing.specs.Put.{Put}
 use Rattle.writing.proofs.Laws.{put-none}
 use Rattle.emitting.specs.declared.Made.{Made}
 use Rattle.emitting.specs.declared.Walk.{Walk}
-use Rattle.emitting.specs.Emit.{emittedFrom, itemsWords, literalWords, formWords, madeWords, pieceOf, formDigit, walkAfter, walkPast, left, fillsLeft, Emitted}
+use Rattle.emitting.specs.Emit.{emittedFrom, itemsWords, literalWords, formWords, madeWords, tokenWords, pieceOf, formDigit, walkAfter, walkPast, left, fillsLeft, Emitted}
 use Rattle.emitting.proofs.Forms.{words-form}
 use Rattle.emitting.proofs.Walks.{fills-step, words-step}
 use Rattle.emitting.proofs.Buffer.{zeros-alone, literals-length}
@@ -43,20 +43,20 @@ module _ (date : Bool) (w : Walk) (n : ℕ) (code : List ℕ) (f a s : ℕ) wher
   piece-part h = simp (ne-eqb n 0 (omega arith))
 
   pub piece-literal : n ≤ 0 → f ≡ 0 → piece ≡ literalWords (take a (drop (s + 1) code))
-  unfolding tokenAt
+  unfolding tokenAt tokenWords
   piece-literal h e =
       let z : n ≡ 0 = omega arith in
-      rw (z, fill-told, e, add-one s) (words-form date (w .digit) a (drop (suc s) code) 0)
+      rw (z, fill-told, e, add-one s) (words-form date (w .digit) (w .digit) a (drop (suc s) code) 0)
 
   pub piece-goes : n ≤ 0 → (eqb f 3 && ltb 1 (w .fills)) ≡ true → piece ≡ []
   piece-goes h e = let z : n ≡ 0 = omega arith in rw (z, fill-told, e)
 
   pub piece-made : n ≤ 0 → (eqb f 3 && ltb 1 (w .fills)) ≡ false → (f ≡ 0 → ⊥)
       → (m : Made) → madeWords m ≡ formWords date (w .digit) a f → piece ≡ madeWords m
-  unfolding tokenAt
+  unfolding tokenAt tokenWords
   piece-made h e g m k =
       let z : n ≡ 0 = omega arith in
-      rw (z, fill-told, e) (words-form date (w .digit) a (drop (suc s) code) f ∙ rw (ne-eqb f 0 g) (sym k))
+      rw (z, fill-told, e) (words-form date (w .digit) (w .digit) a (drop (suc s) code) f ∙ rw (ne-eqb f 0 g) (sym k))
 
 -- how many words they are at most
 pub made-short : (m : Made) → length (madeWords m) ≤ 2
@@ -76,30 +76,31 @@ unfolding emittedFrom
 past-emitted date b zero t ts h = absurd (omega arith)
 past-emitted date b (suc k) t ts h = rw sub-one
 
-digit-least : (f q : ℕ) → formDigit f q ≤ q
+digit-most : (anew f q : ℕ) → anew ≤ 268 → q ≤ 268 → formDigit anew f q ≤ 268
 unfolding formDigit
-digit-least f q = by-cases (leb 4 f && leb f 6) (λ e. rw e (omega arith)) (λ e. rw e (omega arith))
+digit-most anew f q g h =
+    by-cases (leb 4 f && leb f 6) (λ e. rw e (omega arith)) (λ e. rw e (by-cases (leb 25 f && leb f 26) (λ x. rw x g) (λ x. rw x h)))
 
-module _ (date : Bool) (code body : List ℕ) (i : ℕ) (w : Walk) (inside : i + 2 < length body) where
+module _ (date : Bool) (anew : ℕ) (code body : List ℕ) (i : ℕ) (w : Walk) (inside : i + 2 < length body) where
   abbrev first : Token
   first = tokenAt code (getD body i 0) (getD body (i + 1) 0) (getD body (i + 2) 0)
 
   abbrev later : List Token
   later = tokensIn code (drop (i + 3) body)
 
-  pub turn-past : (old : List ℕ) (r : Walk) → r ≡ walkPast w → 0 < w .skip → w .fills ≡ fillsLeft date w (tokensIn code (drop i body))
-      → Emitted date (tokensIn code (drop i body)) later old w r old
+  pub turn-past : (old : List ℕ) (r : Walk) → w .digit ≤ 268 → r ≡ walkPast w → 0 < w .skip → w .fills ≡ fillsLeft date w (tokensIn code (drop i body))
+      → Emitted date anew (tokensIn code (drop i body)) later old w r old
   unfolding left fillsLeft
-  turn-past old r g h e =
+  turn-past old r d g h e =
       let p : emittedFrom date (w .behind) (w .skip) (tokensIn code (drop i body)) ≡ emittedFrom date false (w .skip - 1) later
       = rw (tokens-first code body i inside) (past-emitted date (w .behind) (w .skip) first later h) in
       rw g
       record {
         piece = [];
-        words = ap (λ is. itemsWords (w .digit) (lastFill is)) p;
+        words = ap (λ is. itemsWords anew (w .digit) (lastFill is)) p;
         put = put-none old (w .at);
         fills = e ∙ ap (count isFill) p;
-        digit = omega arith;
+        digit = d;
         near = omega arith;
       }
 
@@ -109,12 +110,12 @@ module _ (date : Bool) (code body : List ℕ) (i : ℕ) (w : Walk) (inside : i +
   unfolding partZeros tokenAt
   zeros-here n e = rw (point-form (getD body i 0) (getD body (i + 1) 0) (drop (suc (getD body (i + 2) 0)) code), zeros-alone code (drop (i + 3) body)) e
 
-  pub turn-put : (old out : List ℕ) (n at : ℕ) (r : Walk) → r ≡ walkAfter w (getD body i 0) n at → w .skip ≤ 0 → w .fills ≡ fillsLeft date w (tokensIn code (drop i body))
+  pub turn-put : (old out : List ℕ) (n at : ℕ) (r : Walk) → anew ≤ 268 → w .digit ≤ 268 → r ≡ walkAfter anew w (getD body i 0) n at → w .skip ≤ 0 → w .fills ≡ fillsLeft date w (tokensIn code (drop i body))
       → n ≡ cond (date && w .behind && eqb (getD body i 0) 7) (min 3 (leadingZeros (tokensIn [] (drop (i + 3) body)))) 0
       → Put old (w .at) (pieceOf date (w .digit) (w .fills) n first) at out → at ≤ w .at + 510
-      → Emitted date (tokensIn code (drop i body)) later old w r out
+      → Emitted date anew (tokensIn code (drop i body)) later old w r out
   unfolding left fillsLeft tokenAt
-  turn-put old out n at r g h e z p near =
+  turn-put old out n at r most d g h e z p near =
       let f = getD body i 0 in
       let a = getD body (i + 1) 0 in
       let us = drop (suc (getD body (i + 2) 0)) code in
@@ -124,10 +125,10 @@ module _ (date : Bool) (code body : List ℕ) (i : ℕ) (w : Walk) (inside : i +
       rw g
       record {
         piece = pieceOf date (w .digit) (w .fills) n first;
-        words = ap (λ is. itemsWords (w .digit) (lastFill is)) s
-            ∙ words-step f date (w .behind) (w .digit) a us later (w .fills) n (zeros-here n z) l;
+        words = ap (λ is. itemsWords anew (w .digit) (lastFill is)) s
+            ∙ words-step f date (w .behind) anew (w .digit) a us later (w .fills) n (zeros-here n z) l;
         put = p;
-        fills = fills-step f date (w .behind) (w .digit) a us later (w .fills) n (zeros-here n z) l;
-        digit = digit-least f (w .digit);
+        fills = fills-step f date (w .behind) anew (w .digit) a us later (w .fills) n (zeros-here n z) l;
+        digit = digit-most anew f (w .digit) most d;
         near = near;
       }

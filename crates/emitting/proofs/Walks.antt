@@ -19,10 +19,10 @@ use Rattle.formats.proofs.Each.{by-token, by-letter}
 use Rattle.formats.proofs.FormedPieces.{zero-case, zeros-follow, zeros-point}
 use Rattle.marks.specs.Marks.{markRows, markToken}
 use Rattle.tables.specs.Words.{entriesWords}
-use Rattle.tables.specs.Encode.{entryOf, entriesFrom}
+use Rattle.tables.specs.Encode.{entryOf}
 use Rattle.emitting.specs.Emit.{emittedFrom, itemsWords, tokenWords, pieceOf, formSeconds, formDigit, formFills}
 use Rattle.emitting.proofs.Joined.{digitsAfter, items-append, words-first, fill-goes, fill-stays}
-use Rattle.emitting.proofs.Forms.{literals-fill, tells, behind}
+use Rattle.emitting.proofs.Forms.{literals-fill, tells, behind, words-form}
 
 none-any : {A : Type 0} (g : A → Bool) (xs : List A) → count g xs ≡ 0 → any g xs ≡ false
 none-any g xs h = by-cases (any g xs) (λ e. absurd (omega (arith, any-count g xs e))) (λ e. e)
@@ -58,7 +58,7 @@ token-fills date =
     by-token (λ (t : Token). count isFill (tokenItems date t) ≡ cond (isFillToken t) 1 0)
     literals-fill (λ u. refl) (λ u. refl) (λ u. refl) (λ p. refl)
     (by-cases date (λ e. rw e) (λ e. rw e)) (by-cases date (λ e. rw e) (λ e. rw e)) refl refl refl refl (λ h. refl)
-    (λ l n. by-letter (λ (k : Letter). count isFill (runItem k n ∷ []) ≡ 0) refl refl refl refl refl l) (λ e n. refl) (λ n. refl) (λ w. refl)
+    (λ l n. by-letter (λ (k : Letter). count isFill (runItem k n ∷ []) ≡ 0) refl refl refl refl refl l) (λ e n. refl) (λ n. refl) (λ w. refl) (λ m. refl)
 
 -- the fills among the items are those among the tokens: what a part of a second takes with it are zeros
 pub fills-emitted : (date b : Bool) (k : ℕ) (ts : List Token) → k ≤ leadingZeros ts → count isFill (emittedFrom date b k ts) ≡ count isFillToken ts
@@ -79,10 +79,10 @@ fills-emitted date b zero (t ∷ ts) h =
     (λ e. rw (e, eqb-true (formOf t) 7 (zeros-point (date && b) t ts e .1)) r)
 
 -- the words that are left
-abbrev pub Words : Bool → Bool → ℕ → ℕ → List Token → List ℕ
-Words date b k q ts = itemsWords q (lastFill (emittedFrom date b k ts))
+abbrev pub Words : Bool → Bool → ℕ → ℕ → ℕ → List Token → List ℕ
+Words date b k anew q ts = itemsWords anew q (lastFill (emittedFrom date b k ts))
 
-module _ (f : ℕ) (date b : Bool) (q a : ℕ) (us : List ℕ) (ts : List Token) where
+module _ (f : ℕ) (date b : Bool) (anew q a : ℕ) (us : List ℕ) (ts : List Token) where
   abbrev t : Token
   t = markToken f a us
 
@@ -95,13 +95,13 @@ module _ (f : ℕ) (date b : Bool) (q a : ℕ) (us : List ℕ) (ts : List Token)
   part-form : (n : ℕ) → n ≡ partZeros (date && b) t ts → eqb n 0 ≡ false → f ≡ 7
   part-form n e z = eqb-true f 7 (sym (tells f a us .point) ∙ zeros-point (date && b) t ts (ap (λ m. eqb m 0) (sym e) ∙ z) .1)
 
-  part-kept : (n : ℕ) → n ≡ partZeros (date && b) t ts → eqb n 0 ≡ false → formDigit f q ≡ q
+  part-kept : (n : ℕ) → n ≡ partZeros (date && b) t ts → eqb n 0 ≡ false → formDigit anew f q ≡ q
   unfolding formDigit
-  part-kept n e z = ap (λ g. formDigit g q) (part-form n e z)
+  part-kept n e z = ap (λ g. formDigit anew g q) (part-form n e z)
 
-  fill-kept : f ≡ 3 → formDigit f q ≡ q
+  fill-kept : f ≡ 3 → formDigit anew f q ≡ q
   unfolding formDigit
-  fill-kept l = ap (λ g. formDigit g q) l
+  fill-kept l = ap (λ g. formDigit anew g q) l
 
   fill-items : f ≡ 3 → tokenItems date t ≡ fill a ∷ []
   unfolding markToken markRows tokenItems
@@ -109,6 +109,11 @@ module _ (f : ℕ) (date b : Bool) (q a : ℕ) (us : List ℕ) (ts : List Token)
 
   no-fill : eqb f 3 ≡ false → any isFill (tokenItems date t) ≡ false
   no-fill l = none-any isFill (tokenItems date t) (token-fills date t ∙ rw (tells f a us .fill, l))
+
+  -- a token's words do not depend on the digit behind an E
+  token-alone : tokenWords date q t ≡ itemsWords anew q (tokenItems date t)
+  unfolding tokenWords
+  token-alone = words-form date q q a us f ∙ sym (words-form date anew q a us f)
 
   -- the fills that follow a token
   pub fills-step : (fills n : ℕ) → n ≡ partZeros (date && b) t ts → fills ≡ count isFill (emittedFrom date b 0 (t ∷ ts)) → formFills f fills ≡ count isFill (later n)
@@ -126,29 +131,27 @@ module _ (f : ℕ) (date b : Bool) (q a : ℕ) (us : List ℕ) (ts : List Token)
 
   -- a token with its items, a fill that goes, and a part of a second
   words-plain : 0 ≡ partZeros (date && b) t ts → eqb f 3 ≡ false
-      → Words date b 0 q (t ∷ ts) ≡ tokenWords date q t ++ Words date (formSeconds f) 0 (formDigit f q) ts
-  unfolding tokenWords
+      → Words date b 0 anew q (t ∷ ts) ≡ tokenWords date q t ++ Words date (formSeconds f) 0 anew (formDigit anew f q) ts
   words-plain e l =
       let none : any isFill (tokenItems date t) ≡ false = no-fill l in
-      rw (first 0 e, words-first q (tokenItems date t) (later 0) none, behind date q a us f)
+      rw (token-alone, first 0 e, words-first anew q (tokenItems date t) (later 0) none, behind date anew q a us f)
 
   words-goes : 0 ≡ partZeros (date && b) t ts → f ≡ 3 → any isFill (later 0) ≡ true
-      → Words date b 0 q (t ∷ ts) ≡ Words date (formSeconds f) 0 (formDigit f q) ts
+      → Words date b 0 anew q (t ∷ ts) ≡ Words date (formSeconds f) 0 anew (formDigit anew f q) ts
   words-goes e l h = rw (first 0 e, fill-items l, fill-goes a (later 0) h, fill-kept l)
 
   words-stays : 0 ≡ partZeros (date && b) t ts → f ≡ 3 → any isFill (later 0) ≡ false
-      → Words date b 0 q (t ∷ ts) ≡ tokenWords date q t ++ Words date (formSeconds f) 0 (formDigit f q) ts
-  unfolding tokenWords
+      → Words date b 0 anew q (t ∷ ts) ≡ tokenWords date q t ++ Words date (formSeconds f) 0 anew (formDigit anew f q) ts
   words-stays e l h =
-      rw (first 0 e, ← (behind date q a us f), fill-items l, fill-stays a (later 0) h)
-      (items-append q (fill a ∷ []) (lastFill (later 0)))
+      rw (token-alone, first 0 e, ← (behind date anew q a us f), fill-items l, fill-stays a (later 0) h)
+      (items-append anew q (fill a ∷ []) (lastFill (later 0)))
 
   words-part : (n : ℕ) → n ≡ partZeros (date && b) t ts → eqb n 0 ≡ false
-      → Words date b 0 q (t ∷ ts) ≡ (17 ∷ n ∷ []) ++ Words date (formSeconds f) n (formDigit f q) ts
+      → Words date b 0 anew q (t ∷ ts) ≡ (17 ∷ n ∷ []) ++ Words date (formSeconds f) n anew (formDigit anew f q) ts
   unfolding itemsWords entriesWords entryOf digitAfter digitsAfter any along
   words-part n e z =
-      let s : Words date b 0 q (t ∷ ts) ≡ itemsWords q (lastFill (part n ∷ later n)) = rw (first n e, z) in
-      s ∙ words-first q (part n ∷ []) (later n) refl ∙ rw (part-kept n e z)
+      let s : Words date b 0 anew q (t ∷ ts) ≡ itemsWords anew q (lastFill (part n ∷ later n)) = rw (first n e, z) in
+      s ∙ words-first anew q (part n ∷ []) (later n) refl ∙ rw (part-kept n e z)
 
   -- whether a later fill stands among the items, by the fills that follow with this one
   fill-later : (fills : ℕ) → 0 ≡ partZeros (date && b) t ts → f ≡ 3 → fills ≡ count isFill (emittedFrom date b 0 (t ∷ ts))
@@ -162,7 +165,7 @@ module _ (f : ℕ) (date b : Bool) (q a : ℕ) (us : List ℕ) (ts : List Token)
 
   -- a token's words, and those that are left behind it
   pub words-step : (fills n : ℕ) → n ≡ partZeros (date && b) t ts → fills ≡ count isFill (emittedFrom date b 0 (t ∷ ts))
-      → Words date b 0 q (t ∷ ts) ≡ pieceOf date q fills n t ++ Words date (formSeconds f) n (formDigit f q) ts
+      → Words date b 0 anew q (t ∷ ts) ≡ pieceOf date q fills n t ++ Words date (formSeconds f) n anew (formDigit anew f q) ts
   words-step fills n e h =
       by-cases (eqb n 0)
       (λ z. let m : n ≡ 0 = eqb-true n 0 z in

@@ -29,12 +29,13 @@ emittedFrom date behindSeconds zero (t ∷ ts) =
     let r = emittedFrom date (isSecondsToken t) n ts in
     cond (eqb n 0) (tokenItems date t ++ r) (part n ∷ r)
 
--- the words of items, where q is the power of the first one's digit and 15
-unfoldable pub itemsWords : ℕ → List Item → List ℕ
-itemsWords q is = entriesWords (entriesFrom q is) []
+-- the words of items, where q is the power of the first one's digit and 15, and `anew` that of the digit behind an E
+unfoldable pub itemsWords : ℕ → ℕ → List Item → List ℕ
+itemsWords anew q is = entriesWords (entriesFrom anew q is) []
 
+-- the words of a token's items, none of which stands behind an E
 unfoldable pub tokenWords : Bool → ℕ → Token → List ℕ
-tokenWords date q t = itemsWords q (tokenItems date t)
+tokenWords date q t = itemsWords q q (tokenItems date t)
 
 unfoldable pub literalWords : List ℕ → List ℕ
 literalWords [] = []
@@ -67,7 +68,9 @@ formWords date q a f =
     (cond (eqb f 19) (16 ∷ a ∷ [])
     (cond (eqb f 20) (18 ∷ a ∷ [])
     (cond (eqb f 21) (19 ∷ a ∷ [])
-    (cond (eqb f 22) (20 ∷ a ∷ []) []))))))))))))))))))))
+    (cond (eqb f 22) (20 ∷ a ∷ [])
+    (cond (eqb f 25) (22 ∷ 0 ∷ [])
+    (cond (eqb f 26) (23 ∷ 0 ∷ []) []))))))))))))))))))))))
 
 -- the words that a token puts: a fill with another behind it puts none, `fills` being how many there are from this token on; where
 -- n is not 0, the token starts a part of a second with n zeros
@@ -75,24 +78,25 @@ abbrev pub pieceOf : Bool → ℕ → ℕ → ℕ → Token → List ℕ
 pieceOf date q fills n t =
     cond (eqb n 0) (cond (isFillToken t && ltb 1 fills) [] (tokenWords date q t)) (17 ∷ n ∷ [])
 
--- what a token of a form leaves behind: whether it is s, ss or an elapsed s, the next digit's power and 15, and the fills that follow
+-- what a token of a form leaves behind: whether it is s, ss or an elapsed s, the next digit's power and 15, which is `anew` behind an E,
+-- and the fills that follow
 unfoldable pub formSeconds : ℕ → Bool
 formSeconds f = eqb f 19 || eqb f 22
 
-unfoldable pub formDigit : ℕ → ℕ → ℕ
-formDigit f q = cond (leb 4 f && leb f 6) (q - 1) q
+unfoldable pub formDigit : ℕ → ℕ → ℕ → ℕ
+formDigit anew f q = cond (leb 4 f && leb f 6) (q - 1) (cond (leb 25 f && leb f 26) anew q)
 
 unfoldable pub formFills : ℕ → ℕ → ℕ
 formFills f n = cond (eqb f 3) (n - 1) n
 
 -- the walk behind a token of the form f whose words end at `at`, where the next n tokens belong to it
-abbrev pub walkAfter : Walk → ℕ → ℕ → ℕ → Walk
-walkAfter w f n at =
+abbrev pub walkAfter : ℕ → Walk → ℕ → ℕ → ℕ → Walk
+walkAfter anew w f n at =
     record {
       at = at;
       behind = formSeconds f;
       skip = n;
-      digit = formDigit f (w .digit);
+      digit = formDigit anew f (w .digit);
       fills = formFills f (w .fills);
     }
 
@@ -101,18 +105,18 @@ abbrev pub walkPast : Walk → Walk
 walkPast w = record { at = w .at; behind = false; skip = w .skip - 1; digit = w .digit; fills = w .fills }
 
 -- the words that a walk has left to write
-unfoldable pub left : Bool → Walk → List Token → List ℕ
-left date w ts = itemsWords (w .digit) (lastFill (emittedFrom date (w .behind) (w .skip) ts))
+unfoldable pub left : Bool → ℕ → Walk → List Token → List ℕ
+left date anew w ts = itemsWords anew (w .digit) (lastFill (emittedFrom date (w .behind) (w .skip) ts))
 
 -- the fills that a walk has left to pass
 unfoldable pub fillsLeft : Bool → Walk → List Token → ℕ
 fillsLeft date w ts = count isFill (emittedFrom date (w .behind) (w .skip) ts)
 
 -- a walk w goes over the first of the tokens ts to the walk r over the later ones, and writes its words
-pub record Emitted (date : Bool) (ts later : List Token) (old : List ℕ) (w r : Walk) (out : List ℕ) : Type 0 where
+pub record Emitted (date : Bool) (anew : ℕ) (ts later : List Token) (old : List ℕ) (w r : Walk) (out : List ℕ) : Type 0 where
   pub piece : List ℕ
-  pub words : left date w ts ≡ piece ++ left date r later
+  pub words : left date anew w ts ≡ piece ++ left date anew r later
   pub put : Put old (w .at) piece (r .at) out
   pub fills : r .fills ≡ fillsLeft date r later
-  pub digit : r .digit ≤ w .digit
+  pub digit : r .digit ≤ 268
   pub near : r .at ≤ w .at + 510

@@ -5,11 +5,11 @@ use writing::put_unit;
 ghost use mathlib.Core.Path.{_≡_};
 ghost use mathlib.Core.Bool.{false, cond, _&&_};
 ghost use mathlib.Core.List.{[], _∷_};
-ghost use Prim.Native.Nat.{_+_, _≤_, _<_, _^_, min};
+ghost use Prim.Native.Nat.{_+_, _-_, _≤_, _<_, _^_, min};
 ghost use lib.ListN.{length, take, drop};
 ghost use lib.Dec.{ltb, eqb};
 ghost use Rattle.lists.specs.Lists.{count};
-ghost use Rattle.formats.specs.Items.{dateKind, sameKind, integerPlaces};
+ghost use Rattle.formats.specs.Items.{dateKind, sameKind, integerPlaces, exponentPlaces};
 ghost use Rattle.formats.specs.Kinds.{isFillToken, bodyKind, bodyItems, leadingZeros};
 ghost use Rattle.marks.specs.Marks.{tokenAt, tokensIn};
 ghost use Rattle.writing.specs.Put.{Put};
@@ -110,6 +110,8 @@ fn item_of(form: u16, argument: u16, date: bool, digit: u16) -> Made
         forms::ELAPSED_HOURS => Made(tags::ELAPSED_HOURS, argument),
         forms::ELAPSED_MINUTES => Made(tags::ELAPSED_MINUTES, argument),
         forms::ELAPSED_SECONDS => Made(tags::ELAPSED_SECONDS, argument),
+        forms::EXPONENT_PLUS => Made(tags::EXPONENT_PLUS, 0),
+        forms::EXPONENT_MINUS => Made(tags::EXPONENT_MINUS, 0),
         _ => Made(0, 0),
     }
 }
@@ -121,18 +123,26 @@ fn seconds_at(form: u16) -> bool
     (form == forms::SECONDS) | (form == forms::ELAPSED_SECONDS)
 }
 
-// The power of the next digit behind a token, and 15. It stays at 0 behind the fifteenth decimal place, as the table's definition
-// has it; such a section is refused elsewhere.
-fn digit_after(form: u16, digit: u16) -> u16
-    ensures { λ r. ⌜ r ≡ formDigit form digit ⌝ }
+// One power lower. It stays at 0 behind the fifteenth decimal place, as the table's definition has it; such a section is refused
+// elsewhere.
+fn lowered(digit: u16) -> u16
+    ensures { λ r. ⌜ r ≡ digit - 1 ⌝ }
 {
-    if (forms::ZERO_PLACE <= form) & (form <= forms::SPACE_PLACE) {
-        if digit == 0 {
-            return 0;
-        }
-        return digit - 1;
+    if digit == 0 { 0 } else { digit - 1 }
+}
+
+// The power of the next digit behind a token, and 15: behind an E the digits begin anew. (A `match`, which is one jump for all forms.)
+fn digit_after(form: u16, digit: u16, anew: u16) -> u16
+    ensures { λ r. ⌜ r ≡ formDigit anew form digit ⌝ }
+{
+    match form {
+        forms::ZERO_PLACE => lowered(digit),
+        forms::HASH_PLACE => lowered(digit),
+        forms::SPACE_PLACE => lowered(digit),
+        forms::EXPONENT_PLUS => anew,
+        forms::EXPONENT_MINUS => anew,
+        _ => digit,
     }
-    digit
 }
 
 // How many fills follow behind a token.
@@ -214,15 +224,16 @@ fn put_form(
     put_made(room, w.at, item_of(form, argument, date, w.digit))
 }
 
-// The walk behind a token whose words end at the place `at`, where the next n tokens belong to its part of a second.
-fn walked(w: Walk, form: u16, n: u16, at: usize) -> Walk
-    ensures { λ r. ⌜ r ≡ walkAfter w form n at ⌝ }
+// The walk behind a token whose words end at the place `at`, where the next n tokens belong to its part of a second, and `anew` is the digit
+// behind an E.
+fn walked(w: Walk, form: u16, n: u16, at: usize, anew: u16) -> Walk
+    ensures { λ r. ⌜ r ≡ walkAfter anew w form n at ⌝ }
 {
     Walk {
         at: at,
         behind: seconds_at(form),
         skip: n,
-        digit: digit_after(form, w.digit),
+        digit: digit_after(form, w.digit, anew),
         fills: fills_after(form, w.fills),
     }
 }
@@ -242,10 +253,18 @@ fn passed(w: Walk) -> Walk
 }
 
 // Goes over the token at the place i of the body, and puts its words.
-fn put_token(room: &mut [u16], w: Walk, code: &[u16], body: &[u16], i: usize, date: bool) -> Walk
-    requires { ⌜ (w .at < 2 ^ 60) × (w .digit < 2 ^ 15) × (length (now code) ≤ 254) × (length (now body) ≤ 762) × (i + 2 < length (now body)) ⌝ }
+fn put_token(
+    room: &mut [u16],
+    w: Walk,
+    code: &[u16],
+    body: &[u16],
+    i: usize,
+    date: bool,
+    anew: u16,
+) -> Walk
+    requires { ⌜ (w .at < 2 ^ 60) × (w .digit ≤ 268) × (length (now code) ≤ 254) × (length (now body) ≤ 762) × (i + 2 < length (now body)) × (anew ≤ 268) ⌝ }
     requires { ⌜ w .fills ≡ fillsLeft date w (tokensIn (now code) (drop i (now body))) ⌝ }
-    ensures { λ r. ⌜ Emitted date (tokensIn (now (code .entry)) (drop i (now (body .entry)))) (tokensIn (now (code .entry)) (drop (i + 3) (now (body .entry)))) (now (room .entry)) w r (now (room .exit)) ⌝ }
+    ensures { λ r. ⌜ Emitted date anew (tokensIn (now (code .entry)) (drop i (now (body .entry)))) (tokensIn (now (code .entry)) (drop (i + 3) (now (body .entry)))) (now (room .entry)) w r (now (room .exit)) ⌝ }
 {
     if 0 < w.skip {
         return passed(w);
@@ -253,26 +272,30 @@ fn put_token(room: &mut [u16], w: Walk, code: &[u16], body: &[u16], i: usize, da
     let form = body[i];
     let n = part_zeros(body, i + 3, form, date, w.behind);
     let at = put_form(room, w, code, form, body[i + 1], body[i + 2], date, n);
-    walked(w, form, n, at)
+    walked(w, form, n, at, anew)
 }
 
 // Puts the words of the items of a section's body at `at`, every m as a month. The body's tokens stand three words each; `date` says whether it is a
-// date's, `fills` how many fills it has, and `integers` how many integer places. Words past the room's end are counted, not put.
+// date's, `fills` how many fills it has, `integers` how many integer places, and `exponents` how many exponent places. Words past the room's end
+// are counted, not put.
 pub fn put_items(
     code: &[u16],
     body: &[u16],
     date: bool,
     fills: u16,
     integers: u16,
+    exponents: u16,
     room: &mut [u16],
     at: usize,
 ) -> usize
-    requires { ⌜ (at < 2 ^ 59) × (length (now code) ≤ 254) × (length (now body) ≤ 762) × (integers ≤ 254) ⌝ }
+    requires { ⌜ (at < 2 ^ 59) × (length (now code) ≤ 254) × (length (now body) ≤ 762) × (integers ≤ 254) × (exponents ≤ 254) ⌝ }
     requires { ⌜ date ≡ sameKind (bodyKind (tokensIn (now code) (now body))) dateKind ⌝ }
     requires { ⌜ fills ≡ count isFillToken (tokensIn (now code) (now body)) ⌝ }
     requires { ⌜ integers ≡ integerPlaces (bodyItems (tokensIn (now code) (now body))) ⌝ }
+    requires { ⌜ exponents ≡ exponentPlaces (bodyItems (tokensIn (now code) (now body))) ⌝ }
     ensures { λ r. ⌜ Put (now (room .entry)) at (emittedWords (tokensIn (now (code .entry)) (now (body .entry)))) r (now (room .exit)) ⌝ }
 {
+    let anew = 14 + exponents;
     let mut w = Walk {
         at: at,
         behind: false,
@@ -282,7 +305,7 @@ pub fn put_items(
     };
     let mut i = 0;
     while i + 2 < body.len() {
-        w = put_token(room, w, code, body, i, date);
+        w = put_token(room, w, code, body, i, date, anew);
         i += 3;
     }
     w.at

@@ -13,7 +13,7 @@ use Rattle.lists.specs.Lists.{every, any}
 use Rattle.lists.proofs.Apart.{Apart, known, none-of}
 use Rattle.lists.proofs.Bools.{by-cases, every-head, every-tail}
 use Rattle.calendar.specs.Names.{units}
-use Rattle.formats.specs.Tokens.{Step, broken, marked, runStep, bracketed, FirstRow, firstRows, firstIn, bareLiterals, stepBy, stepAt}
+use Rattle.formats.specs.Tokens.{Step, broken, marked, exponentWord, runStep, bracketed, FirstRow, firstRows, firstIn, bareLiterals, stepBy, stepAt}
 use Rattle.lexing.specs.declared.Step.{Step as FoundStep}
 use Rattle.lexing.specs.declared.Step.the-variants.{Read, Broken}
 use Rattle.marks.specs.Marks.{markToken, markRows}
@@ -34,7 +34,7 @@ module _ (k u : ℕ) (us : List ℕ) where
     pub letter-low : 15 ≤ k
     letter-low = omega arith
 
-    behind-words : classStep k u us ≡ cond (leb k 19) (runStep (letterAt k) u us) (cond (eqb k 20) (bracketed us) broken)
+    behind-words : classStep k u us ≡ cond (leb k 19) (runStep (letterAt k) u us) (cond (eqb k 20) (bracketed us) (cond (eqb k 22) (exponentWord (69 ∷ us)) broken))
     unfolding classStep
     behind-words =
         let h = letter-low in
@@ -43,9 +43,9 @@ module _ (k u : ℕ) (us : List ℕ) where
     pub class-letter : k < 20 → runStep (letterAt k) u us ≡ classStep k u us
     class-letter h = sym (behind-words ∙ rw (le-leb k 19 (omega arith)))
 
-    pub class-none : 20 ≤ k → (k ≡ 20 → ⊥) → stepBehind us Broken ≡ classStep k u us
+    pub class-none : 20 ≤ k → (k ≡ 20 → ⊥) → (k ≡ 22 → ⊥) → stepBehind us Broken ≡ classStep k u us
     unfolding stepBehind
-    class-none h d = sym (behind-words ∙ rw (lt-leb k 19 h, ne-eqb k 20 d))
+    class-none h d e = sym (behind-words ∙ rw (lt-leb k 19 h, ne-eqb k 20 d, ne-eqb k 22 e))
 
 -- ---- a unit's class
 -- each row's step is that of its class
@@ -68,7 +68,7 @@ class-rows (r ∷ rs) (k ∷ ks) u us t =
 rows-fit : (us : List ℕ) → Rows firstRows classNumbers us
 unfolding firstRows classNumbers stepBy classStep letterAt markToken markRows
 rows-fit us =
-    (refl, (refl, (refl, (refl, (refl, (refl, (refl, (refl, (refl, (refl, (refl, (refl, (refl, (refl, (refl, (refl, (refl, (refl, (refl, (refl, tt))))))))))))))))))))
+    (refl, (refl, (refl, (refl, (refl, (refl, (refl, (refl, (refl, (refl, (refl, (refl, (refl, (refl, (refl, (refl, (refl, (refl, (refl, (refl, (refl, tt)))))))))))))))))))))
 
 pub class-step : (k u : ℕ) (us : List ℕ) → k ≡ classOf u → (x : Step) → x ≡ classStep k u us → x ≡ stepAt u us
 unfolding classOf stepAt

@@ -10,7 +10,7 @@ use borrow.Author.Tests.{eq-eqb, ne-eqb}
 use lib.Dec.{eqb}
 use lib.ListN.{length, getD, List·getD-eq-default}
 use Rattle.calendar.specs.Names.{units}
-use Rattle.formats.specs.Tokens.{letterY, letterM, letterD, letterH, letterS, Token, literal, run, before, leading, startsWith, quoted, marked, generalWord, halfDayWord, runAllowed, runStep}
+use Rattle.formats.specs.Tokens.{letterY, letterM, letterD, letterH, letterS, Token, literal, run, before, leading, startsWith, quoted, marked, generalWord, halfDayWord, exponentWord, runAllowed, runStep}
 use Rattle.lexing.specs.declared.Step.the-variants.{Read, Broken}
 use Rattle.lexing.specs.declared.scan.Set.the-variants.{But}
 use Rattle.lexing.specs.Scan.{member}
@@ -75,6 +75,19 @@ module _ (us : List ℕ) where
   pub half-none : startsWith (units "M/PM") us ≡ false → startsWith (units "/P") us ≡ false → stepBehind us Broken ≡ halfDayWord (65 ∷ us)
   unfolding halfDayWord units startsWith stepBehind
   half-none e f = rw (e, f)
+
+  pub exponent-plus : startsWith (units "+") us ≡ true → stepBehind us (Read (record { form = 25; argument = 0 }) 1) ≡ exponentWord (69 ∷ us)
+  unfolding exponentWord units startsWith stepBehind markToken markRows
+  exponent-plus e = rw e
+
+  pub exponent-minus : startsWith (units "+") us ≡ false → startsWith (units "-") us ≡ true
+      → stepBehind us (Read (record { form = 26; argument = 0 }) 1) ≡ exponentWord (69 ∷ us)
+  unfolding exponentWord units startsWith stepBehind markToken markRows
+  exponent-minus e f = rw (e, f)
+
+  pub exponent-none : startsWith (units "+") us ≡ false → startsWith (units "-") us ≡ false → stepBehind us Broken ≡ exponentWord (69 ∷ us)
+  unfolding exponentWord units startsWith stepBehind
+  exponent-none e f = rw (e, f)
 
 -- ---- runs
 -- the letter of no other form

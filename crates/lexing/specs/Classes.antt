@@ -7,7 +7,7 @@ use mathlib.Core.List.{List, [], _∷_}
 use lib.ListN.{getD}
 use lib.Dec.{leb, eqb}
 use Rattle.lists.specs.Lists.{any}
-use Rattle.formats.specs.Tokens.{Letter, letterY, letterM, letterD, letterH, letterS, literal, bare, Step, read, broken, quoted, marked, generalWord, halfDayWord, runStep, bracketed, FirstRow, firstRows, bareLiterals}
+use Rattle.formats.specs.Tokens.{Letter, letterY, letterM, letterD, letterH, letterS, literal, bare, Step, read, broken, quoted, marked, generalWord, halfDayWord, exponentWord, runStep, bracketed, FirstRow, firstRows, bareLiterals}
 use Rattle.marks.specs.Marks.{markToken}
 
 -- the letter of a run's form
@@ -16,7 +16,7 @@ letterAt form = getD (letterY ∷ letterM ∷ letterD ∷ letterH ∷ []) (form 
 
 -- the class of each row of `firstRows`, in its order
 unfoldable pub classNumbers : List ℕ
-classNumbers = 0 ∷ 14 ∷ 2 ∷ 3 ∷ 20 ∷ 12 ∷ 13 ∷ 15 ∷ 16 ∷ 17 ∷ 18 ∷ 19 ∷ 4 ∷ 5 ∷ 6 ∷ 7 ∷ 8 ∷ 9 ∷ 10 ∷ 11 ∷ []
+classNumbers = 0 ∷ 14 ∷ 2 ∷ 3 ∷ 20 ∷ 12 ∷ 13 ∷ 22 ∷ 15 ∷ 16 ∷ 17 ∷ 18 ∷ 19 ∷ 4 ∷ 5 ∷ 6 ∷ 7 ∷ 8 ∷ 9 ∷ 10 ∷ 11 ∷ []
 
 -- the class of a unit without a row: 1 for a literal without quotes, else 21
 unfoldable pub bareClass : ℕ → ℕ
@@ -42,4 +42,5 @@ classStep k u us =
     (cond (eqb k 13) (halfDayWord (code "A" ∷ us))
     (cond (eqb k 14) (marked (λ (v : ℕ). literal (v ∷ [])) us)
     (cond (leb k 19) (runStep (letterAt k) u us)
-    (cond (eqb k 20) (bracketed us) broken))))))))
+    (cond (eqb k 20) (bracketed us)
+    (cond (eqb k 22) (exponentWord (code "E" ∷ us)) broken)))))))))

@@ -31,6 +31,8 @@ pub const BRACKET: u16 = 20;
 
 pub const NOTHING: u16 = 21;
 
+pub const EXPONENT_WORD: u16 = 22;
+
 // The class of a unit without a row of its own. (An arm for each unit: arms joined by `|` are compiled to tests in a row.)
 fn bare_class(ascii: u8) -> u16
     ensures { λ r. ⌜ r ≡ bareClass ascii ⌝ }
@@ -74,6 +76,7 @@ pub fn class_of(u: u16) -> u16
         b'[' => BRACKET,
         b'G' => GENERAL_WORD,
         b'A' => HALF_DAY_WORD,
+        b'E' => EXPONENT_WORD,
         b'y' => YEARS,
         b'm' => MONTHS,
         b'd' => DAYS,

@@ -5,6 +5,8 @@ use super::scan::Set;
 use super::scan::scan;
 use super::scan::starts_with;
 use marks::forms::DAYS;
+use marks::forms::EXPONENT_MINUS;
+use marks::forms::EXPONENT_PLUS;
 use marks::forms::GENERAL;
 use marks::forms::HOURS;
 use marks::forms::LITERAL;
@@ -16,7 +18,7 @@ ghost use mathlib.Core.Path.{_≡_};
 ghost use mathlib.Core.List.{[], _∷_};
 ghost use Prim.Native.Nat.{ℕ, _+_, _≤_};
 ghost use lib.ListN.{length};
-ghost use Rattle.formats.specs.Tokens.{literal, quoted, marked, generalWord, halfDayWord, runAllowed, runStep};
+ghost use Rattle.formats.specs.Tokens.{literal, quoted, marked, generalWord, halfDayWord, exponentWord, runAllowed, runStep};
 ghost use Rattle.marks.specs.Marks.{markToken};
 ghost use Rattle.lexing.specs.Marks.{stepBehind};
 ghost use Rattle.lexing.specs.Classes.{letterAt};
@@ -107,6 +109,31 @@ pub fn half_day_word(us: &[u16]) -> Step
                 argument: 0,
             },
             2,
+        );
+    }
+    Step::Broken
+}
+
+// Behind an E: a plus or a minus.
+pub fn exponent_word(us: &[u16]) -> Step
+    ensures { λ r. ⌜ stepBehind (now (us .entry)) r ≡ exponentWord (69 ∷ now (us .entry)) ⌝ }
+{
+    if starts_with(us, b"+") {
+        return Step::Read(
+            Mark {
+                form: EXPONENT_PLUS,
+                argument: 0,
+            },
+            1,
+        );
+    }
+    if starts_with(us, b"-") {
+        return Step::Read(
+            Mark {
+                form: EXPONENT_MINUS,
+                argument: 0,
+            },
+            1,
         );
     }
     Step::Broken

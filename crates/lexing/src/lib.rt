@@ -8,11 +8,13 @@ pub mod scan;
 use brackets::bracketed_token;
 use classes::BRACKET;
 use classes::ESCAPED;
+use classes::EXPONENT_WORD;
 use classes::GENERAL_WORD;
 use classes::HALF_DAY_WORD;
 use classes::QUOTED;
 use classes::class_of;
 use forms::escaped_literal;
+use forms::exponent_word;
 use forms::general_word;
 use forms::half_day_word;
 use forms::letter_run;
@@ -71,6 +73,7 @@ fn step_of(u: u16, us: &[u16]) -> Step
         ESCAPED => escaped_literal(us),
         YEARS..=SECONDS => letter_run(us, class, u),
         BRACKET => bracketed_token(us),
+        EXPONENT_WORD => exponent_word(us),
         _ => Step::Broken,
     }
 }

@@ -9,15 +9,15 @@ use borrow.Author.Tests.{ne-eqb, le-leb, lt-leb}
 use lib.Dec.{leb, eqb}
 use Rattle.formats.proofs.ByNumber.{numbered, by-number}
 use Rattle.formats.specs.Tokens.{Token, literal}
-use Rattle.formats.specs.Kinds.{isPlace, isPoint, isSemicolon, isColour, isCondition, isFillToken, colourIn, isSecondsToken, isZero}
+use Rattle.formats.specs.Kinds.{isPlace, isPoint, isSemicolon, isColour, isCondition, isExponent, isFillToken, colourIn, isSecondsToken, isZero}
 use Rattle.marks.specs.Marks.{markRows, markToken, conditionOf}
 
 -- what g says of a token is what h says of its form and argument: a computed test of the forms, and one of the literal without units
 module _ {B : Type 0} (g : Token → B) (h : ℕ → B) (a : ℕ) (us : List ℕ) where
-  pub by-form : map g (markRows a us) ≡ numbered h 0 25 → ((f : ℕ) → 25 ≤ f → g (literal []) ≡ h f)
+  pub by-form : map g (markRows a us) ≡ numbered h 0 27 → ((f : ℕ) → 27 ≤ f → g (literal []) ≡ h f)
       → (f : ℕ) → g (markToken f a us) ≡ h f
   unfolding markToken
-  by-form = by-number g h (markRows a us) 25 (literal [])
+  by-form = by-number g h (markRows a us) 27 (literal [])
 
 module _ (f a : ℕ) (us : List ℕ) where
   pub fill-form : isFillToken (markToken f a us) ≡ eqb f 3
@@ -51,6 +51,10 @@ module _ (f a : ℕ) (us : List ℕ) where
   pub condition-form : isCondition (markToken f a us) ≡ eqb f 24
   unfolding markRows conditionOf
   condition-form = by-form isCondition (λ (n : ℕ). eqb n 24) a us refl (λ n h. sym (ne-eqb n 24 (omega arith))) f
+
+  pub exponent-form : isExponent (markToken f a us) ≡ (leb 25 f && leb f 26)
+  unfolding markRows conditionOf
+  exponent-form = by-form isExponent (λ (n : ℕ). leb 25 n && leb n 26) a us refl (λ n h. sym (simp (le-leb 25 n (omega arith), lt-leb n 26 (omega arith)))) f
 
   pub colour-argument : f ≡ 23 → colourIn (markToken f a us) ≡ a
   unfolding markToken markRows colourIn

@@ -48,3 +48,7 @@ pub const ELAPSED_SECONDS: u16 = 22;
 pub const COLOUR: u16 = 23;
 
 pub const CONDITION: u16 = 24;
+
+pub const EXPONENT_PLUS: u16 = 25;
+
+pub const EXPONENT_MINUS: u16 = 26;

@@ -11,9 +11,9 @@ use lib.Dec.{T, leb, eqb}
 use borrow.Author.Tests.{eqb-true, lt-leb, ne-eqb}
 use Rattle.lists.specs.Lists.{every}
 use Rattle.lists.proofs.Bools.{and-parts, by-cases, every-head, every-tail}
-use Rattle.formats.specs.Items.{Item, integerPlaces, Run, noRun, isHourRun, runOf, nearer, firstRun, settledItem, settledFrom, settled}
-use Rattle.formats.specs.Text.{digitAfter, along}
-use Rattle.formats.proofs.FormedItems.{settled-kept, places-settled}
+use Rattle.formats.specs.Items.{Item, integerPlaces, exponentPlaces, Run, noRun, isHourRun, runOf, nearer, firstRun, settledItem, settledFrom, settled}
+use Rattle.formats.specs.Text.{digitAfter, along, firstOf}
+use Rattle.formats.proofs.FormedItems.{settled-kept, places-settled, exponents-settled}
 use Rattle.tables.specs.Words.{entriesWords}
 use Rattle.tables.specs.Encode.{tagOf, entryOf, entriesFrom, entriesOf}
 use Rattle.settling.specs.Settle.{isNoMinute, secondsIn, hoursAfter, settledAt}
@@ -36,8 +36,12 @@ module _ (ws : List ℕ) (i : ℕ) (hours : Bool) where
   item-other e = rw e
 
 -- ---- the loop
-abbrev wordsFrom : ℕ → List Item → List ℕ
-wordsFrom q is = entriesWords (entriesFrom q is) []
+abbrev wordsFrom : ℕ → ℕ → List Item → List ℕ
+wordsFrom anew q is = entriesWords (entriesFrom anew q is) []
+
+-- the digit behind an E
+abbrev anewIn : List Item → ℕ
+anewIn is = firstOf (exponentPlaces is)
 
 -- the words behind those that are settled are those of the items that are left
 pub record Going (is : List Item) (room : List ℕ) (hours : Bool) (i : ℕ) : Type 0 where
@@ -48,8 +52,8 @@ pub record Going (is : List Item) (room : List ℕ) (hours : Bool) (i : ℕ) : T
   pub hourly : isHourRun earlier ≡ hours
   pub size : length done ≡ i
   pub months : T (every isNoMinute left)
-  pub rest : room ≡ done ++ wordsFrom digit left
-  pub whole : entriesWords (entriesOf (settled is)) [] ≡ done ++ wordsFrom digit (settledFrom earlier left)
+  pub rest : room ≡ done ++ wordsFrom (anewIn is) digit left
+  pub whole : entriesWords (entriesOf (settled is)) [] ≡ done ++ wordsFrom (anewIn is) digit (settledFrom earlier left)
 
 pub going-start : (is : List Item) (room : List ℕ) → T (every isNoMinute is) → room ≡ entriesWords (entriesOf is) [] → Going is room false 0
 unfolding entriesOf settled
@@ -57,12 +61,12 @@ going-start is room m e = record {
   earlier = noRun;
   done = [];
   left = is;
-  digit = 14 + integerPlaces is;
+  digit = firstOf (integerPlaces is);
   hourly = refl;
   size = refl;
   months = m;
   rest = e;
-  whole = rw (places-settled noRun is);
+  whole = rw (places-settled noRun is, exponents-settled noRun is);
 }
 
 -- the words of an item behind those that are settled
@@ -78,24 +82,27 @@ entry-tag q i = refl
 
 -- an item is settled, and those behind it are left
 step-cons : (is : List Item) (e : Run) (done : List ℕ) (j : Item) (js : List Item) (q : ℕ) → T (every isNoMinute (j ∷ js))
-    → entriesWords (entriesOf (settled is)) [] ≡ done ++ wordsFrom q (settledFrom e (j ∷ js))
-    → Going is (settledAt (done ++ wordsFrom q (j ∷ js)) (length done) (isHourRun e)) (hoursAfter (getD (done ++ wordsFrom q (j ∷ js)) (length done) 0) (isHourRun e)) (length done + 2)
+    → entriesWords (entriesOf (settled is)) [] ≡ done ++ wordsFrom (anewIn is) q (settledFrom e (j ∷ js))
+    → Going is (settledAt (done ++ wordsFrom (anewIn is) q (j ∷ js)) (length done) (isHourRun e))
+    (hoursAfter (getD (done ++ wordsFrom (anewIn is) q (j ∷ js)) (length done) 0) (isHourRun e)) (length done + 2)
 unfolding entriesWords settledFrom digitAfter along
 step-cons is e done j js q m w =
     let l = firstRun js in
     let x = entryOf q (settledItem e l j) in
-    let d : digitAfter q (settledItem e l j) ≡ digitAfter q j = settled-kept (digitAfter q) (λ n. refl) e l j in
-    let ws = wordsFrom (digitAfter q j) js in
+    let anew = anewIn is in
+    let r = digitAfter anew q j in
+    let d : digitAfter anew q (settledItem e l j) ≡ r = settled-kept (digitAfter anew q) (λ n. refl) e l j in
+    let ws = wordsFrom anew r js in
     record {
       earlier = nearer (runOf j) e;
       done = done ++ (x .tag ∷ x .argument ∷ []);
       left = js;
-      digit = digitAfter q j;
+      digit = r;
       hourly = tag-tells j e .1 ∙ rw (getD-append-seam done (entryOf q j .tag) (entryOf q j .argument ∷ ws) 0, entry-tag q j);
       size = length-append done (x .tag ∷ x .argument ∷ []);
       months = every-tail isNoMinute j js m;
       rest = settled-words done ws (entryOf q j .tag) (entryOf q j .argument) (isHourRun e)
-          ∙ rw (seconds-first (digitAfter q j) js, entry-tag q j, tag-settled q e l j (every-head isNoMinute j js m)) (sym (append-assoc done _ ws));
+          ∙ rw (seconds-first anew r js, entry-tag q j, tag-settled q e l j (every-head isNoMinute j js m)) (sym (append-assoc done _ ws));
       whole = w ∙ rw d (sym (append-assoc done (x .tag ∷ x .argument ∷ []) _));
     }
 
@@ -104,8 +111,8 @@ pub going-step : {is : List Item} {room : List ℕ} {hours : Bool} {i : ℕ} (ou
 unfolding entriesWords along
 going-step {is} {room} {hours} {i} out r g h a b = from (g .left) (g .months) (g .rest) (g .whole)
   where
-    from : (js : List Item) → T (every isNoMinute js) → room ≡ g .done ++ wordsFrom (g .digit) js
-        → entriesWords (entriesOf (settled is)) [] ≡ g .done ++ wordsFrom (g .digit) (settledFrom (g .earlier) js) → Going is out r (i + 2)
+    from : (js : List Item) → T (every isNoMinute js) → room ≡ g .done ++ wordsFrom (anewIn is) (g .digit) js
+        → entriesWords (entriesOf (settled is)) [] ≡ g .done ++ wordsFrom (anewIn is) (g .digit) (settledFrom (g .earlier) js) → Going is out r (i + 2)
     from [] m e w = absurd (omega (arith, ap length e, length-append (g .done) [], g .size))
     from (j ∷ js) m e w = rw (b, a, e, ← (g .size), ← (g .hourly)) (step-cons is (g .earlier) (g .done) j js (g .digit) m w)
 
@@ -114,7 +121,7 @@ pub going-end : {is : List Item} {room : List ℕ} {hours : Bool} {i : ℕ} → 
 unfolding entriesWords settledFrom along
 going-end {is} {room} {i = i} g h = from (g .left) (g .rest) (g .whole)
   where
-    from : (js : List Item) → room ≡ g .done ++ wordsFrom (g .digit) js
-        → entriesWords (entriesOf (settled is)) [] ≡ g .done ++ wordsFrom (g .digit) (settledFrom (g .earlier) js) → room ≡ entriesWords (entriesOf (settled is)) []
+    from : (js : List Item) → room ≡ g .done ++ wordsFrom (anewIn is) (g .digit) js
+        → entriesWords (entriesOf (settled is)) [] ≡ g .done ++ wordsFrom (anewIn is) (g .digit) (settledFrom (g .earlier) js) → room ≡ entriesWords (entriesOf (settled is)) []
     from [] e w = e ∙ sym w
-    from (j ∷ js) e w = absurd (omega (arith, ap length e, length-append (g .done) (wordsFrom (g .digit) (j ∷ js)), g .size))
+    from (j ∷ js) e w = absurd (omega (arith, ap length e, length-append (g .done) (wordsFrom (anewIn is) (g .digit) (j ∷ js)), g .size))

@@ -11,8 +11,8 @@ use lib.Seq.{drop-cons}
 use lib.Dec.{T, leb, eqb}
 use Rattle.lists.proofs.Bools.{by-cases}
 use Rattle.formats.specs.Tokens.{Elapsed}
-use Rattle.formats.specs.Items.{Item, place, elapsed, Run, isHourRun, isSecondRun, runOf, runOfElapsed, nearer, firstRun, meansMinutes, monthOrMinute, settledItem}
-use Rattle.formats.proofs.Each.{by-item, by-place, by-elapsed}
+use Rattle.formats.specs.Items.{Item, place, elapsed, exponent, Run, isHourRun, isSecondRun, runOf, runOfElapsed, nearer, firstRun, meansMinutes, monthOrMinute, settledItem}
+use Rattle.formats.proofs.Each.{by-item, by-place, by-elapsed, by-exponent}
 use Rattle.tables.specs.Words.{entriesWords}
 use Rattle.tables.specs.Encode.{entry, tagOf, entryOf, entriesFrom}
 use Rattle.settling.specs.Settle.{isNoMinute, isRunTag, secondsIn, hoursAfter}
@@ -32,12 +32,13 @@ tag-tells =
     (λ r. (refl, refl)) (λ r. (refl, refl)) (λ r. (refl, refl)) (λ r. (refl, refl)) (λ n r. (refl, refl)) (λ n r. (refl, refl)) (λ n r. (refl, refl))
     (λ n r. (refl, refl)) (λ n r. (refl, refl)) (λ n r. (refl, refl)) (λ n r. (refl, refl))
     (λ e n. by-elapsed (λ (d : Elapsed). Tells (elapsed d n)) (λ r. (refl, refl)) (λ r. (refl, refl)) (λ r. (refl, refl)) e) (λ h r. (refl, refl))
+    (by-exponent (λ m. Tells (exponent m)) (λ r. (refl, refl)) (λ r. (refl, refl)))
 
 -- the nearest run of items is seconds
-pub seconds-first : (q : ℕ) (is : List Item) → secondsIn (entriesWords (entriesFrom q is) []) ≡ isSecondRun (firstRun is)
+pub seconds-first : (anew q : ℕ) (is : List Item) → secondsIn (entriesWords (entriesFrom anew q is) []) ≡ isSecondRun (firstRun is)
 unfolding secondsIn entriesWords entryOf firstRun along
-seconds-first q [] = refl
-seconds-first q (i ∷ is) = rw (seconds-first _ is) (sym (tag-tells i (firstRun is) .0))
+seconds-first anew q [] = refl
+seconds-first anew q (i ∷ is) = rw (seconds-first anew _ is) (sym (tag-tells i (firstRun is) .0))
 
 -- the tag of a settled item
 abbrev Settles : ℕ → Run → Run → Item → Type 0
@@ -54,6 +55,7 @@ tag-settled q e l =
     (λ n t. by-cases (leb n 2) (λ s. rw s (by-cases (isHourRun e || isSecondRun l) (λ h. rw h) (λ h. rw h))) (λ s. rw s (by-cases (isHourRun e || isSecondRun l) (λ h. rw h) (λ h. rw h))))
     (λ n t. refl) (λ n t. refl) (λ n t. absurd t) (λ n t. refl) (λ n t. refl)
     (λ x n. by-elapsed (λ (d : Elapsed). Settles q e l (elapsed d n)) (λ t. refl) (λ t. refl) (λ t. refl) x) (λ h t. refl)
+    (by-exponent (λ m. Settles q e l (exponent m)) (λ t. refl) (λ t. refl))
 
 -- the nearest run among item words: at the first of them, where it is a run or not, and past the last
 module _ (ws : List ℕ) (i : ℕ) where

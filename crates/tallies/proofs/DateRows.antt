@@ -14,8 +14,9 @@ use Rattle.lists.specs.Lists.{every, any, count}
 use Rattle.lists.proofs.Bools.{no, and-left, and-right, and-in, by-cases, true-T, T-true, same-test, or-cond, or-right, or-false, carry, every-head, every-tail, every-cons}
 use Rattle.lists.proofs.Counts.{any-map, any-same}
 use Rattle.formats.specs.Tokens.{Elapsed, hours, minutes, seconds, elapsedIndex}
-use Rattle.formats.specs.Items.{Item, half, dateKind, itemAllowed, itemMakes, itemsKind, itemsFit, isFill, isPart, isGeneral, isPoint, isHour, isMinute, isSecond, isElapsed, isElapsedOf, isHalf, noPlain, runOf, runOfElapsed, elapsed, integerPlaces}
+use Rattle.formats.specs.Items.{Item, half, dateKind, itemAllowed, itemMakes, itemsKind, itemsFit, isFill, isPart, isGeneral, isPoint, isHour, isMinute, isSecond, isElapsed, isElapsedOf, isHalf, noPlain, runOf, runOfElapsed, elapsed, integerPlaces, exponentPlaces, exponentFits}
 use Rattle.formats.specs.Where.{implies}
+use Rattle.formats.specs.Text.{firstOf}
 use Rattle.formats.specs.WellFormed.{isSeconds, oneFill, partsFrom, partsFollow, isSettled}
 use Rattle.formats.proofs.Each.{by-item, by-elapsed}
 use Rattle.formats.proofs.ByNumber.{by-number}
@@ -32,7 +33,7 @@ use Rattle.tallies.specs.Walk.{runAfter, earlierAfter, mayStand, answers
 use Rattle.tallies.specs.DateRows.{DateTold, noDates, dateSound, dateAfter, noDate, dateNext, passed, hasTag, plainTold}
 use Rattle.tallies.proofs.Runs.{runsFrom, runs-front, runs-end, runs-start}
 use Rattle.tallies.proofs.Told.{no-plain-every}
-use Rattle.tallies.proofs.Held.{date-made, date-generals, date-points, date-powers, date-word, date-dated}
+use Rattle.tallies.proofs.Held.{bare-exponent, date-bare, date-made, date-generals, date-points, date-powers, date-word, date-dated}
 
 -- what is left to be asked of the entries that are left
 pub record Left (s : DateWalk) (es : List Entry) : Type 0 where
@@ -69,16 +70,16 @@ elapsed-back false x t r n i h = h
 elapsed-number : (t a : ℕ) → isElapsed (itemAt (entry t a)) ≡ between 18 20 t
 unfolding itemAt
 elapsed-number t a =
-    by-number isElapsed (λ (n : ℕ). between 18 20 n) (itemsByTag a) 21 (half (halfAt a)) refl
+    by-number isElapsed (λ (n : ℕ). between 18 20 n) (itemsByTag a) 24 (half (halfAt a)) refl
     (λ n h. sym (simp (le-leb 18 n (omega arith), lt-leb n 20 (omega arith)))) t
 
 elapsed-tag : (d : Elapsed) (t a : ℕ) → isElapsedOf d (itemAt (entry t a)) ≡ eqb t (18 + elapsedIndex d)
 unfolding itemAt
 elapsed-tag d t a =
     by-elapsed (λ d. isElapsedOf d (itemAt (entry t a)) ≡ eqb t (18 + elapsedIndex d))
-    (by-number (isElapsedOf hours) (λ (n : ℕ). eqb n 18) (itemsByTag a) 21 (half (halfAt a)) refl (λ n h. sym (ne-eqb n 18 (λ e. absurd (omega arith)))) t)
-    (by-number (isElapsedOf minutes) (λ (n : ℕ). eqb n 19) (itemsByTag a) 21 (half (halfAt a)) refl (λ n h. sym (ne-eqb n 19 (λ e. absurd (omega arith)))) t)
-    (by-number (isElapsedOf seconds) (λ (n : ℕ). eqb n 20) (itemsByTag a) 21 (half (halfAt a)) refl (λ n h. sym (ne-eqb n 20 (λ e. absurd (omega arith)))) t)
+    (by-number (isElapsedOf hours) (λ (n : ℕ). eqb n 18) (itemsByTag a) 24 (half (halfAt a)) refl (λ n h. sym (ne-eqb n 18 (λ e. absurd (omega arith)))) t)
+    (by-number (isElapsedOf minutes) (λ (n : ℕ). eqb n 19) (itemsByTag a) 24 (half (halfAt a)) refl (λ n h. sym (ne-eqb n 19 (λ e. absurd (omega arith)))) t)
+    (by-number (isElapsedOf seconds) (λ (n : ℕ). eqb n 20) (itemsByTag a) 24 (half (halfAt a)) refl (λ n h. sym (ne-eqb n 20 (λ e. absurd (omega arith)))) t)
     d
 
 elapsed-some : (t a : ℕ) → isElapsed (itemAt (entry t a)) ≡ true → t ≡ 0 → ⊥
@@ -149,7 +150,7 @@ unfolding earlierAfter runAfter runOf runOfElapsed itemMakes
 run-left n =
     by-item (λ i. not (eqb (earlierAfter n i) 0) ≡ (makesDate i || not (eqb n 0))) (λ u. refl) (λ u. refl) (λ u. refl) (λ p. refl) refl refl refl refl (λ a. refl)
     (λ a. by-cases (leb a 2) (λ e. rw e) (λ e. rw e)) (λ a. refl) (λ a. refl) (λ a. by-cases (eqb n 1) (λ e. rw e) (λ e. rw e)) (λ a. refl) (λ a. refl)
-    (λ x a. by-elapsed (λ (d : Elapsed). not (eqb (earlierAfter n (elapsed d a)) 0) ≡ (makesDate (elapsed d a) || not (eqb n 0))) refl refl refl x) (λ h. refl)
+    (λ x a. by-elapsed (λ (d : Elapsed). not (eqb (earlierAfter n (elapsed d a)) 0) ≡ (makesDate (elapsed d a) || not (eqb n 0))) refl refl refl x) (λ h. refl) (λ m. refl)
 
 met-front : (a b r : Bool) → (a || cond b true r) ≡ ((b || a) || r)
 met-front true true r = refl
@@ -200,15 +201,15 @@ module _ (s : DateWalk) (e : Entry) (sound : T (dateSound s e)) where
 -- ---- the plain equivalents by their tags
 hour-tag : (e : Entry) → isHour (itemAt e) ≡ eqb (e .tag) 14
 unfolding itemAt
-hour-tag e = by-number isHour (λ (n : ℕ). eqb n 14) (itemsByTag (e .argument)) 21 (half (halfAt (e .argument))) refl (λ n h. sym (ne-eqb n 14 (λ x. absurd (omega arith)))) (e .tag)
+hour-tag e = by-number isHour (λ (n : ℕ). eqb n 14) (itemsByTag (e .argument)) 24 (half (halfAt (e .argument))) refl (λ n h. sym (ne-eqb n 14 (λ x. absurd (omega arith)))) (e .tag)
 
 minute-tag : (e : Entry) → isMinute (itemAt e) ≡ eqb (e .tag) 15
 unfolding itemAt
-minute-tag e = by-number isMinute (λ (n : ℕ). eqb n 15) (itemsByTag (e .argument)) 21 (half (halfAt (e .argument))) refl (λ n h. sym (ne-eqb n 15 (λ x. absurd (omega arith)))) (e .tag)
+minute-tag e = by-number isMinute (λ (n : ℕ). eqb n 15) (itemsByTag (e .argument)) 24 (half (halfAt (e .argument))) refl (λ n h. sym (ne-eqb n 15 (λ x. absurd (omega arith)))) (e .tag)
 
 second-tag : (e : Entry) → isSecond (itemAt e) ≡ eqb (e .tag) 16
 unfolding itemAt
-second-tag e = by-number isSecond (λ (n : ℕ). eqb n 16) (itemsByTag (e .argument)) 21 (half (halfAt (e .argument))) refl (λ n h. sym (ne-eqb n 16 (λ x. absurd (omega arith)))) (e .tag)
+second-tag e = by-number isSecond (λ (n : ℕ). eqb n 16) (itemsByTag (e .argument)) 24 (half (halfAt (e .argument))) refl (λ n h. sym (ne-eqb n 16 (λ x. absurd (omega arith)))) (e .tag)
 
 tagged : (p : Item → Bool) (m : ℕ) → ((e : Entry) → p (itemAt e) ≡ eqb (e .tag) m) → (es : List Entry) → any p (itemsAt es) ≡ hasTag es m
 unfolding itemsAt
@@ -259,12 +260,13 @@ module _ (es : List Entry) where
       let allowed : T (every (itemAllowed (itemsKind is)) is) = rw kind (l .items) in
       let parts : T (partsFrom false is) = l .parts in
       let settled : T (isSettled is) = carry (runs-start is) (l .runs) in
-      let powers : T (powersFrom (14 + integerPlaces is) es) = date-powers (14 + integerPlaces is) es (l .items) in
+      let powers : T (powersFrom (firstOf (exponentPlaces is)) (firstOf (integerPlaces is)) es) = date-powers (firstOf (exponentPlaces is)) (firstOf (integerPlaces is)) es (l .items) in
       let ranges : T (every entryInRange es) = l .ranges in
       let generals : T (leb (count isGeneral is) 1) = le→leb (count isGeneral is) 1 (omega (arith, date-generals is (l .items))) in
       let points : T (leb (count isPoint is) 1) = le→leb (count isPoint is) 1 (omega (arith, date-points is (l .items))) in
       let elapsed : T (leb (count isElapsed is) 1) = le→leb (count isElapsed is) 1 (l .elapsed) in
       let plain : T (every (noPlain is) is) = w .1 in
+      let exponent : T (exponentFits is) = bare-exponent is (date-bare is (l .items)) in
       let fill : T (leb (count isFill is) 1) = le→leb (count isFill is) 1 (omega (arith, l .fill)) in
       search and-in depth 12
 

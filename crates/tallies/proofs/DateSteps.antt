@@ -6,7 +6,7 @@ use mathlib.Core.Path.{_≡_, refl}
 use mathlib.Core.Bool.{true, false, cond, _&&_, _||_, and-true, and-false}
 use mathlib.Core.List.{List, _∷_}
 use lib.Dec.{leb, eqb}
-use borrow.Author.Tests.{eq-eqb, ne-eqb, lt-ltb}
+use borrow.Author.Tests.{eq-eqb, ne-eqb, lt-ltb, leb-true, leb-false}
 use Rattle.values.specs.Ranges.{between}
 use Rattle.lists.specs.Lists.{any}
 use Rattle.lists.proofs.Bools.{and-parts, by-cases}
@@ -106,9 +106,13 @@ module _ (s : DateWalk) (a : ℕ) where
   foreign-step t least most =
       span-at (λ (k : ℕ). noDate ≡ dateNext s (entry k a)) 4 7 t (refl, (refl, (refl, (refl, (refl, (refl, (refl, tt))))))) least most
 
+  -- an E, and a tag of no item
   pub unknown-step : (t : ℕ) → 21 < t → noDate ≡ dateNext s (entry t a)
   unfolding computed
-  unknown-step t h = rw (late-tag t a (omega arith), ne-eqb 21 t (λ e. absurd (omega arith)))
+  unknown-step t h =
+      by-cases (leb t 23)
+      (λ m. span-at (λ (k : ℕ). noDate ≡ dateNext s (entry k a)) 22 2 t (refl, (refl, tt)) (omega arith) (omega (arith, leb-true t 23 m)))
+      (λ m. rw (late-tag t a (leb-false t 23 m), ne-eqb 21 t (λ e. absurd (omega arith))))
 
 -- an entry with this tag is the first, or is among the others
 pub tag-here : (t : ℕ) (e : Entry) (es : List Entry) → e .tag ≡ t → hasTag (e ∷ es) t ≡ true

@@ -4,16 +4,16 @@ use Prim.Native.Nat.{ℕ, _+_, _*_, _/_, _%_, _^_, _≤_, _<_}
 use native.Mathlib.Omega.{arith}
 use native.Mathlib.Nat.{zero-add}
 use mathlib.Core.Path.{_≡_, refl, sym, _∙_, ap}
-use mathlib.Core.Bool.{Bool, true, false, not, _&&_, _||_, and-false, not, and-true}
+use mathlib.Core.Bool.{Bool, true, false, true≢false, cond, not, _&&_, _||_, and-false, not, and-true}
 use mathlib.Core.List.{List, [], _∷_}
-use lib.Dec.{ltb, eqb, eqb·suc-zero}
+use lib.Dec.{T, ltb, eqb, eqb·suc-zero}
 use lib.ListN.{length, getD}
 use borrow.Author.Tests.{eqb-true, ne-eqb}
 use Rattle.lists.specs.Lists.{every, any, count, All}
 use Rattle.lists.proofs.Bools.{by-cases, cond-and}
-use Rattle.lists.proofs.Counts.{count-least, any-same, any-either, positive-count}
+use Rattle.lists.proofs.Counts.{count-least, any-same, any-either, none-count, positive-count}
 use Rattle.formats.specs.Tokens.{hours, minutes, seconds}
-use Rattle.formats.specs.Items.{Item, elapsed, isFill, isPlace, isPoint, isPercent, isGeneral, isHour, isMinute, isSecond, isPart, isElapsed, isElapsedOf, isHalf, itemMakes, itemNumber, integerPlaces, decimalPlaces, runOf}
+use Rattle.formats.specs.Items.{Item, elapsed, isFill, isPlace, isPoint, isPercent, isGeneral, isHour, isMinute, isSecond, isPart, isElapsed, isElapsedOf, isHalf, isExponent, isSpace, itemMakes, itemNumber, beforeE, fromE, integerPlaces, decimalPlaces, exponentPlaces, exponentFits, runOf}
 use Rattle.formats.specs.Where.{implies}
 use Rattle.formats.specs.Limits.{elapsedShort}
 use Rattle.formats.specs.WellFormed.{isSeconds, partsFrom, partsFollow}
@@ -21,14 +21,15 @@ use Rattle.tables.specs.Words.{Entry}
 use Rattle.tables.specs.Encode.{bit}
 use Rattle.tables.specs.Decode.{itemAt, itemsAt}
 use Rattle.formats.proofs.Each.{by-item, by-elapsed}
+use Rattle.formats.proofs.Cutting.{before-bare, bare-from, cut-count}
 use Rattle.tables.proofs.MadeHeads.{bit-back}
 use Rattle.tables.proofs.BackEntries.{items-length}
 use Rattle.tallies.specs.declared.Walk.{Walk}
 use Rattle.tallies.specs.Tally.{makesText, makesDate, belongsDate, soundEntries, tallyOf}
-use Rattle.tallies.specs.Walk.{packed, tallies, weight, isLong, otherTests, dateTests, markTests, numberWeight, unitAfter, earlierAfter, mayStand, answers, nextAfter, ended, powerTest, entrySound, faultOf, stepOf, walkFrom, startOf, Walked, soundTold, finishedOf}
+use Rattle.tallies.specs.Walk.{packed, tallies, weight, isLong, isMisplaced, otherTests, dateTests, markTests, exponentTests, numberWeight, unitAfter, earlierAfter, mayStand, answers, nextAfter, runDown, powerTest, entrySound, faultOf, stepOf, walkFrom, startOf, Walked, soundTold, finishedOf}
 use Rattle.tallies.proofs.Packed.{tallies-none, tallies-turn, first-dropped, first-digit, later-digits, digit-at, tallies-small, packed-positive}
 use Rattle.tallies.proofs.Runs.{runsFrom, runs-start, runs-front, runs-end}
-use Rattle.tallies.proofs.Powers.{place-no-point, places-counted, chainFrom, rangeTest, chain-start}
+use Rattle.tallies.proofs.Powers.{place-no-point, exponent-no-point, exponent-no-place, places-counted, chainFrom, rangeTest, chain-start}
 
 -- ---- sums of weights
 module _ (f : Walk → ℕ) (b : ℕ) (ps : List (Item → Bool)) (turn : (w : Walk) (e : Entry) → f (stepOf w e) ≡ f w + weight b ps (itemAt e)) where
@@ -41,6 +42,11 @@ module _ (f : Walk → ℕ) (b : ℕ) (ps : List (Item → Bool)) (turn : (w : W
 abbrev pointTests : List (Item → Bool)
 pointTests = isPoint ∷ isPercent ∷ []
 
+-- a test that decides nothing
+cond-same : (b : Bool) (n : ℕ) → cond b n n ≡ n
+cond-same true n = refl
+cond-same false n = refl
+
 -- what is still to be added
 numbersLeft : ℕ → List Item → ℕ
 numbersLeft unit [] = 0
@@ -51,22 +57,6 @@ unfolding walkFrom stepOf itemsAt numbersLeft
 numbers-walked w [] = omega arith
 numbers-walked w (e ∷ es) = omega (arith, numbers-walked (stepOf w e) es)
 
--- without a place and a point the powers stay as they were
-step-stays : (unit next : ℕ) (e : Entry) → 1 ≤ unit → numberWeight unit (itemAt e) ≡ 0
-    → (unitAfter unit (itemAt e) ≡ unit) × (nextAfter unit next e ≡ next)
-unfolding numberWeight unitAfter nextAfter weight bit
-step-stays unit next e u h =
-    let i = itemAt e in
-    by-cases (isPlace i) (λ p. absurd (omega (arith, rw p at h)))
-    (λ p. by-cases (isPoint i) (λ q. absurd (omega (arith, rw (p, q) at h))) (λ q. rw (p, q) (refl, refl)))
-
-next-stays : (w : Walk) (es : List Entry) → 1 ≤ w .unit → numbersLeft (w .unit) (itemsAt es) ≡ 0 → walkFrom w es .next ≡ w .next
-unfolding walkFrom stepOf itemsAt numbersLeft
-next-stays w [] u h = refl
-next-stays w (e ∷ es) u h =
-    let s = step-stays (w .unit) (w .next) e u (omega (arith, h)) in
-    next-stays (stepOf w e) es (omega (arith, s .0, u)) (omega (arith, h)) ∙ s .1
-
 place-weight : (i : Item) → isPlace i ≡ true → weight 65536 pointTests i ≡ 0
 unfolding weight bit
 place-weight i h = rw (eqb-true (itemNumber i) 4 h)
@@ -75,16 +65,30 @@ point-weight : (i : Item) → isPoint i ≡ true → weight 65536 pointTests i �
 unfolding weight bit
 point-weight i h = rw (eqb-true (itemNumber i) 7 h)
 
+exponent-weight : (i : Item) → isExponent i ≡ true → weight 65536 pointTests i ≡ 0
+unfolding weight bit
+exponent-weight i h = rw (eqb-true (itemNumber i) 22 h)
+
+behind-numbers : (is : List Item) → numbersLeft 0 is ≡ 4294967296 * packed 65536 (tallies pointTests is)
+unfolding numbersLeft numberWeight unitAfter
+behind-numbers [] = rw (tallies-none 65536 pointTests)
+behind-numbers (i ∷ is) =
+    let h = behind-numbers is in
+    rw (tallies-turn 65536 pointTests i is, and-false (isPoint i), cond-same (isExponent i) 0)
+    (by-cases (isPlace i) (λ g. rw (place-weight i g, g) (omega arith)) (λ g. rw g (omega arith)))
+
 closed-numbers : (is : List Item)
-    → numbersLeft 65536 is ≡ 65536 * count isPlace is + 4294967296 * packed 65536 (tallies pointTests is)
-unfolding numbersLeft numberWeight unitAfter count
+    → numbersLeft 65536 is ≡ 65536 * count isPlace (beforeE is) + 4294967296 * packed 65536 (tallies pointTests is)
+unfolding numbersLeft numberWeight unitAfter beforeE count
 closed-numbers [] = rw (tallies-none 65536 pointTests)
 closed-numbers (i ∷ is) =
     let h = closed-numbers is in
     rw (tallies-turn 65536 pointTests i is, and-false (isPoint i))
-    (by-cases (isPlace i)
+    (by-cases (isExponent i)
+    (λ x. rw (exponent-weight i x, exponent-no-place i x, x) (omega (arith, behind-numbers is)))
+    (λ x. rw x (by-cases (isPlace i)
     (λ g. rw (place-weight i g, g) (omega arith))
-    (λ g. rw g (omega arith)))
+    (λ g. rw g (omega arith)))))
 
 opened-numbers : (is : List Item)
     → numbersLeft 1 is ≡ integerPlaces is + 65536 * decimalPlaces is + 4294967296 * packed 65536 (tallies pointTests is)
@@ -94,11 +98,82 @@ opened-numbers (i ∷ is) =
     let h = opened-numbers is in
     let k = closed-numbers is in
     rw (tallies-turn 65536 pointTests i is)
-    (by-cases (isPlace i)
+    (by-cases (isExponent i)
+    (λ x. rw (exponent-weight i x, exponent-no-place i x, exponent-no-point i x, x) (omega (arith, behind-numbers is)))
+    (λ x. rw x (by-cases (isPlace i)
     (λ g. rw (place-weight i g, g, place-no-point i g) (omega arith))
     (λ g. rw g (by-cases (isPoint i)
     (λ j. rw (point-weight i j, j) (omega arith))
-    (λ j. rw j (omega arith)))))
+    (λ j. rw j (omega arith)))))))
+
+-- ---- E, and what stands behind the first
+abbrev behindTests : List (Item → Bool)
+behindTests = isExponent ∷ isPlace ∷ isMisplaced ∷ []
+
+exponentsLeft : ℕ → List Item → ℕ
+exponentsLeft unit [] = 0
+exponentsLeft unit (i ∷ is) = weight 65536 (exponentTests unit) i + exponentsLeft (unitAfter unit i) is
+
+exponents-walked : (w : Walk) (es : List Entry) → walkFrom w es .exponents ≡ w .exponents + exponentsLeft (w .unit) (itemsAt es)
+unfolding walkFrom stepOf itemsAt exponentsLeft
+exponents-walked w [] = omega arith
+exponents-walked w (e ∷ es) = omega (arith, exponents-walked (stepOf w e) es)
+
+-- behind an E each item has its weight
+behind-weight : (i : Item) → weight 65536 (exponentTests 0) i ≡ weight 65536 behindTests i
+unfolding weight
+behind-weight i = rw (and-true (isPlace i), and-true (isMisplaced i))
+
+behind-exponents : (is : List Item) → exponentsLeft 0 is ≡ packed 65536 (tallies behindTests is)
+unfolding exponentsLeft unitAfter
+behind-exponents [] = rw (tallies-none 65536 behindTests)
+behind-exponents (i ∷ is) =
+    rw (and-false (isPoint i), cond-same (isExponent i) 0, tallies-turn 65536 behindTests i is, behind-weight i, behind-exponents is)
+
+-- before it only an E has one
+before-weight : (unit : ℕ) (i : Item) → 1 ≤ unit → isExponent i ≡ false → weight 65536 (exponentTests unit) i ≡ 0
+unfolding weight bit
+before-weight unit i u x = rw (ne-eqb unit 0 (λ e. absurd (omega arith)), and-false (isPlace i), and-false (isMisplaced i), x)
+
+first-weight : (unit : ℕ) (i : Item) → isExponent i ≡ true → weight 65536 (exponentTests unit) i ≡ weight 65536 behindTests i
+unfolding weight
+first-weight unit i x = rw (eqb-true (itemNumber i) 22 x)
+
+unit-kept : (unit : ℕ) (i : Item) → 1 ≤ unit → isExponent i ≡ false → 1 ≤ unitAfter unit i
+unfolding unitAfter
+unit-kept unit i u x = rw x (by-cases (isPoint i && eqb unit 1) (λ h. rw h (omega arith)) (λ h. rw h u))
+
+exponents-from : (unit : ℕ) (is : List Item) → 1 ≤ unit → exponentsLeft unit is ≡ packed 65536 (tallies behindTests (fromE is))
+unfolding exponentsLeft fromE
+exponents-from unit [] u = rw (tallies-none 65536 behindTests)
+exponents-from unit (i ∷ is) u =
+    by-cases (isExponent i)
+    (λ x. let z : unitAfter unit i ≡ 0 = unfold unitAfter in rw x in
+    rw (x, z, tallies-turn 65536 behindTests i is, first-weight unit i x, behind-exponents is))
+    (λ x. rw (x, before-weight unit i u x, exponents-from (unitAfter unit i) is (unit-kept unit i u x)) (omega arith))
+
+from-short : (is : List Item) → length (fromE is) ≤ length is
+unfolding fromE
+from-short [] = omega arith
+from-short (i ∷ is) = by-cases (isExponent i) (λ x. rw x (omega arith)) (λ x. rw x (omega (arith, from-short is)))
+
+-- without a place, a point and an E the powers stay as they were
+step-stays : (unit next : ℕ) (e : Entry) → 1 ≤ unit → numberWeight unit (itemAt e) ≡ 0 → isExponent (itemAt e) ≡ false
+    → (unitAfter unit (itemAt e) ≡ unit) × (nextAfter unit next e ≡ next)
+unfolding numberWeight unitAfter nextAfter weight bit
+step-stays unit next e u h x =
+    let i = itemAt e in
+    by-cases (isPlace i) (λ p. absurd (omega (arith, rw p at h)))
+    (λ p. by-cases (isPoint i) (λ q. absurd (omega (arith, rw (p, q) at h))) (λ q. rw (x, p, q) (refl, refl)))
+
+next-stays : (w : Walk) (es : List Entry) → 1 ≤ w .unit → numbersLeft (w .unit) (itemsAt es) ≡ 0 → any isExponent (itemsAt es) ≡ false
+    → walkFrom w es .next ≡ w .next
+unfolding walkFrom stepOf itemsAt numbersLeft any
+next-stays w [] u h n = refl
+next-stays w (e ∷ es) u h n =
+    by-cases (isExponent (itemAt e)) (λ x. absurd (true≢false (rw x at n)))
+    (λ x. let s = step-stays (w .unit) (w .next) e u (omega (arith, h)) x in
+    next-stays (stepOf w e) es (omega (arith, s .0, u)) (omega (arith, h)) (rw x at n) ∙ s .1)
 
 -- ---- what is tested on the way
 and-four : (a b c d : Bool) → ((a && b) && (c && d)) ≡ ((a && c) && (b && d))
@@ -148,11 +223,11 @@ faults-few w [] = omega arith
 faults-few w (e ∷ es) = omega (arith, faults-few (stepOf w e) es, fault-most (entrySound w e))
 
 endTest : Walk → Bool
-endTest w = not (eqb (w .earlier) 5) && (eqb (w .unit) 65536 || ended (w .next))
+endTest w = not (eqb (w .earlier) 5) && runDown (w .unit) (w .next)
 
 none-fails : (w : Walk) (es : List Entry) → (eqb (faultsFrom w es) 0 && endTest (walkFrom w es)) ≡ testsFrom w es
 unfolding faultsFrom walkFrom
-none-fails w [] = unfold testsFrom endTest partsFrom chainFrom every itemsAt in rw (runs-end (w .earlier), and-true (eqb (w .unit) 65536 || ended (w .next)))
+none-fails w [] = unfold testsFrom endTest partsFrom chainFrom every itemsAt in rw (runs-end (w .earlier), and-true (runDown (w .unit) (w .next)))
 none-fails w (e ∷ es) =
     rw (tests-front w e es)
     (by-cases (entrySound w e)
@@ -177,7 +252,7 @@ unfolding weight bit itemMakes
 date-weight =
     by-item (λ i. ltb 0 (weight 256 dateTests i) ≡ makesDate i) (λ u. refl) (λ u. refl) (λ u. refl) (λ p. refl) refl refl refl refl
     (λ n. refl) (λ n. refl) (λ n. refl) (λ n. refl) (λ n. refl) (λ n. refl) (λ n. refl)
-    (λ e n. by-elapsed (λ d. ltb 0 (weight 256 dateTests (elapsed d n)) ≡ makesDate (elapsed d n)) refl refl refl e) (λ h. refl)
+    (λ e n. by-elapsed (λ d. ltb 0 (weight 256 dateTests (elapsed d n)) ≡ makesDate (elapsed d n)) refl refl refl e) (λ h. refl) (λ m. refl)
 
 -- a half-day mark or a part of a second
 abbrev besideTests : List (Item → Bool)
@@ -226,6 +301,9 @@ module _ (es : List Entry) (few : length es ≤ 254) where
   unfolding stepOf
   dates-are = summed (λ (w : Walk). w .dates) 256 dateTests (λ w e. refl) startOf es ∙ zero-add _
 
+  exponents-are : end .exponents ≡ packed 65536 (tallies behindTests (fromE is))
+  exponents-are = exponents-walked startOf es ∙ zero-add _ ∙ exponents-from 1 is (omega arith)
+
   marks-are : end .marks ≡ faultsFrom startOf es + 65536 * packed 65536 (tallies markTests is)
   marks-are = marks-walked startOf es ∙ zero-add _
 
@@ -240,6 +318,12 @@ module _ (es : List Entry) (few : length es ≤ 254) where
 
   date-digit : (j : ℕ) → end .dates / 256 ^ j % 256 ≡ getD (tallies dateTests is) j 0
   date-digit j = rw dates-are (digit-at 256 (tallies dateTests is) j (small 256 dateTests (omega arith)))
+
+  exponents-small : All (λ (c : ℕ). c < 65536) (tallies behindTests (fromE is))
+  exponents-small = tallies-small 65536 behindTests (fromE is) (omega (arith, few-items, from-short is))
+
+  exponent-digit : (j : ℕ) → end .exponents / 65536 ^ j % 65536 ≡ getD (tallies behindTests (fromE is)) j 0
+  exponent-digit j = rw exponents-are (digit-at 65536 (tallies behindTests (fromE is)) j exponents-small)
 
   few-faults : faultsFrom startOf es < 65536
   few-faults = omega (arith, faults-few startOf es)
@@ -257,11 +341,11 @@ module _ (es : List Entry) (few : length es ≤ 254) where
       (later-digits 65536 (faultsFrom startOf es) (packed 65536 (tallies markTests is)) few-faults 65536
       ∙ first-dropped 65536 (count isLong is) (packed 65536 (tallies besideTests is)) few-long)
 
-  pub sound-told : soundTold end ≡ soundEntries es
+  pub sound-told : T (exponentFits is) → soundTold end ≡ soundEntries es
   unfolding soundEntries partsFollow testsFrom endTest
-  sound-told =
+  sound-told t =
       rw (marks-are, first-digit 65536 (faultsFrom startOf es) (packed 65536 (tallies markTests is)) few-faults)
-      (none-fails startOf es ∙ rw (runs-start is, chain-start es))
+      (none-fails startOf es ∙ rw (runs-start is, chain-start es t))
 
   pub long-told : end .marks / 65536 % 65536 ≡ count isLong is
   unfolding packed tallies
@@ -301,11 +385,31 @@ module _ (es : List Entry) (few : length es ≤ 254) where
   unfolding tallies
   texts-told = ap (λ (n : ℕ). ltb 0 n) (other-digit 3) ∙ positive-count makesText is
 
+  pub exponents-told : end .exponents % 65536 ≡ count isExponent is
+  unfolding packed tallies
+  exponents-told =
+      rw exponents-are
+      (first-digit 65536 (count isExponent (fromE is)) (packed 65536 (tallies (isPlace ∷ isMisplaced ∷ []) (fromE is))) (exponents-small .0)
+      ∙ omega (arith, cut-count isExponent is, none-count isExponent (beforeE is) (before-bare is)))
+
+  misplaced-told : ltb 0 (end .exponents / 4294967296 % 65536) ≡ (any isPoint (fromE is) || any isSpace (fromE is))
+  unfolding tallies
+  misplaced-told =
+      ap (λ (n : ℕ). ltb 0 n) (exponent-digit 2) ∙ positive-count isMisplaced (fromE is) ∙ any-either isPoint isSpace (fromE is)
+
+  -- without an E nothing stands behind it
+  no-exponent : end .exponents % 65536 ≡ 0 → any isExponent is ≡ false
+  no-exponent e = sym (positive-count isExponent is) ∙ ap (λ (n : ℕ). ltb 0 n) (sym exponents-told ∙ e)
+
+  pub none-behind : end .exponents % 65536 ≡ 0 → end .exponents ≡ 0
+  none-behind e =
+      exponents-are ∙ ap (λ (xs : List Item). packed 65536 (tallies behindTests xs)) (bare-from is (no-exponent e)) ∙ tallies-none 65536 behindTests
+
   -- the flag of a digit of the dates
   pub date-flag : (j : ℕ) (p : Item → Bool) → getD (tallies dateTests is) j 0 ≡ count p is → ltb 0 (end .dates / 256 ^ j % 256) ≡ any p is
   date-flag j p h = ap (λ (n : ℕ). ltb 0 n) (date-digit j ∙ h) ∙ positive-count p is
 
-  -- each of the three numbers that the tests of a kind read has four digits
+  -- each of the numbers that the tests of a kind read has four digits
   pub numbers-most : end .numbers < 18446744073709551616
   unfolding packed
   numbers-most = let s = numbers-small in omega (arith, numbers-are)
@@ -318,11 +422,15 @@ module _ (es : List Entry) (few : length es ≤ 254) where
   unfolding packed tallies
   marks-most = let s = small 65536 markTests (omega arith) in omega (arith, marks-are, few-faults)
 
-  pub next-open : end .numbers ≡ 0 → end .next ≡ 65536
-  next-open e = next-stays startOf es (omega arith) (omega (arith, numbers-walked startOf es, e))
+  pub exponents-most : end .exponents < 281474976710656
+  unfolding packed tallies
+  exponents-most = let s = exponents-small in omega (arith, exponents-are)
+
+  pub next-open : end .numbers ≡ 0 → end .exponents ≡ 0 → end .next ≡ 65536
+  next-open e x = next-stays startOf es (omega arith) (omega (arith, numbers-walked startOf es, e)) (no-exponent (omega (arith, x)))
 
   pub finished-is : finishedOf end ≡ tallyOf es
-  unfolding tallyOf tallies
+  unfolding tallyOf tallies exponentPlaces
   finished-is = λ i. record {
     integers = integers-told i;
     decimals = number-digit 1 i;
@@ -330,6 +438,9 @@ module _ (es : List Entry) (few : length es ≤ 254) where
     percents = number-digit 3 i;
     generals = generals-told i;
     elapsed = other-digit 2 i;
+    exponents = exponents-told i;
+    «exponent_places» = exponent-digit 1 i;
+    misplaced = misplaced-told i;
     texts = texts-told i;
     dating = dating-told i;
     dates = dates-told i;

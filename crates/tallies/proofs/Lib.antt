@@ -6,6 +6,7 @@ pub mod Fold
 pub mod Loop
 pub mod Told
 pub mod ByKind
+pub mod Exponents
 pub mod DateSteps
 pub mod Held
 pub mod NumberRows

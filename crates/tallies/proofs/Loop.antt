@@ -7,13 +7,13 @@ use mathlib.Core.Path.{_≡_, sym, _∙_, ap}
 use mathlib.Core.List.{List, [], _∷_}
 use lib.ListN.{length, getD}
 use Rattle.lists.proofs.Bools.{by-cases}
-use Rattle.formats.specs.Items.{Item, isPlace, isPoint, isPercent}
+use Rattle.formats.specs.Items.{Item, isPlace, isPoint, isPercent, isExponent}
 use Rattle.tables.specs.Words.{Entry, entriesAt, entriesIn}
 use Rattle.tables.specs.Encode.{entry}
 use Rattle.tables.specs.Decode.{itemAt}
 use Rattle.tables.proofs.Words.{entriesAt-length, entriesLeft, entries-front}
 use Rattle.tallies.specs.declared.Walk.{Walk}
-use Rattle.tallies.specs.Walk.{otherTests, dateTests, markTests, numberWeight, isFirstPoint, unitAfter, entrySound, stepOf, walkFrom, startOf, Walked, Few}
+use Rattle.tallies.specs.Walk.{otherTests, dateTests, markTests, exponentTests, numberWeight, isFirstPoint, unitAfter, entrySound, stepOf, walkFrom, startOf, Walked, Few}
 use Rattle.tallies.proofs.Packed.{ones, weight-most}
 use Rattle.tallies.proofs.Fold.{fault-most}
 
@@ -26,7 +26,9 @@ number-most unit i h =
 
 unit-most : (unit : ℕ) (i : Item) → unit ≤ 65536 → unitAfter unit i ≤ 65536
 unfolding unitAfter
-unit-most unit i h = by-cases (isFirstPoint unit i) (λ g. rw g (omega arith)) (λ g. rw g h)
+unit-most unit i h =
+    by-cases (isExponent i) (λ x. rw x (omega arith))
+    (λ x. rw x (by-cases (isFirstPoint unit i) (λ g. rw g (omega arith)) (λ g. rw g h)))
 
 few-start : Few 0 startOf
 few-start = omega arith
@@ -40,6 +42,7 @@ few-step w e n h =
       others = omega (arith, h .others, weight-most 65536 otherTests i);
       dates = omega (arith, h .dates, weight-most 256 dateTests i);
       marks = omega (arith, h .marks, weight-most 65536 markTests i, fault-most (entrySound w e));
+      exponents = omega (arith, h .exponents, weight-most 65536 (exponentTests (w .unit)) i);
       unit = unit-most (w .unit) i (h .unit);
     }
 

@@ -11,23 +11,24 @@ use lib.Dec.{T, leb, ltb, eqb, leb→le, le→leb, eqb→eq, eqb·suc-zero}
 use borrow.Author.Tests.{eqb-true, eqb-false, eq-eqb, leb-true, leb-false, ltb-true, ltb-false, lt-ltb, le-leb, lt-leb, not-true, not-false}
 use Rattle.values.specs.Ranges.{between}
 use Rattle.lists.specs.Lists.{every, any, count}
-use Rattle.lists.proofs.Bools.{no, cond-left, cond-right, and-left, and-right, and-in, and-parts, by-cases, cond-case, true-T, T-true}
+use Rattle.lists.proofs.Bools.{no, cond-left, cond-right, and-left, and-right, and-in, by-cases, cond-case, true-T, T-true, carry}
 use Rattle.lists.proofs.Counts.{any-count, positive-count}
-use Rattle.formats.specs.Items.{Item, half, numberKind, itemAllowed, itemsKind, itemsFit, isFill, isPlace, isPoint, isPercent, isGeneral, isElapsed, noPlain, noRun, integerPlaces, decimalPlaces}
+use Rattle.formats.specs.Items.{Item, half, numberKind, itemAllowed, itemsKind, itemsFit, isFill, isPlace, isPoint, isPercent, isGeneral, isElapsed, noPlain, noRun, beforeE, integerPlaces, decimalPlaces, exponentPlaces, exponentFits}
 use Rattle.formats.proofs.ByNumber.{by-number}
+use Rattle.formats.proofs.FigureItems.{number-place}
 use Rattle.formats.specs.WellFormed.{oneFill, partsFrom, partsFollow, settledTest, isSettled}
-use Rattle.formats.specs.Text.{digitAfter, along}
+use Rattle.formats.specs.Text.{digitAfter, along, firstOf}
 use Rattle.tables.specs.Words.{Entry, entriesAt, entriesIn}
 use Rattle.tables.specs.Encode.{entry, kindWord}
 use Rattle.tables.specs.Decode.{halfAt, itemAt, itemsAt, itemsByTag}
-use Rattle.tables.specs.Rules.{entryInRange, powersFrom, powersRunDown, allOf}
+use Rattle.tables.specs.Rules.{entryInRange, allOf, powersFrom, powersRunDown}
 use Rattle.tables.proofs.Words.{entriesLeft, entries-front}
 use Rattle.tables.proofs.BackEntries.{between-facts, span-at}
 use Rattle.tallies.proofs.Steps.{no-place-beyond}
 use Rattle.tallies.specs.declared.number_rows.NumberWalk.{NumberWalk}
 use Rattle.tallies.specs.Tally.{soundEntries, itemsOf}
 use Rattle.tallies.proofs.Powers.{places-counted}
-use Rattle.tallies.proofs.Held.{number-made, number-generals, number-elapsed, number-plain, number-parts, number-settled, number-word, number-placed}
+use Rattle.tallies.proofs.Held.{bare-exponent, bare-behind, powers-bare, number-bare, number-made, number-generals, number-elapsed, number-plain, number-parts, number-settled, number-word}
 use Rattle.tallies.specs.NumberRows.{numberItems, greatestPower, NumberTold, noRow, noNumber, countedAt, placeTaken, pointTaken, percentTaken, fillTaken, numberAfter}
 
 -- the power and 15 that the next place must have, with n integer places left: before the first place it is theirs
@@ -40,6 +41,10 @@ abbrev EndsLeft : ℕ → Bool → ℕ → ℕ → Type 0
 EndsLeft zero point next n = Unit {0}
 EndsLeft (suc f) true next n = Unit {0}
 EndsLeft (suc f) false next n = next ≡ 15 + n
+
+-- the powers without an E, where the digit anew does not matter
+abbrev barePowers : ℕ → List Entry → Bool
+barePowers q es = powersFrom 0 q es
 
 -- what is left to be asked of the entries that are left, by what they tell
 pub record Asked (first : ℕ) (point : Bool) (next filled : ℕ) (all ranged : Bool) (f p n : ℕ) (power : ℕ → Bool) : Type 0 where
@@ -54,7 +59,7 @@ abbrev pub Left : NumberWalk → List Entry → Type 0
 Left s es =
     let is = itemsAt es in
     Asked (s .first) (s .point) (s .next) (s .fills) (every (itemAllowed numberKind) is) (every entryInRange es)
-    (count isFill is) (count isPoint is) (integerPlaces is) (λ (q : ℕ). powersFrom q es)
+    (count isFill is) (count isPoint is) (integerPlaces is) (λ (q : ℕ). barePowers q es)
 
 -- what is known of the places: there are i before and d behind the point in all, and of these n and m, together c, are left
 abbrev Places : ℕ → Bool → ℕ → ℕ → ℕ → ℕ → ℕ → ℕ → Type 0
@@ -72,7 +77,7 @@ pub record Counted (i d p first : ℕ) (point : Bool) (next percent filled n m c
 abbrev pub Known : ℕ → ℕ → ℕ → NumberWalk → List Entry → Type 0
 Known i d p s es =
     let is = itemsAt es in
-    Counted i d p (s .first) (s .point) (s .next) (s .percents) (s .fills) (integerPlaces is) (decimalPlaces is) (count isPlace is) (count isPercent is)
+    Counted i d p (s .first) (s .point) (s .next) (s .percents) (s .fills) (integerPlaces is) (decimalPlaces is) (count isPlace (beforeE is)) (count isPercent is)
 
 -- the limits, and that there is a place
 pub record Within (i d p : ℕ) : Type 0 where
@@ -89,7 +94,7 @@ pub record Turned (i d p : ℕ) (s : NumberWalk) (e : Entry) (es : List Entry) (
 
 -- opens all that an entry with a known tag computes by
 unfoldable computed : Entry → Item
-unfolding itemAt itemsAt every count integerPlaces decimalPlaces powersFrom digitAfter entryInRange itemAllowed along allOf
+unfolding itemAt itemsAt every count beforeE integerPlaces decimalPlaces powersFrom allOf along digitAfter entryInRange itemAllowed
 computed e = itemAt e
 
 module _ (i d p : ℕ) (s : NumberWalk) (a : ℕ) (es : List Entry) where
@@ -144,8 +149,8 @@ walkWith fits point first next percents fills =
     record { fits = fits; point = point; first = first; next = next; percents = percents; fills = fills }
 
 -- a place's range and power, as the rules ask for them
-place-asked : (a q : ℕ) (es : List Entry) → T (every entryInRange (entry 4 a ∷ es)) → T (powersFrom q (entry 4 a ∷ es))
-    → (1 ≤ a) × (a ≤ 35) × (a ≡ suc q) × T (every entryInRange es) × T (powersFrom (q - 1) es)
+place-asked : (a q : ℕ) (es : List Entry) → T (every entryInRange (entry 4 a ∷ es)) → T (barePowers q (entry 4 a ∷ es))
+    → (1 ≤ a) × (a ≤ 35) × (a ≡ suc q) × T (every entryInRange es) × T (barePowers (q - 1) es)
 unfolding computed
 place-asked a q es r t =
     let range = between-facts 1 35 a (cond-left (between 1 35 a) (every entryInRange es) r) in
@@ -155,7 +160,7 @@ place-ranged : (a : ℕ) (es : List Entry) → 1 ≤ a → a ≤ 35 → T (every
 unfolding computed
 place-ranged a es l m t = rw (le-leb 1 a l, le-leb a 35 m) t
 
-place-powered : (a q : ℕ) (es : List Entry) → a ≡ suc q → T (powersFrom (q - 1) es) → T (powersFrom q (entry 4 a ∷ es))
+place-powered : (a q : ℕ) (es : List Entry) → a ≡ suc q → T (barePowers (q - 1) es) → T (barePowers q (entry 4 a ∷ es))
 unfolding computed
 place-powered a q es e t = and-in (eqb a (suc q)) _ (true-T (eq-eqb a (suc q) e)) t
 
@@ -181,7 +186,7 @@ module _ (i d p : ℕ) (es : List Entry) (fits : Bool) (percents fills : ℕ) wh
   unfolding computed
   power-turn point zero a b e k = absurd (omega (arith, k .places))
   power-turn point (suc f) a b e k =
-      let q = power-places f point a b i d (integerPlaces (itemsAt es)) (decimalPlaces (itemsAt es)) (count isPlace (itemsAt es)) e (k .places) in
+      let q = power-places f point a b i d (integerPlaces (itemsAt es)) (decimalPlaces (itemsAt es)) (count isPlace (beforeE (itemsAt es))) e (k .places) in
       let ends = power-ends f point a b (integerPlaces (itemsAt es)) e in
       let below : b - 1 ≡ a - 1 - 1 = omega arith in
       record {
@@ -298,7 +303,7 @@ module _ (i d p : ℕ) (es : List Entry) (fits : Bool) (percents fills : ℕ) wh
 foreign-tag : (t a : ℕ) → itemAllowed numberKind (itemAt (entry t a)) ≡ between 1 8 t
 unfolding itemAt itemAllowed
 foreign-tag t a =
-    by-number (itemAllowed numberKind) (λ (n : ℕ). between 1 8 n) (itemsByTag a) 21 (half (halfAt a)) refl
+    by-number (itemAllowed numberKind) (λ (n : ℕ). between 1 8 n) (itemsByTag a) 24 (half (halfAt a)) refl
     (λ n h. sym (simp (le-leb 1 n (omega arith), lt-leb n 8 (omega arith)))) t
 
 no-figure : (t : ℕ) → between 4 6 t ≡ false → (t ≡ 1 → ⊥) → (t ≡ 2 → ⊥) → (t ≡ 3 → ⊥) → (t ≡ 7 → ⊥) → (t ≡ 8 → ⊥) → between 1 8 t ≡ false
@@ -366,31 +371,36 @@ module _ (es : List Entry) where
       let allowed : T (every (itemAllowed (itemsKind is)) is) = search (and-left, and-right) depth 12 in
       let fill : count isFill is ≤ 1 = search (and-left, and-right, leb→le) depth 12 in
       let points : count isPoint is ≤ 1 = search (and-left, and-right, leb→le) depth 12 in
-      let powers : T (powersFrom (14 + integerPlaces is) es) = search (and-left, and-right) depth 12 in
+      let powers : T (powersFrom (firstOf (exponentPlaces is)) (firstOf (integerPlaces is)) es) = search (and-left, and-right) depth 12 in
       let ranges : T (every entryInRange es) = search (and-left, and-right) depth 12 in
       let integers : integerPlaces is ≤ 20 = search (and-left, and-right, leb→le) depth 12 in
       let decimals : decimalPlaces is ≤ 15 = search (and-left, and-right, leb→le) depth 12 in
       let percents : count isPercent is ≤ 5 = search (and-left, and-right, leb→le) depth 12 in
-      let some = any-count isPlace is (number-placed is word) in (
-        record { some = omega (arith, places-counted is); integers = integers; decimals = decimals; percents = percents },
-        record { items = rw (number-word (itemsKind is) word) at allowed; ranges = ranges; fill = omega arith; points = points; powers = powers; ends = tt },
+      let kind = number-word (itemsKind is) word in
+      let items : T (every (itemAllowed numberKind) is) = rw kind at allowed in
+      let bare = number-bare is items in
+      let some = any-count isPlace is (number-place is kind) in (
+        record { some = omega (arith, places-counted is, bare-behind is bare); integers = integers; decimals = decimals; percents = percents },
+        record { items = items; ranges = ranges; fill = omega arith; points = points; powers = carry (powers-bare _ 0 (firstOf (integerPlaces is)) es bare) powers; ends = tt },
       )
 
   number-back : Limits → Left begun es → T (numberItems es)
   unfolding numberItems itemsOf soundEntries itemsFit oneFill powersRunDown partsFollow isSettled
   number-back w l =
-      let placed : any isPlace is ≡ true = sym (positive-count isPlace is) ∙ lt-ltb 0 (count isPlace is) (omega (arith, w .some, places-counted is)) in
+      let bare = number-bare is (l .items) in
+      let placed : any isPlace is ≡ true = sym (positive-count isPlace is) ∙ lt-ltb 0 (count isPlace is) (omega (arith, w .some, places-counted is, bare-behind is bare)) in
       let kind : itemsKind is ≡ numberKind = number-made is (l .items) placed in
       let word : T (eqb 2 (kindWord (itemsKind is))) = rw kind (unfold kindWord in tt) in
       let allowed : T (every (itemAllowed (itemsKind is)) is) = rw kind (l .items) in
       let parts : T (partsFrom false is) = number-parts false is (l .items) in
       let settled : T (settledTest noRun is) = number-settled noRun is (l .items) in
-      let powers : T (powersFrom (14 + integerPlaces is) es) = l .powers in
+      let powers : T (powersFrom (firstOf (exponentPlaces is)) (firstOf (integerPlaces is)) es) = carry (powers-bare 0 _ (firstOf (integerPlaces is)) es bare) (l .powers) in
       let ranges : T (every entryInRange es) = l .ranges in
       let generals : T (leb (count isGeneral is) 1) = le→leb (count isGeneral is) 1 (omega (arith, number-generals is (l .items))) in
       let points : T (leb (count isPoint is) 1) = le→leb (count isPoint is) 1 (l .points) in
       let elapsed : T (leb (count isElapsed is) 1) = le→leb (count isElapsed is) 1 (omega (arith, number-elapsed is (l .items))) in
       let plain : T (every (noPlain is) is) = number-plain is (l .items) in
+      let exponent : T (exponentFits is) = bare-exponent is bare in
       let fill : T (leb (count isFill is) 1) = le→leb (count isFill is) 1 (omega (arith, l .fill)) in
       let integers : T (leb (integerPlaces is) 20) = le→leb (integerPlaces is) 20 (w .integers) in
       let decimals : T (leb (decimalPlaces is) 15) = le→leb (decimalPlaces is) 15 (w .decimals) in
@@ -499,7 +509,7 @@ module _ (words : List ℕ) (n k : ℕ) (s : NumberWalk) (inv : Counting words n
     none = let z : n - k ≡ 0 = omega (arith, h) in rw z
 
     places : Places (s .first) (s .point) (s .next) (integerPlaces all) (decimalPlaces all) 0 0 0
-    unfolding itemsAt integerPlaces decimalPlaces count
+    unfolding itemsAt beforeE integerPlaces decimalPlaces count
     places = rw none at (inv .known .places)
 
     pub counting-none : s .first ≡ s .next → NumberTold whole noRow
@@ -519,7 +529,7 @@ module _ (words : List ℕ) (n k : ℕ) (s : NumberWalk) (inv : Counting words n
     percents-are = let p : count isPercent all ≡ s .percents + 0 = rw none at (inv .known .percents) in omega arith
 
     all-taken : (s .first ≡ s .next → ⊥) → openEnd (s .point) (s .next) ≡ false → T (numberItems whole)
-    unfolding itemsAt every count integerPlaces powersFrom along allOf
+    unfolding itemsAt every count integerPlaces powersFrom allOf along
     all-taken f e =
         let t = ended (s .first) (s .point) (s .next) _ _ places f e in
         let k = inv .known in

@@ -16,7 +16,7 @@ use Rattle.tables.specs.Words.{Entry}
 use Rattle.tables.specs.Decode.{itemAt}
 use Rattle.tables.specs.Rules.{entryInRange}
 use Rattle.tallies.specs.declared.Walk.{Walk}
-use Rattle.tallies.specs.Walk.{runAfter, earlierAfter, mayStand, answers, weight, numberWeight, unitAfter, nextAfter, placeTest, powerTest, entrySound, tooLong, countedOf, placedOf, datedOf, stepOf}
+use Rattle.tallies.specs.Walk.{runAfter, earlierAfter, mayStand, answers, weight, numberWeight, unitAfter, nextAfter, placeTest, powerTest, entrySound, tooLong, behindE, countedOf, placedOf, datedOf, placeWeight, stepOf}
 use Rattle.lists.proofs.Bools.{by-cases, true-T}
 use Rattle.tables.proofs.BackEntries.{between-facts, span-at, late-tag}
 
@@ -27,56 +27,59 @@ computed w e = stepOf w e
 
 -- ---- each tag by its weights
 module _ (w : Walk) (a : ℕ) where
-  pub literal-step : a < 65536 → countedOf w 0 0 0 true 0 ≡ stepOf w (entry 1 a)
+  pub literal-step : a < 65536 → countedOf w 0 0 0 true 0 0 ≡ stepOf w (entry 1 a)
   unfolding computed
   literal-step h = rw (lt-ltb a 65536 h)
 
-  pub blank-step : a < 65536 → countedOf w 0 0 0 true 0 ≡ stepOf w (entry 2 a)
+  pub blank-step : a < 65536 → countedOf w 0 0 0 true 0 0 ≡ stepOf w (entry 2 a)
   unfolding computed
   blank-step h = rw (lt-ltb a 65536 h)
 
-  pub fill-step : a < 65536 → countedOf w 0 65536 0 true 0 ≡ stepOf w (entry 3 a)
+  pub fill-step : a < 65536 → countedOf w 0 65536 0 true 0 0 ≡ stepOf w (entry 3 a)
   unfolding computed
   fill-step h = rw (lt-ltb a 65536 h)
 
-  expected : a < 65536 → w .next ≡ a → placeTest (w .next) a ≡ true
+  pub expected : a < 65536 → w .next ≡ a → placeTest (w .next) a ≡ true
   expected h e = rw (ne-eqb (w .next) 65536 (λ f. absurd (omega arith))) (eq-eqb a (w .next) (sym e))
 
-  unexpected : (w .next ≡ a → ⊥) → (eqb (w .next) 65536 && between 1 35 a) ≡ placeTest (w .next) a
+  pub unexpected : (w .next ≡ a → ⊥) → (eqb (w .next) 65536 && between 1 35 a) ≡ placeTest (w .next) a
   unexpected n =
       by-cases (eqb (w .next) 65536) (λ h. rw h)
       (λ h. rw (h, ne-eqb a (w .next) (λ e. n (sym e))))
 
-  pub place-expected : a < 65536 → w .next ≡ a → placedOf w true a ≡ stepOf w (entry 4 a)
-  unfolding computed
-  place-expected h e = rw (expected h e)
+  abbrev placed : ℕ → Walk
+  placed t = placedOf w (placeTest (w .next) a) (behindE (w .unit) (placeWeight t)) a
 
-  pub place-other : (w .next ≡ a → ⊥) → placedOf w (eqb (w .next) 65536 && between 1 35 a) a ≡ stepOf w (entry 4 a)
+  zero-step : placed 4 ≡ stepOf w (entry 4 a)
   unfolding computed
-  place-other n = rw (unexpected n, and-true (placeTest (w .next) a))
+  zero-step = rw (and-true (placeTest (w .next) a)) (by-cases (eqb (w .unit) 0) (λ u. rw u) (λ u. rw u))
 
-  hash-step : stepOf w (entry 4 a) ≡ stepOf w (entry 5 a)
+  hash-step : placed 5 ≡ stepOf w (entry 5 a)
   unfolding computed
-  hash-step = refl
+  hash-step = rw (and-true (placeTest (w .next) a)) (by-cases (eqb (w .unit) 0) (λ u. rw u) (λ u. rw u))
 
-  space-step : stepOf w (entry 4 a) ≡ stepOf w (entry 6 a)
+  space-step : placed 6 ≡ stepOf w (entry 6 a)
   unfolding computed
-  space-step = refl
+  space-step = rw (and-true (placeTest (w .next) a)) (by-cases (eqb (w .unit) 0) (λ u. rw u) (λ u. rw u))
 
-  pub places-alike : (t : ℕ) → between 4 6 t ≡ true → stepOf w (entry 4 a) ≡ stepOf w (entry t a)
-  places-alike t h =
+  pub place-step : (t : ℕ) → between 4 6 t ≡ true → placed t ≡ stepOf w (entry t a)
+  place-step t h =
       let f = between-facts 4 6 t (true-T h) in
-      span-at (λ (k : ℕ). stepOf w (entry 4 a) ≡ stepOf w (entry k a)) 4 3 t (refl, (hash-step, (space-step, tt))) (f .0) (omega arith)
+      span-at (λ (k : ℕ). placed k ≡ stepOf w (entry k a)) 4 3 t (zero-step, (hash-step, (space-step, tt))) (f .0) (omega arith)
 
-  pub percent-step : countedOf w 281474976710656 0 0 (eqb a 0) 0 ≡ stepOf w (entry 8 a)
+  pub minus-step : stepOf w (entry 22 a) ≡ stepOf w (entry 23 a)
+  unfolding computed
+  minus-step = refl
+
+  pub percent-step : countedOf w 281474976710656 0 0 (eqb a 0) 0 0 ≡ stepOf w (entry 8 a)
   unfolding computed
   percent-step = refl
 
-  pub general-step : countedOf w 0 1 0 (eqb a 0) 0 ≡ stepOf w (entry 9 a)
+  pub general-step : countedOf w 0 1 0 (eqb a 0) 0 0 ≡ stepOf w (entry 9 a)
   unfolding computed
   general-step = refl
 
-  pub text-step : countedOf w 0 281474976710656 0 (eqb a 0) 0 ≡ stepOf w (entry 10 a)
+  pub text-step : countedOf w 0 281474976710656 0 (eqb a 0) 0 0 ≡ stepOf w (entry 10 a)
   unfolding computed
   text-step = refl
 
@@ -120,17 +123,17 @@ module _ (w : Walk) (a : ℕ) where
   unfolding computed
   elapsed-seconds-step = by-cases (leb a 9) (λ h. rw h) (λ h. rw h)
 
-  pub half-step : countedOf w 0 0 0 (between 1 2 a) 4294967296 ≡ stepOf w (entry 21 a)
+  pub half-step : countedOf w 0 0 0 (between 1 2 a) 4294967296 0 ≡ stepOf w (entry 21 a)
   unfolding computed
   half-step = refl
 
-  pub nought-step : countedOf w 0 0 0 false 4294967296 ≡ stepOf w (entry 0 a)
+  pub nought-step : countedOf w 0 0 0 false 4294967296 0 ≡ stepOf w (entry 0 a)
   unfolding computed
   nought-step = refl
 
-  pub unknown-step : (t : ℕ) → 21 < t → countedOf w 0 0 0 false 4294967296 ≡ stepOf w (entry t a)
+  pub unknown-step : (t : ℕ) → 23 < t → countedOf w 0 0 0 false 4294967296 0 ≡ stepOf w (entry t a)
   unfolding computed
-  unknown-step t h = rw (late-tag t a (omega arith), ne-eqb 21 t (λ e. absurd (omega arith)))
+  unknown-step t h = rw (late-tag t a h, ne-eqb 21 t (λ e. absurd (omega arith)))
 
 -- a number is none of m + 1 to m + j, behind what else is known of it, as the last arm of a `match` tells it
 abbrev pub Others : Type 0 → ℕ → ℕ → ℕ → Type 0

@@ -2,11 +2,12 @@
 -- Assumes nothing.
 use Prim.Native.Nat.{ℕ}
 use mathlib.Core.Bool.{Bool, cond, not, _&&_, _||_}
+use mathlib.Core.Path.{_≡_}
 use mathlib.Core.List.{List}
 use lib.Dec.{leb, ltb, eqb}
 use Rattle.lists.specs.Lists.{every, any, count}
 use Rattle.formats.specs.Tokens.{hours, minutes, seconds}
-use Rattle.formats.specs.Items.{Item, dateKind, textKind, itemMakes, itemsKind, itemsFit, isPoint, isPercent, isGeneral, isHour, isMinute, isSecond, isPart, isElapsed, isElapsedOf, isHalf, integerPlaces, decimalPlaces}
+use Rattle.formats.specs.Items.{Item, dateKind, textKind, itemMakes, itemsKind, itemsFit, isPoint, isPercent, isGeneral, isHour, isMinute, isSecond, isPart, isElapsed, isElapsedOf, isHalf, isExponent, isSpace, fromE, integerPlaces, decimalPlaces, exponentPlaces}
 use Rattle.formats.specs.Limits.{elapsedShort}
 use Rattle.formats.specs.WellFormed.{oneFill, partsFollow, isSettled}
 use Rattle.tables.specs.Words.{Entry}
@@ -36,6 +37,9 @@ tallyOf es =
       percents = count isPercent is;
       generals = count isGeneral is;
       elapsed = count isElapsed is;
+      exponents = count isExponent is;
+      «exponent_places» = exponentPlaces is;
+      misplaced = any isPoint (fromE is) || any isSpace (fromE is);
       texts = any makesText is;
       dating = any makesDate is;
       dates = any belongsDate is;
@@ -63,23 +67,37 @@ itemsOf kind es =
     soundEntries es && (eqb kind (kindWord (itemsKind is)) && (itemsFit is && oneFill is))
 
 -- ---- the tests on a tally
--- a place makes a number section; a point and a percent belong to one
 abbrev pub hasPlaces : Tally → Bool
-hasPlaces t = ltb 0 (t .integers) || ltb 0 (t .decimals)
+hasPlaces t = ltb 0 (t .integers) || (ltb 0 (t .decimals) || ltb 0 (t .«exponent_places»))
+
+abbrev pub hasExponent : Tally → Bool
+hasExponent t = ltb 0 (t .exponents)
+
+-- most sections have no E, and so no place behind one
+pub record NoExponent (t : Tally) : Type 0 where
+  pub exponents : t .exponents ≡ 0
+  pub places : t .«exponent_places» ≡ 0
+
+-- a place or point, percent or E, which only number and scientific sections hold
+abbrev pub hasFigures : Tally → Bool
+hasFigures t = hasPlaces t || ltb 0 (t .points)
 
 abbrev pub hasNumberItems : Tally → Bool
-hasNumberItems t = hasPlaces t || (ltb 0 (t .points) || ltb 0 (t .percents))
+hasNumberItems t = hasFigures t || (ltb 0 (t .percents) || hasExponent t)
 
+-- an E makes a scientific section, a place without one a number section
 abbrev pub kindTold : Tally → ℕ
-kindTold t = cond (t .texts) 3 (cond (ltb 0 (t .generals)) 1 (cond (t .dating) 4 (cond (hasPlaces t) 2 0)))
+kindTold t =
+    cond (t .texts) 3 (cond (ltb 0 (t .generals)) 1 (cond (t .dating) 4 (cond (hasExponent t) 5 (cond (hasPlaces t) 2 0))))
 
--- no item belongs to another kind
+-- no item belongs to another kind; a scientific section holds no percent
 abbrev pub allowedTold : Tally → Bool
 allowedTold t =
     cond (t .texts) (not (ltb 0 (t .generals)) && (not (t .dates) && not (hasNumberItems t)))
     (cond (ltb 0 (t .generals)) (not (t .dates) && not (hasNumberItems t))
     (cond (t .dating) (not (hasNumberItems t))
-    (cond (hasPlaces t) (not (t .dates)) (not (t .dates) && not (hasNumberItems t)))))
+    (cond (hasExponent t) (not (t .dates) && not (ltb 0 (t .percents)))
+    (cond (hasPlaces t) (not (t .dates)) (not (t .dates) && not (hasNumberItems t))))))
 
 -- no elapsed item beside its plain equivalent
 abbrev pub noPlainTold : Tally → Bool
@@ -87,15 +105,21 @@ noPlainTold t =
     not (t .«elapsed_hours» && t .hours)
     && (not (t .«elapsed_minutes» && t .minutes) && not (t .«elapsed_seconds» && t .seconds))
 
+-- one E, behind an integer place, with an exponent place and neither point nor `?` behind it
+abbrev pub exponentTold : Tally → Bool
+exponentTold t =
+    not (hasExponent t)
+    || (leb (t .exponents) 1 && leb 1 (t .integers) && leb 1 (t .«exponent_places») && not (t .misplaced))
+
 abbrev pub itemsFitTold : Tally → Bool
 itemsFitTold t =
     allowedTold t
-    && (leb (t .generals) 1 && (leb (t .points) 1 && (leb (t .elapsed) 1 && noPlainTold t)))
+    && (leb (t .generals) 1 && (leb (t .points) 1 && (leb (t .elapsed) 1 && (noPlainTold t && exponentTold t))))
 
 abbrev pub withinTold : Tally → ℕ → Bool
 withinTold t thousands =
     leb (t .integers) 20
-    && (leb (t .decimals) 15 && (leb (t .percents) 5 && (leb thousands 5 && t .short)))
+    && (leb (t .decimals) 15 && (leb (t .«exponent_places») 3 && (leb (t .percents) 5 && (leb thousands 5 && t .short))))
 
 abbrev pub decimalsTold : Tally → ℕ
-decimalsTold t = cond (eqb (kindTold t) 2) (t .decimals) 0
+decimalsTold t = cond (eqb (kindTold t) 2 || eqb (kindTold t) 5) (t .decimals) 0

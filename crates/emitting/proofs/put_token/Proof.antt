@@ -13,7 +13,7 @@ returns : tie.Need-returns
 returns c =
     let s = c .before .before .before .before .before .before in
     let a = s .args in
-    turn-past (a .date) (now (a .code)) (now (a .body)) (a .i) (a .w) (s .pre .0 .4) _ _ (c .passed .ensures) (c .before .if1 .taken) (s .pre .1)
+    turn-past (a .date) (a .anew) (now (a .code)) (now (a .body)) (a .i) (a .w) (s .pre .0 .4) _ _ (s .pre .0 .1) (c .passed .ensures) (c .before .if1 .taken) (s .pre .1)
 
 mul-form : tie.Need-mul-form
 mul-form c = search needs
@@ -61,7 +61,7 @@ returns-2 c =
     let t = z .before .before in
     let s = t .before .before .before .before .before in
     let a = s .args in
-    turn-put (a .date) (now (a .code)) (now (a .body)) (a .i) (a .w) (s .pre .0 .4) _ _ _ _ _ (c .walked .ensures) (t .if1 .left) (s .pre .1)
+    turn-put (a .date) (a .anew) (now (a .code)) (now (a .body)) (a .i) (a .w) (s .pre .0 .4) _ _ _ _ _ (s .pre .0 .5) (s .pre .0 .1) (c .walked .ensures) (t .if1 .left) (s .pre .1)
     (z .part-zeros .ensures) (p .put-form .ensures .0) (p .put-form .ensures .1)
 
 pub put-token-spec : {M : Type 1} → statement M

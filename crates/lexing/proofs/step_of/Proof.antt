@@ -28,13 +28,16 @@ escaped-literal-requires c κs = search needs
 bracketed-token-requires : tie.Need-bracketed-token-requires
 bracketed-token-requires c κs = search needs
 
+exponent-word-requires : tie.Need-exponent-word-requires
+exponent-word-requires c κs = search needs
+
 marked-unit-requires : tie.Need-marked-unit-requires
 marked-unit-requires c κs = search needs
 
 letter-run-requires : tie.Need-letter-run-requires
 letter-run-requires c κs =
     let r = c .before .before .before .match .rest in
-    (c .before .before .before .before .before .before .pre, letter-low _ 0 (now (c .before .before .before .before .before .before .args .us)) (c .before .if2 .left) (r .0 .0 .0 .1) (r .0 .0 .1) (r .0 .1), search needs)
+    (c .before .before .before .before .before .before .pre, letter-low _ 0 (now (c .before .before .before .before .before .before .args .us)) (c .before .if2 .left) (r .0 .0 .0 .0 .1) (r .0 .0 .0 .1) (r .0 .0 .1), search needs)
 
 returns : tie.Need-returns
 unfolding classStep
@@ -61,30 +64,34 @@ unfolding classStep
 returns-6 c = class-step _ (c .before .before .before .before .args .u) (now (c .before .before .before .before .args .us)) (c .before .before .class-of .ensures) _ (c .bracketed-token .ensures ∙ rw (c .before .match .keys6))
 
 returns-7 : tie.Need-returns-7
-returns-7 c =
-    let us = now (c .before .before .before .before .before .args .us) in
-    let r = c .before .before .match .rest in
-    class-step _ (c .before .before .before .before .before .args .u) us (c .before .before .before .class-of .ensures) _
-    (c .marked-unit .ensures ∙ class-marked _ (c .before .before .before .before .before .args .u) us (r .0 .0 .0 .0 .0 .1) (r .0 .0 .0 .0 .1) (c .before .if1 .taken))
+unfolding classStep
+returns-7 c = class-step _ (c .before .before .before .before .args .u) (now (c .before .before .before .before .args .us)) (c .before .before .class-of .ensures) _ (c .exponent-word .ensures ∙ rw (c .before .match .keys7))
 
 returns-8 : tie.Need-returns-8
 returns-8 c =
     let us = now (c .before .before .before .before .before .args .us) in
-    class-step _ (c .before .before .before .before .before .args .u) us (c .before .before .before .class-of .ensures) _ (class-single _ (c .before .before .before .before .before .args .u) us (c .before .if1 .left) (c .if2 .taken))
+    let r = c .before .before .match .rest in
+    class-step _ (c .before .before .before .before .before .args .u) us (c .before .before .before .class-of .ensures) _
+    (c .marked-unit .ensures ∙ class-marked _ (c .before .before .before .before .before .args .u) us (r .0 .0 .0 .0 .0 .0 .1) (r .0 .0 .0 .0 .0 .1) (c .before .if1 .taken))
 
 returns-9 : tie.Need-returns-9
 returns-9 c =
-    let us = now (c .before .before .before .before .before .before .before .args .us) in
-    let r = c .before .before .before .before .match .rest in
-    class-step _ (c .before .before .before .before .before .before .before .args .u) us (c .before .before .before .before .before .class-of .ensures) _
-    (c .letter-run .ensures ∙ class-letter _ (c .before .before .before .before .before .before .before .args .u) us (c .before .before .if2 .left) (r .0 .0 .0 .1) (r .0 .0 .1) (r .0 .1) (c .before .if3 .taken))
+    let us = now (c .before .before .before .before .before .args .us) in
+    class-step _ (c .before .before .before .before .before .args .u) us (c .before .before .before .class-of .ensures) _ (class-single _ (c .before .before .before .before .before .args .u) us (c .before .if1 .left) (c .if2 .taken))
 
 returns-10 : tie.Need-returns-10
 returns-10 c =
+    let us = now (c .before .before .before .before .before .before .before .args .us) in
+    let r = c .before .before .before .before .match .rest in
+    class-step _ (c .before .before .before .before .before .before .before .args .u) us (c .before .before .before .before .before .class-of .ensures) _
+    (c .letter-run .ensures ∙ class-letter _ (c .before .before .before .before .before .before .before .args .u) us (c .before .before .if2 .left) (r .0 .0 .0 .0 .1) (r .0 .0 .0 .1) (r .0 .0 .1) (c .before .if3 .taken))
+
+returns-11 : tie.Need-returns-11
+returns-11 c =
     let us = now (c .before .before .before .before .before .before .args .us) in
     let r = c .before .before .before .match .rest in
     class-step _ (c .before .before .before .before .before .before .args .u) us (c .before .before .before .before .class-of .ensures) _
-    (class-none _ (c .before .before .before .before .before .before .args .u) us (c .before .if2 .left) (r .0 .0 .0 .1) (r .0 .0 .1) (r .0 .1) (c .if3 .left) (r .1))
+    (class-none _ (c .before .before .before .before .before .before .args .u) us (c .before .if2 .left) (r .0 .0 .0 .0 .1) (r .0 .0 .0 .1) (r .0 .0 .1) (c .if3 .left) (r .0 .1) (r .1))
 
 pub step-of-spec : {M : Type 1} → statement M
 step-of-spec =
@@ -96,6 +103,7 @@ step-of-spec =
     half-day-word-requires
     escaped-literal-requires
     bracketed-token-requires
+    exponent-word-requires
     marked-unit-requires
     letter-run-requires
     returns
@@ -107,4 +115,5 @@ step-of-spec =
     returns-7
     returns-8
     returns-9
-    returns-10)
+    returns-10
+    returns-11)

@@ -1,20 +1,22 @@
 -- `tallies::decimals_word` meets its contract.
 -- Assumes nothing.
-use Rattle.tallies.specs.Tally.{kindTold}
+use mathlib.Core.Bool.{true, false}
 use mathlib.Core.Path.{sym, _∙_}
 use borrow.Author.Tests.{eq-eqb, ne-eqb}
+use Rattle.tallies.proofs.Exponents.{bare-decimals}
 use borrow.Author.Needs.{needs}
 use Rattle.tallies.proofs.decimals_word.Statement.{statement}
 use Rattle.tallies.proofs.decimals_word.Tie as tie
 
-kind-requires : tie.Need-kind-requires
-kind-requires c κs = search needs
-
 returns : tie.Need-returns
-returns c = rw (eq-eqb (kindTold (c .before .before .args .t)) 2 (sym (c .before .kind .ensures) ∙ c .if1 .taken))
+returns c =
+    let k = c .before in
+    bare-decimals (k .before .args .t) (k .before .pre) true (eq-eqb _ 2 (sym (k .kind .ensures) ∙ c .if1 .taken))
 
 returns-2 : tie.Need-returns-2
-returns-2 c = rw (ne-eqb (kindTold (c .before .before .args .t)) 2 (λ e. c .if1 .left (c .before .kind .ensures ∙ e)))
+returns-2 c =
+    let k = c .before in
+    bare-decimals (k .before .args .t) (k .before .pre) false (ne-eqb _ 2 (λ e. c .if1 .left (k .kind .ensures ∙ e)))
 
 pub decimals-word-spec : {M : Type 1} → statement M
-decimals-word-spec = tie.close (tie.spec kind-requires returns returns-2)
+decimals-word-spec = tie.close (tie.spec (λ c κs. search needs) returns returns-2)

@@ -1,17 +1,14 @@
 -- `tallies::items_fit` meets its contract.
 -- Assumes nothing.
+use Rattle.tallies.proofs.Exponents.{bare-items-fit}
 use borrow.Author.Needs.{needs}
 use Rattle.tallies.proofs.items_fit.Statement.{statement}
 use Rattle.tallies.proofs.items_fit.Tie as tie
 
-allowed-requires : tie.Need-allowed-requires
-allowed-requires c κs = search needs
-
-no-plain-requires : tie.Need-no-plain-requires
-no-plain-requires c κs = search needs
-
 returns : tie.Need-returns
-returns c = rw (c .no-plain .ensures, c .before .before .before .before .allowed .ensures)
+returns c =
+    let a = c .before .before .before .before in
+    rw (c .no-plain .ensures, a .allowed .ensures) (bare-items-fit (a .before .args .t) (a .before .pre))
 
 pub items-fit-spec : {M : Type 1} → statement M
-items-fit-spec = tie.close (tie.spec allowed-requires no-plain-requires returns)
+items-fit-spec = tie.close (tie.spec (λ c κs. search needs) (λ c κs. search needs) returns)

@@ -15,4 +15,6 @@ tally-of-spec =
     (λ c. search needs)
     (λ c. search needs)
     (λ c. search needs)
+    (λ c. search needs)
+    (λ c. search needs)
     (λ c es k. finished-told es _ k))

@@ -3,7 +3,7 @@
 use borrow.Author.Needs.{needs}
 use Prim.Native.Nat.{_-_}
 use lib.ListN.{length}
-use Rattle.bodies.proofs.Bodies.{Seeing, seeing-start, seeing-step, seeing-end}
+use Rattle.bodies.proofs.Bodies.{Seeing, seeing-start, seeing-roomy, seeing-step, seeing-end}
 use Rattle.bodies.proofs.facts.facts_of.Statement.{statement}
 use Rattle.bodies.proofs.facts.facts_of.Tie as tie
 
@@ -35,7 +35,7 @@ shared-slice-read-see-2 : tie.Need-shared-slice-read-see-2 Inv-loop μ-loop
 shared-slice-read-see-2 c = search needs
 
 see-requires : tie.Need-see-requires Inv-loop μ-loop
-see-requires c κs = search needs
+see-requires c κs = search (needs, seeing-roomy)
 
 add-i : tie.Need-add-i Inv-loop μ-loop
 add-i c = search needs
@@ -66,4 +66,7 @@ facts-of-spec =
     add-i
     loop-less
     loop-again
+    (λ c. search needs)
+    (λ c. search needs)
+    (λ c. search needs)
     returns)

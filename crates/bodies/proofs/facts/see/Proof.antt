@@ -1,31 +1,28 @@
 -- `bodies::facts::see` meets its contract.
 -- Assumes nothing.
+use mathlib.Core.Path.{_≡_, sym, ap, _∙_}
+use mathlib.Core.Bool.{Bool, false, _&&_}
+use lib.Dec.{eqb}
 use borrow.Author.Needs.{needs}
+use Rattle.bodies.specs.Forms.{placeForm, weightForm, unitForm}
+use Rattle.bodies.specs.Bodies.{seen}
+use Rattle.bodies.proofs.Tests.{place-seen}
 use Rattle.bodies.proofs.facts.see.Statement.{statement}
 use Rattle.bodies.proofs.facts.see.Tie as tie
 
-is-between-requires : tie.Need-is-between-requires
-is-between-requires c κs = search needs
-
-rank-of-requires : tie.Need-rank-of-requires
-rank-of-requires c κs = search needs
-
-higher-requires : tie.Need-higher-requires
-higher-requires c κs = search needs
-
-counted-requires : tie.Need-counted-requires
-counted-requires c κs = search needs
-
-counted-requires-2 : tie.Need-counted-requires-2
-counted-requires-2 c κs = search needs
-
 returns : tie.Need-returns
 returns c =
-    let n = c .before .before in
-    let h = n .before .before .before .before in
-    rw (h .higher .ensures, h .before .rank-of .ensures, n .counted .ensures, c .before .counted2 .ensures, h .before .before .before .is-between .ensures)
+    let k = c .before .before in
+    let a = k .before .args in
+    c .see-place .ensures ∙ place-seen (a .s) (a .form) (a .argument) (sym (k .is-between .ensures) ∙ c .before .if1 .taken)
+
+returns-2 : tie.Need-returns-2
+returns-2 c =
+    let k = c .before .before in
+    let a = k .before .args in
+    let e : placeForm (a .form) ≡ false = sym (k .is-between .ensures) ∙ c .before .if1 .left in
+    c .see-other .ensures
+    ∙ ap (λ (b : Bool). seen (a .s) (weightForm (a .form)) (unitForm (a .s .unit) (a .form)) b (eqb (a .form) 1 && eqb (a .argument) 47)) (sym e)
 
 pub see-spec : {M : Type 1} → statement M
-see-spec =
-    tie.close
-    (tie.spec is-between-requires rank-of-requires higher-requires counted-requires counted-requires-2 returns)
+see-spec = tie.close (tie.spec (λ c κs. search needs) (λ c κs. search needs) returns (λ c κs. search needs) returns-2)

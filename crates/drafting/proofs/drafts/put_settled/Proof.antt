@@ -2,8 +2,10 @@
 -- Assumes nothing.
 use native.Mathlib.Omega.{arith}
 use denote.Ref.{now}
+use mathlib.Core.Path.{ap}
 use Rattle.marks.specs.Marks.{tokensIn}
 use Rattle.writing.proofs.Laws.{put-size}
+use Rattle.drafting.specs.declared.places.Places.{Places}
 use Rattle.drafting.proofs.Drafting.{facts-date, facts-fills}
 use Rattle.drafting.proofs.Settled.{settled-size, settled-put, settled-few}
 use borrow.Author.Needs.{needs}
@@ -14,7 +16,10 @@ put-items-requires : tie.Need-put-items-requires
 put-items-requires c κs =
     let s = c .before .before .before .before in
     let f = s .pre .1 in
-    ((omega (arith, s .pre .0 .2, s .pre .0 .3), s .pre .0 .0, s .pre .0 .1, f .1), (facts-date _ _ (f .0), (facts-fills _ _ (f .0), f .2)))
+    let places = f .1 in (
+      (omega (arith, s .pre .0 .2, s .pre .0 .3), s .pre .0 .0, s .pre .0 .1, f .2, f .3),
+      (facts-date _ _ (f .0), (facts-fills _ _ (f .0), (ap (λ (p : Places). p .integers) places, ap (λ (p : Places). p .exponents) places))),
+    )
 
 part-settle-end : tie.Need-part-settle-end
 part-settle-end c =

@@ -9,7 +9,6 @@ use Rattle.lists.proofs.Bools.{by-cases}
 use Rattle.tables.specs.Standing.{shiftOf}
 use Rattle.tallies.specs.Tally.{kindTold, withinTold}
 use Rattle.drafting.proofs.Drafting.{within-bounds}
-use borrow.Author.Needs.{needs}
 use Rattle.drafting.proofs.drafts.shift_of.Statement.{statement}
 use Rattle.drafting.proofs.drafts.shift_of.Tie as tie
 
@@ -53,9 +52,9 @@ pub shift-of-spec : {M : Type 1} → statement M
 shift-of-spec =
     tie.close
     (tie.spec
-    (λ c κs. search needs)
+    (λ c κs. omega (arith, c .pre .places))
     returns
-    (λ c κs. search needs)
+    (λ c κs. c .before .before .pre)
     returns-2
     mul-result
     add-result

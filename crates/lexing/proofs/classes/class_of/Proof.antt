@@ -12,7 +12,7 @@ use Rattle.lexing.proofs.classes.class_of.Tie as tie
 high : tie.Need-returns
 high c = class-high (c .before .args .u) (omega (arith, c .if1 .taken))
 
-last : tie.Need-returns-22
+last : tie.Need-returns-23
 unfolding firstRows
 last c = c .bare-class .ensures ∙ class-bare (c .before .before .before .args .u) (c .before .match .rest)
 
@@ -44,4 +44,5 @@ class-of-spec =
     (λ c. rw (c .match .keys18))
     (λ c. rw (c .match .keys19))
     (λ c. rw (c .match .keys20))
+    (λ c. rw (c .match .keys21))
     last)

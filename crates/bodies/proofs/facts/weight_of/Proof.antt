@@ -1,18 +1,18 @@
--- `bodies::facts::rank_of` meets its contract.
+-- `bodies::facts::weight_of` meets its contract.
 -- Assumes nothing.
 use Rattle.lists.specs.Lists.{any}
 use Rattle.bodies.specs.Forms.{dateForms}
-use Rattle.bodies.proofs.Tests.{rank-none}
-use Rattle.bodies.proofs.facts.rank_of.Statement.{statement}
-use Rattle.bodies.proofs.facts.rank_of.Tie as tie
+use Rattle.bodies.proofs.Tests.{weight-none}
+use Rattle.bodies.proofs.facts.weight_of.Statement.{statement}
+use Rattle.bodies.proofs.facts.weight_of.Tie as tie
 
-last : tie.Need-returns-14
+last : tie.Need-returns-20
 unfolding dateForms
-last c = rank-none (c .before .args .form) (c .match .rest)
+last c = weight-none (c .before .args .form) (c .match .rest)
 
-pub rank-of-spec : {M : Type 1} → statement M
+pub weight-of-spec : {M : Type 1} → statement M
 unfolding any dateForms
-rank-of-spec =
+weight-of-spec =
     tie.close
     (tie.spec
     (λ c. rw (c .match .keys1))
@@ -28,4 +28,10 @@ rank-of-spec =
     (λ c. rw (c .match .keys11))
     (λ c. rw (c .match .keys12))
     (λ c. rw (c .match .keys13))
+    (λ c. rw (c .match .keys14))
+    (λ c. rw (c .match .keys15))
+    (λ c. rw (c .match .keys16))
+    (λ c. rw (c .match .keys17))
+    (λ c. rw (c .match .keys18))
+    (λ c. rw (c .match .keys19))
     last)
