@@ -1,4 +1,4 @@
--- The rules of a row as they are tested: what every head must pass, then what is left to test of a number section and of another.
+-- The rules of a row as they are tested: what every head must pass, then what is left to test of a number section, of a scientific one and of another.
 -- Assumes nothing.
 use Prim.Native.Nat.{ℕ, _+_, _*_, _≤_, _<_}
 use native.Mathlib.Omega.{arith}
@@ -6,33 +6,35 @@ use mathlib.Core.Path.{_≡_, refl, sym, _∙_, ap}
 use mathlib.Core.List.{List}
 use mathlib.Core.Bool.{Bool, true, false, true≢false, cond, not, _&&_, _||_, and-true}
 use lib.Dec.{T, leb, ltb, eqb, leb→le, le→leb, ltb→lt, eqb→eq}
-use borrow.Author.Tests.{eq-eqb, ne-eqb, lt-ltb, lt-leb, leb-false, not-true, not-false}
+use borrow.Author.Tests.{eqb-true, eq-eqb, ne-eqb, lt-ltb, lt-leb, leb-false, not-true, not-false}
 use Rattle.lists.specs.Lists.{every, count}
 use Rattle.lists.proofs.Bools.{and-left, and-right, and-in, carry, same-test, by-cases, true-T}
 use Rattle.lists.proofs.Counts.{every-weaker}
-use Rattle.formats.specs.Items.{Item, Kind, textKind, generalKind, dateKind, numberKind, literalKind, sameKind, kindOf, itemsKind, itemAllowed, itemInRange, isPercent, itemsFit, integerPlaces, decimalPlaces}
+use Rattle.formats.specs.Items.{Item, Kind, numberKind, sameKind, showsPlaces, kindOf, itemsKind, itemAllowed, itemInRange, isPercent, itemsFit, integerPlaces, decimalPlaces, exponentPlaces}
 use Rattle.formats.specs.Where.{implies}
 use Rattle.formats.specs.Limits.{elapsedShort, sectionWithin}
 use Rattle.formats.specs.WellFormed.{oneFill, partsFollow, isSettled, groupingFits, sectionFits}
-use Rattle.formats.proofs.Each.{by-item}
+use Rattle.formats.proofs.Cutting.{bare-from, held-bare}
+use Rattle.formats.proofs.Each.{by-item, by-kind}
 use Rattle.tables.specs.Words.{Head, Entry, Row}
 use Rattle.tables.specs.Encode.{kindWord, hasHalf, decimalsWord}
 use Rattle.tables.specs.Decode.{wholeAt, millionthsAt, itemsAt, groupedAt, thousandsAt, sectionAt}
 use Rattle.tables.specs.Rules.{headInRange, entryInRange, rowInRange, conditionFits, powersRunDown, shiftTells, shiftFits, kindFits, decimalsFit, rowFits}
 use Rattle.tables.proofs.Ranges.{HeadRanges, head-ranges, head-in-ranges}
 use Rattle.tables.proofs.Back.{RowFacts, row-facts}
-use Rattle.tables.proofs.BackEntries.{items-ranged}
+use Rattle.tables.proofs.BackEntries.{items-ranged, span-at}
 use Rattle.tables.proofs.Standing.{number-word}
 use Rattle.tallies.specs.declared.date_rows.DatedRow.{DatedRow}
 use Rattle.tallies.specs.declared.number_rows.NumberRow.{NumberRow}
-use Rattle.tallies.specs.Tally.{soundEntries, itemsOf}
+use Rattle.tallies.specs.declared.Tally.{Tally}
+use Rattle.tallies.specs.Tally.{tallyOf, soundEntries, itemsOf}
 use Rattle.tallies.specs.DateRows.{DateTold}
 use Rattle.tallies.specs.NumberRows.{numberItems, NumberTold}
 use Rattle.tallies.proofs.Powers.{places-counted}
-use Rattle.tallies.proofs.Told.{no-figures, no-half}
+use Rattle.tallies.proofs.Told.{no-places, no-percents, no-half, places-word}
 use Rattle.table_words.specs.declared.HeadWords.{HeadWords}
 use Rattle.table_words.specs.Sections.{headFrom}
-use Rattle.checking.specs.Checking.{agree, conditionTold, numberTold, otherTold, rowWith, halfFits, rowGood}
+use Rattle.checking.specs.Checking.{agree, conditionTold, numberTold, scientificTold, otherTold, rowWith, halfFits, rowGood}
 
 -- ---- the words that every head must pass
 abbrev noneTest : Head → Bool
@@ -80,7 +82,7 @@ condition-in h f =
     let c : Compared h = compared h (true-T (f .condition)) in
     and-in (noneTest h) (signTest h) (c .none) (c .sign)
 
-range-in : (h : Head) → Front h → h .kind ≤ 4 → h .shift ≤ 25 → h .flags ≤ 7 → h .decimals ≤ 15 → T (headInRange h)
+range-in : (h : Head) → Front h → h .kind ≤ 5 → h .shift ≤ 25 → h .flags ≤ 7 → h .decimals ≤ 15 → T (headInRange h)
 range-in h f k s g d =
     let c : Compared h = compared h (true-T (f .condition)) in
     head-in-ranges h (record {
@@ -116,17 +118,25 @@ or-left : (a b : Bool) → T a → T (a || b)
 or-left true b t = tt
 or-left false b t = absurd t
 
-ungrouped : (g : Bool) (n : ℕ) → n ≡ 0 → T (not g || leb 2 n) → T (not g)
-ungrouped true n e t = absurd (omega (arith, e, leb→le 2 n t))
-ungrouped false n e t = tt
+ungrouped : (g : Bool) → T (not g || false) → T (not g)
+ungrouped true t = t
+ungrouped false t = tt
 
-kind-few : (k : Kind) → kindWord k ≤ 4
+kind-few : (k : Kind) → kindWord k ≤ 5
 unfolding kindWord
-kind-few textKind = omega arith
-kind-few generalKind = omega arith
-kind-few dateKind = omega arith
-kind-few numberKind = omega arith
-kind-few literalKind = omega arith
+kind-few = by-kind (λ (k : Kind). kindWord k ≤ 5) (omega arith) (omega arith) (omega arith) (omega arith) (omega arith) (omega arith)
+
+-- neither grouping nor twelve-hour
+few-flags : (flags : ℕ) → T (eqb flags 0 || eqb flags 2) → (flags < 4) × T (not (groupedAt flags))
+unfolding groupedAt
+few-flags flags t =
+    by-cases (eqb flags 0) (λ e. rw (eqb-true flags 0 e) (omega arith, tt))
+    (λ e. let two : flags ≡ 2 = eqb→eq flags 2 (rw e at t) in rw two (omega arith, tt))
+
+no-other-flags : (flags : ℕ) → flags < 4 → T (not (groupedAt flags)) → T (eqb flags 0 || eqb flags 2)
+unfolding groupedAt
+no-other-flags flags h =
+    span-at (λ (n : ℕ). T (not (groupedAt n)) → T (eqb n 0 || eqb n 2)) 0 4 flags ((λ t. tt), ((λ t. absurd t), ((λ t. tt), ((λ t. absurd t), tt)))) (omega arith) h
 
 shift-most : (shift percents : ℕ) → T (shiftTells shift percents) → percents ≤ 5 → (shift ≤ 25) × T (leb (thousandsAt shift percents) 5)
 unfolding shiftTells
@@ -138,7 +148,7 @@ short-ranged : (i : Item) → T (itemInRange i) → T (elapsedShort i)
 unfolding itemInRange elapsedShort
 short-ranged =
     by-item (λ i. T (itemInRange i) → T (elapsedShort i)) (λ u t. tt) (λ u t. tt) (λ u t. tt) (λ p t. tt) (λ t. tt) (λ t. tt) (λ t. tt) (λ t. tt)
-    (λ n t. tt) (λ n t. tt) (λ n t. tt) (λ n t. tt) (λ n t. tt) (λ n t. tt) (λ n t. tt) (λ e n t. and-right (leb 1 n) (leb n 9) t) (λ h t. tt)
+    (λ n t. tt) (λ n t. tt) (λ n t. tt) (λ n t. tt) (λ n t. tt) (λ n t. tt) (λ n t. tt) (λ e n t. and-right (leb 1 n) (leb n 9) t) (λ h t. tt) (λ m t. tt)
 
 -- ---- the rules for the items as facts
 record ItemFacts (k : ℕ) (es : List Entry) : Type 0 where
@@ -184,15 +194,19 @@ module _ (h : Head) (es : List Entry) where
     unfolding shiftFits sectionAt kindOf
     shift-by = rw e
 
-    decimals-by : decimalsFit row ≡ eqb (h .decimals) (cond b (decimalPlaces is) 0)
-    unfolding decimalsFit decimalsWord sectionAt kindOf
-    decimals-by = rw e
+    grouping-by : groupingFits (sectionAt row) ≡ implies (groupedAt (h .flags)) (b && leb 2 (integerPlaces is))
+    unfolding groupingFits sectionAt kindOf
+    grouping-by = rw e
 
     within-by : sectionWithin (sectionAt row)
-        ≡ (leb (integerPlaces is) 20 && leb (decimalPlaces is) 15 && leb (count isPercent is) 5
+        ≡ (leb (integerPlaces is) 20 && leb (decimalPlaces is) 15 && leb (exponentPlaces is) 3 && leb (count isPercent is) 5
         && leb (cond b (thousandsAt (h .shift) (count isPercent is)) 0) 5 && every elapsedShort is)
     unfolding sectionWithin sectionAt
     within-by = rw e
+
+  decimals-by : (b : Bool) → showsPlaces (itemsKind is) ≡ b → decimalsFit row ≡ eqb (h .decimals) (cond b (decimalPlaces is) 0)
+  unfolding decimalsFit decimalsWord sectionAt kindOf
+  decimals-by b e = rw e
 
   module _ (f : ItemFacts (h .kind) es) where
     word : kindWord (itemsKind is) ≡ h .kind
@@ -211,27 +225,45 @@ module _ (h : Head) (es : List Entry) where
     other-kind : (h .kind ≡ 2 → ⊥) → sameKind (itemsKind is) numberKind ≡ false
     other-kind n = sym (number-word (itemsKind is)) ∙ ne-eqb (kindWord (itemsKind is)) 2 (λ e. n (sym word ∙ e))
 
+    -- whether its places show digits
+    places-kind : showsPlaces (itemsKind is) ≡ (eqb (h .kind) 2 || eqb (h .kind) 5)
+    places-kind = sym (places-word (itemsKind is)) ∙ ap (λ (n : ℕ). eqb n 2 || eqb n 5) word
+
+    shown : (b : Bool) → (eqb (h .kind) 2 || eqb (h .kind) 5) ≡ b → showsPlaces (itemsKind is) ≡ b
+    shown b e = places-kind ∙ e
+
     none-half : (h .kind ≡ 4 → ⊥) → hasHalf is ≡ false
     unfolding kindWord
     none-half n = no-half (itemsKind is) is allowed (ne-eqb 4 (kindWord (itemsKind is)) (λ e. n (sym word ∙ sym e)))
 
-    none-counted : (h .kind ≡ 2 → ⊥) → (integerPlaces is ≡ 0) × (decimalPlaces is ≡ 0) × (count isPercent is ≡ 0)
+    none-percent : (h .kind ≡ 2 → ⊥) → count isPercent is ≡ 0
     unfolding kindWord
-    none-counted n =
-        let none = no-figures (itemsKind is) is allowed (ne-eqb 2 (kindWord (itemsKind is)) (λ e. n (sym word ∙ sym e))) in
+    none-percent n = no-percents (itemsKind is) is allowed (ne-eqb 2 (kindWord (itemsKind is)) (λ e. n (sym word ∙ sym e)))
+
+    none-placed : showsPlaces (itemsKind is) ≡ false → (integerPlaces is ≡ 0) × (decimalPlaces is ≡ 0)
+    none-placed e =
+        let none = no-places (itemsKind is) is allowed e in
         let places = places-counted is in
-        (omega (arith, none .0, places), omega (arith, none .0, places), none .1)
+        (omega (arith, none, places), omega (arith, none, places))
+
+    -- only a scientific section has an E
+    none-behind : (h .kind ≡ 5 → ⊥) → T (leb (exponentPlaces is) 3)
+    unfolding kindWord exponentPlaces count
+    none-behind n =
+        let other = ne-eqb (kindWord (itemsKind is)) 5 (λ e. n (sym word ∙ e)) in
+        rw (bare-from is (held-bare (itemsKind is) is other allowed)) tt
 
   -- ---- a number section
   module _ (k : h .kind ≡ 2) where
     number-in : Front h → T (numberItems es) → T (numberTold h (integerPlaces is) (decimalPlaces is) (count isPercent is))
         → T (rowGood row)
-    unfolding numberItems numberTold groupingFits sectionAt halfFits
+    unfolding numberItems numberTold halfFits
     number-in front items t =
         let f : ItemFacts (h .kind) es = rw k (item-facts 2 es (and-left (itemsOf 2 es) _ items)) in
         let number = number-kind f k in
         let integers : T (leb (integerPlaces is) 20) = search (and-left, and-right) depth 8 in
         let places : T (leb (decimalPlaces is) 15) = search (and-left, and-right) depth 8 in
+        let behind : T (leb (exponentPlaces is) 3) = none-behind f (λ e. absurd (omega (arith, k, e))) in
         let percents : T (leb (count isPercent is) 5) = search (and-left, and-right) depth 8 in
         let shifted : T (shiftTells (h .shift) (count isPercent is)) = search and-left in
         let same : T (eqb (h .decimals) (decimalPlaces is)) = search (and-left, and-right) depth 8 in
@@ -241,14 +273,14 @@ module _ (h : Head) (es : List Entry) where
         let thousands : T (leb (thousandsAt (h .shift) (count isPercent is)) 5) = most .1 in
         let shorts : T (every elapsedShort is) = short f in
         let decimals : h .decimals ≤ 15 = omega (arith, eqb→eq (h .decimals) (decimalPlaces is) same, leb→le (decimalPlaces is) 15 places) in
-        good-in f (range-in h front (omega (arith, k)) (most .0) (omega arith) decimals) (condition-in h front) grouping
-        (carry (sym (within-by true number)) (search and-in depth 6)) (carry (sym (shift-by true number)) shifted)
-        (carry (sym (decimals-by true number)) same)
+        good-in f (range-in h front (omega (arith, k)) (most .0) (omega arith) decimals) (condition-in h front) (carry (sym (grouping-by true number)) grouping)
+        (carry (sym (within-by true number)) (search and-in depth 7)) (carry (sym (shift-by true number)) shifted)
+        (carry (sym (decimals-by true (shown f true (rw k)))) same)
         (neither (leb 4 (h .flags)) (hasHalf is) (lt-leb 4 (h .flags) flags) (none-half f (λ e. absurd (omega (arith, k, e)))))
 
     number-out : RowFacts row → T (halfFits row)
         → T (numberItems es) × T (numberTold h (integerPlaces is) (decimalPlaces is) (count isPercent is))
-    unfolding numberItems numberTold groupingFits sectionAt halfFits
+    unfolding numberItems numberTold halfFits
     number-out r half =
         let held : T (itemsOf 2 es) = rw k at (items-out r) in
         let f = item-facts (h .kind) es (items-out r) in
@@ -258,43 +290,87 @@ module _ (h : Head) (es : List Entry) where
         let integers : T (leb (integerPlaces is) 20) = search and-left depth 8 in
         let places : T (leb (decimalPlaces is) 15) = search (and-left, and-right) depth 8 in
         let percents : T (leb (count isPercent is) 5) = search (and-left, and-right) depth 8 in
-        let same : T (eqb (h .decimals) (decimalPlaces is)) = carry (decimals-by true number) (r .decimals) in
+        let same : T (eqb (h .decimals) (decimalPlaces is)) = carry (decimals-by true (shown f true (rw k))) (r .decimals) in
         let none = none-half f (λ e. absurd (omega (arith, k, e))) in
         let flags : T (ltb (h .flags) 4) = true-T (lt-ltb _ _ (leb-false 4 (h .flags) (not-either (leb 4 (h .flags)) (hasHalf is) none half))) in
-        let grouping : T (not (groupedAt (h .flags)) || leb 2 (integerPlaces is)) = r .grouping in
+        let grouping : T (not (groupedAt (h .flags)) || leb 2 (integerPlaces is)) = carry (grouping-by true number) (r .grouping) in
         (search and-in depth 8, search and-in depth 8)
 
+  -- ---- a scientific section
+  module _ (k : h .kind ≡ 5) where
+    no-number-kind : h .kind ≡ 2 → ⊥
+    no-number-kind e = absurd (omega (arith, k, e))
+
+    scientific-in : Front h → ItemFacts (h .kind) es → T (scientificTold h (tallyOf es)) → T (rowGood row)
+    unfolding scientificTold tallyOf halfFits
+    scientific-in front f t =
+        let other = other-kind f no-number-kind in
+        let shift : T (eqb (h .shift) 0) = search and-left depth 8 in
+        let integers : T (leb (integerPlaces is) 20) = search (and-left, and-right) depth 8 in
+        let places : T (leb (decimalPlaces is) 15) = search (and-left, and-right) depth 8 in
+        let behind : T (leb (exponentPlaces is) 3) = search (and-left, and-right) depth 8 in
+        let percents : T (leb (count isPercent is) 5) = le→leb (count isPercent is) 5 (omega (arith, none-percent f no-number-kind)) in
+        let same : T (eqb (h .decimals) (decimalPlaces is)) = search (and-left, and-right) depth 8 in
+        let flags = few-flags (h .flags) (search and-right) in
+        let shorts : T (every elapsedShort is) = short f in
+        let decimals : h .decimals ≤ 15 = omega (arith, eqb→eq (h .decimals) (decimalPlaces is) same, leb→le (decimalPlaces is) 15 places) in
+        good-in f (range-in h front (omega (arith, k)) (omega (arith, eqb→eq (h .shift) 0 shift)) (omega (arith, flags .0)) decimals) (condition-in h front)
+        (carry (sym (grouping-by false other)) (or-left (not (groupedAt (h .flags))) false (flags .1)))
+        (carry (sym (within-by false other)) (search (and-in, le→leb) depth 7)) (carry (sym (shift-by false other)) shift)
+        (carry (sym (decimals-by true (shown f true (rw k)))) same)
+        (neither (leb 4 (h .flags)) (hasHalf is) (lt-leb 4 (h .flags) (flags .0)) (none-half f (λ e. absurd (omega (arith, k, e)))))
+
+    scientific-out : RowFacts row → T (halfFits row) → T (scientificTold h (tallyOf es))
+    unfolding scientificTold tallyOf halfFits
+    scientific-out r half =
+        let f = item-facts (h .kind) es (items-out r) in
+        let other = other-kind f no-number-kind in
+        let limits = carry (within-by false other) (r .within) in
+        let shift : T (eqb (h .shift) 0) = carry (shift-by false other) (r .shift) in
+        let integers : T (leb (integerPlaces is) 20) = search and-left depth 8 in
+        let places : T (leb (decimalPlaces is) 15) = search (and-left, and-right) depth 8 in
+        let behind : T (leb (exponentPlaces is) 3) = search (and-left, and-right) depth 8 in
+        let same : T (eqb (h .decimals) (decimalPlaces is)) = carry (decimals-by true (shown f true (rw k))) (r .decimals) in
+        let none = none-half f (λ e. absurd (omega (arith, k, e))) in
+        let few : h .flags < 4 = leb-false 4 (h .flags) (not-either (leb 4 (h .flags)) (hasHalf is) none half) in
+        let flags : T (eqb (h .flags) 0 || eqb (h .flags) 2) = no-other-flags (h .flags) few (ungrouped (groupedAt (h .flags)) (carry (grouping-by false other) (r .grouping))) in
+        search and-in depth 8
+
   -- ---- another section
-  module _ (k : h .kind ≡ 2 → ⊥) where
+  module _ (k : h .kind ≡ 2 → ⊥) (n : h .kind ≡ 5 → ⊥) where
+    no-places-kind : (eqb (h .kind) 2 || eqb (h .kind) 5) ≡ false
+    no-places-kind = rw (ne-eqb (h .kind) 2 k, ne-eqb (h .kind) 5 n)
+
     other-in : Front h → ItemFacts (h .kind) es → T (otherTold h (hasHalf is)) → T (rowGood row)
-    unfolding otherTold groupingFits sectionAt halfFits
+    unfolding otherTold halfFits
     other-in front f t =
         let other = other-kind f k in
-        let none = none-counted f k in
+        let bare = shown f false no-places-kind in
+        let none = none-placed f bare in
         let shift : T (eqb (h .shift) 0) = search and-left depth 6 in
         let decimals : T (eqb (h .decimals) 0) = search (and-left, and-right) depth 6 in
         let flags : h .flags ≤ 7 = search (and-left, and-right, leb→le) depth 6 in
         let plain : T (not (groupedAt (h .flags))) = search (and-left, and-right) depth 6 in
         let integers : T (leb (integerPlaces is) 20) = le→leb (integerPlaces is) 20 (omega (arith, none .0)) in
         let places : T (leb (decimalPlaces is) 15) = le→leb (decimalPlaces is) 15 (omega (arith, none .1)) in
-        let percents : T (leb (count isPercent is) 5) = le→leb (count isPercent is) 5 (omega (arith, none .2)) in
+        let behind : T (leb (exponentPlaces is) 3) = none-behind f n in
+        let percents : T (leb (count isPercent is) 5) = le→leb (count isPercent is) 5 (omega (arith, none-percent f k)) in
         let shorts : T (every elapsedShort is) = short f in
         good-in f
         (range-in h front (omega (arith, word f, kind-few (itemsKind is))) (omega (arith, eqb→eq (h .shift) 0 shift)) flags (omega (arith, eqb→eq (h .decimals) 0 decimals)))
-        (condition-in h front) (or-left (not (groupedAt (h .flags))) (leb 2 (integerPlaces is)) plain)
-        (carry (sym (within-by false other)) (search (and-in, le→leb) depth 6)) (carry (sym (shift-by false other)) shift)
-        (carry (sym (decimals-by false other)) decimals) (search and-right)
+        (condition-in h front) (carry (sym (grouping-by false other)) (or-left (not (groupedAt (h .flags))) false plain))
+        (carry (sym (within-by false other)) (search (and-in, le→leb) depth 7)) (carry (sym (shift-by false other)) shift)
+        (carry (sym (decimals-by false bare)) decimals) (search and-right)
 
     other-out : RowFacts row → T (halfFits row) → T (otherTold h (hasHalf is))
-    unfolding otherTold groupingFits sectionAt halfFits
+    unfolding otherTold halfFits
     other-out r half =
         let f = item-facts (h .kind) es (items-out r) in
         let other = other-kind f k in
-        let none = none-counted f k in
         let shift : T (eqb (h .shift) 0) = carry (shift-by false other) (r .shift) in
-        let decimals : T (eqb (h .decimals) 0) = carry (decimals-by false other) (r .decimals) in
+        let decimals : T (eqb (h .decimals) 0) = carry (decimals-by false (shown f false no-places-kind)) (r .decimals) in
         let flags : T (leb (h .flags) 7) = le→leb _ _ (head-ranges h (r .head) .flags) in
-        let plain : T (not (groupedAt (h .flags))) = ungrouped (groupedAt (h .flags)) (integerPlaces is) (none .0) (r .grouping) in
+        let plain : T (not (groupedAt (h .flags))) = ungrouped (groupedAt (h .flags)) (carry (grouping-by false other) (r .grouping)) in
         search and-in depth 6
 
   -- ---- the answers
@@ -316,21 +392,30 @@ module _ (h : Head) (es : List Entry) where
       (λ t. let o = number-out k (row-facts row (and-left (rowFits row) (halfFits row) t)) (and-right (rowFits row) (halfFits row) t) in
       and-in (numberItems es) told (o .0) (o .1))
 
-  row-other : (h .kind ≡ 2 → ⊥) → Front h → (half : Bool) → (T (itemsOf (h .kind) es) → half ≡ hasHalf is)
+  row-scientific : h .kind ≡ 5 → Front h → (scientificTold h (tallyOf es) && itemsOf (h .kind) es) ≡ rowGood row
+  unfolding rowGood
+  row-scientific k front =
+      let told = scientificTold h (tallyOf es) in
+      same-test (told && itemsOf (h .kind) es) (rowGood row)
+      (λ t. scientific-in k front (item-facts (h .kind) es (and-right told (itemsOf (h .kind) es) t)) (and-left told (itemsOf (h .kind) es) t))
+      (λ t. let r = row-facts row (and-left (rowFits row) (halfFits row) t) in
+      and-in told (itemsOf (h .kind) es) (scientific-out k r (and-right (rowFits row) (halfFits row) t)) (items-out r))
+
+  row-other : (h .kind ≡ 2 → ⊥) → (h .kind ≡ 5 → ⊥) → Front h → (half : Bool) → (T (itemsOf (h .kind) es) → half ≡ hasHalf is)
       → (otherTold h half && itemsOf (h .kind) es) ≡ rowGood row
   unfolding rowGood
-  row-other k front half same =
+  row-other k n front half same =
       let told : Bool → Bool = λ b. otherTold h b in
       same-test (told half && itemsOf (h .kind) es) (rowGood row)
       (λ t. let i = and-right (told half) (itemsOf (h .kind) es) t in
-      other-in k front (item-facts (h .kind) es i) (carry (ap told (same i)) (and-left (told half) (itemsOf (h .kind) es) t)))
+      other-in k n front (item-facts (h .kind) es i) (carry (ap told (same i)) (and-left (told half) (itemsOf (h .kind) es) t)))
       (λ t. let r = row-facts row (and-left (rowFits row) (halfFits row) t) in
       let i = items-out r in
-      and-in (told half) (itemsOf (h .kind) es) (carry (sym (ap told (same i))) (other-out k r (and-right (rowFits row) (halfFits row) t))) i)
+      and-in (told half) (itemsOf (h .kind) es) (carry (sym (ap told (same i))) (other-out k n r (and-right (rowFits row) (halfFits row) t))) i)
 
-  other-answer : (h .kind ≡ 2 → ⊥) → Front h → (half : Bool) → (T (itemsOf (h .kind) es) → half ≡ hasHalf is) → itemsOf (h .kind) es ≡ true
+  other-answer : (h .kind ≡ 2 → ⊥) → (h .kind ≡ 5 → ⊥) → Front h → (half : Bool) → (T (itemsOf (h .kind) es) → half ≡ hasHalf is) → itemsOf (h .kind) es ≡ true
       → otherTold h half ≡ rowGood row
-  other-answer k front half same held = sym (and-true (otherTold h half)) ∙ rw held at (row-other k front half same)
+  other-answer k n front half same held = sym (and-true (otherTold h half)) ∙ rw held at (row-other k n front half same)
 
   -- by what the items and the tests of the head answered
   pub no-number : h .kind ≡ 2 → Front h → (n : NumberRow) → NumberTold es n → n .fits ≡ false → false ≡ rowGood row
@@ -348,16 +433,25 @@ module _ (h : Head) (es : List Entry) where
       → (r : Bool) → r ≡ otherTold h (n .halves) → r ≡ rowGood row
   dated-answer k front n t f r e =
       let held : itemsOf (h .kind) es ≡ true = ap (λ (x : ℕ). itemsOf x es) k ∙ sym (t .fits) ∙ f in
-      e ∙ other-answer (λ x. absurd (omega (arith, k, x))) front (n .halves) (λ i. t .halves f) held
+      e ∙ other-answer (λ x. absurd (omega (arith, k, x))) (λ x. absurd (omega (arith, k, x))) front (n .halves) (λ i. t .halves f) held
+
+  pub no-scientific : h .kind ≡ 5 → (b : Bool) → b ≡ itemsOf 5 es → not b ≡ true → false ≡ rowGood row
+  no-scientific k b e n = refused (λ r c. carry (ap (λ (x : ℕ). itemsOf x es) k ∙ sym e ∙ not-true b n) (items-out r))
+
+  pub scientific-answer : h .kind ≡ 5 → Front h → (b : Bool) → b ≡ itemsOf 5 es → not b ≡ false → (t : Tally) → t ≡ tallyOf es
+      → (r : Bool) → r ≡ scientificTold h t → r ≡ rowGood row
+  scientific-answer k front b e n t tally r told =
+      let held : itemsOf (h .kind) es ≡ true = ap (λ (x : ℕ). itemsOf x es) k ∙ sym e ∙ not-false b n in
+      told ∙ ap (scientificTold h) tally ∙ sym (and-true (scientificTold h (tallyOf es))) ∙ rw held at (row-scientific k front)
 
   pub no-bare : (b : Bool) → b ≡ itemsOf (h .kind) es → not b ≡ true → false ≡ rowGood row
   no-bare b e n = refused (λ r c. carry (sym e ∙ not-true b n) (items-out r))
 
   -- only a date-time section has a half-day mark
-  pub bare-answer : (h .kind ≡ 2 → ⊥) → (h .kind ≡ 4 → ⊥) → Front h → (b : Bool) → b ≡ itemsOf (h .kind) es → not b ≡ false
+  pub bare-answer : (h .kind ≡ 2 → ⊥) → (h .kind ≡ 4 → ⊥) → (h .kind ≡ 5 → ⊥) → Front h → (b : Bool) → b ≡ itemsOf (h .kind) es → not b ≡ false
       → (r : Bool) → r ≡ otherTold h false → r ≡ rowGood row
-  bare-answer k n front b e t r told =
-      told ∙ other-answer k front false (λ i. sym (none-half (item-facts (h .kind) es i) n)) (sym e ∙ not-false b t)
+  bare-answer k d n front b e t r told =
+      told ∙ other-answer k n front false (λ i. sym (none-half (item-facts (h .kind) es i) d)) (sym e ∙ not-false b t)
 
 -- ---- the head as it was read
 pub rowed : (h : HeadWords) (head : Head) (es : List Entry) (r : Bool) → headFrom h ≡ head → r ≡ rowGood (rowWith (headFrom h) es) → r ≡ rowGood (rowWith head es)
@@ -374,6 +468,9 @@ front-of h head e few words colour condition =
 module _ (h again : HeadWords) (head : Head) (e : headFrom h ≡ head) (f : headFrom again ≡ head) (r : Bool) where
   pub number-again : (i d p : ℕ) → r ≡ numberTold (headFrom again) i d p → r ≡ numberTold (headFrom h) i d p
   number-again i d p t = t ∙ ap (λ (x : Head). numberTold x i d p) (f ∙ sym e)
+
+  pub scientific-again : (x : Tally) → r ≡ scientificTold (headFrom again) x → r ≡ scientificTold (headFrom h) x
+  scientific-again x t = t ∙ ap (λ (y : Head). scientificTold y x) (f ∙ sym e)
 
   pub other-again : (half : Bool) → r ≡ otherTold (headFrom again) half → r ≡ otherTold (headFrom h) half
   other-again half t = t ∙ ap (λ (x : Head). otherTold x half) (f ∙ sym e)

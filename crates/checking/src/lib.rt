@@ -10,7 +10,7 @@ ghost use Rattle.tables.specs.Standing.{countedOne, countedKinds};
 ghost use Rattle.tables.specs.Decode.{thousandsAt};
 ghost use Rattle.tables.specs.Rules.{shiftTells, passes};
 ghost use Rattle.table_words.specs.Sections.{headFrom};
-ghost use Rattle.checking.specs.Checking.{agree, sized, Sized, comparedTold, conditionTold, numberTold, otherTold, rowWith, rowGood, comparedStands, plainFits, placeFits, kindsIn, placesFit};
+ghost use Rattle.checking.specs.Checking.{agree, sized, Sized, comparedTold, conditionTold, numberTold, scientificTold, otherTold, rowWith, rowGood, comparedStands, plainFits, placeFits, kindsIn, placesFit};
 use table_words::HeadWords;
 use table_words::head_at;
 use table_words::number;
@@ -18,10 +18,13 @@ use table_words::section_count;
 use tables::flags;
 use tables::heads;
 use tables::kinds;
+use tallies::Tally;
 use tallies::date_rows::dated_row;
 use tallies::is_bare;
+use tallies::is_scientific;
 use tallies::number_rows::NumberRow;
 use tallies::number_rows::number_row;
+use tallies::tally_of;
 use tallies::walk_words;
 
 fn agree(a: bool, b: bool) -> bool
@@ -98,6 +101,18 @@ fn number_fits(h: HeadWords, items: NumberRow) -> bool
         & (!(h.flags % 2 == flags::GROUPING) | (2 <= items.integers))
 }
 
+// Those of a scientific section's: nothing is shifted, and no digits are grouped.
+fn scientific_fits(h: HeadWords, t: Tally) -> bool
+    ensures { λ r. ⌜ r ≡ scientificTold (headFrom h) t ⌝ }
+{
+    (h.shift == 0)
+        & (t.integers <= 20)
+        & (t.decimals <= 15)
+        & (t.exponent_places <= 3)
+        & (h.decimals == t.decimals)
+        & ((h.flags == 0) | (h.flags == flags::NO_MINUS))
+}
+
 // Those of another section's head: nothing is shifted, and no digits are grouped.
 fn other_fits(h: HeadWords, half: bool) -> bool
     ensures { λ r. ⌜ r ≡ otherTold (headFrom h) half ⌝ }
@@ -136,7 +151,15 @@ fn row_fits(table: &[u16], i: usize, items: &[u16]) -> bool
         }
         return other_fits(head_at(table, i), row.halves);
     }
-    if !is_bare(walk_words(items), h.kind) {
+    if h.kind == kinds::SCIENTIFIC {
+        let w = walk_words(items);
+        if !is_scientific(w) {
+            return false;
+        }
+        return scientific_fits(head_at(table, i), tally_of(w));
+    }
+    let w = walk_words(items);
+    if !is_bare(w, h.kind) {
         return false;
     }
     other_fits(head_at(table, i), false)

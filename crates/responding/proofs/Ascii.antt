@@ -7,7 +7,7 @@ use native.Mathlib.Nat.{mod-eq-of-lt}
 use mathlib.Core.Path.{_≡_, refl, ap₂}
 use mathlib.Core.Bool.{Bool, true, false, cond, not, _&&_, _||_}
 use mathlib.Core.List.{List, [], _∷_, _++_, map, flatten}
-use lib.ListN.{length, getD, take, drop}
+use lib.ListN.{length, getD, take}
 use lib.Dec.{T, leb, ltb, eqb, leb→le, le→leb}
 use Rattle.lists.specs.Lists.{every, isEmpty}
 use Rattle.lists.proofs.Bools.{and-left, and-right, true-T, cond-both, cond-case, every-head, every-tail, every-cons, every-append, every-take, every-drop}
@@ -16,14 +16,14 @@ use Rattle.lists.proofs.Tables.{each-passes}
 use Rattle.figures.specs.Digits.{digit, digitUnit, digitUnits, width, numeral}
 use Rattle.figures.specs.General.{generalTooWide, withoutEndZeros, pointed, generalUnits}
 use Rattle.calendar.specs.Names.{units, monthNames, weekdayNames, monthName, weekdayName, shortName, firstLetter}
-use Rattle.formats.specs.Tokens.{before, startsWith, Token, Place, zeroPlace, hashPlace, spacePlace, HalfDay, short, long, Letter}
-use Rattle.formats.specs.Items.{Item, itemRow, literal, blank, fill, place, point, percent, general, at, year, month, day, hour, minute, second, part, elapsed, half, Section, kindOf}
+use Rattle.formats.specs.Tokens.{before, startsWith, Token, Place, zeroPlace, hashPlace, spacePlace, HalfDay, short, long, Letter, ExponentMark, ePlus, eMinus}
+use Rattle.formats.specs.Items.{Item, itemRow, literal, blank, fill, place, point, percent, general, at, year, month, day, hour, minute, second, part, elapsed, half, Section, kindOf, exponent, beforeE, fromE, sameKind, scientificKind}
 use Rattle.formats.specs.Kinds.{Parts, sectionOf, tokenItems, runItem}
 use Rattle.formats.specs.Accept.{partsIn, sectionsIn, Verdict, fine, verdict, acceptedBy, accept}
 use Rattle.formats.specs.Accept.{refused as wrong}
 use Rattle.formats.specs.Where.{isText}
 use Rattle.formats.specs.Choice.{numberExact, instantExact, Reason, Choice, nothing, chosen, choose, TextChoice, itself, textIn, fourthFrom, textFrom, chooseText}
-use Rattle.formats.specs.Reading.{Look, Reading, refused, within, takesNumber, takesInstant, showsGeneral, standingRounded, numberContext, instantContext, textContext, numberSign, numberUnits, readNumber, readInstant, readText, readValue, reading, readAccepted, codeReading}
+use Rattle.formats.specs.Reading.{Look, Reading, refused, within, takesNumber, takesInstant, showsGeneral, standingRounded, numberContext, instantContext, textContext, numberSign, numberUnits, readNumber, readInstant, readText, readValue, reading, readAccepted, codeReading, sectionText, exponentContext}
 use Rattle.answers.specs.declared.Answer.{Answer}
 use Rattle.answers.specs.declared.Answer.the-variants as answer
 use Rattle.answers.specs.Number.{numberOf}
@@ -52,9 +52,10 @@ use Rattle.requests.specs.Request.{Request, request, fromEnd, fromValue, fromTh
 use Rattle.requests.specs.Request.{refused as unasked}
 use Rattle.responding.specs.Respond.{lineOf, fourLines, linesOf, responseOf}
 use Rattle.formats.specs.Minus.{Sign, minus, notNegative, noItem, forNegatives, nought, signUnits}
-use Rattle.formats.specs.Text.{Context, insignificant, idleUnits, endsGroup, withSeparator, figureUnits, extraUnits, placeUnits, pointUnits, yearUnits, namedUnits, partUnits, halfUnits, itemUnits, digitAfter, itemsUnits, sectionUnits, along}
+use Rattle.formats.specs.Text.{Context, insignificant, idleUnits, endsGroup, withSeparator, figureUnits, extraUnits, placeUnits, pointUnits, yearUnits, namedUnits, partUnits, halfUnits, itemUnits, digitAfter, itemsUnits, sectionUnits, along, exponentUnits, firstOf}
 use Rattle.formats.proofs.TokenRanges.{tokenPasses, partsPass, parts-pass, items-pass}
 use Rattle.formats.proofs.FormedItems.{settled-kept}
+use Rattle.formats.proofs.Cutting.{cut-every}
 
 abbrev pub Ascii : List ℕ → Type 0
 Ascii us = T (every isAscii us)
@@ -159,6 +160,13 @@ half-ascii short false = tt
 half-ascii long true = tt
 half-ascii long false = tt
 
+exponent-ascii : (m : ExponentMark) (below : Bool) → Ascii (exponentUnits m below)
+unfolding exponentUnits units every isAscii
+exponent-ascii ePlus true = tt
+exponent-ascii ePlus false = tt
+exponent-ascii eMinus true = tt
+exponent-ascii eMinus false = tt
+
 -- ---- items: of a literal the unit is shown
 unfoldable literalAscii : Item → Bool
 literalAscii i = not (eqb (itemRow i .number) 1) || isAscii (itemRow i .argument)
@@ -182,13 +190,15 @@ item-ascii c s q (second n) t = numeral-ascii n (c .clock .second)
 item-ascii c s q (part n) t = digits-ascii n _
 item-ascii c s q (elapsed e n) t = numeral-ascii n _
 item-ascii c s q (half h) t = half-ascii h _
+item-ascii c s q (exponent m) t = exponent-ascii m (c .below)
 
 items-ascii : (c : Context) → Ascii (c .standing) → (q : ℕ) (is : List Item) → T (every literalAscii is) → Ascii (itemsUnits c q is)
 unfolding itemsUnits every along flatten
 items-ascii c s q [] t = tt
 items-ascii c s q (i ∷ is) t =
-    every-append isAscii (itemUnits c q i) (itemsUnits c (digitAfter q i) is)
-    (item-ascii c s q i (every-head literalAscii i is t)) (items-ascii c s (digitAfter q i) is (every-tail literalAscii i is t))
+    let next : ℕ = digitAfter (firstOf (c .integerPlaces)) q i in
+    every-append isAscii (itemUnits c q i) (itemsUnits c next is)
+    (item-ascii c s q i (every-head literalAscii i is t)) (items-ascii c s next is (every-tail literalAscii i is t))
 
 sign-ascii : (s : Sign) → Ascii (signUnits s)
 unfolding signUnits every isAscii
@@ -210,7 +220,7 @@ token-ascii d =
     (λ us h. rw (every-map literalAscii literal us) h) (λ u h. every-cons literalAscii (literal u) [] h tt) (λ u h. tt) (λ u h. tt) (λ p h. tt)
     (λ h. cond-both (λ (i : Item). T (every literalAscii (i ∷ []))) d {x = literal 46} {y = point} tt tt)
     (λ h. cond-both (λ (is : List Item). T (every literalAscii is)) d {x = literal 44 ∷ []} {y = []} tt tt)
-    (λ h. tt) (λ h. tt) (λ h. tt) (λ h. tt) (λ x h. tt) (λ l n h. run-ascii l n) (λ e n h. tt) (λ n h. tt) (λ w h. tt)
+    (λ h. tt) (λ h. tt) (λ h. tt) (λ h. tt) (λ x h. tt) (λ l n h. run-ascii l n) (λ e n h. tt) (λ n h. tt) (λ w h. tt) (λ m h. tt)
 
 abbrev sectionAscii : Section → Bool
 sectionAscii s = every literalAscii (s .items)
@@ -250,26 +260,37 @@ fine-refused : (room : ℕ) (a : Answer) → Fine room (refused a)
 unfolding textAs every
 fine-refused room a = (omega arith, tt)
 
-shown-ascii : (c : Context) (s : Section) → Ascii (c .standing) → T (sectionAscii s) → Ascii (sectionUnits c (s .items))
+shown-ascii : (c : Context) (is : List Item) → Ascii (c .standing) → T (every literalAscii is) → Ascii (sectionUnits c is)
 unfolding sectionUnits
-shown-ascii c s t h = items-ascii c t (14 + c .integerPlaces) (s .items) h
+shown-ascii c is t h = items-ascii c t (firstOf (c .integerPlaces)) is h
+
+number-ascii : (s : Section) (x : Number) → T (sectionAscii s) → Ascii (sectionText s x)
+unfolding sectionText numberContext exponentContext every
+number-ascii s x t =
+    let is : List Item = s .items in
+    let c : T (every literalAscii (beforeE is) && every literalAscii (fromE is)) = rw (cut-every literalAscii is) at t in
+    let standing : Ascii (generalUnits (standingRounded x)) = general-ascii (standingRounded x) in
+    cond-both Ascii (sameKind (kindOf s) scientificKind)
+    (every-append isAscii (sectionUnits (numberContext s x) (beforeE is)) (sectionUnits (exponentContext s x) (fromE is))
+    (shown-ascii (numberContext s x) (beforeE is) standing (and-left (every literalAscii (beforeE is)) (every literalAscii (fromE is)) c))
+    (shown-ascii (exponentContext s x) (fromE is) tt (and-right (every literalAscii (beforeE is)) (every literalAscii (fromE is)) c)))
+    (shown-ascii (numberContext s x) is standing t)
 
 number-fine : (ss : List Section) (room : ℕ) (x : Number) (i : ℕ) (s : Section) (why : Reason) → T (sectionAscii s)
     → Fine room (readNumber ss x room (chosen i s why))
-unfolding readNumber numberUnits numberContext
+unfolding readNumber numberUnits
 number-fine ss room x i s why t =
     cond-both (Fine room) (not (takesNumber (kindOf s))) (fine-refused room answer.Sort)
     (cond-both (Fine room) (showsGeneral (kindOf s) && generalTooWide ((numberExact x) .size)) (fine-refused room answer.General)
     (fine-within room _
-    (every-append isAscii (signUnits (numberSign ss i s why x)) (sectionUnits (numberContext s x) (s .items)) (sign-ascii _)
-    (shown-ascii (numberContext s x) s (general-ascii (standingRounded x)) t))))
+    (every-append isAscii (signUnits (numberSign ss i s why x)) (sectionText s x) (sign-ascii _) (number-ascii s x t))))
 
 instant-fine : (room : ℕ) (d : Day) (m : Millisecond) (i : ℕ) (s : Section) (why : Reason) → T (sectionAscii s)
     → Fine room (readInstant d m room (chosen i s why))
 unfolding readInstant instantContext every
 instant-fine room d m i s why t =
     cond-both (Fine room) (not (takesInstant (kindOf s))) (fine-refused room answer.Sort)
-    (fine-within room _ (shown-ascii (instantContext s d m) s tt t))
+    (fine-within room _ (shown-ascii (instantContext s d m) (s .items) tt t))
 
 -- the section that takes a text
 abbrev TextPasses : TextChoice → Type 0
@@ -291,7 +312,7 @@ text-passes i (s ∷ ss) t =
 text-fine : (room : ℕ) (text : List ℕ) (h : TextChoice) → Ascii text → TextPasses h → Fine room (readText text room h)
 unfolding readText textContext
 text-fine room text itself t h = fine-within room _ t
-text-fine room text (textIn i s) t h = fine-within room _ (shown-ascii (textContext text) s t h)
+text-fine room text (textIn i s) t h = fine-within room _ (shown-ascii (textContext text) (s .items) t h)
 
 module _ (ss : List Section) (text : List ℕ) (room : ℕ) (h : T (every sectionAscii ss)) (t : Ascii text) where
   by-number : (x : Number) (k : Choice) → choose ss (numberExact x) ≡ k → Fine room (readNumber ss x room k)

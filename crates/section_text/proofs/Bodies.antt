@@ -1,14 +1,15 @@
 -- The item words of a section, as the walkers ask for them, and what is shown of them.
 -- Assumes nothing.
-use Prim.Native.Nat.{ℕ, _+_}
+use Prim.Native.Nat.{ℕ}
 use mathlib.Core.Path.{_≡_, sym, ap, subst, _∙_}
-use mathlib.Core.Bool.{Bool}
+use mathlib.Core.Bool.{Bool, false}
 use mathlib.Core.List.{List, _++_}
 use lib.ListN.{length}
 use Rattle.lists.specs.Lists.{any}
+use Rattle.lists.proofs.Bools.{carry}
 use Rattle.answers.specs.declared.Shown.{Shown}
-use Rattle.formats.specs.Items.{Item, Section, dateKind, kindOf, integerPlaces}
-use Rattle.formats.specs.Text.{Context, itemsUnits, sectionUnits}
+use Rattle.formats.specs.Items.{Item, Section, Kind, dateKind, scientificKind, sameKind, kindOf, integerPlaces, exponentPlaces}
+use Rattle.formats.specs.Text.{Context, itemsUnits, sectionUnits, firstOf}
 use Rattle.formats.specs.Reading.{Reading, lookOf, within}
 use Rattle.tables.specs.Words.{entriesIn}
 use Rattle.tables.specs.Encode.{entriesFrom, entriesOf}
@@ -20,15 +21,27 @@ use Rattle.section_text.specs.declared.Subject.{Subject}
 use Rattle.section_text.specs.Subject.{SubjectIs}
 use Rattle.section_text.specs.Walk.{EntriesFit, Ready, MomentIs, DatedIs, Known, DatedKnown}
 use Rattle.section_text.specs.Show.{signText, sectionReading, Shows}
+use Rattle.section_text.proofs.Cuts.{unscientific-bare, powers-anew}
+
+pub date-unscientific : (k : Kind) → k ≡ dateKind → sameKind scientificKind k ≡ false
+date-unscientific k e = rw e
 
 module _ {z : Section} {words : List ℕ} (o : ItemsOf z words) where
-  pub items-fit : EntriesFit (kindOf z) (14 + integerPlaces (z .items)) (entriesIn words)
-  items-fit = record { inRange = o .inRange; allowed = o .allowed; powers = o .powers }
+  -- in a section with no E they fit whatever the context
+  pub items-fit : (c : Context) → sameKind scientificKind (kindOf z) ≡ false → EntriesFit (kindOf z) c (firstOf (integerPlaces (z .items))) (entriesIn words)
+  items-fit c h = record {
+    inRange = o .inRange;
+    allowed = o .allowed;
+    powers = carry (powers-anew _ (firstOf (c .integerPlaces)) _ (entriesIn words) (unscientific-bare (kindOf z) (entriesIn words) h (o .allowed))) (o .powers);
+  }
 
   -- their entries are those of the section
   pub items-entries : entriesIn words ≡ entriesOf (z .items)
   unfolding entriesOf
-  items-entries = sym (ap (entriesFrom (14 + integerPlaces (z .items))) (o .items) ∙ entries-back (14 + integerPlaces (z .items)) (entriesIn words) (o .inRange) (o .powers))
+  items-entries =
+      let a = firstOf (exponentPlaces (z .items)) in
+      let q = firstOf (integerPlaces (z .items)) in
+      sym (ap (entriesFrom a q) (o .items) ∙ entries-back a q (entriesIn words) (o .inRange) (o .powers))
 
   -- so a moment that is what a context shows of the section is what it shows of the words
   pub items-moment : {m : List ℕ} {c : Context} → kindOf z ≡ dateKind → MomentIs m (any datedEntry (entriesOf (z .items))) c
@@ -37,29 +50,29 @@ module _ {z : Section} {words : List ℕ} (o : ItemsOf z words) where
 
   -- words that are ready for a subject, and for a moment
   pub items-ready : {digits : List ℕ} {s : Subject} {text : List ℕ} → Known (kindOf z) digits s text → Ready (λ k. SubjectIs k digits s text) words
-  items-ready k = record { context = k .context; kind = kindOf z; power = 14 + integerPlaces (z .items); subject = k .is; fit = items-fit }
+  items-ready k = record { context = k .context; kind = kindOf z; power = firstOf (integerPlaces (z .items)); subject = k .is; fit = items-fit (k .context) (k .is .unscientific) }
 
   pub dated-ready : {m : List ℕ} → kindOf z ≡ dateKind → DatedKnown m (any datedEntry (entriesOf (z .items)))
       → Ready (DatedIs m (any datedEntry (entriesIn words))) words
   dated-ready e k = record {
     context = k .context;
     kind = kindOf z;
-    power = 14 + integerPlaces (z .items);
+    power = firstOf (integerPlaces (z .items));
     subject = items-moment e (k .is);
-    fit = items-fit;
+    fit = items-fit (k .context) (date-unscientific (kindOf z) e);
   }
 
   -- what is shown of the words is what is shown of the section
   pub items-shows : {old out : List ℕ} {r : Shown} {colour : ℕ} (i : ℕ) (minus : Bool) (c : Context)
       → colour ≡ z .colour → c .integerPlaces ≡ integerPlaces (z .items)
-      → Shows (within (length old) (lookOf (signText minus ++ itemsUnits c (14 + integerPlaces (z .items)) (itemsAt (entriesIn words))) colour i)) old r out
+      → Shows (within (length old) (lookOf (signText minus ++ itemsUnits c (firstOf (integerPlaces (z .items))) (itemsAt (entriesIn words))) colour i)) old r out
       → Shows (sectionReading (length old) z i minus c) old r out
   unfolding sectionReading sectionUnits
   items-shows {old} {out} {r} {colour} i minus c ec ei x =
-      let q : ℕ = 14 + integerPlaces (z .items) in
+      let q : ℕ = firstOf (integerPlaces (z .items)) in
       let g : sectionReading (length old) z i minus c
       ≡ within (length old) (lookOf (signText minus ++ itemsUnits c q (itemsAt (entriesIn words))) colour i) =
-      ap (λ (n : ℕ). within (length old) (lookOf (signText minus ++ itemsUnits c (14 + n) (z .items)) (z .colour) i)) ei
+      ap (λ (n : ℕ). within (length old) (lookOf (signText minus ++ itemsUnits c (firstOf n) (z .items)) (z .colour) i)) ei
       ∙ ap (λ (is : List Item). within (length old) (lookOf (signText minus ++ itemsUnits c q is) (z .colour) i)) (o .items)
       ∙ ap (λ (n : ℕ). within (length old) (lookOf (signText minus ++ itemsUnits c q (itemsAt (entriesIn words))) n i)) (sym ec) in
       subst (λ (d : Reading). Shows d old r out) (sym g) x

@@ -3,19 +3,20 @@
 use Prim.Native.Nat.{ℕ, suc, _-_, _≤_, _<_}
 use native.Mathlib.Omega.{arith}
 use mathlib.Core.Path.{_≡_, refl, sym}
-use mathlib.Core.Bool.{Bool, true, false}
+use mathlib.Core.Bool.{Bool, true, false, true≢false}
 use mathlib.Core.List.{List}
-use lib.Dec.{T, leb, eqb→eq}
+use lib.Dec.{T, leb, eqb, eqb→eq}
 use borrow.Author.Tests.{le-leb, leb-false}
 use Rattle.lists.proofs.Bools.{no, by-cases}
 use Rattle.values.specs.Ranges.{between}
-use Rattle.formats.specs.Items.{Kind, dateKind, sameKind, itemAllowed}
-use Rattle.formats.specs.Text.{Context, itemUnits, placeUnits}
+use Rattle.formats.specs.Items.{Item, Kind, dateKind, scientificKind, sameKind, showsPlaces, itemAllowed, isExponent}
+use Rattle.formats.specs.Text.{Context, itemUnits, placeUnits, exponentUnits}
+use Rattle.formats.proofs.Cutting.{exponent-case}
 use Rattle.tables.specs.Words.{Entry}
 use Rattle.tables.specs.Encode.{entry}
 use Rattle.tables.specs.Decode.{itemAt}
 use Rattle.tables.specs.Rules.{entryInRange}
-use Rattle.tables.proofs.BackEntries.{also, span-at, tag-known, between-facts}
+use Rattle.tables.proofs.BackEntries.{span-at, tag-known, between-facts}
 use Rattle.figures.proofs.Past.{Apart, past}
 use Rattle.figure_text.specs.declared.Figures.{Figures}
 use Rattle.figure_text.specs.Shown.{FiguresAre, placeOfTag}
@@ -24,6 +25,7 @@ use Rattle.date_text.specs.Moment.{datedEntry}
 use Rattle.section_text.specs.declared.Subject.{Subject}
 use Rattle.section_text.specs.Subject.{GeneralOf, StandsFor, SubjectIs}
 use Rattle.section_text.specs.Walk.{EntryFits, ItemPut, DatedIs}
+use Rattle.section_text.specs.Power.{markOfTag}
 
 pub stands-lent : (b : Bool) (digits : List ℕ) (f : Figures) (text us : List ℕ) → b ≡ true → StandsFor b digits f text us → text ≡ us
 stands-lent true digits f text us e h = h
@@ -41,22 +43,43 @@ module _ (tag a : ℕ) (b : (4 ≤ tag) × (tag ≤ 6)) where
       span-at (λ (t : ℕ). T (entryInRange (entry t a)) → (1 ≤ a) × (a ≤ 35)) 4 3 tag
       (between-facts 1 35 a, (between-facts 1 35 a, (between-facts 1 35 a, tt))) (b .0) (omega arith)
 
+  -- its argument is one more than its digit, and it is held where places are shown
+  pub place-power : (k : Kind) (q : ℕ) → EntryFits k q (entry tag a) → a ≡ suc q
+  unfolding itemAt
+  place-power k q =
+      let at : T (eqb a (suc q)) → a ≡ suc q = eqb→eq a (suc q) in
+      span-at (λ (t : ℕ). EntryFits k q (entry t a) → a ≡ suc q) 4 3 tag
+      ((λ f. at (f .power)), ((λ f. at (f .power)), ((λ f. at (f .power)), tt))) (b .0) (omega arith)
+
+  place-held : (k : Kind) (q : ℕ) → EntryFits k q (entry tag a) → T (showsPlaces k)
+  unfolding itemAt itemAllowed
+  place-held k q =
+      span-at (λ (t : ℕ). EntryFits k q (entry t a) → T (showsPlaces k)) 4 3 tag
+      ((λ f. f .allowed), ((λ f. f .allowed), ((λ f. f .allowed), tt))) (b .0) (omega arith)
+
+  pub place-units : (c : Context) (q : ℕ) → itemUnits c q (itemAt (entry tag a)) ≡ placeUnits c (placeOfTag tag) q
+  unfolding itemUnits itemAt placeOfTag
+  place-units c q =
+      span-at (λ (t : ℕ). itemUnits c q (itemAt (entry t a)) ≡ placeUnits c (placeOfTag t) q) 4 3 tag
+      (refl, (refl, (refl, tt))) (b .0) (omega arith)
+
   pub place-put : {old out digits text : List ℕ} {at r : ℕ} {s : Subject} {c : Context} (k : Kind) (q : ℕ) → SubjectIs k digits s text c
       → EntryFits k q (entry tag a)
       → ((x : Context) → FiguresAre digits (s .figures) x → Put old at (placeUnits x (placeOfTag tag) (a - 1)) r out)
       → Put old at (itemUnits c q (itemAt (entry tag a))) r out
-  unfolding itemUnits itemAt itemAllowed placeOfTag
-  place-put {old} {out} {digits} {at = at} {r} {s} {c} k q i =
-      span-at (λ (t : ℕ). EntryFits k q (entry t a) → ((x : Context) → FiguresAre digits (s .figures) x → Put old at (placeUnits x (placeOfTag t) (a - 1)) r out)
-      → Put old at (itemUnits c q (itemAt (entry t a))) r out) 4 3 tag
-      (also (λ f put. let e : a - 1 ≡ q = omega (arith, eqb→eq a (suc q) (f .power)) in rw e at (put c (i .numeric (f .allowed))))
-      (also (λ f put. let e : a - 1 ≡ q = omega (arith, eqb→eq a (suc q) (f .power)) in rw e at (put c (i .numeric (f .allowed))))
-      (also (λ f put. let e : a - 1 ≡ q = omega (arith, eqb→eq a (suc q) (f .power)) in rw e at (put c (i .numeric (f .allowed)))) tt))) (b .0) (omega arith)
+  place-put {c = c} k q i f put =
+      let e : a - 1 ≡ q = omega (arith, place-power k q f) in rw (place-units c q) (rw e at (put c (i .numeric (place-held k q f))))
 
 -- an item that is put where the date is known if the item shows it, is put where it is known if some item does
 pub dated-put : {m old out : List ℕ} {at r : ℕ} {dated : Bool} (e : Entry) → (datedEntry e ≡ true → dated ≡ true)
     → ItemPut (DatedIs m (datedEntry e)) e old at r out → ItemPut (DatedIs m dated) e old at r out
 dated-put e h p c k q i f = p c k q (i .0, record { clock = i .1 .clock; date = λ t. i .1 .date (h t) }) f
+
+-- a date-time section holds no E
+pub dated-bare : (k : Kind) (q : ℕ) (e : Entry) → k ≡ dateKind → EntryFits k q e → isExponent (itemAt e) ≡ false
+unfolding itemAllowed
+dated-bare k q e d f =
+    exponent-case (λ (i : Item). T (itemAllowed dateKind i) → isExponent i ≡ false) (λ m. absurd) (λ i b t. b) (itemAt e) (rw d at (f .allowed))
 
 -- of the tags from a fill's up to that of `@` a date-time section holds the fill's
 pub dated-fill : (k : Kind) (q tag a : ℕ) → k ≡ dateKind → 3 ≤ tag → tag ≤ 10 → EntryFits k q (entry tag a) → tag ≡ 3
@@ -65,18 +88,69 @@ dated-fill k q tag a e least most f =
     span-at (λ (t : ℕ). T (itemAllowed dateKind (itemAt (entry t a))) → t ≡ 3) 3 8 tag
     ((λ h. refl), (absurd, (absurd, (absurd, (absurd, (absurd, (absurd, (absurd, tt)))))))) least (omega arith) (rw e at (f .allowed))
 
--- a tag that is none of the first ten, no place's and none that the arms of a `match` have beside them, is one of a date-time section
-pub late-dated : (k : Kind) (q tag a : ℕ) → T (entryInRange (entry tag a)) → between 4 6 tag ≡ false
-    → (((Apart tag 1 3 × (¬ (tag ≡ 7))) × (¬ (tag ≡ 8))) × (¬ (tag ≡ 9))) × (¬ (tag ≡ 10)) → EntryFits k q (entry tag a) → T (sameKind dateKind k)
+-- a tag that is none of the first ten, no place's and none that the arms of a `match` have beside them, is one of a date-time section or an E's
+pub late-other : (k : Kind) (q tag a : ℕ) → T (entryInRange (entry tag a)) → between 4 6 tag ≡ false
+    → (((Apart tag 1 3 × (¬ (tag ≡ 7))) × (¬ (tag ≡ 8))) × (¬ (tag ≡ 9))) × (¬ (tag ≡ 10)) → EntryFits k q (entry tag a)
+    → sameKind dateKind k ≡ false → sameKind scientificKind k ≡ false → ⊥
 unfolding itemAt itemAllowed
-late-dated k q tag a t e o f =
+late-other k q tag a t e o f undated unscientific =
     let known = tag-known (entry tag a) t in
     let low = past tag 1 3 (known .0) (o .0 .0 .0 .0) in
     let high : 6 < tag = by-cases (leb tag 6) (λ h. no (sym (rw (le-leb 4 tag low, h) at e))) (λ h. leb-false tag 6 h) in
-    let a7 : ¬ (tag ≡ 7) = o .0 .0 .0 .1 in
-    let a8 : ¬ (tag ≡ 8) = o .0 .0 .1 in
-    let a9 : ¬ (tag ≡ 9) = o .0 .1 in
-    let a10 : ¬ (tag ≡ 10) = o .1 in
-    span-at (λ (t : ℕ). T (itemAllowed k (itemAt (entry t a))) → T (sameKind dateKind k)) 11 11 tag
-    ((λ h. h), ((λ h. h), ((λ h. h), ((λ h. h), ((λ h. h), ((λ h. h), ((λ h. h), ((λ h. h), ((λ h. h), ((λ h. h), ((λ h. h), tt)))))))))))
-    (omega arith) (omega (arith, known .1)) (f .allowed)
+    let late = past-ten tag high (o .0 .0 .0 .1) (o .0 .0 .1) (o .0 .1) (o .1) in
+    let d : T (sameKind dateKind k) → ⊥ = λ h. rw undated at h in
+    let x : T (sameKind scientificKind k) → ⊥ = λ h. rw unscientific at h in
+    span-at (λ (t : ℕ). T (itemAllowed k (itemAt (entry t a))) → ⊥) 11 13 tag
+    (d, (d, (d, (d, (d, (d, (d, (d, (d, (d, (d, (x, (x, tt))))))))))))) late (omega (arith, known .1)) (f .allowed)
+  where
+    past-ten : (n : ℕ) → 6 < n → ¬ (n ≡ 7) → ¬ (n ≡ 8) → ¬ (n ≡ 9) → ¬ (n ≡ 10) → 11 ≤ n
+    past-ten n h a b c d = omega arith
+
+-- ---- from the E on
+-- an E by its tag
+pub mark-units : (tag a : ℕ) (c : Context) (q : ℕ) → 22 ≤ tag → T (entryInRange (entry tag a))
+    → itemUnits c q (itemAt (entry tag a)) ≡ exponentUnits (markOfTag tag) (c .below)
+unfolding itemUnits itemAt markOfTag
+mark-units tag a c q least t =
+    span-at (λ (n : ℕ). itemUnits c q (itemAt (entry n a)) ≡ exponentUnits (markOfTag n) (c .below)) 22 2 tag
+    (refl, (refl, tt)) least (omega (arith, tag-known (entry tag a) t))
+
+-- a scientific section holds the fill alone of the items that the arms of the `match` leave
+pub power-fill : (k : Kind) (q tag a : ℕ) → k ≡ scientificKind → T (entryInRange (entry tag a)) → between 4 6 tag ≡ false → tag < 22
+    → Apart tag 1 2 × (¬ (tag ≡ 7)) → EntryFits k q (entry tag a) → tag ≡ 3
+unfolding itemAt itemAllowed
+power-fill k q tag a e t b most o f =
+    span-at
+    (λ (n : ℕ). between 4 6 n ≡ false → Apart n 1 2 × (¬ (n ≡ 7)) → T (itemAllowed scientificKind (itemAt (entry n a))) → n ≡ 3)
+    1 21 tag (
+      (λ b o h. absurd (o .0 .0 .1 refl)),
+      (
+        (λ b o h. absurd (o .0 .1 refl)),
+        (
+          (λ b o h. refl),
+          (
+            place,
+            (
+              place,
+              (
+                place,
+                (
+                  (λ b o h. absurd (o .1 refl)),
+                  (
+                    other,
+                    (other, (other, (other, (other, (other, (other, (other, (other, (other, (other, (other, (other, (other, tt))))))))))))),
+                  ),
+                ),
+              ),
+            ),
+          ),
+        ),
+      ),
+    )
+    (tag-known (entry tag a) t .0) (omega arith) b o (rw e at (f .allowed))
+  where
+    place : {A B : Type 0} {n : ℕ} → true ≡ false → A → B → n ≡ 3
+    place b o h = absurd (true≢false b)
+
+    other : {A B : Type 0} {n : ℕ} → A → B → ⊥ → n ≡ 3
+    other b o h = absurd h

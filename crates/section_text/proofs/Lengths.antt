@@ -17,9 +17,9 @@ use Rattle.figures.specs.General.{withoutEndZeros, pointed, generalUnits}
 use Rattle.figures.proofs.Digits.{digitUnits-length}
 use Rattle.calendar.specs.Clock.{afternoon}
 use Rattle.calendar.specs.Names.{units, shortName, firstLetter, monthName, weekdayName}
-use Rattle.formats.specs.Tokens.{Place, zeroPlace, hashPlace, spacePlace, HalfDay, short, long, runAllowed}
+use Rattle.formats.specs.Tokens.{Place, zeroPlace, hashPlace, spacePlace, HalfDay, short, long, runAllowed, ExponentMark, ePlus, eMinus}
 use Rattle.formats.specs.Items.{Item, general, at, Kind, itemInRange, itemAllowed}
-use Rattle.formats.specs.Text.{Context, insignificant, idleUnits, endsGroup, withSeparator, figureUnits, extraUnits, unitsBeyond, atFirstInteger, placeUnits, pointUnits, yearUnits, namedUnits, hourShown, partUnits, elapsedCount, halfUnits, itemUnits, itemsUnits, digitAfter, along}
+use Rattle.formats.specs.Text.{Context, insignificant, idleUnits, endsGroup, withSeparator, figureUnits, extraUnits, unitsBeyond, atFirstInteger, placeUnits, pointUnits, yearUnits, namedUnits, hourShown, partUnits, elapsedCount, halfUnits, itemUnits, itemsUnits, digitAfter, along, firstOf, exponentUnits}
 use Rattle.formats.proofs.Each.{by-item}
 use Rattle.tables.specs.Words.{entriesIn}
 use Rattle.tables.specs.Decode.{itemAt, itemsAt}
@@ -31,6 +31,8 @@ use Rattle.date_text.proofs.Letters.{month-spelt, weekday-spelt}
 use Rattle.section_text.specs.declared.Subject.{Subject}
 use Rattle.section_text.specs.Subject.{StandsFor, SubjectIs}
 use Rattle.section_text.specs.Walk.{EntriesFit, OfText, Ready, DatedIs}
+use Rattle.section_text.specs.declared.Power.{Power}
+use Rattle.section_text.specs.Power.{PowerIs}
 
 -- ---- figures
 idle-length : (p : Place) → length (idleUnits p) ≤ 1
@@ -120,6 +122,13 @@ half-length short false = omega arith
 half-length long true = omega arith
 half-length long false = omega arith
 
+exponent-length : (m : ExponentMark) (b : Bool) → length (exponentUnits m b) ≤ 2
+unfolding exponentUnits units
+exponent-length ePlus true = omega arith
+exponent-length ePlus false = omega arith
+exponent-length eMinus true = omega arith
+exponent-length eMinus false = omega arith
+
 -- ---- items
 -- in a section of kind k, where what General and `@` stand for is short if it may hold them
 module _ (c : Context) (k : Kind) (n : ℕ) (h : 82 ≤ n) (g : T (itemAllowed k general) → length (c .standing) ≤ n)
@@ -145,16 +154,17 @@ module _ (c : Context) (k : Kind) (n : ℕ) (h : 82 ≤ n) (g : T (itemAllowed k
       (λ m r f. omega (arith, part-length m (c .clock .thousandth) r))
       (λ e m r f. omega (arith, run-short m 9 (elapsedCount e (c .elapsed)) (omega arith) r))
       (λ d r f. omega (arith, half-length d (afternoon (c .clock .hour))))
+      (λ m r f. omega (arith, exponent-length m (c .below)))
 
   items-short : (q : ℕ) (is : List Item) → T (every itemInRange is) → T (every (itemAllowed k) is) → length (itemsUnits c q is) ≤ n * length is
   unfolding itemsUnits along flatten
   items-short q [] r f = omega arith
   items-short q (i ∷ is) r f =
       let here = item-short q i (every-head itemInRange i is r) (every-head (itemAllowed k) i is f) in
-      let later = items-short (digitAfter q i) is (every-tail itemInRange i is r) (every-tail (itemAllowed k) i is f) in
-      rw (mul-suc n (length is), length-append (itemUnits c q i) (itemsUnits c (digitAfter q i) is)) (omega (arith, here, later))
+      let later = items-short (digitAfter (firstOf (c .integerPlaces)) q i) is (every-tail itemInRange i is r) (every-tail (itemAllowed k) i is f) in
+      rw (mul-suc n (length is), length-append (itemUnits c q i) (itemsUnits c (digitAfter (firstOf (c .integerPlaces)) q i) is)) (omega (arith, here, later))
 
-  words-short : (q : ℕ) (words : List ℕ) → EntriesFit k q (entriesIn words) → length (itemsUnits c q (itemsAt (entriesIn words))) ≤ n * (length words / 2)
+  words-short : (q : ℕ) (words : List ℕ) → EntriesFit k c q (entriesIn words) → length (itemsUnits c q (itemsAt (entriesIn words))) ≤ n * (length words / 2)
   unfolding entriesIn itemsAt
   words-short q words f =
       rw (length-map (entriesIn words) itemAt, entriesAt-length (length words / 2) words) at
@@ -179,6 +189,11 @@ module _ (n : ℕ) (words : List ℕ) (h : 82 ≤ n) where
   pub dated-short : {m : List ℕ} {dated : Bool} → OfText (DatedIs m dated) words (λ us. length us ≤ n * (length words / 2))
   unfolding itemAllowed
   dated-short c k q i f = words-short c k n h (λ g. absurd (rw (i .0) at g)) (λ a. absurd (rw (i .0) at a)) q words f
+
+  -- of a scientific section's items from the E on
+  pub power-short : {p : Power} → OfText (PowerIs p) words (λ us. length us ≤ n * (length words / 2))
+  unfolding itemAllowed
+  power-short c k q i f = words-short c k n h (λ g. absurd (rw (i .0) at g)) (λ a. absurd (rw (i .0) at a)) q words f
 
 -- a short text keeps a walk's places small
 pub short-within : {P : Kind → Context → Type 0} {words : List ℕ} → length words ≤ 508 → (d : Ready P words)

@@ -10,7 +10,7 @@ use lib.ListN.{length, getD}
 use Rattle.lists.proofs.Bools.{and-left, and-right, every-head, every-tail}
 use Rattle.formats.specs.Items.{Kind, itemAllowed, isPlace}
 use Rattle.formats.specs.Where.{implies}
-use Rattle.formats.specs.Text.{Context, itemsUnits, digitAfter, along}
+use Rattle.formats.specs.Text.{Context, itemsUnits, digitAfter, along, firstOf}
 use Rattle.tables.specs.Words.{Entry, entriesAt, entriesIn}
 use Rattle.tables.specs.Encode.{entry}
 use Rattle.tables.specs.Decode.{itemAt, itemsAt}
@@ -21,7 +21,7 @@ use Rattle.writing.proofs.Laws.{rest-start, rest-put, rest-done}
 use Rattle.section_text.specs.Walk.{EntryFits, EntriesFit, Ready, ItemPut, OfText}
 
 -- the first of some entries, and those behind it
-module _ (k : Kind) (q : ℕ) (e : Entry) (es : List Entry) (f : EntriesFit k q (e ∷ es)) where
+module _ (k : Kind) (c : Context) (q : ℕ) (e : Entry) (es : List Entry) (f : EntriesFit k c q (e ∷ es)) where
   pub first-in-range : T (entryInRange e)
   first-in-range = every-head entryInRange e es (f .inRange)
 
@@ -29,30 +29,30 @@ module _ (k : Kind) (q : ℕ) (e : Entry) (es : List Entry) (f : EntriesFit k q 
   unfolding itemsAt powersFrom along allOf
   first-fits = record {
     allowed = every-head (itemAllowed k) (itemAt e) (itemsAt es) (f .allowed);
-    power = and-left (implies (isPlace (itemAt e)) (eqb (e .argument) (suc q))) (powersFrom (digitAfter q (itemAt e)) es) (f .powers);
+    power = and-left (implies (isPlace (itemAt e)) (eqb (e .argument) (suc q))) (powersFrom (firstOf (c .integerPlaces)) (digitAfter (firstOf (c .integerPlaces)) q (itemAt e)) es) (f .powers);
   }
 
-  pub others-fit : EntriesFit k (digitAfter q (itemAt e)) es
+  pub others-fit : EntriesFit k c (digitAfter (firstOf (c .integerPlaces)) q (itemAt e)) es
   unfolding itemsAt powersFrom along allOf
   others-fit = record {
     inRange = every-tail entryInRange e es (f .inRange);
     allowed = every-tail (itemAllowed k) (itemAt e) (itemsAt es) (f .allowed);
-    powers = and-right (implies (isPlace (itemAt e)) (eqb (e .argument) (suc q))) (powersFrom (digitAfter q (itemAt e)) es) (f .powers);
+    powers = and-right (implies (isPlace (itemAt e)) (eqb (e .argument) (suc q))) (powersFrom (firstOf (c .integerPlaces)) (digitAfter (firstOf (c .integerPlaces)) q (itemAt e)) es) (f .powers);
   }
 
 -- what is left when the entries es are: they fit from some power on, and their text is what is left to put
 pub record Left (old : List ℕ) (start : ℕ) (whole : List ℕ) (c : Context) (k : Kind) (room : List ℕ) (at : ℕ) (es : List Entry) : Type 0 where
   pub power : ℕ
-  pub fit : EntriesFit k power es
+  pub fit : EntriesFit k c power es
   pub rest : Rest old start whole room at (itemsUnits c power (itemsAt es))
 
 left-step : {P : Kind → Context → Type 0} {old whole room out : List ℕ} {start at r : ℕ} {c : Context} {k : Kind} (e : Entry) (es : List Entry)
     → P k c → ItemPut P e room at r out → Left old start whole c k room at (e ∷ es) → Left old start whole c k out r es
 unfolding itemsUnits itemsAt along flatten
 left-step {c = c} {k} e es i p l = record {
-  power = digitAfter (l .power) (itemAt e);
-  fit = others-fit k (l .power) e es (l .fit);
-  rest = rest-put (l .rest) (p c k (l .power) i (first-fits k (l .power) e es (l .fit)));
+  power = digitAfter (firstOf (c .integerPlaces)) (l .power) (itemAt e);
+  fit = others-fit k c (l .power) e es (l .fit);
+  rest = rest-put (l .rest) (p c k (l .power) i (first-fits k c (l .power) e es (l .fit)));
 }
 
 -- after k of n items: in every context with the property, of which one is known to be there; the text is short in that one
@@ -61,7 +61,7 @@ pub record Walking (P : Kind → Context → Type 0) (old : List ℕ) (start : �
   pub inside : k ≤ n
   pub ready : Ready P words
   pub short : length (itemsUnits (ready .context) (ready .power) (itemsAt (entriesIn words))) ≤ 260096
-  pub left : (c : Context) (kind : Kind) (q : ℕ) → P kind c → EntriesFit kind q (entriesIn words)
+  pub left : (c : Context) (kind : Kind) (q : ℕ) → P kind c → EntriesFit kind c q (entriesIn words)
       → Left old start (itemsUnits c q (itemsAt (entriesIn words))) c kind room at (entriesLeft words n k)
 
 pub walking-start : {P : Kind → Context → Type 0} {n : ℕ} (old : List ℕ) (start : ℕ) (words : List ℕ) → n ≡ length words / 2 → (d : Ready P words)
@@ -82,7 +82,7 @@ module _ {P : Kind → Context → Type 0} {old : List ℕ} {start : ℕ} {words
   known = let d = inv .ready in inv .left (d .context) (d .kind) (d .power) (d .subject) (d .fit)
 
   pub walking-in-range : k < n → T (entryInRange (entry (getD words (2 * k) 0) (getD words (2 * k + 1) 0)))
-  walking-in-range h = first-in-range (inv .ready .kind) (known .power) _ _ (rw (entries-front words n k h) at (known .fit))
+  walking-in-range h = first-in-range (inv .ready .kind) (inv .ready .context) (known .power) _ _ (rw (entries-front words n k h) at (known .fit))
 
   pub walking-step : {r : ℕ} {out : List ℕ} → k < n → ItemPut P (entry (getD words (2 * k) 0) (getD words (2 * k + 1) 0)) room at r out
       → Walking P old start words n (k + 1) out r

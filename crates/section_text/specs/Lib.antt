@@ -1,3 +1,4 @@
 pub mod Subject
 pub mod Walk
+pub mod Power
 pub mod Show

@@ -6,7 +6,7 @@ use mathlib.Core.List.{List, [], _∷_, _++_}
 use Prim.Native.Nat.{ℕ}
 use Rattle.answers.specs.declared.Shown.{Shown}
 use Rattle.lists.specs.Lists.{overlay}
-use Rattle.formats.specs.Items.{Section}
+use Rattle.formats.specs.Items.{Section, beforeE, fromE}
 use Rattle.formats.specs.Text.{Context, sectionUnits}
 use Rattle.formats.specs.Reading.{Reading, lookOf, within}
 use Rattle.tables.specs.Calls.{shownAs, textAs}
@@ -18,6 +18,11 @@ signText minus = cond minus (45 ∷ []) []
 -- 13, or section i shown in a room of this size, with a minus in front or without
 unfoldable pub sectionReading : ℕ → Section → ℕ → Bool → Context → Reading
 sectionReading size s i minus c = within size (lookOf (signText minus ++ sectionUnits c (s .items)) (s .colour) i)
+
+-- the same of a scientific section, whose items before the E show one context, and those from the E on another
+unfoldable pub scientificReading : ℕ → Section → ℕ → Bool → Context → Context → Reading
+scientificReading size s i minus m e =
+    within size (lookOf (signText minus ++ (sectionUnits m (beforeE (s .items)) ++ sectionUnits e (fromE (s .items)))) (s .colour) i)
 
 pub record Shows (reading : Reading) (old : List ℕ) (r : Shown) (out : List ℕ) : Type 0 where
   pub result : r ≡ shownAs reading

@@ -1,23 +1,27 @@
 // The text of a section's items, shown whole in a lent room or not at all.
 ghost use mathlib.Core.Path.{_≡_};
-ghost use mathlib.Core.Bool.{true, false};
-ghost use mathlib.Core.List.{List, _++_};
-ghost use Prim.Native.Nat.{ℕ, _+_, _*_, _≤_, _<_, _^_};
-ghost use lib.Dec.{T, leb};
+ghost use mathlib.Core.Bool.{true, false, cond, _&&_};
+ghost use mathlib.Core.List.{List, [], _∷_, _++_};
+ghost use Prim.Native.Nat.{ℕ, suc, _+_, _-_, _*_, _/_, _%_, _≤_, _<_, _^_};
+ghost use lib.Dec.{T, leb, ltb, eqb};
 ghost use lib.ListN.{length, getD};
-ghost use Rattle.lists.specs.Lists.{any};
-ghost use Rattle.formats.specs.Items.{dateKind, kindOf, integerPlaces};
+ghost use Rattle.lists.specs.Lists.{any, count};
+ghost use Rattle.figures.specs.Digits.{digitUnit};
+ghost use Rattle.formats.specs.Items.{numberKind, dateKind, scientificKind, kindOf, isPlace, integerPlaces, exponentPlaces};
 ghost use Rattle.formats.specs.Reading.{lookOf, within};
-ghost use Rattle.formats.specs.Text.{Context};
+ghost use Rattle.formats.specs.Text.{Context, idleUnits, placeUnits, exponentUnits};
 ghost use Rattle.tables.specs.Words.{entriesIn};
 ghost use Rattle.tables.specs.Encode.{entry, entriesOf};
+ghost use Rattle.tables.specs.Decode.{itemsAt};
 ghost use Rattle.tables.specs.Rules.{entryInRange, passes};
 ghost use Rattle.table_words.specs.Sections.{sectionIn};
 ghost use Rattle.writing.specs.Put.{Put};
+ghost use Rattle.figure_text.specs.Shown.{placeOfTag};
 ghost use Rattle.date_text.specs.Moment.{datedEntry};
 ghost use Rattle.section_text.specs.Subject.{StandsFor, SubjectIs};
 ghost use Rattle.section_text.specs.Walk.{MomentIs, DatedIs, Ready, ItemPut, OfText, Known, DatedKnown};
-ghost use Rattle.section_text.specs.Show.{signText, sectionReading, Shows};
+ghost use Rattle.section_text.specs.Power.{ExponentIs, PowerIs, SmallPower, leftAt, markOfTag, CutAt, ScientificReady, OfScientific};
+ghost use Rattle.section_text.specs.Show.{signText, sectionReading, scientificReading, Shows};
 use answers::Answer;
 use answers::Shown;
 use answers::done_shown;
@@ -26,13 +30,31 @@ use figure_text::Figures;
 use table_words::head_of;
 use table_words::items_of;
 use tables::tags;
+use writing::digit_unit;
+use writing::put_unit;
+use writing::units;
 
 // What a section's items are shown from, a date-time section's apart: a number's figures, in a number section those that its
-// places show, in others General's; `lent`: General and `@` stand for the text lent beside it.
+// places show, in a scientific section those of its mantissa, in others General's; `lent`: General and `@` stand for the text lent
+// beside it.
 pub struct Subject {
     pub figures: Figures,
     pub lent: bool,
 }
+
+// An exponent below 100, as a scientific section's items from the E on show it: its distance from 0, whether it is below 0, and
+// how many places it has.
+struct Power {
+    size: u32,
+    below: bool,
+    places: usize,
+}
+
+const LETTER_E: u16 = 69;
+
+const PLUS: u16 = 43;
+
+const MINUS: u16 = 45;
 
 // Puts what General and `@` stand for.
 fn put_standing(room: &mut [u16], at: usize, digits: &[u8; 40], s: Subject, text: &[u16]) -> usize
@@ -65,11 +87,11 @@ fn put_item(
         return figure_text::put_place(room, at, digits, s.figures, tag, q);
     }
     match tag {
-        tags::LITERAL => writing::put_unit(room, at, argument),
-        tags::BLANK => writing::put_unit(room, at, 32),
+        tags::LITERAL => put_unit(room, at, argument),
+        tags::BLANK => put_unit(room, at, units::SPACE),
         tags::FILL => at,
         tags::POINT => figure_text::put_point(room, at, digits, s.figures),
-        tags::PERCENT => writing::put_unit(room, at, 37),
+        tags::PERCENT => put_unit(room, at, 37),
         tags::GENERAL => put_standing(room, at, digits, s, text),
         tags::AT => put_standing(room, at, digits, s, text),
         _ => at,
@@ -77,7 +99,7 @@ fn put_item(
 }
 
 // Puts the text of a segment, whose words these are: a part of a section's items with digits and places of its own.
-// (A section has one segment, all of its items.)
+// (A section has one segment: all of its items, in a scientific section those before the E.)
 fn put_segment(
     room: &mut [u16],
     at: usize,
@@ -110,7 +132,7 @@ fn put_sign(room: &mut [u16], minus: bool) -> usize
     ensures put { λ r. ⌜ Put (now (room .entry)) 0 (signText minus) r (now (room .exit)) ⌝ }
 {
     if minus {
-        return writing::put_unit(room, 0, 45);
+        return put_unit(room, 0, MINUS);
     }
     0
 }
@@ -207,8 +229,8 @@ fn put_dated_item(room: &mut [u16], at: usize, tag: u16, word: u16, m: &[u64; 7]
         return date_text::put_moment_item(room, at, tag, word, m);
     }
     match tag {
-        tags::LITERAL => writing::put_unit(room, at, word),
-        tags::BLANK => writing::put_unit(room, at, 32),
+        tags::LITERAL => put_unit(room, at, word),
+        tags::BLANK => put_unit(room, at, units::SPACE),
         _ => at,
     }
 }
@@ -260,6 +282,243 @@ fn show_dated_items(
         return done_shown(end as u32, colour, section);
     }
     refused_shown(Answer::TextRoom)
+}
+
+// Where the words of the first E begin among item words; behind all items where there is none.
+fn exponent_start(items: &[u16]) -> usize
+    ensures { λ r. ⌜ CutAt (now (items .entry)) r ⌝ }
+{
+    let n = items.len() / 2;
+    let mut k: usize = 0;
+    while k < n {
+        let i = 2 * k;
+        let tag = items[i];
+        if (tags::EXPONENT_PLUS <= tag) & (tag <= tags::EXPONENT_MINUS) {
+            return i;
+        }
+        k += 1;
+    }
+    2 * n
+}
+
+// How many places there are among item words.
+fn count_places(items: &[u16]) -> usize
+    ensures { λ r. ⌜ r ≡ count isPlace (itemsAt (entriesIn (now (items .entry)))) ⌝ }
+{
+    let n = items.len() / 2;
+    let mut k: usize = 0;
+    let mut places: usize = 0;
+    while k < n {
+        let tag = items[2 * k];
+        let is_place = (tags::ZERO_PLACE <= tag) & (tag <= tags::SPACE_PLACE);
+        places += is_place as usize;
+        k += 1;
+    }
+    places
+}
+
+// What is left of an exponent from the digit of a place, told by its argument, up.
+fn left_at(size: u32, argument: u16) -> u32
+    requires { ⌜ size < 100 ⌝ }
+    ensures { λ r. ⌜ (r ≡ leftAt size argument) × (r < 100) ⌝ }
+{
+    match argument {
+        16 => size,
+        17 => size / 10,
+        _ => 0,
+    }
+}
+
+// Puts the digit beyond the first place, where there is one: of a number below 100 it is the only one.
+fn put_beyond(room: &mut [u16], at: usize, left: u32, first: bool) -> usize
+    requires { ⌜ (at < 2 ^ 62) × (left < 100) ⌝ }
+    ensures within { λ r. ⌜ r ≤ at + 1 ⌝ }
+    ensures put { λ r. ⌜ Put (now (room .entry)) at (cond (first && ltb 9 left) (digitUnit (left / 10) ∷ []) []) r (now (room .exit)) ⌝ }
+{
+    if first & (9 < left) {
+        return put_unit(room, at, digit_unit((left / 10) as u8));
+    }
+    at
+}
+
+// Puts what a place, told by its tag, shows of the lowest digit of what is left.
+fn put_lowest(room: &mut [u16], at: usize, place: u16, left: u32) -> usize
+    requires { ⌜ at < 2 ^ 62 + 1 ⌝ }
+    ensures { λ r. ⌜ Put (now (room .entry)) at (cond (eqb left 0) (idleUnits (placeOfTag place)) (digitUnit (left % 10) ∷ [])) r (now (room .exit)) ⌝ }
+{
+    if (left != 0) | (place == tags::ZERO_PLACE) {
+        return put_unit(room, at, digit_unit((left % 10) as u8));
+    }
+    if place == tags::HASH_PLACE {
+        return at;
+    }
+    put_unit(room, at, units::SPACE)
+}
+
+// Puts what a place of an exponent shows.
+fn put_exponent_place(room: &mut [u16], at: usize, place: u16, argument: u16, p: Power) -> usize
+    requires { ⌜ (at < 2 ^ 62) × SmallPower p ⌝ }
+    ensures { λ r. ⌜ ((c : Context) (q : ℕ) → ExponentIs (p .size) (p .below) c → c .integerPlaces ≡ p .places → argument ≡ suc q
+        → Put (now (room .entry)) at (placeUnits c (placeOfTag place) q) r (now (room .exit))) ⌝ }
+{
+    let left = left_at(p.size, argument);
+    let a = put_beyond(room, at, left, argument as usize == 15 + p.places);
+    put_lowest(room, a, place, left)
+}
+
+// Puts an E, told by its tag, with its sign: `E-` shows no plus.
+fn put_mark(room: &mut [u16], at: usize, mark: u16, below: bool) -> usize
+    requires { ⌜ at < 2 ^ 62 ⌝ }
+    ensures { λ r. ⌜ Put (now (room .entry)) at (exponentUnits (markOfTag mark) below) r (now (room .exit)) ⌝ }
+{
+    let a = put_unit(room, at, LETTER_E);
+    if below {
+        return put_unit(room, a, MINUS);
+    }
+    if mark == tags::EXPONENT_PLUS {
+        return put_unit(room, a, PLUS);
+    }
+    a
+}
+
+// Puts the text of a scientific section's item from the E on. (No table has a point or a `?` there: they are shown as an integer part's.)
+fn put_exponent_item(room: &mut [u16], at: usize, tag: u16, argument: u16, p: Power) -> usize
+    requires { ⌜ (at < 2 ^ 61) × SmallPower p × T (entryInRange (entry tag argument)) ⌝ }
+    ensures { λ r. ⌜ ItemPut (PowerIs p) (entry tag argument) (now (room .entry)) at r (now (room .exit)) ⌝ }
+{
+    if (tags::ZERO_PLACE <= tag) & (tag <= tags::SPACE_PLACE) {
+        return put_exponent_place(room, at, tag, argument, p);
+    }
+    if tags::EXPONENT_PLUS <= tag {
+        return put_mark(room, at, tag, p.below);
+    }
+    match tag {
+        tags::LITERAL => put_unit(room, at, argument),
+        tags::BLANK => put_unit(room, at, units::SPACE),
+        tags::POINT => put_unit(room, at, units::POINT),
+        _ => at,
+    }
+}
+
+// Puts the text of a scientific section's items from the E on, whose words these are.
+fn put_exponent_items(room: &mut [u16], at: usize, items: &[u16], p: Power) -> usize
+    requires { ⌜ (at ≤ 260097) × SmallPower p × (length (now items) ≤ 508) × Ready (PowerIs p) (now items) ⌝ }
+    ensures within { λ r. ⌜ r ≤ at + 260096 ⌝ }
+    ensures put { λ r. ⌜ OfText (PowerIs p) (now (items .entry)) (λ us. Put (now (room .entry)) at us r (now (room .exit))) ⌝ }
+{
+    let n = items.len() / 2;
+    let mut k: usize = 0;
+    let mut o = at;
+    while k < n {
+        let i = 2 * k;
+        let j = i + 1;
+        o = put_exponent_item(room, o, items[i], items[j], p);
+        k += 1;
+    }
+    o
+}
+
+// Puts a scientific section's text: a minus or nothing, then the items' before the E, then those' from the E on.
+fn put_scientific(
+    room: &mut [u16],
+    minus: bool,
+    before: &[u16],
+    from: &[u16],
+    digits: &[u8; 40],
+    s: Subject,
+    p: Power,
+) -> usize
+    requires { ⌜ ScientificReady (now digits) s p (now before) (now from) ⌝ }
+    ensures within { λ r. ⌜ r ≤ 520193 ⌝ }
+    ensures put { λ r. ⌜ OfScientific (now (digits .entry)) s p (now (before .entry)) (now (from .entry))
+        (λ us. Put (now (room .entry)) 0 (signText minus ++ us) r (now (room .exit))) ⌝ }
+{
+    let at = put_text(room, minus, before, digits, s, &before[..0]);
+    put_exponent_items(room, at, from, p)
+}
+
+// Whether a room of this size takes a scientific section's text.
+fn takes_scientific(
+    size: usize,
+    minus: bool,
+    before: &[u16],
+    from: &[u16],
+    digits: &[u8; 40],
+    s: Subject,
+    p: Power,
+) -> bool
+    requires { ⌜ ScientificReady (now digits) s p (now before) (now from) ⌝ }
+    ensures { λ r. ⌜ OfScientific (now (digits .entry)) s p (now (before .entry)) (now (from .entry))
+        (λ us. r ≡ leb (length (signText minus ++ us)) size) ⌝ }
+{
+    if is_roomy(size, before.len() + from.len(), false) {
+        return true;
+    }
+    let mut none = [0; 1];
+    put_scientific(&mut none[..0], minus, before, from, digits, s, p) <= size
+}
+
+// Shows a scientific section's text where the room takes it.
+fn show_scientific_items(
+    room: &mut [u16],
+    minus: bool,
+    before: &[u16],
+    from: &[u16],
+    digits: &[u8; 40],
+    s: Subject,
+    p: Power,
+    colour: u16,
+    section: u16,
+) -> Shown
+    requires { ⌜ ScientificReady (now digits) s p (now before) (now from) ⌝ }
+    ensures { λ r. ⌜ OfScientific (now (digits .entry)) s p (now (before .entry)) (now (from .entry))
+        (λ us. Shows (within (length (now (room .entry))) (lookOf (signText minus ++ us) colour section)) (now (room .entry)) r (now (room .exit))) ⌝ }
+{
+    if takes_scientific(room.len(), minus, before, from, digits, s, p) {
+        let n = put_scientific(room, minus, before, from, digits, s, p);
+        return done_shown(n as u32, colour, section);
+    }
+    refused_shown(Answer::TextRoom)
+}
+
+// Shows section i, which is a scientific section: the digits and the subject are those of the mantissa.
+pub fn show_scientific_section(
+    room: &mut [u16],
+    table: &[u16],
+    i: u16,
+    minus: bool,
+    digits: &[u8; 40],
+    s: Subject,
+    exponent: u32,
+    below: bool,
+) -> Shown
+    requires { ⌜ T (passes (now table)) × (i < getD (now table) 0 0) × (kindOf (sectionIn (now table) i) ≡ scientificKind)
+        × (s .figures .used ≤ 40) × (s .lent ≡ false) × (exponent < 100) × Known numberKind (now digits) s [] ⌝ }
+    ensures { λ r. ⌜ ((m e : Context) → SubjectIs numberKind (now (digits .entry)) s [] m
+        → m .integerPlaces ≡ integerPlaces (sectionIn (now (table .entry)) i .items)
+        → ExponentIs exponent below e → e .integerPlaces ≡ exponentPlaces (sectionIn (now (table .entry)) i .items)
+        → Shows (scientificReading (length (now (room .entry))) (sectionIn (now (table .entry)) i) i minus m e) (now (room .entry)) r (now (room .exit))) ⌝ }
+{
+    let h = head_of(table, i as usize);
+    let items = items_of(table, i as usize);
+    let start = exponent_start(items);
+    let from = &items[start..];
+    let p = Power {
+        size: exponent,
+        below,
+        places: count_places(from),
+    };
+    show_scientific_items(
+        room,
+        minus,
+        &items[..start],
+        from,
+        digits,
+        s,
+        p,
+        h.colour,
+        i,
+    )
 }
 
 // Shows section i, which is a date-time section.

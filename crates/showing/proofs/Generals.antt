@@ -22,7 +22,7 @@ use Rattle.figures.specs.Sign.{signedOf}
 use Rattle.figures.proofs.Rounding.{rounded-small}
 use Rattle.figures.proofs.General.{decimals-most}
 use Rattle.figures.proofs.Places.{used-test}
-use Rattle.formats.specs.Items.{Kind, textKind, generalKind, dateKind, numberKind, literalKind, sameKind, kindOf, Section}
+use Rattle.formats.specs.Items.{Kind, textKind, generalKind, dateKind, numberKind, scientificKind, literalKind, kindOf, Section}
 use Rattle.formats.specs.Choice.{numberExact, Reason, chosen}
 use Rattle.formats.specs.Text.{Context}
 use Rattle.formats.specs.Reading.{refused, numberContext, takesNumber, showsGeneral, standingRounded, showsNought, readNumber}
@@ -30,7 +30,7 @@ use Rattle.figure_text.specs.declared.Figures.{Figures}
 use Rattle.figure_text.specs.Shown.{FiguresAre, figuresWith}
 use Rattle.figure_text.proofs.Digits.{figures-are}
 use Rattle.section_text.specs.Subject.{SubjectIs}
-use Rattle.showing.proofs.Subjects.{standing-subject}
+use Rattle.showing.proofs.Subjects.{Unfigured, standing-subject}
 use Rattle.showing.proofs.Numbers.{Takes}
 
 none-used : (u : ℕ) → eqb u 0 ≡ leb u 0
@@ -54,17 +54,18 @@ generalContext n = record {
   clock = clockOf 0;
   twelve = false;
   elapsed = 0;
+  below = false;
 }
 
--- a section that shows General takes numbers; it is no number section and no date-time section
-general-kind : (k : Kind) → T (showsGeneral k)
-    → (takesNumber k ≡ true) × (sameKind k numberKind ≡ false) × (sameKind numberKind k ≡ false) × (sameKind dateKind k ≡ false)
+-- a section that shows General takes numbers, and shows nothing else of them
+general-kind : (k : Kind) → T (showsGeneral k) → (takesNumber k ≡ true) × Unfigured k
 unfolding showsGeneral takesNumber
-general-kind textKind t = (refl, refl, refl, refl)
-general-kind generalKind t = (refl, refl, refl, refl)
+general-kind textKind t = (refl, (refl, refl, refl))
+general-kind generalKind t = (refl, (refl, refl, refl))
 general-kind literalKind t = absurd t
 general-kind numberKind t = absurd t
 general-kind dateKind t = absurd t
+general-kind scientificKind t = absurd t
 
 powered-none : (m s : ℕ) → powered m 0 s ≡ record { above = m; below = 10 ^ s }
 unfolding powered
@@ -102,10 +103,10 @@ module _ (z : Section) (t : T (showsGeneral (kindOf z))) (x : Number) where
     general-takes e =
         let k = general-kind (kindOf z) t in
         let y : showsGeneral (kindOf z) ≡ true = T-true (showsGeneral (kindOf z)) t in
-        record { nought = figures-nought (generalContext (standingRounded x)) are ∙ rw (k .1, y); number = k .0; narrow = rw (y, e) }
+        record { nought = figures-nought (generalContext (standingRounded x)) are ∙ rw (k .1 .0, y); number = k .0; narrow = rw (y, e) }
 
     pub general-subject : {text : List ℕ} → SubjectIs (kindOf z) digits (record { figures = f; lent = false }) text (numberContext z x)
     unfolding numberContext
     general-subject =
         let k = general-kind (kindOf z) t in
-        standing-subject (numberContext z x) (k .2) (k .3) (record { context = generalContext (standingRounded x); are = are; shows = refl })
+        standing-subject (numberContext z x) (k .1) (record { context = generalContext (standingRounded x); are = are; shows = refl })

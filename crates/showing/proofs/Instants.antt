@@ -10,7 +10,7 @@ use Rattle.answers.specs.declared.Answer.the-variants as answer
 use Rattle.values.specs.declared.Day.{Day}
 use Rattle.values.specs.declared.Millisecond.{Millisecond}
 use Rattle.lists.specs.Lists.{any}
-use Rattle.formats.specs.Items.{Section, Kind, dateKind, numberKind, literalKind, sameKind, kindOf, integerPlaces}
+use Rattle.formats.specs.Items.{Section, Kind, dateKind, literalKind, showsPlaces, kindOf, integerPlaces}
 use Rattle.calendar.specs.Clock.{sinceDayZero}
 use Rattle.formats.specs.Choice.{instantExact, Reason, chosen, choose}
 use Rattle.formats.specs.Reading.{refused, takesInstant, instantContext, readInstant}
@@ -29,9 +29,9 @@ use Rattle.section_text.specs.Show.{signText, sectionReading}
 use Rattle.showing.specs.Plan.{SectionIs}
 use Rattle.showing.proofs.Subjects.{section-places, literal-subject}
 
--- date-time sections and literal sections take instants, and are no number sections
+-- date-time sections and literal sections take instants, and show no places
 abbrev TakesInstant : Kind → Type 0
-TakesInstant k = (takesInstant k ≡ true) × (sameKind numberKind k ≡ false)
+TakesInstant k = (takesInstant k ≡ true) × (showsPlaces k ≡ false)
 
 pub date-takes : (k : Kind) → k ≡ dateKind → TakesInstant k
 unfolding takesInstant

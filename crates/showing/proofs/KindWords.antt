@@ -7,7 +7,7 @@ use mathlib.Core.List.{List}
 use lib.Dec.{T}
 use Rattle.answers.specs.declared.Answer.the-variants as answer
 use Rattle.values.specs.declared.Number.{Number}
-use Rattle.formats.specs.Items.{Section, Kind, textKind, generalKind, dateKind, numberKind, literalKind, kindOf}
+use Rattle.formats.specs.Items.{Section, Kind, textKind, generalKind, dateKind, numberKind, scientificKind, literalKind, kindOf}
 use Rattle.formats.specs.Choice.{Reason, chosen}
 use Rattle.formats.specs.Reading.{refused, takesNumber, takesInstant, showsGeneral, readNumber}
 use Rattle.tables.specs.Words.{Head}
@@ -21,23 +21,24 @@ kindWith zero = literalKind
 kindWith (suc zero) = generalKind
 kindWith (suc (suc zero)) = numberKind
 kindWith (suc (suc (suc zero))) = textKind
-kindWith (suc (suc (suc (suc n)))) = dateKind
+kindWith (suc (suc (suc (suc zero)))) = dateKind
+kindWith (suc (suc (suc (suc (suc n))))) = scientificKind
 
 kind-back : (k : Kind) → kindWith (kindWord k) ≡ k
 unfolding kindWord
-kind-back = by-kind (λ k. kindWith (kindWord k) ≡ k) refl refl refl refl refl
+kind-back = by-kind (λ k. kindWith (kindWord k) ≡ k) refl refl refl refl refl refl
 
-general-word : (k : Kind) → (kindWord k ≡ 0 → ⊥) → (kindWord k ≡ 2 → ⊥) → (kindWord k ≡ 4 → ⊥) → T (showsGeneral k)
+general-word : (k : Kind) → (kindWord k ≡ 0 → ⊥) → (kindWord k ≡ 2 → ⊥) → (kindWord k ≡ 4 → ⊥) → (kindWord k ≡ 5 → ⊥) → T (showsGeneral k)
 unfolding kindWord showsGeneral
 general-word =
-    by-kind (λ k. (kindWord k ≡ 0 → ⊥) → (kindWord k ≡ 2 → ⊥) → (kindWord k ≡ 4 → ⊥) → T (showsGeneral k))
-    (λ l n d. tt) (λ l n d. tt) (λ l n d. d refl) (λ l n d. n refl) (λ l n d. l refl)
+    by-kind (λ k. (kindWord k ≡ 0 → ⊥) → (kindWord k ≡ 2 → ⊥) → (kindWord k ≡ 4 → ⊥) → (kindWord k ≡ 5 → ⊥) → T (showsGeneral k))
+    (λ l n d s. tt) (λ l n d s. tt) (λ l n d s. d refl) (λ l n d s. n refl) (λ l n d s. l refl) (λ l n d s. s refl)
 
 sort-word : (k : Kind) → (kindWord k ≡ 4 → ⊥) → (kindWord k ≡ 0 → ⊥) → takesInstant k ≡ false
 unfolding kindWord takesInstant
 sort-word =
     by-kind (λ k. (kindWord k ≡ 4 → ⊥) → (kindWord k ≡ 0 → ⊥) → takesInstant k ≡ false)
-    (λ d l. refl) (λ d l. refl) (λ d l. absurd (d refl)) (λ d l. refl) (λ d l. absurd (l refl))
+    (λ d l. refl) (λ d l. refl) (λ d l. absurd (d refl)) (λ d l. refl) (λ d l. absurd (l refl)) (λ d l. refl)
 
 module _ (ws : List ℕ) (i : ℕ) {h : Head} (e : h ≡ headIn ws i) where
   kind-word : h .kind ≡ kindWord (kindOf (sectionIn ws i))
@@ -47,9 +48,9 @@ module _ (ws : List ℕ) (i : ℕ) {h : Head} (e : h ≡ headIn ws i) where
   pub kind-with : (n : ℕ) → h .kind ≡ n → kindOf (sectionIn ws i) ≡ kindWith n
   kind-with n f = sym (kind-back (kindOf (sectionIn ws i))) ∙ ap kindWith (sym kind-word ∙ f)
 
-  pub told-general : (h .kind ≡ 0 → ⊥) → (h .kind ≡ 2 → ⊥) → (h .kind ≡ 4 → ⊥) → T (showsGeneral (kindOf (sectionIn ws i)))
-  told-general l n d =
-      general-word (kindOf (sectionIn ws i)) (λ f. l (kind-word ∙ f)) (λ f. n (kind-word ∙ f)) (λ f. d (kind-word ∙ f))
+  pub told-general : (h .kind ≡ 0 → ⊥) → (h .kind ≡ 2 → ⊥) → (h .kind ≡ 4 → ⊥) → (h .kind ≡ 5 → ⊥) → T (showsGeneral (kindOf (sectionIn ws i)))
+  told-general l n d s =
+      general-word (kindOf (sectionIn ws i)) (λ f. l (kind-word ∙ f)) (λ f. n (kind-word ∙ f)) (λ f. d (kind-word ∙ f)) (λ f. s (kind-word ∙ f))
 
   pub told-sort : (h .kind ≡ 4 → ⊥) → (h .kind ≡ 0 → ⊥) → takesInstant (kindOf (sectionIn ws i)) ≡ false
   told-sort d l = sort-word (kindOf (sectionIn ws i)) (λ f. d (kind-word ∙ f)) (λ f. l (kind-word ∙ f))

@@ -5,6 +5,7 @@ pub mod Subjects
 pub mod Numbers
 pub mod Generals
 pub mod Sections
+pub mod Mantissas
 pub mod Instants
 pub mod Texts
 pub mod Values

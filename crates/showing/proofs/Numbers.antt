@@ -10,12 +10,11 @@ use Rattle.values.specs.declared.Number.{Number}
 use Rattle.figures.specs.declared.Signed.{Signed}
 use Rattle.figures.specs.Sign.{signedOf}
 use Rattle.figures.specs.General.{generalTooWide}
-use Rattle.formats.specs.Items.{Section, literalKind, kindOf}
+use Rattle.formats.specs.Items.{Section, scientificKind, literalKind, sameKind, kindOf}
 use Rattle.formats.specs.Where.{hasCondition}
 use Rattle.formats.specs.Choice.{numberExact, Reason, counted, chosen, choose}
 use Rattle.formats.specs.Minus.{isOwn, firstHasCondition, exceptionA, signUnits}
-use Rattle.formats.specs.Text.{sectionUnits}
-use Rattle.formats.specs.Reading.{lookOf, within, numberContext, takesNumber, showsGeneral, showsNought, numberSign, numberUnits, readNumber}
+use Rattle.formats.specs.Reading.{lookOf, within, numberContext, takesNumber, showsGeneral, showsNought, sectionText, exponentContext, numberSign, numberUnits, readNumber}
 use Rattle.tables.specs.Words.{Head}
 use Rattle.tables.specs.Encode.{headOf}
 use Rattle.tables.specs.Decode.{decode}
@@ -23,7 +22,8 @@ use Rattle.table_words.specs.Sections.{sectionIn, headIn}
 use Rattle.choosing.proofs.Finding.{chosen-exception}
 use Rattle.figure_text.specs.declared.Figures.{Figures}
 use Rattle.section_text.specs.Subject.{SubjectIs}
-use Rattle.section_text.specs.Show.{signText, sectionReading}
+use Rattle.section_text.specs.Show.{signText, sectionReading, scientificReading}
+use Rattle.section_text.proofs.Cuts.{other-kind}
 use Rattle.showing.specs.Minus.{minusTold, minusIn}
 use Rattle.showing.specs.Plan.{SectionIs}
 use Rattle.showing.proofs.Minus.{sign-told}
@@ -58,12 +58,19 @@ module _ (ws : List ℕ) (i : ℕ) (v : Signed) (x : Number) (why : Reason) (ev 
 
   number-reads : (size : ℕ)
       → readNumber (decode ws) x size (choose (decode ws) (numberExact x))
-      ≡ sectionReading size (sectionIn ws i) i (minusIn ws i (v .negative) held) (numberContext (sectionIn ws i) x)
-  unfolding readNumber numberUnits sectionReading
+      ≡ within size (lookOf (signText (minusIn ws i (v .negative) held) ++ sectionText (sectionIn ws i) x) (sectionIn ws i .colour) i)
+  unfolding readNumber numberUnits
   number-reads size =
       let s : Section = sectionIn ws i in
       ap (readNumber (decode ws) x size) eo ∙ rw (t .number, t .narrow)
-      (ap (λ (us : List ℕ). within size (lookOf (us ++ sectionUnits (numberContext s x) (s .items)) (s .colour) i)) number-sign)
+      (ap (λ (us : List ℕ). within size (lookOf (us ++ sectionText s x) (s .colour) i)) number-sign)
+
+  -- in a section with no E
+  plain-reads : sameKind (kindOf (sectionIn ws i)) scientificKind ≡ false → (size : ℕ)
+      → readNumber (decode ws) x size (choose (decode ws) (numberExact x))
+      ≡ sectionReading size (sectionIn ws i) i (minusIn ws i (v .negative) held) (numberContext (sectionIn ws i) x)
+  unfolding sectionReading sectionText
+  plain-reads e size = number-reads size ∙ rw e
 
   pub number-section : {digits text : List ℕ} {f : Figures} → i < getD ws 0 0 → f .used ≤ 40
       → SubjectIs (kindOf (sectionIn ws i)) digits (record { figures = f; lent = false }) text (numberContext (sectionIn ws i) x)
@@ -76,5 +83,12 @@ module _ (ws : List ℕ) (i : ℕ) (v : Signed) (x : Number) (why : Reason) (ev 
     short = λ e. absurd (true≢false (sym e));
     known = record { context = numberContext (sectionIn ws i) x; is = is };
     places = refl;
-    reads = number-reads;
+    reads = plain-reads (other-kind (kindOf (sectionIn ws i)) (is .unscientific));
   }
+
+  -- in a scientific section
+  pub scientific-reads : kindOf (sectionIn ws i) ≡ scientificKind → (size : ℕ)
+      → readNumber (decode ws) x size (choose (decode ws) (numberExact x))
+      ≡ scientificReading size (sectionIn ws i) i (minusIn ws i (v .negative) held) (numberContext (sectionIn ws i) x) (exponentContext (sectionIn ws i) x)
+  unfolding scientificReading sectionText
+  scientific-reads k size = number-reads size ∙ rw k

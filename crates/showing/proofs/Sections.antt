@@ -17,7 +17,7 @@ use Rattle.figures.specs.Rounding.{scaled, rounded}
 use Rattle.figures.specs.Rounder.{Roundable}
 use Rattle.figures.specs.Sign.{signedOf}
 use Rattle.figures.proofs.Rounding.{powered-net, scaled-powered, scaled-small, roundable}
-use Rattle.formats.specs.Items.{Section, numberKind, kindOf, isPercent, integerPlaces, decimalPlaces}
+use Rattle.formats.specs.Items.{Section, Kind, numberKind, scientificKind, showsPlaces, kindOf, isPercent, integerPlaces, decimalPlaces}
 use Rattle.formats.specs.Reading.{takesNumber, showsGeneral, sectionRounded, numberContext, showsNought}
 use Rattle.tables.specs.Words.{Head}
 use Rattle.tables.specs.Encode.{shiftWord, decimalsWord, headOf}
@@ -57,16 +57,24 @@ pub number-roundable : {shift decimals m up : ℕ} {s : Section} → NumberWords
     → Roundable m up decimals
 number-roundable w hm eu = roundable hm (omega (arith, w .shiftMost)) (w .decimalsMost)
 
+-- the rounded number of a number section
+rounded-plain : (z : Section) (x : Number) → kindOf z ≡ numberKind → sectionRounded z x
+    ≡ rounded (scaled (natAbs (x .coefficient)) (x .scale) (count isPercent (z .items)) (z .thousands)) (decimalPlaces (z .items))
+unfolding sectionRounded
+rounded-plain z x k = rw k
+
 -- the section's number by the net power of ten that its shift tells
-module _ {shift decimals : ℕ} {s : Section} (w : NumberWords shift decimals s) (v : Signed) (x : Number) (ev : v ≡ signedOf x) where
+module _ {shift decimals : ℕ} {s : Section} (w : NumberWords shift decimals s) (k : kindOf s ≡ numberKind) (v : Signed) (x : Number)
+    (ev : v ≡ signedOf x) where
   number-net : rounded (powered (v .magnitude) (shift - 15) (v .scale + (15 - shift))) decimals ≡ sectionRounded s x
-  unfolding sectionRounded signedOf
+  unfolding signedOf
   number-net =
       let p : ℕ = count isPercent (s .items) in
       let t : ℕ = s .thousands in
       powered-net (v .magnitude) (shift - 15) (v .scale + (15 - shift)) (2 * p) (v .scale + 3 * t) decimals (omega (arith, w .net))
       ∙ ap (λ x. rounded x decimals) (sym (scaled-powered (v .magnitude) (v .scale) p t))
       ∙ ap₂ (λ (u : Signed). rounded (scaled (u .magnitude) (u .scale) p t)) ev (w .places)
+      ∙ sym (rounded-plain s x k)
 
   pub number-digits : {r : List ℕ} {up down : ℕ} → up ≡ shift - 15 → down ≡ 15 - shift
       → r ≡ figures (rounded (powered (v .magnitude) up (v .scale + down)) decimals) → r ≡ figures (sectionRounded s x)
@@ -76,21 +84,36 @@ or-none : (b : Bool) → b ≡ b || false
 or-none true = refl
 or-none false = refl
 
+-- a kind whose places show a rounded number
+abbrev ShowsRounded : Kind → Type 0
+ShowsRounded k = (showsPlaces k ≡ true) × (showsGeneral k ≡ false) × (takesNumber k ≡ true)
+
+number-shows : (k : Kind) → k ≡ numberKind → ShowsRounded k
+unfolding showsGeneral takesNumber
+number-shows k e = rw e (refl, refl, refl)
+
+scientific-shows : (k : Kind) → k ≡ scientificKind → ShowsRounded k
+unfolding showsGeneral takesNumber
+scientific-shows k e = rw e (refl, refl, refl)
+
 -- the figures that the section shows of a number
 module _ (z : Section) (x : Number) where
-  pub number-figures : {digits : List ℕ} {integers : ℕ} {grouped : Bool} → Within z → signedOf x .magnitude < 10 ^ 15
+  pub number-figures : {digits : List ℕ} {integers : ℕ} {grouped : Bool} → kindOf z ≡ numberKind → Within z → signedOf x .magnitude < 10 ^ 15
       → digits ≡ figures (sectionRounded z x) → integers ≡ integerPlaces (z .items) → grouped ≡ z .grouped
       → FiguresAre digits (figuresWith digits integers grouped) (numberContext z x)
-  unfolding signedOf sectionRounded numberContext
-  number-figures {digits} w h ed ei eg =
+  unfolding signedOf numberContext
+  number-figures {digits} k w h ed ei eg =
       figures-are digits (numberContext z x) (rw (ei, eg)) ed
-      (scaled-small (natAbs (x .coefficient)) (x .scale) (count isPercent (z .items)) (z .thousands) (decimalPlaces (z .items)) h (w .percents-most) (w .decimals-most))
+      (rw (rounded-plain z x k) (scaled-small (natAbs (x .coefficient)) (x .scale) (count isPercent (z .items)) (z .thousands) (decimalPlaces (z .items)) h (w .percents-most) (w .decimals-most)))
       (omega (arith, w .integers-most))
 
+  rounded-takes : {held : Bool} → ShowsRounded (kindOf z) → held ≡ eqb (sectionRounded z x) 0 → Takes z x held
+  unfolding showsNought
+  rounded-takes k e = record { nought = e ∙ rw (k .0, k .1) (or-none (eqb (sectionRounded z x) 0)); number = k .2; narrow = rw (k .1) }
+
   pub number-takes : {digits : List ℕ} {f : Figures} → kindOf z ≡ numberKind → FiguresAre digits f (numberContext z x) → Takes z x (eqb (f .used) 0)
-  unfolding showsNought showsGeneral takesNumber numberContext
-  number-takes e are = record {
-    nought = figures-nought (numberContext z x) are ∙ rw e (or-none (eqb (sectionRounded z x) 0));
-    number = rw e;
-    narrow = rw e;
-  }
+  unfolding numberContext
+  number-takes k are = rounded-takes (number-shows (kindOf z) k) (figures-nought (numberContext z x) are)
+
+  pub scientific-takes : kindOf z ≡ scientificKind → Takes z x (eqb (sectionRounded z x) 0)
+  scientific-takes k = rounded-takes (scientific-shows (kindOf z) k) refl

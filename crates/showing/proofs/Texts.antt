@@ -9,7 +9,7 @@ use lib.ListN.{length}
 use borrow.Author.Tests.{le-leb}
 use Rattle.values.specs.declared.Value.the-variants as value
 use Rattle.lists.proofs.Bools.{and-left, and-right, implied, true-T, by-cases, cond-case}
-use Rattle.formats.specs.Items.{Kind, textKind, generalKind, dateKind, numberKind, literalKind, sameKind, kindOf, Section}
+use Rattle.formats.specs.Items.{Kind, textKind, generalKind, dateKind, numberKind, scientificKind, literalKind, sameKind, kindOf, Section}
 use Rattle.formats.specs.Where.{implies, isText, standsAt}
 use Rattle.formats.specs.Choice.{TextChoice, itself, textIn, fourthFrom, textFrom, chooseText}
 use Rattle.formats.specs.Reading.{textContext, lookOf, within, readText, readValue}
@@ -23,7 +23,7 @@ use Rattle.choosing.proofs.Finding.{text-itself, text-at}
 use Rattle.figure_text.specs.declared.Figures.{Figures}
 use Rattle.section_text.specs.Show.{signText, sectionReading}
 use Rattle.showing.specs.Plan.{SectionIs, valueReading}
-use Rattle.showing.proofs.Subjects.{section-places, standing-subject}
+use Rattle.showing.proofs.Subjects.{Unfigured, section-places, standing-subject}
 
 -- a text goes to the fourth section or to a text section
 abbrev Goes : TextChoice → Type 0
@@ -49,12 +49,13 @@ goes ss i s e = subst Goes e (fourth-goes 0 ss (textFrom 0 ss) (text-goes 0 ss))
 abbrev Plain : Kind → Bool
 Plain k = sameKind k textKind || sameKind k generalKind || sameKind k literalKind
 
-plain-kind : (k : Kind) → T (Plain k) → (sameKind numberKind k ≡ false) × (sameKind dateKind k ≡ false)
-plain-kind textKind t = (refl, refl)
-plain-kind generalKind t = (refl, refl)
-plain-kind literalKind t = (refl, refl)
+plain-kind : (k : Kind) → T (Plain k) → Unfigured k
+plain-kind textKind t = (refl, refl, refl)
+plain-kind generalKind t = (refl, refl, refl)
+plain-kind literalKind t = (refl, refl, refl)
 plain-kind numberKind t = absurd t
 plain-kind dateKind t = absurd t
+plain-kind scientificKind t = absurd t
 
 text-plain : (k : Kind) → sameKind k textKind ≡ true → T (Plain k)
 text-plain k e = rw e tt
@@ -86,7 +87,7 @@ module _ (ws : List ℕ) (i : ℕ) (t : T (passes ws)) (e : found.At i ≡ textF
         inside = text-at ws i e .1;
         used = u;
         short = λ l. h;
-        known = record { context = textContext text; is = standing-subject (textContext text) (k .0) (k .1) refl };
+        known = record { context = textContext text; is = standing-subject (textContext text) k refl };
         places = section-places ws i t (text-at ws i e .1) (k .0);
         reads = text-reads text h;
       }

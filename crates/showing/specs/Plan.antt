@@ -1,6 +1,6 @@
 -- What a plan says of a reading in a room of any size.
 -- Assumes nothing.
-use Prim.Native.Nat.{ℕ, _≤_, _<_}
+use Prim.Native.Nat.{ℕ, _^_, _≤_, _<_}
 use mathlib.Core.Path.{_≡_}
 use mathlib.Core.Bool.{Bool, true, false, cond}
 use mathlib.Core.List.{List}
@@ -12,15 +12,15 @@ use Rattle.values.specs.declared.Value.{Value}
 use Rattle.values.specs.Ranges.{valueInRange}
 use Rattle.figures.specs.declared.Signed.{Signed}
 use Rattle.figures.specs.Sign.{signedOf}
-use Rattle.formats.specs.Items.{dateKind, kindOf, integerPlaces}
+use Rattle.formats.specs.Items.{dateKind, scientificKind, kindOf, integerPlaces}
 use Rattle.formats.specs.Choice.{numberExact, Reason, chosen, choose}
-use Rattle.formats.specs.Reading.{Reading, refused, lookOf, within, instantContext, readNumber, readValue}
+use Rattle.formats.specs.Reading.{Reading, refused, lookOf, within, instantContext, sectionRounded, numberContext, exponentContext, readNumber, readValue}
 use Rattle.tables.specs.Decode.{decode}
 use Rattle.table_words.specs.Sections.{sectionIn}
 use Rattle.figure_text.specs.declared.Figures.{Figures}
 use Rattle.section_text.specs.declared.Subject.{Subject}
 use Rattle.section_text.specs.Walk.{Known}
-use Rattle.section_text.specs.Show.{sectionReading}
+use Rattle.section_text.specs.Show.{sectionReading, scientificReading}
 use Rattle.showing.specs.declared.Plan.{Plan}
 use Rattle.showing.specs.declared.Plan.the-variants as plan
 use Rattle.showing.specs.declared.Planned.{Planned}
@@ -35,12 +35,32 @@ pub record SectionIs (i : ℕ) (minus : Bool) (s : Subject) (digits ws text : Li
   pub places : known .context .integerPlaces ≡ integerPlaces (sectionIn ws i .items)
   pub reads : (size : ℕ) → read size ≡ sectionReading size (sectionIn ws i) i minus (known .context)
 
+-- there is a number that this magnitude and sign are of
+pub record NumberOf (v : Signed) : Type 0 where
+  pub number : Number
+  pub is : v ≡ signedOf number
+
+-- section i, a scientific one, read for a number: with a minus where its mantissa is not nought and no exception holds it back
+abbrev pub scientificOf : List ℕ → ℕ → Bool → Number → ℕ → Reading
+scientificOf ws i negative x size =
+    let s = sectionIn ws i in
+    scientificReading size s i (minusIn ws i negative (eqb (sectionRounded s x) 0)) (numberContext s x) (exponentContext s x)
+
+pub record ScientificIs (i : ℕ) (v : Signed) (ws : List ℕ) (read : ℕ → Reading) : Type 0 where
+  pub inside : i < getD ws 0 0
+  pub kind : kindOf (sectionIn ws i) ≡ scientificKind
+  pub small : v .magnitude < 10 ^ 15
+  pub scale : v .scale ≤ 15
+  pub of : NumberOf v
+  pub reads : (size : ℕ) → read size ≡ scientificOf ws i (v .negative) (of .number) size
+
 -- a plan, with these digits beside it, is what is read through the table `ws`, beside this text
 abbrev pub PlanIs : Plan → List ℕ → List ℕ → List ℕ → (ℕ → Reading) → Type 0
 PlanIs (plan.Refused a) digits ws text read = (size : ℕ) → read size ≡ refused a
 PlanIs plan.Itself digits ws text read = (length text ≤ 1024) × ((size : ℕ) → read size ≡ within size (lookOf text 0 4))
 PlanIs (plan.Dated i d m) digits ws text read = (i < getD ws 0 0) × (kindOf (sectionIn ws i) ≡ dateKind)
     × ((size : ℕ) → read size ≡ sectionReading size (sectionIn ws i) i false (instantContext (sectionIn ws i) d m))
+PlanIs (plan.Scientific i v) digits ws text read = ScientificIs i v ws read
 PlanIs (plan.Section i minus s) digits ws text read = SectionIs i minus s digits ws text read
 
 -- the reading of a value through a table; 9 where it is out of range

@@ -5,7 +5,7 @@ ghost use mathlib.Core.List.{List};
 ghost use Prim.Native.Nat.{_-_, _≤_, _<_, _^_, ℕ};
 ghost use lib.Dec.{T, eqb};
 ghost use lib.ListN.{length, getD};
-ghost use Rattle.formats.specs.Items.{numberKind, dateKind, kindOf, integerPlaces};
+ghost use Rattle.formats.specs.Items.{numberKind, dateKind, scientificKind, kindOf, integerPlaces};
 ghost use Rattle.formats.specs.Choice.{instantExact, Reason, chosen, choose};
 ghost use Rattle.formats.specs.Reading.{lookOf, within, instantContext, readInstant, showsGeneral, sectionRounded, readValue, reading};
 ghost use Rattle.figures.specs.Digits.{figures};
@@ -22,7 +22,7 @@ ghost use Rattle.figure_text.specs.Shown.{figuresWith};
 ghost use Rattle.section_text.specs.Show.{sectionReading, Shows};
 ghost use Rattle.showing.specs.Minus.{minusTold, minusIn};
 ghost use Rattle.showing.specs.Number.{signedSought, firstArgument};
-ghost use Rattle.showing.specs.Plan.{PlanIs, PlansNumber, valueReading, barePlan, digitsPlan};
+ghost use Rattle.showing.specs.Plan.{NumberOf, scientificOf, PlanIs, PlansNumber, valueReading, barePlan, digitsPlan};
 use answers::Answer;
 use answers::Shown;
 use answers::done_shown;
@@ -36,6 +36,7 @@ use figures::Signed;
 use figures::Taken;
 use section_text::Subject;
 use section_text::show_dated_section;
+use section_text::show_scientific_section;
 use section_text::show_section;
 use table_words::head_of;
 use table_words::is_grouped;
@@ -49,13 +50,15 @@ use values::Day;
 use values::Millisecond;
 use values::Number;
 use values::Value;
+use values::integers::excess;
 
-// What is to be shown of a value: a refusal, a text by itself, an instant in a date-time section, or another section, with an added
-// minus or without.
+// What is to be shown of a value: a refusal, a text by itself, an instant in a date-time section, a number in a scientific section, or
+// another section, with an added minus or without.
 enum Plan {
     Refused(Answer),
     Itself,
     Dated(u16, Day, Millisecond),
+    Scientific(u16, Signed),
     Section(u16, bool, Subject),
 }
 
@@ -243,13 +246,6 @@ fn integer_places(table: &[u16], i: usize) -> u32
     first_argument(items_of(table, i)) as u32 - 15
 }
 
-// By how much a is above b; 0 where it is not.
-fn excess(a: u32, b: u32) -> u32
-    ensures { λ r. ⌜ r ≡ a - b ⌝ }
-{
-    if b < a { a - b } else { 0 }
-}
-
 // The digits of a number in section i, which is a number section: a shift above 15 multiplies, one below 15 divides.
 fn number_digits(table: &[u16], i: usize, v: Signed) -> [u8; 40]
     requires { ⌜ T (passes (now table)) × (i < getD (now table) 0 0) × (v .magnitude < 10 ^ 15) × (v .scale ≤ 15)
@@ -293,6 +289,7 @@ fn number_in(table: &[u16], i: u16, v: Signed) -> Planned
         kinds::LITERAL => without_digits(bare(i, added_minus(table, i, v.negative, false), false)),
         kinds::NUMBER => figures_plan(table, i, v),
         kinds::DATE_TIME => without_digits(Plan::Refused(Answer::Sort)),
+        kinds::SCIENTIFIC => without_digits(Plan::Scientific(i, v)),
         _ => general_plan(table, i, v),
     }
 }
@@ -368,6 +365,36 @@ fn show_dated(room: &mut [u16], table: &[u16], i: u16, d: Day, m: Millisecond) -
     show_dated_section(room, table, i, &moment)
 }
 
+// Shows a number in section i, which is a scientific section. (The plan has the number alone: the mantissa's digits and the exponent
+// would be carried through it by every value.)
+fn show_scientific(room: &mut [u16], table: &[u16], i: u16, v: Signed) -> Shown
+    requires { ⌜ T (passes (now table)) × (i < getD (now table) 0 0) × (kindOf (sectionIn (now table) i) ≡ scientificKind)
+        × (v .magnitude < 10 ^ 15) × (v .scale ≤ 15) × NumberOf v ⌝ }
+    ensures { λ r. ⌜ ((x : Number) → v ≡ signedOf x
+        → Shows (scientificOf (now (table .entry)) i (v .negative) x (length (now (room .entry)))) (now (room .entry)) r (now (room .exit))) ⌝ }
+{
+    let h = head_of(table, i as usize);
+    let integers = integer_places(table, i as usize);
+    let x = exponents::round_scientific(v.magnitude, v.scale, integers, h.decimals as u32);
+    let digits = x.digits;
+    let figures = figures_of(digits, integers, false);
+    let minus = added_minus(table, i, v.negative, figures.used == 0);
+    let mantissa = Subject {
+        figures,
+        lent: false,
+    };
+    show_scientific_section(
+        room,
+        table,
+        i,
+        minus,
+        &digits,
+        mantissa,
+        x.exponent,
+        x.below,
+    )
+}
+
 // Shows a value through a table that passes.
 fn show_value(room: &mut [u16], table: &[u16], ask: Ask, text: &[u16]) -> Shown
     requires { ⌜ T (passes (now table)) ⌝ }
@@ -381,6 +408,7 @@ fn show_value(room: &mut [u16], table: &[u16], ask: Ask, text: &[u16]) -> Shown
         Plan::Refused(answer) => refused_shown(answer),
         Plan::Itself => show_plain(room, text),
         Plan::Dated(i, d, m) => show_dated(room, table, i, d, m),
+        Plan::Scientific(i, v) => show_scientific(room, table, i, v),
         Plan::Section(i, minus, s) => show_section(room, table, i, minus, &digits, s, text),
     }
 }

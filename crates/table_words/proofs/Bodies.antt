@@ -3,13 +3,16 @@
 use Prim.Native.Nat.{ℕ, zero, suc, _+_, _-_, _*_, _≤_, _<_}
 use native.Mathlib.Omega.{arith}
 use mathlib.Core.Path.{_≡_, refl, sym, ap, _∙_}
+use mathlib.Core.Bool.{true}
 use mathlib.Core.List.{List, [], _∷_}
 use lib.Dec.{T}
 use lib.ListN.{length, getD, drop, take, length-take, length-drop}
 use lib.Seq.{drop-drop}
-use Rattle.lists.specs.Lists.{every}
-use Rattle.lists.proofs.Bools.{and-left}
-use Rattle.formats.specs.Items.{Section, itemAllowed, kindOf, itemsFit}
+use Rattle.lists.specs.Lists.{every, any}
+use Rattle.lists.proofs.Bools.{and-left, and-right}
+use Rattle.formats.specs.Items.{Section, itemAllowed, isExponent, kindOf, exponentFits, itemsFit}
+use Rattle.formats.specs.WellFormed.{groupingFits}
+use Rattle.formats.proofs.Cutting.{ExponentRules, exponent-rules}
 use Rattle.tables.specs.Words.{Head, Row, headAt, entriesAt, entriesIn, rowsAt, headsIn, rowsIn, itemsSaid}
 use Rattle.tables.specs.Decode.{sectionAt}
 use Rattle.tables.specs.Rules.{powersRunDown, passes}
@@ -75,6 +78,10 @@ items-allowed : (s : Section) → T (itemsFit (s .items)) → T (every (itemAllo
 unfolding itemsFit kindOf
 items-allowed s f = search (and-left)
 
+items-exponent : (s : Section) → T (itemsFit (s .items)) → T (exponentFits (s .items))
+unfolding itemsFit
+items-exponent s f = search (and-right)
+
 module _ (ws : List ℕ) (i : ℕ) (t : T (passes ws)) (l : i < getD ws 0 0) where
   facts : RowFacts (rowIn ws i)
   facts = row-facts (rowIn ws i) (row-fits ws i t l)
@@ -84,6 +91,14 @@ module _ (ws : List ℕ) (i : ℕ) (t : T (passes ws)) (l : i < getD ws 0 0) whe
 
   pub section-limits : Within (sectionIn ws i)
   section-limits = rw (section-row ws i l) (within-limits (sectionAt (rowIn ws i)) (facts .within))
+
+  -- the rules for its E where it has one, and for grouping
+  pub section-exponent : any isExponent (sectionIn ws i .items) ≡ true → ExponentRules (sectionIn ws i .items)
+  section-exponent some =
+      exponent-rules (sectionIn ws i .items) some (rw (section-row ws i l) (items-exponent (sectionAt (rowIn ws i)) (facts .items)))
+
+  pub section-grouping : T (groupingFits (sectionIn ws i))
+  section-grouping = rw (section-row ws i l) (facts .grouping)
 
 -- ---- the words from `start` on, as many as the head of section i says, as the code takes them
 module _ (ws : List ℕ) (i : ℕ) {start : ℕ} {h : Head} (t : T (passes ws)) (l : i < getD ws 0 0) (es : start ≡ itemsStart ws i)

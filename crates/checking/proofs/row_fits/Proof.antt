@@ -6,7 +6,7 @@ use borrow.Author.Tests.{not-true, not-false}
 use Rattle.tables.proofs.Ranges.{head-ranges}
 use Rattle.table_words.specs.Sections.{headFrom}
 use Rattle.lists.proofs.Bools.{carry}
-use Rattle.checking.proofs.Rows.{Front, refused, no-number, number-answer, no-dates, dated-answer, no-bare, bare-answer, rowed, front-of, number-again, other-again}
+use Rattle.checking.proofs.Rows.{Front, refused, no-number, number-answer, no-dates, dated-answer, no-scientific, scientific-answer, no-bare, bare-answer, rowed, front-of, number-again, scientific-again, other-again}
 use borrow.Author.Needs.{needs}
 use Rattle.checking.proofs.row_fits.Statement.{statement}
 use Rattle.checking.proofs.row_fits.Tie as tie
@@ -67,24 +67,60 @@ returns-6 c =
 
 returns-7 : tie.Need-returns-7
 returns-7 c =
-    let b = c .before in
-    let w = b .before in
-    let i = w .before .before .before in
-    let h = i .before .before .before .before .before .before .head-at in
+    let q = c .before in
+    let w = q .before in
+    let k = w .before .before .before .before .before .before in
+    let h = k .before .before .before .before .before .head-at in
     rowed _ _ _ _ (h .ensures)
-    (no-bare (headFrom (h .result)) _ _ (b .is-bare .ensures _ (w .walk-words .ensures) (i .if3 .left) (w .before .if5 .left)) (c .if7 .taken))
+    (no-scientific (headFrom (h .result)) _ (w .before .if7 .taken) _ (q .is-scientific .ensures _ (w .walk-words .ensures)) (c .if8 .taken))
+
+head-at-requires-4 : tie.Need-head-at-requires-4
+head-at-requires-4 c κs =
+    let k = c .before .before .before .before .before .before .before .before in
+    let start = k .before .before .before .before .before .before .before .before .pre in
+    (start .0, start .1)
 
 returns-8 : tie.Need-returns-8
 returns-8 c =
+    let q = c .before .before .before .before in
+    let w = q .before in
+    let k = w .before .before .before .before .before .before in
+    let h = k .before .before .before .before .before .head-at in
+    rowed _ _ _ _ (h .ensures)
+    (scientific-answer (headFrom (h .result)) _ (w .before .if7 .taken) (front k) _ (q .is-scientific .ensures _ (w .walk-words .ensures)) (c .before .before .before .if8 .left) _
+    (c .before .tally-of .ensures _ (w .walk-words .ensures)) _
+    (scientific-again _ _ _ (h .ensures) (c .before .before .head-at4 .ensures) _ _ (c .scientific-fits .ensures)))
+
+returns-9 : tie.Need-returns-9
+returns-9 c =
+    let b = c .before in
+    let w = b .before in
+    let n = w .before .if7 .left in
+    let d = w .before .before .before in
+    let i = d .before .before in
+    let h = i .before .before .before .before .before .before .head-at in
+    rowed _ _ _ _ (h .ensures)
+    (no-bare (headFrom (h .result)) _ _ (b .is-bare .ensures _ (w .walk-words2 .ensures) (i .if3 .left) (d .if5 .left) n) (c .if9 .taken))
+
+head-at-requires-5 : tie.Need-head-at-requires-5
+head-at-requires-5 c κs =
+    let k = c .before .before .before .before .before .before .before .before in
+    let start = k .before .before .before .before .before .before .before .before .pre in
+    (start .0, start .1)
+
+returns-10 : tie.Need-returns-10
+returns-10 c =
     let b = c .before .before .before in
     let w = b .before in
-    let i = w .before .before .before in
+    let n = w .before .if7 .left in
+    let d = w .before .before .before in
+    let i = d .before .before in
     let k = i .before in
     let h = k .before .before .before .before .before .head-at in
     rowed _ _ _ _ (h .ensures)
-    (bare-answer (headFrom (h .result)) _ (i .if3 .left) (w .before .if5 .left) (front k) _
-    (b .is-bare .ensures _ (w .walk-words .ensures) (i .if3 .left) (w .before .if5 .left)) (c .before .before .if7 .left) _
-    (other-again _ _ _ (h .ensures) (c .before .head-at4 .ensures) _ _ (c .other-fits2 .ensures)))
+    (bare-answer (headFrom (h .result)) _ (i .if3 .left) (d .if5 .left) n (front k) _
+    (b .is-bare .ensures _ (w .walk-words2 .ensures) (i .if3 .left) (d .if5 .left) n) (c .before .before .if9 .left) _
+    (other-again _ _ _ (h .ensures) (c .before .head-at5 .ensures) _ _ (c .other-fits2 .ensures)))
 
 pub row-fits-spec : {M : Type 1} → statement M
 row-fits-spec =
@@ -107,6 +143,13 @@ row-fits-spec =
     (λ c κs. search needs)
     (λ c κs. search needs)
     returns-7
+    head-at-requires-4
     (λ c κs. search needs)
     (λ c κs. search needs)
-    returns-8)
+    returns-8
+    (λ c κs. search needs)
+    (λ c κs. search needs)
+    returns-9
+    head-at-requires-5
+    (λ c κs. search needs)
+    returns-10)

@@ -5,7 +5,7 @@ use Rattle.formats.specs.Text.{itemUnits}
 use Rattle.tables.specs.Decode.{itemAt}
 use Rattle.tables.proofs.BackEntries.{tag-known}
 use Rattle.writing.proofs.Laws.{put-none}
-use Rattle.section_text.proofs.Items.{dated-fill}
+use Rattle.section_text.proofs.Items.{dated-bare, dated-fill}
 use borrow.Author.Needs.{needs}
 use Rattle.section_text.proofs.put_dated_item.Statement.{statement}
 use Rattle.section_text.proofs.put_dated_item.Tie as tie
@@ -25,7 +25,7 @@ put-dated-item-spec =
     (tie.spec
     (λ c κs. search needs)
     (λ c. search needs)
-    (λ c x k q i f. c .before .before .put-moment-item .ensures x q (i .1 .clock) (i .1 .date))
+    (λ c x k q i f. c .before .before .put-moment-item .ensures x q (dated-bare k q _ (i .0) f) (i .1 .clock) (i .1 .date))
     (λ c κs. search needs)
     (λ c κs. search needs)
     (λ c. search needs)

@@ -8,7 +8,7 @@ use Rattle.formats.specs.Text.{itemUnits}
 use Rattle.tables.specs.Decode.{itemAt}
 use Rattle.tables.proofs.BackEntries.{between-facts}
 use Rattle.writing.proofs.Laws.{put-none}
-use Rattle.section_text.proofs.Items.{place-argument, place-put, late-dated}
+use Rattle.section_text.proofs.Items.{place-argument, place-put, late-other}
 use borrow.Author.Needs.{needs}
 use Rattle.section_text.proofs.put_item.Statement.{statement}
 use Rattle.section_text.proofs.put_item.Tie as tie
@@ -27,10 +27,10 @@ place c =
     let p = c .before .before in
     λ x k q i f. place-put _ _ (between-facts 4 6 _ (true-T (p .before .before .if1 .taken))) k q i f (p .put-place .ensures .1)
 
-dated : tie.Need-returns-9
-dated c =
+other : tie.Need-returns-9
+other c =
     let g = c .before in
-    λ x k q i f. absurd (rw (i .undated) at (late-dated k q _ _ (g .before .before .before .pre .3) (g .if1 .left) (c .match .rest) f))
+    λ x k q i f. absurd (late-other k q _ _ (g .before .before .before .pre .3) (g .if1 .left) (c .match .rest) f (i .undated) (i .unscientific))
 
 pub put-item-spec : {M : Type 1} → statement M
 unfolding itemUnits itemAt itemAllowed units
@@ -60,4 +60,4 @@ put-item-spec =
     (λ c x k q i f. let p = c .before .before in let e = p .before .before .match .keys6 in rw e (p .put-standing .ensures (x .standing) (i .general (rw e at (f .allowed)))))
     (λ c. search needs)
     (λ c x k q i f. let p = c .before .before in let e = p .before .before .match .keys7 in rw e (p .put-standing2 .ensures (x .standing) (i .textual (rw e at (f .allowed)))))
-    dated)
+    other)

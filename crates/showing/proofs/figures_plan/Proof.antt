@@ -16,7 +16,7 @@ returns c =
     let n = g .before in
     let p = n .before .before .pre in
     λ text x why ev eo.
-    let are = number-figures _ x (section-limits _ _ (p .0) (p .1)) (rw ev at (p .2)) (n .number-digits .ensures x ev) (g .integer-places .ensures) (w .is-grouped .ensures) in
+    let are = number-figures _ x (p .4) (section-limits _ _ (p .0) (p .1)) (rw ev at (p .2)) (n .number-digits .ensures x ev) (g .integer-places .ensures) (w .is-grouped .ensures) in
     rw (c .with-digits .ensures .0, c .with-digits .ensures .1)
     (number-section _ _ _ x why ev eo (number-takes _ x (p .4) are) (p .1) (figures-used are) (number-subject _ (p .4) are))
 

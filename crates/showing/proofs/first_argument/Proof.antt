@@ -2,13 +2,15 @@
 -- Assumes nothing.
 use Prim.Native.Nat.{_-_}
 use mathlib.Core.Path.{refl}
-use Rattle.showing.proofs.Places.{Seeking, seeking-start, seeking-met, seeking-step, seeking-end}
+use Rattle.tables.proofs.Words.{Seeking, seeking-start}
+use Rattle.showing.specs.Number.{firstArgument}
+use Rattle.showing.proofs.Places.{place-met, place-passed, place-none}
 use borrow.Author.Needs.{needs}
 use Rattle.showing.proofs.first_argument.Statement.{statement}
 use Rattle.showing.proofs.first_argument.Tie as tie
 
 abbrev Inv-loop : tie.InvT-loop
-Inv-loop items n k₀ k = Seeking items n k
+Inv-loop items n k₀ k = Seeking firstArgument items n k
 
 abbrev μ-loop : tie.MeasureT-loop
 μ-loop items n k₀ k = n - k
@@ -16,12 +18,12 @@ abbrev μ-loop : tie.MeasureT-loop
 returns : tie.Need-returns Inv-loop μ-loop
 returns c =
     let t = c .before .before .before in
-    seeking-met (t .before .loop .inv) (t .loop-test .taken) (c .before .if1 .taken)
+    place-met (t .before .loop .inv) (t .loop-test .taken) (c .before .if1 .taken)
 
 loop-again : tie.Need-loop-again Inv-loop μ-loop
 loop-again c =
     let t = c .before .before in
-    seeking-step (t .before .loop .inv) (t .loop-test .taken) (c .if1 .left)
+    place-passed (t .before .loop .inv) (t .loop-test .taken) (c .if1 .left)
 
 pub first-argument-spec : {M : Type 1} → statement M
 first-argument-spec =
@@ -29,7 +31,7 @@ first-argument-spec =
     (tie.spec
     Inv-loop
     μ-loop
-    (λ c. seeking-start _ _ refl)
+    (λ c. seeking-start _ _ _ refl)
     (λ c. search needs)
     (λ c. search needs)
     (λ c. search needs)
@@ -40,4 +42,4 @@ first-argument-spec =
     (λ c. search needs)
     (λ c. search needs)
     loop-again
-    (λ c. seeking-end (c .before .loop .inv) (c .loop-test .left)))
+    (λ c. place-none (c .before .loop .inv) (c .loop-test .left)))

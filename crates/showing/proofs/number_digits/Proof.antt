@@ -19,7 +19,7 @@ returns c =
     let h = x .before .before .before in
     let p = h .before .before .pre in
     λ n ev.
-    number-digits (number-words _ _ (p .0) (p .1) (p .4) (h .head-of .ensures .0)) _ n ev (x .excess .ensures) (y .excess2 .ensures) (c .round .ensures)
+    number-digits (number-words _ _ (p .0) (p .1) (p .4) (h .head-of .ensures .0)) (p .4) _ n ev (x .excess .ensures) (y .excess2 .ensures) (c .round .ensures)
 
 pub number-digits-spec : {M : Type 1} → statement M
 number-digits-spec =

@@ -2,7 +2,8 @@
 -- Assumes nothing.
 use native.Mathlib.Omega.{arith}
 use Rattle.showing.proofs.Subjects.{literal-subject}
-use Rattle.showing.proofs.Numbers.{literal-takes, number-section}
+use Rattle.showing.proofs.Numbers.{literal-takes, number-section, scientific-reads}
+use Rattle.showing.proofs.Sections.{scientific-takes}
 use Rattle.showing.proofs.KindWords.{kind-with, told-general, date-refused}
 use borrow.Author.Needs.{needs}
 use Rattle.showing.proofs.number_in.Statement.{statement}
@@ -19,7 +20,7 @@ general-plan-requires c κs =
     let w = c .before in
     let p = w .before .before .pre in
     let o = c .match .rest in
-    (p .0, p .1, p .2, told-general _ _ (w .head-of .ensures .0) (o .0 .0 .1) (o .0 .1) (o .1))
+    (p .0, p .1, p .2, told-general _ _ (w .head-of .ensures .0) (o .0 .0 .0 .1) (o .0 .0 .1) (o .0 .1) (o .1))
 
 returns : tie.Need-returns
 returns c =
@@ -40,6 +41,23 @@ returns-3 c =
     λ text x why ev eo.
     rw (c .without-digits2 .ensures, eo) (date-refused _ _ _ why x (kind-with _ _ (w .head-of .ensures .0) 4 (m .match .keys3)))
 
+returns-4 : tie.Need-returns-4
+returns-4 c =
+    let m = c .before in
+    let w = m .before in
+    let p = w .before .before .pre in
+    let e = kind-with _ _ (w .head-of .ensures .0) 5 (omega (arith, m .match .keys4)) in
+    λ text x why ev eo.
+    rw (c .without-digits3 .ensures)
+    (record {
+      inside = p .1;
+      kind = e;
+      small = p .2;
+      scale = p .3;
+      of = record { number = x; is = ev };
+      reads = scientific-reads _ _ _ x why ev eo (scientific-takes _ x e) e;
+    })
+
 pub number-in-spec : {M : Type 1} → statement M
 number-in-spec =
     tie.close
@@ -50,8 +68,10 @@ number-in-spec =
     (λ c κs. search needs)
     figures-plan-requires
     (λ c κs. search needs)
+    (λ c κs. search needs)
     general-plan-requires
     returns
     (λ c. c .figures-plan .ensures)
     returns-3
+    returns-4
     (λ c. c .general-plan .ensures))

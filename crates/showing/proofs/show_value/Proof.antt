@@ -19,11 +19,18 @@ show-dated-requires c κs =
     let p = rw (n .plan2 .given .1) at (f .plan-of .ensures) in
     (f .before .before .before .before .pre, p .0, p .1)
 
+show-scientific-requires : tie.Need-show-scientific-requires
+show-scientific-requires c κs =
+    let n = c .before .before in
+    let f = n .before .before .before in
+    let p = rw (n .plan3 .given .1) at (f .plan-of .ensures) in
+    (f .before .before .before .before .pre, p .inside, p .kind, p .small, p .scale, p .of)
+
 show-section-requires : tie.Need-show-section-requires
 show-section-requires c κs =
     let n = c .before .before .before in
     let f = n .before .before .before in
-    let p = rw (n .plan3 .given .1) at (f .plan-of .ensures) in
+    let p = rw (n .plan4 .given .1) at (f .plan-of .ensures) in
     (f .before .before .before .before .pre, p .inside, p .used, p .short, p .known)
 
 returns : tie.Need-returns
@@ -49,8 +56,15 @@ returns-3 c =
 returns-4 : tie.Need-returns-4
 returns-4 c =
     let s = c .before .before in
-    let n = s .before .before .before .before in
+    let n = s .before .before .before in
     let p = rw (n .plan3 .given .1) at (n .before .before .before .plan-of .ensures) in
+    shows-as (p .reads _) (s .show-scientific .ensures (p .of .number) (p .of .is))
+
+returns-5 : tie.Need-returns-5
+returns-5 c =
+    let s = c .before .before in
+    let n = s .before .before .before .before in
+    let p = rw (n .plan4 .given .1) at (n .before .before .before .plan-of .ensures) in
     shows-as (p .reads _) (s .show-section .ensures _ (p .known .is) (p .places))
 
 pub show-value-spec : {M : Type 1} → statement M
@@ -65,6 +79,8 @@ show-value-spec =
     (λ c. search needs)
     show-dated-requires
     (λ c. search needs)
+    show-scientific-requires
+    (λ c. search needs)
     show-section-requires
     returns
     (λ c. search needs)
@@ -72,4 +88,6 @@ show-value-spec =
     (λ c. search needs)
     returns-3
     (λ c. search needs)
-    returns-4)
+    returns-4
+    (λ c. search needs)
+    returns-5)
