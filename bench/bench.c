@@ -28,6 +28,25 @@ static void print_ratio(const job *of, const job *to)
     printf(" |");
 }
 
+/* The walker's cell and the library's beside it; two empty ones where the walker does not know the code. */
+static void print_walker(size_t library, size_t walker, size_t at)
+{
+    if (at >= WALKED) {
+        printf(" | |");
+        return;
+    }
+    print_cell(&jobs[walker + at]);
+    print_ratio(&jobs[library + at], &jobs[walker + at]);
+}
+
+/* What a scientific section costs beside a number section of the same places. */
+static void print_scientific(size_t library, const char *room)
+{
+    printf("| `%s` to `%s`, %s |", specimens[SCIENTIFIC].code, specimens[FIXED].code, room);
+    print_ratio(&jobs[library + SCIENTIFIC], &jobs[library + FIXED]);
+    printf("\n");
+}
+
 static void print_showing(const char *numbers)
 {
     size_t at;
@@ -39,17 +58,18 @@ static void print_showing(const char *numbers)
     for (at = 0; at < SPECIMENS; at++) {
         printf("| `%s` |", specimens[at].code);
         print_cell(&jobs[LIBRARY + at]);
-        print_cell(&jobs[WALKER + at]);
-        print_ratio(&jobs[LIBRARY + at], &jobs[WALKER + at]);
+        print_walker(LIBRARY, WALKER, at);
         print_cell(&jobs[PLAIN + at]);
         print_cell(&jobs[LIBRARY_SHORT + at]);
-        print_cell(&jobs[WALKER_SHORT + at]);
-        print_ratio(&jobs[LIBRARY_SHORT + at], &jobs[WALKER_SHORT + at]);
+        print_walker(LIBRARY_SHORT, WALKER_SHORT, at);
         printf("\n");
     }
     printf("| `snprintf(\"%%.2f\")` | | | |");
     print_cell(&jobs[PRINT]);
-    printf(" | | |\n\n");
+    printf(" | | |\n\n| library | ratio |\n|---|---|\n");
+    print_scientific(LIBRARY, "long room");
+    print_scientific(LIBRARY_SHORT, "short room");
+    printf("\n");
 }
 
 static void print_prepare_row(const char *code, const job *one, const job *shown)

@@ -9,11 +9,12 @@
 
 specimen specimens[SPECIMENS] = {
     {.code = "#,##0", .number = plain_grouped},
-    {.code = "0.00", .number = plain_fixed},
+    [FIXED] = {.code = "0.00", .number = plain_fixed},
     {.code = "#,##0.00;[Red](#,##0.00)", .number = plain_accounting},
     {.code = "d-mmm-yy", .instant = plain_date},
     {.code = "h:mm:ss AM/PM", .instant = plain_clock},
     {.code = "General", .number = plain_general},
+    [SCIENTIFIC] = {.code = "0.00E+00", .number = plain_scientific},
 };
 
 static const char *const by_sections[SECTIONS] = {
@@ -226,10 +227,12 @@ void make_jobs(void)
 
         jobs[LIBRARY + at] = show_job(of, numfmt_show_number, numfmt_show_instant, ROOM);
         jobs[LIBRARY_SHORT + at] = show_job(of, numfmt_show_number, numfmt_show_instant, SHORT_ROOM);
-        jobs[WALKER + at] = show_job(of, walker_show_number, walker_show_instant, ROOM);
-        jobs[WALKER_SHORT + at] = show_job(of, walker_show_number, walker_show_instant, SHORT_ROOM);
         jobs[PLAIN + at] = plain_job(of);
         jobs[PREPARE + at] = prepare_job(&of->made);
+    }
+    for (at = 0; at < WALKED; at++) {
+        jobs[WALKER + at] = show_job(&specimens[at], walker_show_number, walker_show_instant, ROOM);
+        jobs[WALKER_SHORT + at] = show_job(&specimens[at], walker_show_number, walker_show_instant, SHORT_ROOM);
     }
     jobs[PREPARE_LONGEST] = prepare_job(&longest);
     make_growth_jobs(jobs + BY_LITERALS, jobs + BY_LITERALS_SHORT, literals, LITERALS);

@@ -11,7 +11,10 @@
  */
 enum { ROOM = 4096, SHORT_ROOM = 64, AMPLE = 82 * NUMFMT_CODE_MOST + 1 };
 
-enum { SPECIMENS = 6, LITERALS = 7, PLACES = 8, SECTIONS = 4 };
+/* The walker knows the specimens before WALKED. FIXED and SCIENTIFIC are the two that are set side by side. */
+enum { FIXED = 1, SCIENTIFIC = 6, WALKED = SCIENTIFIC, SPECIMENS };
+
+enum { LITERALS = 7, PLACES = 8, SECTIONS = 4 };
 
 /* A code's units and its table. */
 typedef struct {
@@ -38,8 +41,8 @@ enum {
     LIBRARY,
     LIBRARY_SHORT = LIBRARY + SPECIMENS,
     WALKER = LIBRARY_SHORT + SPECIMENS,
-    WALKER_SHORT = WALKER + SPECIMENS,
-    PLAIN = WALKER_SHORT + SPECIMENS,
+    WALKER_SHORT = WALKER + WALKED,
+    PLAIN = WALKER_SHORT + WALKED,
     PREPARE = PLAIN + SPECIMENS,
     PREPARE_LONGEST = PREPARE + SPECIMENS,
     COUNTED,

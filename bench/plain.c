@@ -145,6 +145,41 @@ plain_text plain_general(int64_t coefficient, uint32_t scale, uint16_t *room, si
     return keep(&text, 0, room, room_len);
 }
 
+/* The magnitude to three digits, halves away from zero. */
+static uint64_t three_digits(uint64_t magnitude, uint32_t digits)
+{
+    uint64_t unit;
+
+    if (digits <= 3)
+        return magnitude * power_of_ten[3 - digits];
+    unit = power_of_ten[digits - 3];
+    return (magnitude + unit / 2) / unit;
+}
+
+plain_text plain_scientific(int64_t coefficient, uint32_t scale, uint16_t *room, size_t room_len)
+{
+    backward text;
+    uint64_t magnitude = magnitude_of(coefficient);
+    uint32_t digits = digits_of(magnitude);
+    uint64_t hundredths = three_digits(magnitude, digits);
+    int exponent = magnitude == 0 ? 0 : (int)digits - 1 - (int)scale;
+
+    if (hundredths == 1000) {
+        hundredths = 100;
+        exponent++;
+    }
+    text.first = MOST;
+    put_digits(&text, (uint64_t)(exponent < 0 ? -exponent : exponent), 2);
+    put(&text, exponent < 0 ? '-' : '+');
+    put(&text, 'E');
+    put_digits(&text, hundredths % 100, 2);
+    put(&text, '.');
+    put_whole(&text, hundredths / 100);
+    if (coefficient < 0)
+        put(&text, '-');
+    return keep(&text, 0, room, room_len);
+}
+
 plain_text plain_date(uint32_t day, uint32_t millisecond, uint16_t *room, size_t room_len)
 {
     static const char names[] = "JanFebMarAprMayJunJulAugSepOctNovDec";

@@ -1,8 +1,8 @@
 //! Compares the oracle with lists of known rows, whose paths the caller gives.
 //!
 //! A row of values is `code kind value answer place section colour text`, a row of tables is its words
-//! and what they are: `made from` a code, `passes`, or `8`. Fields are parted by tabs, the first line
-//! names the columns.
+//! and what they are: `made from` a code, `passes`, or `8`. Fields are parted by tabs; a line names the
+//! columns, and lines before it that begin with `//` are remarks.
 
 use std::process::ExitCode;
 
@@ -34,7 +34,8 @@ fn check_rows(path: &str, check: impl Fn(&[&str]) -> Result<(), String>) -> Resu
     let text = std::fs::read_to_string(path).map_err(|error| format!("{path}: {error}"))?;
     let mut failures = Vec::new();
     let mut rows = 0;
-    for (index, line) in text.lines().enumerate().skip(1) {
+    let lines = text.lines().enumerate();
+    for (index, line) in lines.skip_while(|(_, line)| line.starts_with("//")).skip(1) {
         let fields: Vec<&str> = line.split('\t').collect();
         rows += 1;
         if let Err(message) = check(&fields) {

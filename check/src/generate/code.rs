@@ -5,7 +5,7 @@ use crate::oracle::units;
 use crate::random::Random;
 
 const ALPHABET: &[u8] =
-    b"00##??..,,%%@;;\"\"\\_*[]GeneralAM/PmydhsRd<>=-+/ ():!^&'~{}$x19E`|mmhhss\x7f\n";
+    b"00##??..,,%%@;;\"\"\\_*[]GeneralAM/PmydhsRd<>=-+/ ():!^&'~{}$x19EEE++--e`|mmhhss\x7f\n";
 
 const BARE: &[u8] = b"$-+/():!^&'~{}<>= ";
 
@@ -20,6 +20,12 @@ const PIECES: &[&str] = &[
     "@",
     ";",
     "General",
+    "E+",
+    "E-",
+    "E+0",
+    "E-00",
+    "E",
+    "e+",
     "AM/PM",
     "A/P",
     "yy",
@@ -110,11 +116,11 @@ fn section(random: &mut Random, index: usize, count: usize, text_last: bool, out
     let stray = random.chance(3);
     let last = index + 1 == count;
     let kind = match (stray, index, last) {
-        (true, ..) => random.below(5),
+        (true, ..) => random.below(6),
         (false, 3, _) => random.pick(&[0, 1, 3]),
         (false, _, true) if text_last => 3,
-        _ if count == 1 => random.weighted(&[12, 15, 40, 8, 25]),
-        _ => random.weighted(&[15, 15, 45, 0, 25]),
+        _ if count == 1 => random.weighted(&[10, 12, 32, 8, 20, 18]),
+        _ => random.weighted(&[12, 13, 37, 0, 20, 18]),
     };
     let bare_fourth = index == 3 && !stray;
     if !bare_fourth && random.chance(25) {
@@ -132,7 +138,8 @@ fn section(random: &mut Random, index: usize, count: usize, text_last: bool, out
         1 => around(random, "General", out),
         2 => number(random, out),
         3 => text(random, out),
-        _ => date_time(random, out),
+        4 => date_time(random, out),
+        _ => scientific(random, out),
     }
 }
 
@@ -302,6 +309,31 @@ fn percent_signs(random: &mut Random, count: usize, out: &mut Vec<u16>) {
     for _ in 0..count {
         out.push(u16::from(b'%'));
         maybe_literal(random, out);
+    }
+}
+
+/// A mantissa, an E and exponent places; about one in five is broken.
+fn scientific(random: &mut Random, out: &mut Vec<u16>) {
+    let start = out.len();
+    let integer = count_to(random, 4, 20).max(usize::from(!random.chance(2)));
+    let decimals = count_to(random, 4, 15);
+    maybe_literal(random, out);
+    places(random, integer, false, out);
+    if decimals > 0 || random.chance(15) {
+        out.push(u16::from(b'.'));
+        maybe_literal(random, out);
+        places(random, decimals, false, out);
+    }
+    put(out, random.pick(&["E+", "E-"]));
+    maybe_literal(random, out);
+    for _ in 0..random.pick(&[1, 1, 1, 1, 2, 2, 2, 2, 3, 3, 3, 4, 0]) {
+        out.push(u16::from(random.pick(b"00#")));
+        maybe_literal(random, out);
+    }
+    if random.chance(8) {
+        let at = random.between(start, out.len());
+        let foreign = [",", "%", "E+", "E-", ".", "?", "/", "/", "E"];
+        out.splice(at..at, units(random.pick(&foreign)));
     }
 }
 

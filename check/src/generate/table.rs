@@ -10,6 +10,7 @@ const GENERAL: u16 = 1;
 const NUMBER: u16 = 2;
 const TEXT: u16 = 3;
 const DATE_TIME: u16 = 4;
+const SCIENTIFIC: u16 = 5;
 
 pub fn table(random: &mut Random) -> Vec<u16> {
     match random.weighted(&[42, 40, 12, 6]) {
@@ -162,10 +163,12 @@ fn section(random: &mut Random, index: usize, count: usize, text_last: bool) -> 
     // Now and then a section is made without regard to where it stands.
     let stray = random.chance(3);
     let kind = match index {
-        _ if stray => random.below(5) as u16,
+        _ if stray => random.below(6) as u16,
         _ if text_last && index + 1 == count => TEXT,
         3 => random.pick(&[0, GENERAL, TEXT]),
-        _ => random.pick(&[0, GENERAL, NUMBER, NUMBER, NUMBER, DATE_TIME, DATE_TIME]),
+        _ => random.pick(&[
+            0, GENERAL, NUMBER, NUMBER, NUMBER, DATE_TIME, DATE_TIME, SCIENTIFIC, SCIENTIFIC,
+        ]),
     };
     let mut section = Section {
         kind,
@@ -186,6 +189,7 @@ fn section(random: &mut Random, index: usize, count: usize, text_last: bool) -> 
         NUMBER => number(random, &mut section),
         TEXT => (0..random.between(1, 3)).for_each(|_| around(random, &mut section.items, [10, 0])),
         DATE_TIME => date_time(random, &mut section),
+        SCIENTIFIC => scientific(random, &mut section),
         _ => literals(random, &mut section.items, 4),
     }
     section
@@ -277,17 +281,56 @@ fn number(random: &mut Random, section: &mut Section) {
         section.flags |= 1;
     }
     let items = &mut section.items;
+    places_around_point(random, items, integer, decimals);
+    for _ in 0..percents {
+        let at = random.below(items.len() + 1);
+        items.insert(at, [8, 0]);
+    }
+    maybe_literal(random, items);
+}
+
+/// Now and then without an integer place, with none or too many exponent places, or with an item
+/// that belongs to another kind or stands twice.
+fn scientific(random: &mut Random, section: &mut Section) {
+    let integer = count_to(random, 6, 20).max(usize::from(!random.chance(2)));
+    let decimals = count_to(random, 4, 15);
+    let exponent = random.pick(&[1, 1, 1, 2, 2, 2, 3, 3, 3, 4, 0]);
+    section.decimals = decimals as u16;
+    let items = &mut section.items;
+    places_around_point(random, items, integer, decimals);
+    maybe_literal(random, items);
+    items.push([random.pick(&[22, 23]), 0]);
+    for power in (0..exponent).rev() {
+        maybe_literal(random, items);
+        let place = if random.chance(2) {
+            6
+        } else {
+            random.pick(&[4, 5])
+        };
+        items.push([place, power + 16]);
+    }
+    maybe_literal(random, items);
+    if random.chance(5) {
+        let at = random.below(items.len() + 1);
+        items.insert(
+            at,
+            random.pick(&[[7, 0], [8, 0], [22, 0], [23, 0], [4, 16]]),
+        );
+    }
+}
+
+fn places_around_point(
+    random: &mut Random,
+    items: &mut Vec<[u16; 2]>,
+    integer: usize,
+    decimals: usize,
+) {
     places(random, items, (0..integer as i32).rev());
     if decimals > 0 || random.chance(15) {
         maybe_literal(random, items);
         items.push([7, 0]);
     }
     places(random, items, (1..=decimals as i32).map(|power| -power));
-    for _ in 0..percents {
-        let at = random.below(items.len() + 1);
-        items.insert(at, [8, 0]);
-    }
-    maybe_literal(random, items);
 }
 
 fn places(random: &mut Random, items: &mut Vec<[u16; 2]>, powers: impl Iterator<Item = i32>) {

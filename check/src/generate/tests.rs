@@ -2,10 +2,12 @@
 //! give the table again exactly when it passes the rules. Only a code's length, or equal runs side by
 //! side, may keep a table that passes from having such a code.
 
+use super::code::code;
 use super::table::table;
 use crate::oracle::{answer, check_table, prepare, units};
 use crate::random::Random;
 
+const CODES: u64 = 100_000;
 const TABLES: u64 = 200_000;
 const HEAD_WORDS: usize = 12;
 const LONGEST_CODE: usize = 254;
@@ -30,6 +32,27 @@ fn tables_that_pass_are_those_that_codes_make() {
         made += u64::from(makes);
     }
     assert!(passed > TABLES / 4 && made > TABLES / 5, "{passed} {made}");
+}
+
+/// An `E+` or `E-` stands in one code of ten at least, in accepted and in refused ones.
+#[test]
+fn one_code_in_ten_has_an_exponent() {
+    let (mut accepted, mut refused) = (0, 0);
+    for index in 0..CODES {
+        let code = code(&mut Random::for_case(3, index));
+        let has = |mark: &str| code.windows(2).any(|pair| pair == units(mark));
+        if has("E+") || has("E-") {
+            match prepare(&code, usize::MAX).answer {
+                answer::DONE => accepted += 1,
+                _ => refused += 1,
+            }
+        }
+    }
+    assert!(accepted + refused > CODES / 10, "{accepted} {refused}");
+    assert!(
+        accepted > CODES / 20 && refused > CODES / 50,
+        "{accepted} {refused}"
+    );
 }
 
 /// Each section's head and items, if the words are as many as their counts say.
@@ -124,6 +147,8 @@ fn item_code(item: &[u16]) -> Option<Vec<u16>> {
         19 => elapsed("m"),
         20 => elapsed("s"),
         21 => units(if item[1] == 1 { "A/P" } else { "AM/PM" }),
+        22 => units("E+"),
+        23 => units("E-"),
         _ => return None,
     })
 }

@@ -66,11 +66,12 @@ pub fn value(random: &mut Random) -> Value {
 }
 
 fn number(random: &mut Random) -> Value {
-    let (coefficient, scale) = match random.weighted(&[15, 25, 25, 32, 3]) {
+    let (coefficient, scale) = match random.weighted(&[15, 22, 22, 28, 10, 3]) {
         0 => (random.pick(&COEFFICIENTS), random.between(0, 16) as u32),
         1 => beside_landmark(random),
         2 => half(random),
         3 => (digits(random, 15), random.between(0, 15) as u32),
+        4 => nines(random),
         _ => (
             random.next() as i64,
             random.pick(&[0, 15, 16, 17, 100, u32::MAX]),
@@ -113,6 +114,14 @@ fn half(random: &mut Random) -> (i64, u32) {
     let joined = format!("{front}{tail}");
     let scale = random.between(0, 15) as u32;
     (joined.parse().unwrap_or(0), scale)
+}
+
+/// Nines, and behind them what lets them stand or carries: numbers beside a power of ten.
+fn nines(random: &mut Random) -> (i64, u32) {
+    let front = "9".repeat(random.between(0, 13));
+    let tail = random.pick(&["", "4", "49", "5", "50", "6"]);
+    let coefficient = format!("0{front}{tail}").parse().unwrap_or(0);
+    (coefficient, random.between(0, 15) as u32)
 }
 
 fn instant(random: &mut Random) -> Value {

@@ -15,6 +15,7 @@ pub enum Kind {
     Number = 2,
     Text = 3,
     DateTime = 4,
+    Scientific = 5,
 }
 
 /// Why a code is refused, and where.
@@ -136,6 +137,8 @@ fn kind_of(body: &[Token]) -> Option<Kind> {
         (Kind::General, is_general(body))
     } else if has(is_date_token) {
         (Kind::DateTime, is_date_time(body))
+    } else if has(is_exponent) {
+        (Kind::Scientific, scientific_shape(body).is_some())
     } else if has(|token| matches!(token, Token::Place(_))) {
         (Kind::Number, number_shape(body).is_some())
     } else {
@@ -155,6 +158,10 @@ fn is_literal(token: &Token) -> bool {
 /// Half-day marks are not among them.
 fn is_date_token(token: &Token) -> bool {
     matches!(token, Token::Run { .. } | Token::Elapsed { .. })
+}
+
+fn is_exponent(token: &Token) -> bool {
+    matches!(token, Token::Exponent { .. })
 }
 
 fn only_beside(body: &[Token], wanted: &Token) -> bool {
@@ -205,6 +212,43 @@ pub fn number_shape(body: &[Token]) -> Option<NumberShape> {
         }
     }
     Some(shape)
+}
+
+/// What a scientific section's tokens come to.
+#[derive(Clone, Copy, Debug)]
+pub struct ScientificShape {
+    pub mantissa: NumberShape,
+    /// Where the E stands.
+    pub mark: usize,
+    pub exponent_places: usize,
+}
+
+/// The shape of a scientific body, or none if something in it may not stand there. The mantissa is a
+/// number body without commas and percents that has an integer place.
+pub fn scientific_shape(body: &[Token]) -> Option<ScientificShape> {
+    let [mark] = positions(body, is_exponent)[..] else {
+        return None;
+    };
+    let foreign = |token: &Token| matches!(token, Token::Comma | Token::Percent);
+    let mantissa = number_shape(&body[..mark])?;
+    let exponent_places = exponent_places(&body[mark + 1..])?;
+    let sound = mantissa.integer_places >= 1 && exponent_places >= 1 && !body.iter().any(foreign);
+    sound.then_some(ScientificShape {
+        mantissa,
+        mark,
+        exponent_places,
+    })
+}
+
+/// How many places stand behind the E; none if it is followed by anything but `0`, `#` and literals.
+fn exponent_places(behind: &[Token]) -> Option<usize> {
+    let may = |at: usize| match &behind[at] {
+        Token::Place(place) => *place != b'?',
+        Token::Bare(b'/') => !is_fraction_bar(behind, at),
+        token => is_literal(token),
+    };
+    let places = positions(behind, |token| matches!(token, Token::Place(_)));
+    (0..behind.len()).all(may).then_some(places.len())
 }
 
 fn positions(body: &[Token], test: impl Fn(&Token) -> bool) -> Vec<usize> {
@@ -325,7 +369,7 @@ fn may_stand(sections: &[Section], index: usize) -> bool {
     text_is_last && (!conditioned || condition_may) && fourth_may
 }
 
-/// Document 01, "Limits".
+/// Document 01, "Limits", and 02's for the exponent.
 fn passes_a_limit(section: &Section) -> bool {
     let condition = section
         .condition
@@ -339,15 +383,18 @@ fn passes_a_limit(section: &Section) -> bool {
 }
 
 fn places_pass_a_limit(section: &Section) -> bool {
-    if section.kind != Kind::Number {
-        return false;
-    }
-    number_shape(&section.body).is_some_and(|shape| {
+    let pass = |shape: NumberShape| {
         shape.integer_places > 20
             || shape.decimal_places > 15
             || shape.percents > 5
             || shape.dividing_commas > 5
-    })
+    };
+    match section.kind {
+        Kind::Number => number_shape(&section.body).is_some_and(pass),
+        Kind::Scientific => scientific_shape(&section.body)
+            .is_some_and(|shape| pass(shape.mantissa) || shape.exponent_places > 3),
+        _ => false,
+    }
 }
 
 /// N: the sections that are neither text nor fourth.

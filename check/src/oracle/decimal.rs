@@ -57,6 +57,25 @@ fn without_leading_zeros(digits: &[u8]) -> Vec<u8> {
     digits.iter().copied().skip_while(|d| *d == 0).collect()
 }
 
+/// The exponent of a scientific section with `places` integer places: every multiple of `places` is
+/// tried upward, and the first is taken that leaves 1 to `places` integer digits after rounding.
+pub fn exponent(coefficient: i64, scale: i32, places: usize, decimals: usize) -> i32 {
+    if coefficient == 0 {
+        return 0;
+    }
+    let step = places as i32;
+    let leaves = |exponent: &i32| {
+        let digits = rounded(coefficient, scale + exponent, decimals)
+            .integer
+            .len();
+        (1..=places).contains(&digits)
+    };
+    // A number of at least 10^-15, times 10^36 or more, has more than 20 integer digits.
+    let first = -(35 / step + 1);
+    let mut multiples = (first..).map(|index| index * step);
+    multiples.find(leaves).expect("a multiple leaves them")
+}
+
 /// General's text for the magnitude without its sign, or none where it reaches 10^11.
 pub fn general(coefficient: i64, scale: i32) -> Option<Decimal> {
     if rounded(coefficient, scale, 0).integer.len() > 11 {

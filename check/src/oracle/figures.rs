@@ -26,6 +26,27 @@ pub fn rounded(coefficient: i64, exponent: i32, decimals: u32) -> Figures {
     Figures { whole, fraction }
 }
 
+/// The exponent of a scientific section with `places` integer places, found from above: from a
+/// multiple of `places` that leaves at most one integer digit down, as long as the next lower one
+/// leaves no more than `places`.
+pub fn exponent(coefficient: i64, scale: u32, places: i32, decimals: u32) -> i32 {
+    if coefficient == 0 {
+        return 0;
+    }
+    let scale = scale as i32;
+    let leaves_few = |exponent: i32| {
+        let shift = -scale - exponent;
+        // Beyond 10^22 every coefficient has more digits than any section has places.
+        shift <= 22 && rounded(coefficient, shift, decimals).integer_digits() <= places
+    };
+    // A coefficient is below 10^15.
+    let mut exponent = (15 - scale + places - 1) / places * places;
+    while leaves_few(exponent - places) {
+        exponent -= places;
+    }
+    exponent
+}
+
 impl Figures {
     pub fn is_zero(&self) -> bool {
         self.whole == 0 && self.fraction == 0

@@ -1,9 +1,11 @@
-//! A second, plain implementation of the rules of document 01, written from the paper.
+//! A second, plain implementation of the rules of document 01 and of 02's requests so far, written
+//! from the papers.
 //!
 //! It shares no code with the library. Clarity goes before speed: vectors, 128-bit numbers, one
 //! function to a rule. A code is read in two ways: straight off its own tokens (`reading`) and
 //! through the table prepared from it (`prepare`, then `show`). Both start from the same parsed
-//! sections (`code`) and use the same calendar (`days`); choice, rounding and figures are separate.
+//! sections (`code`) and use the same calendar (`days`); choice, rounding, exponents and
+//! figures are separate.
 
 mod code;
 mod days;

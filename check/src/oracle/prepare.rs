@@ -2,8 +2,8 @@
 
 use super::answer;
 use super::code::{
-    means_minutes, number_shape, part_of_second, sections, takes_negatives_by_fallback, Kind,
-    Section,
+    means_minutes, number_shape, part_of_second, scientific_shape, sections,
+    takes_negatives_by_fallback, Kind, Section,
 };
 use super::table::{item, words, Entry, Item, GROUPING, NO_MINUS, TWELVE_HOUR};
 use super::token::{Condition, Token};
@@ -55,8 +55,10 @@ fn entry(sections: &[Section], index: usize) -> Entry {
     if let Some(condition) = &section.condition {
         put_condition(&mut entry, condition);
     }
-    if section.kind == Kind::Number {
-        put_number(&mut entry, section);
+    match section.kind {
+        Kind::Number => put_number(&mut entry, section),
+        Kind::Scientific => put_scientific(&mut entry, section),
+        _ => {}
     }
     if takes_negatives_by_fallback(sections, index) {
         entry.flags |= NO_MINUS;
@@ -91,6 +93,11 @@ fn put_number(entry: &mut Entry, section: &Section) {
     }
 }
 
+fn put_scientific(entry: &mut Entry, section: &Section) {
+    let shape = scientific_shape(&section.body).expect("a scientific section has its shape");
+    entry.decimals = shape.mantissa.decimal_places as u16;
+}
+
 fn items(section: &Section) -> Vec<Item> {
     let body = &section.body;
     let last_fill = body.iter().rposition(|t| matches!(t, Token::Fill(_)));
@@ -104,14 +111,18 @@ fn items(section: &Section) -> Vec<Item> {
             Token::Quoted(units) => units.iter().for_each(|unit| put(item::LITERAL, *unit)),
             Token::Blank(unit) => put(item::BLANK, *unit),
             Token::Fill(unit) if last_fill == Some(at) => put(item::FILL, *unit),
-            Token::Place(place) if section.kind == Kind::Number => {
+            Token::Place(place) if has_powers(section.kind) => {
                 power -= 1;
                 put(place_number(*place), (power + 16) as u16);
+            }
+            Token::Exponent { plus } => {
+                power = exponent_power(section);
+                put(exponent_number(*plus), 0);
             }
             Token::Percent => put(item::PERCENT, 0),
             Token::General => put(item::GENERAL, 0),
             Token::At => put(item::AT, 0),
-            Token::Point if section.kind == Kind::Number => put(item::POINT, 0),
+            Token::Point if has_powers(section.kind) => put(item::POINT, 0),
             Token::Point => match part_of_second(body, at) {
                 0 => put(item::LITERAL, u16::from(b'.')),
                 zeros => put(item::PART_OF_SECOND, zeros as u16),
@@ -127,11 +138,31 @@ fn items(section: &Section) -> Vec<Item> {
     items
 }
 
+/// Kinds whose places stand for powers of ten.
+fn has_powers(kind: Kind) -> bool {
+    matches!(kind, Kind::Number | Kind::Scientific)
+}
+
 /// One above the power of the first place.
 fn first_power(section: &Section) -> i32 {
-    match section.kind {
-        Kind::Number => number_shape(&section.body).map_or(0, |s| s.integer_places as i32),
-        _ => 0,
+    let shape = match section.kind {
+        Kind::Number => number_shape(&section.body),
+        Kind::Scientific => scientific_shape(&section.body).map(|shape| shape.mantissa),
+        _ => None,
+    };
+    shape.map_or(0, |shape| shape.integer_places as i32)
+}
+
+/// One above the power of the first exponent place.
+fn exponent_power(section: &Section) -> i32 {
+    scientific_shape(&section.body).map_or(0, |shape| shape.exponent_places as i32)
+}
+
+fn exponent_number(plus: bool) -> u16 {
+    if plus {
+        item::EXPONENT_PLUS
+    } else {
+        item::EXPONENT_MINUS
     }
 }
 

@@ -4,11 +4,11 @@ use std::cmp::Ordering;
 
 use super::answer;
 use super::code::{
-    counted, means_minutes, number_shape, part_of_second, sections, takes_negatives_by_fallback,
-    Kind, NumberShape, Section,
+    counted, means_minutes, number_shape, part_of_second, scientific_shape, sections,
+    takes_negatives_by_fallback, Kind, NumberShape, Section,
 };
 use super::days;
-use super::decimal::{general, rounded, Decimal};
+use super::decimal::{exponent, general, rounded, Decimal};
 use super::token::{Condition, Operator, Token};
 use super::value::{Reading, Value};
 
@@ -60,6 +60,9 @@ fn value_reading(sections: &[Section], value: &Value) -> Result<Reading, u16> {
         (Kind::Literal, _) => literal_figure(section),
         (Kind::Number, Value::Number { coefficient, scale }) => {
             number_figure(section, *coefficient, *scale)
+        }
+        (Kind::Scientific, Value::Number { coefficient, scale }) => {
+            scientific_figure(section, *coefficient, *scale)
         }
         (Kind::General | Kind::Text, Value::Number { coefficient, scale }) => {
             general_figure(section, *coefficient, *scale)?
@@ -233,6 +236,45 @@ fn number_figure(section: &Section, coefficient: i64, scale: u32) -> Figure {
                 put(&mut text, ".");
             }
             Token::Percent => put(&mut text, "%"),
+            other => put_literal(&mut text, other),
+        }
+    }
+    Figure {
+        text,
+        rounds_to_zero: number.is_zero(),
+    }
+}
+
+/// The places before the E show the number over 10^exponent, those behind it the exponent like an
+/// integer part.
+fn scientific_figure(section: &Section, coefficient: i64, scale: u32) -> Figure {
+    let shape = scientific_shape(&section.body).expect("a scientific section has its shape");
+    let (mantissa, behind) = section.body.split_at(shape.mark);
+    let NumberShape {
+        integer_places,
+        decimal_places,
+        ..
+    } = shape.mantissa;
+    let scale = scale as i32;
+    let exponent = exponent(coefficient, scale, integer_places, decimal_places);
+    let number = rounded(coefficient, scale + exponent, decimal_places);
+    let size = rounded(i64::from(exponent), 0, 0);
+    let mut pieces = integer_pieces(mantissa, &number.integer, &shape.mantissa);
+    pieces.extend(decimal_pieces(mantissa, &number.decimals));
+    pieces.extend(integer_pieces(
+        behind,
+        &size.integer,
+        &NumberShape::default(),
+    ));
+    let mut pieces = pieces.iter();
+    let mut text = Vec::new();
+    for token in &section.body {
+        match token {
+            Token::Place(_) => put(&mut text, pieces.next().expect("a piece for each place")),
+            Token::Point => put(&mut text, "."),
+            Token::Exponent { .. } if exponent < 0 => put(&mut text, "E-"),
+            Token::Exponent { plus: true } => put(&mut text, "E+"),
+            Token::Exponent { plus: false } => put(&mut text, "E"),
             other => put_literal(&mut text, other),
         }
     }

@@ -10,6 +10,7 @@ const GENERAL: u16 = Kind::General as u16;
 const NUMBER: u16 = Kind::Number as u16;
 const TEXT: u16 = Kind::Text as u16;
 const DATE_TIME: u16 = Kind::DateTime as u16;
+const SCIENTIFIC: u16 = Kind::Scientific as u16;
 
 /// True when the words break no table rule.
 pub fn check_table(words: &[u16]) -> bool {
@@ -27,7 +28,7 @@ pub fn check_table(words: &[u16]) -> bool {
 
 /// Every word in its range that needs no look at another section or item.
 fn ranges(entry: &Entry) -> bool {
-    entry.kind <= DATE_TIME
+    entry.kind <= SCIENTIFIC
         && entry.colour <= 56
         && condition_ranges(entry)
         && entry.flags <= GROUPING + NO_MINUS + TWELVE_HOUR
@@ -51,6 +52,7 @@ fn operand_range(one: Item) -> bool {
         // Powers are followed place by place below.
         item::ZERO_PLACE | item::HASH_PLACE | item::QUERY_PLACE => true,
         item::POINT | item::PERCENT | item::GENERAL | item::AT => one.operand == 0,
+        item::EXPONENT_PLUS | item::EXPONENT_MINUS => one.operand == 0,
         item::YEAR => one.operand == 2 || one.operand == 4,
         item::MONTH => run(1, 5),
         item::DAY => run(1, 4),
@@ -93,46 +95,81 @@ fn items_fit_kind(entry: &Entry) -> bool {
         NUMBER => {
             only(&|n| is_place(n) || n == item::POINT || n == item::PERCENT) && number_items(entry)
         }
-        _ => {
+        SCIENTIFIC => {
+            only(&|n| is_place(n) || n == item::POINT || item::is_exponent(n))
+                && scientific_items(entry)
+        }
+        DATE_TIME => {
             only(&|n| is_date_item(n) || n == item::PART_OF_SECOND || n == item::HALF_DAY)
                 && date_items(entry)
         }
+        _ => false,
     };
     fits && count_of(entry, item::FILL) <= 1
 }
 
 fn number_items(entry: &Entry) -> bool {
-    let places = integer_places(entry) + decimal_places(entry);
-    places >= 1
-        && integer_places(entry) <= 20
-        && decimal_places(entry) <= 15
-        && count_of(entry, item::POINT) <= 1
+    places_in(&entry.items) >= 1
         && count_of(entry, item::PERCENT) <= 5
-        && powers_run_down(entry)
+        && places_around_point(&entry.items)
+}
+
+/// The mantissa like a number's places, with an integer place; behind the one E one to three places
+/// `0` or `#` down to power 0.
+fn scientific_items(entry: &Entry) -> bool {
+    let (mantissa, exponent) = around_exponent(entry);
+    count(entry, item::is_exponent) == 1
+        && integer_places(mantissa) >= 1
+        && places_around_point(mantissa)
+        && exponent
+            .iter()
+            .all(|one| !matches!(one.number, item::POINT | item::QUERY_PLACE))
+        && (1..=3).contains(&places_in(exponent))
+        && powers_run_down(exponent)
+}
+
+/// The items before the first E and those behind it; all are before where there is none.
+fn around_exponent(entry: &Entry) -> (&[Item], &[Item]) {
+    match entry
+        .items
+        .iter()
+        .position(|one| item::is_exponent(one.number))
+    {
+        Some(at) => (&entry.items[..at], &entry.items[at + 1..]),
+        None => (&entry.items, &[]),
+    }
+}
+
+fn places_around_point(items: &[Item]) -> bool {
+    let points = items.iter().filter(|one| one.number == item::POINT);
+    points.count() <= 1
+        && integer_places(items) <= 20
+        && decimal_places(items) <= 15
+        && powers_run_down(items)
 }
 
 /// Where the point stands; behind everything when there is none.
-fn point(entry: &Entry) -> usize {
-    let at = entry.items.iter().position(|i| i.number == item::POINT);
-    at.unwrap_or(entry.items.len())
+fn point(items: &[Item]) -> usize {
+    let at = items.iter().position(|one| one.number == item::POINT);
+    at.unwrap_or(items.len())
 }
 
 fn places_in(items: &[Item]) -> usize {
     items.iter().filter(|one| one.is_place()).count()
 }
 
-fn integer_places(entry: &Entry) -> usize {
-    places_in(&entry.items[..point(entry)])
+fn integer_places(items: &[Item]) -> usize {
+    places_in(&items[..point(items)])
 }
 
-fn decimal_places(entry: &Entry) -> usize {
-    places_in(&entry.items[point(entry)..])
+fn decimal_places(items: &[Item]) -> usize {
+    places_in(&items[point(items)..])
 }
 
 /// Down by one from the first place; the last integer place then has power 0.
-fn powers_run_down(entry: &Entry) -> bool {
-    let first = integer_places(entry) as i32 - 1;
-    let places = entry.items.iter().filter(|one| one.is_place());
+fn powers_run_down(items: &[Item]) -> bool {
+    let first = integer_places(items) as i32 - 1;
+    let places = items.iter().filter(|one| one.is_place());
     places
         .zip(0..)
         .all(|(place, index)| i32::from(place.operand) == first - index + 16)
@@ -175,8 +212,11 @@ fn elapsed_stands_alone(entry: &Entry) -> bool {
 /// Shift, decimal places and the flags that one section's items settle.
 fn derived_words(entry: &Entry) -> bool {
     let number = entry.kind == NUMBER;
-    let decimals = if number { decimal_places(entry) } else { 0 };
-    let may_group = number && integer_places(entry) >= 2;
+    let decimals = match entry.kind {
+        NUMBER | SCIENTIFIC => decimal_places(around_exponent(entry).0),
+        _ => 0,
+    };
+    let may_group = number && integer_places(&entry.items) >= 2;
     let twelve_hour = count_of(entry, item::HALF_DAY) > 0;
     usize::from(entry.decimals) == decimals
         && (if number {

@@ -5,7 +5,7 @@ use std::cmp::Ordering;
 use super::answer;
 use super::code::Kind;
 use super::days;
-use super::figures::{general, rounded, Figures};
+use super::figures::{exponent, general, rounded, Figures};
 use super::rules::{check_table, counted};
 use super::table::{entries, item, Entry, Item, GROUPING, NO_MINUS, TWELVE_HOUR};
 use super::value::{Reading, Value};
@@ -15,6 +15,7 @@ const GENERAL: u16 = Kind::General as u16;
 const NUMBER: u16 = Kind::Number as u16;
 const TEXT: u16 = Kind::Text as u16;
 const DATE_TIME: u16 = Kind::DateTime as u16;
+const SCIENTIFIC: u16 = Kind::Scientific as u16;
 
 /// Shows a value through the words lent as a table, in a room of that length.
 pub fn show(table: &[u16], value: &Value, room_length: usize) -> Result<Reading, u16> {
@@ -48,7 +49,7 @@ fn show_text(entries: &[Entry], text: &[u16]) -> Reading {
             section: 4,
         };
     };
-    let shown = spelled(&entries[index], |_| text.to_vec());
+    let shown = spelled(&entries[index].items, |_| text.to_vec());
     reading(entries, index, shown)
 }
 
@@ -61,14 +62,14 @@ fn reading(entries: &[Entry], index: usize, text: Vec<u16>) -> Reading {
 }
 
 /// Literals as they are, blanks as a space, fills as nothing, and what `shown` gives for the rest.
-fn spelled(entry: &Entry, shown: impl Fn(Item) -> Vec<u16>) -> Vec<u16> {
+fn spelled(items: &[Item], shown: impl Fn(Item) -> Vec<u16>) -> Vec<u16> {
     let spell = |one: &Item| match one.number {
         item::LITERAL => vec![one.operand],
         item::BLANK => vec![u16::from(b' ')],
         item::FILL => vec![],
         _ => shown(*one),
     };
-    entry.items.iter().flat_map(spell).collect()
+    items.iter().flat_map(spell).collect()
 }
 
 fn units(text: &str) -> Vec<u16> {
@@ -83,11 +84,12 @@ fn show_number(entries: &[Entry], coefficient: i64, scale: u32) -> Result<Readin
     };
     let entry = &entries[index];
     let (shown, rounds_to_zero) = match entry.kind {
-        LITERAL => (spelled(entry, |_| vec![]), false),
+        LITERAL => (spelled(&entry.items, |_| vec![]), false),
         NUMBER => number_text(entry, coefficient, scale),
+        SCIENTIFIC => scientific_text(entry, coefficient, scale),
         GENERAL | TEXT => {
             let (text, zero) = general(coefficient, scale).ok_or(answer::GENERAL)?;
-            (spelled(entry, |_| units(&text)), zero)
+            (spelled(&entry.items, |_| units(&text)), zero)
         }
         _ => return Err(answer::SORT),
     };
@@ -106,10 +108,12 @@ fn show_instant(entries: &[Entry], day: u32, ms: u32) -> Result<Reading, u16> {
     let index = choose(entries, since, 86_400_000)?;
     let entry = &entries[index];
     let text = match entry.kind {
-        LITERAL => spelled(entry, |_| vec![]),
+        LITERAL => spelled(&entry.items, |_| vec![]),
         DATE_TIME => {
             let twelve = entry.flags & TWELVE_HOUR != 0;
-            spelled(entry, |one| units(&instant_piece(one, day, ms, twelve)))
+            spelled(&entry.items, |one| {
+                units(&instant_piece(one, day, ms, twelve))
+            })
         }
         _ => return Err(answer::SORT),
     };
@@ -173,21 +177,53 @@ fn instant_piece(one: Item, day: u32, ms: u32, twelve: bool) -> String {
 fn number_text(entry: &Entry, coefficient: i64, scale: u32) -> (Vec<u16>, bool) {
     let exponent = i32::from(entry.shift) - 15 - scale as i32;
     let figures = rounded(coefficient, exponent, u32::from(entry.decimals));
-    let first_place = entry.items.iter().find(|one| one.is_place());
-    let top = first_place.map_or(0, |one| power(*one));
     let grouping = entry.flags & GROUPING != 0;
+    let text = figures_text(&entry.items, &figures, grouping);
+    (text, figures.is_zero())
+}
+
+/// A scientific section's text without a minus, and whether its mantissa rounds to zero.
+fn scientific_text(entry: &Entry, coefficient: i64, scale: u32) -> (Vec<u16>, bool) {
+    let mut parts = entry.items.splitn(2, |one| item::is_exponent(one.number));
+    let mantissa = parts.next().unwrap_or_default();
+    let behind = parts.next().unwrap_or_default();
+    let shows_plus = entry.items[mantissa.len()].number == item::EXPONENT_PLUS;
+    let decimals = u32::from(entry.decimals);
+    let exponent = exponent(coefficient, scale, top_power(mantissa) + 1, decimals);
+    let figures = rounded(coefficient, -(scale as i32) - exponent, decimals);
+    let mark = match (exponent < 0, shows_plus) {
+        (true, _) => "E-",
+        (false, true) => "E+",
+        (false, false) => "E",
+    };
+    let size = rounded(i64::from(exponent), 0, 0);
+    let text = [
+        figures_text(mantissa, &figures, false),
+        units(mark),
+        figures_text(behind, &size, false),
+    ];
+    (text.concat(), figures.is_zero())
+}
+
+/// The power of the first place.
+fn top_power(items: &[Item]) -> i32 {
+    let first = items.iter().find(|one| one.is_place());
+    first.map_or(0, |one| power(*one))
+}
+
+/// The text of items among which are places and a point.
+fn figures_text(items: &[Item], figures: &Figures, grouping: bool) -> Vec<u16> {
+    let top = top_power(items);
     let piece = |one: Item| match one.number {
         item::PERCENT => units("%"),
-        item::POINT if top < 0 => [extra(&figures, -1, grouping), units(".")].concat(),
+        item::POINT if top < 0 => [extra(figures, -1, grouping), units(".")].concat(),
         item::POINT => units("."),
-        _ if power(one) == top && top >= 0 => [
-            extra(&figures, top, grouping),
-            place(&figures, one, grouping),
-        ]
-        .concat(),
-        _ => place(&figures, one, grouping),
+        _ if power(one) == top && top >= 0 => {
+            [extra(figures, top, grouping), place(figures, one, grouping)].concat()
+        }
+        _ => place(figures, one, grouping),
     };
-    (spelled(entry, piece), figures.is_zero())
+    spelled(items, piece)
 }
 
 fn power(place: Item) -> i32 {

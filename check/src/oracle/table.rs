@@ -29,6 +29,12 @@ pub mod item {
     pub const ELAPSED_MINUTES: u16 = 19;
     pub const ELAPSED_SECONDS: u16 = 20;
     pub const HALF_DAY: u16 = 21;
+    pub const EXPONENT_PLUS: u16 = 22;
+    pub const EXPONENT_MINUS: u16 = 23;
+
+    pub fn is_exponent(number: u16) -> bool {
+        matches!(number, EXPONENT_PLUS | EXPONENT_MINUS)
+    }
 }
 
 /// An item: its number and its operand.

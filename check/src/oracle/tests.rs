@@ -48,6 +48,46 @@ fn the_twelve_cases() {
 }
 
 #[test]
+fn scientific_sections() {
+    let cases = [
+        ("#0.0E+0", number(12_200_000, 0), "12.2E+6"),
+        ("0E+0", number(94, 2), "9E-1"),
+        ("0E+0", number(95, 2), "1E+0"),
+        ("##0.0E+0", number(99_995, 2), "1.0E+3"),
+        ("##0.0E+0", number(3, 1), "300.0E-3"),
+        ("0-0E+0", number(1230, 0), "1-2E+2"),
+        ("#.00E+00", number(0, 0), ".00E+00"),
+        ("0E-0", number(5, 0), "5E0"),
+        ("0E+0", number(-1, 15), "-1E-15"),
+        ("0E+0\"x\"0", number(1_000_000_000_000, 0), "1E+1x2"),
+    ];
+    for (code, value, expected) in cases {
+        assert_eq!(both_ways(code, &value), Ok(expected.to_string()), "{code}");
+    }
+    let instant = Value::Instant { day: 1, ms: 0 };
+    assert_eq!(both_ways("0E+0", &instant), Err(answer::SORT));
+}
+
+#[test]
+fn scientific_refusals() {
+    let of = |code: &str| {
+        let prepared = prepare(&units(code), 557);
+        (prepared.answer, prepared.place)
+    };
+    for code in [
+        "E+0", "0E+", ".0E+0", "0,0E+0", "0%E+0", "0E+0E+0", "0E+0.", "0E+0?", "0/0E+0", "0E+0/0",
+        "d E+0", "0E+0000,",
+    ] {
+        assert_eq!(of(code), (answer::KIND, 0), "{code}");
+    }
+    for code in ["0E0", "0e+0", "0E\"x\"+0"] {
+        assert_eq!(of(code), (answer::TOKEN, 1), "{code}");
+    }
+    assert_eq!(of("0E+0000"), (answer::LIMIT, 0));
+    assert_eq!(of("0;;;0E+0"), (answer::STANDING, 3));
+}
+
+#[test]
 fn the_table_of_one_place() {
     let prepared = prepare(&units("0"), 15);
     let words = vec![1, 2, 0, 0, 0, 0, 0, 0, 0, 15, 0, 0, 1, 4, 16];

@@ -1,4 +1,5 @@
-//! Document 01, "Tokens": a code's units read left to right, the longest token first.
+//! Document 01, "Tokens", with 02's `E+` and `E-`: a code's units read left to right, the longest
+//! token first.
 
 /// Literals that need no quotes.
 const BARE_LITERALS: &[u8] = b"$-+/():!^&'~{}<>= ";
@@ -51,6 +52,10 @@ pub enum Token {
     At,
     Semicolon,
     General,
+    /// `E+` when it shows a plus, else `E-`.
+    Exponent {
+        plus: bool,
+    },
     /// `AM/PM` when long, else `A/P`.
     HalfDay {
         long: bool,
@@ -106,6 +111,7 @@ fn first_token(rest: &[u16]) -> Option<(Token, usize)> {
         b'@' => single(Token::At),
         b';' => single(Token::Semicolon),
         b'G' => starts_with(rest, "General").then_some((Token::General, 7)),
+        b'E' => exponent(rest),
         b'A' => half_day(rest),
         b'y' | b'm' | b'd' | b'h' | b's' => run(rest),
         b'[' => bracket(rest),
@@ -129,6 +135,15 @@ fn quoted(rest: &[u16]) -> Option<(Token, usize)> {
         return None;
     }
     Some((Token::Quoted(rest[1..=length].to_vec()), length + 2))
+}
+
+fn exponent(rest: &[u16]) -> Option<(Token, usize)> {
+    let plus = match byte(*rest.get(1)?) {
+        b'+' => true,
+        b'-' => false,
+        _ => return None,
+    };
+    Some((Token::Exponent { plus }, 2))
 }
 
 fn half_day(rest: &[u16]) -> Option<(Token, usize)> {
