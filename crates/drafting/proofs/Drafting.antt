@@ -1,9 +1,9 @@
 -- What a section's tokens and items say of it is what its draft tells.
 -- Assumes nothing.
-use Prim.Native.Nat.{ℕ, zero, suc, _+_, _-_, _*_, _/_, _≤_, _<_}
+use Prim.Native.Nat.{ℕ, zero, suc, _+_, _-_, _*_, _/_, _%_, _≤_, _<_}
 use native.Mathlib.Omega.{arith}
 use mathlib.Core.Path.{_≡_, refl, sym, _∙_, ap}
-use mathlib.Core.Bool.{Bool, true, false, _&&_, true≢false}
+use mathlib.Core.Bool.{true, false, _&&_, true≢false}
 use mathlib.Core.List.{List, []}
 use mathlib.Core.Option.{some}
 use native.Mathlib.Decide.{decLe}
@@ -12,13 +12,13 @@ use lib.Seq.{take-all}
 use lib.Dec.{T, leb→le, ltb, eqb}
 use Rattle.calendar.specs.Names.{units}
 use Rattle.lists.specs.Lists.{any, count, isSome}
-use Rattle.lists.proofs.Bools.{and-left, and-right, true-T, cond-both, by-cases}
+use Rattle.lists.proofs.Bools.{and-left, and-right, and-parts, true-T, cond-both, by-cases}
 use Rattle.formats.specs.Tokens.{Token, Written, startsWith, conditionInside}
 use Rattle.formats.specs.Items.{Item, sameKind, dateKind, settled}
 use Rattle.formats.specs.Kinds.{isComma, isFillToken, Parts, partsOf, conditionOf, sectionOf, fits, commasFit, bodyKind, bodyItems, lastFill}
 use Rattle.formats.specs.Limits.{writtenWithin, sectionWithin, withinLimits}
 use Rattle.tables.specs.Words.{Entry, entriesIn}
-use Rattle.tables.specs.Encode.{operatorWord, negativeWord, wholePart, millionthsPart, bit, entriesOf, shiftWord}
+use Rattle.tables.specs.Encode.{operatorWord, negativeWord, wholePart, millionthsPart, bit, lowWord, highWord, entriesOf, shiftWord}
 use Rattle.tables.specs.Decode.{itemsAt}
 use Rattle.tables.specs.Standing.{shiftOf}
 use Rattle.tables.proofs.Words.{length-entries, entries-in-words}
@@ -40,6 +40,7 @@ use Rattle.tallies.specs.declared.Tally.{Tally}
 use Rattle.tallies.specs.Tally.{tallyOf, kindTold, withinTold}
 use Rattle.tallies.proofs.Told.{percents-are, half-told, items-fit-told, within-told, decimals-told, section-kind-told}
 use Rattle.drafting.specs.declared.Body.{Body}
+use Rattle.drafting.specs.declared.Draft.{Draft}
 use Rattle.drafting.specs.Draft.{bodyWords, ConditionAs, headingCondition, noCondition, thousandsBy, fitsBy, bodyBy, BodyOf, DraftOf, shiftTold}
 use Rattle.drafting.proofs.Settled.{entries-many, put-read}
 use borrow.Author.Tests.{lt-ltb}
@@ -181,6 +182,20 @@ pub part-short : (ws : List ℕ) (n m : ℕ) → length ws ≤ 762 → length (t
 part-short ws n m h = rw (length-take n (drop m ws), length-drop m ws) (omega arith)
 
 -- ---- the section
+abbrev pub draftBy : ℕ → Compared → Body → Draft
+draftBy colour w b =
+    record {
+      colour = colour;
+      operator = w .operator;
+      negative = w .negative;
+      «whole_low» = w .whole % 65536;
+      «whole_high» = w .whole / 65536;
+      «millionths_low» = w .millionths % 65536;
+      «millionths_high» = w .millionths / 65536;
+      within = w .within && b .within;
+      body = b;
+    }
+
 module _ (code ws : List ℕ) (h : Heading) (head : HeadingOf ws h) where
   abbrev tokens : List Token
   tokens = tokensIn code ws
@@ -191,16 +206,20 @@ module _ (code ws : List ℕ) (h : Heading) (head : HeadingOf ws h) where
       rw (take-all (length ws - 3 * h .tokens) (drop (3 * h .tokens) ws) (rw (length-drop (3 * h .tokens) ws) (omega arith)), tokens-drop code ws (h .tokens), head .same code)
 
   -- the draft of a section by its heading, its condition and its body
-  pub section-drafted : (w : Compared) (b : Body) (within : Bool) → ConditionAs (headingCondition code h) w → BodyOf (partsOf tokens) b
-      → within ≡ (w .within && b .within)
-      → DraftOf (partsOf tokens) (record { colour = h .colour; within = within; condition = w; body = b })
-  unfolding headingParts headingCondition withinLimits
-  section-drafted w b within cw bw e =
+  pub section-drafted : (w : Compared) (b : Body) → ConditionAs (headingCondition code h) w → BodyOf (partsOf tokens) b → DraftOf (partsOf tokens) (draftBy (h .colour) w b)
+  unfolding headingParts headingCondition withinLimits lowWord highWord
+  section-drafted w b cw bw =
       let same = head .same code in
-      let condition : ConditionAs ((partsOf tokens) .condition) w = rw same cw in
+      let x : ConditionAs ((partsOf tokens) .condition) w = rw same cw in
+      let told : (w .within && b .within) ≡ true → w .within ≡ true = λ t. and-parts (w .within) (b .within) t .0 in
       record {
         colour = rw same;
-        within = e ∙ rw (condition .within, bw .within);
-        condition = condition;
+        operator = x .operator;
+        within = rw (x .within, bw .within);
+        negative = λ t. x .negative (told t);
+        wholeLow = λ t. ap lowWord (x .whole (told t));
+        wholeHigh = λ t. ap highWord (x .whole (told t));
+        millionthsLow = λ t. ap lowWord (x .millionths (told t));
+        millionthsHigh = λ t. ap highWord (x .millionths (told t));
         body = bw;
       }

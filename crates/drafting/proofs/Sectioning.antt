@@ -3,14 +3,15 @@
 use Prim.Native.Nat.{ℕ, zero, suc, _+_, _-_, _*_, _≤_, _<_}
 use native.Mathlib.Omega.{arith}
 use native.Mathlib.Numerals.{add-one}
-use mathlib.Core.Path.{_≡_, refl, sym, _∙_, ap}
-use mathlib.Core.Bool.{false}
+use mathlib.Core.Path.{_≡_, refl, sym, _∙_, ap, subst}
+use mathlib.Core.Bool.{Bool, true, false, cond}
 use mathlib.Core.List.{List, [], _∷_, _++_, map}
 use mathlib.Core.Option.{none}
-use lib.ListN.{length, take, drop, getD, set, length-set, length-append, length-drop, drop-of-length-le}
-use lib.Seq.{take-all, drop-cons, drop-drop}
-use lib.Dec.{T, eqb}
-use borrow.Author.Tests.{eqb-false}
+use lib.ListN.{length, take, drop, getD, set, length-append, length-take, length-drop, drop-of-length-le}
+use lib.Seq.{sets, take-all, drop-cons, drop-drop, getD-set-other, getD-take, getD-drop}
+use lib.Dec.{T, ltb, eqb}
+use borrow.Author.Tests.{eqb-false, ltb-true}
+use mir.Val.{boolByte}
 use Rattle.lists.specs.Lists.{every}
 use Rattle.lists.proofs.Bools.{by-cases}
 use Rattle.formats.specs.Tokens.{Token}
@@ -20,29 +21,48 @@ use Rattle.formats.specs.WellFormed.{itemsInAll}
 use Rattle.formats.proofs.ItemCount.{items-most}
 use Rattle.marks.specs.Marks.{tokensIn}
 use Rattle.writing.specs.Put.{Put, Rest}
-use Rattle.writing.proofs.Laws.{rest-start, rest-put, rest-done}
+use Rattle.writing.proofs.Laws.{put-size, rest-start, rest-put, rest-done}
 use Rattle.bodies.specs.Sections.{firstSection, laterSections, SectionEnd}
 use Rattle.marks.proofs.Words.{tokens-drop, tokens-take, tokens-length}
 use Rattle.bodies.proofs.Endings.{split-first}
 use Rattle.drafting.specs.declared.Draft.{Draft}
-use Rattle.drafting.specs.declared.sections.Next.{Next}
-use Rattle.drafting.specs.Draft.{bodyWords, DraftOf, Drafted, itemWords, FirstDrafted, AllDrafted, Lexes, hasDigit}
+use Rattle.drafting.specs.Draft.{bodyWords, draftWords, draftFrom, draftIn, DraftOf, Drafted, itemWords, AllDrafted, Lexes, hasDigit}
+use Rattle.drafting.proofs.Settled.{put-read}
 use Rattle.drafting.proofs.Drafting.{body-length}
-use Rattle.drafting.proofs.Digits.{digits-all, digits-drop}
+use Rattle.drafting.proofs.Digits.{digits-all, digits-drop, digits-take}
 
 abbrev noParts : Parts
 noParts = record { colour = 0; condition = none; body = [] }
 
--- ---- the first section
-module _ (code ws : List ℕ) (size : ℕ) (e : SectionEnd ws size) where
-  pub first-tokens : tokensIn code (take (3 * size) ws) ≡ take (firstSection (tokensIn code ws)) (tokensIn code ws)
-  first-tokens = tokens-take code ws size ∙ rw (e .same code)
+-- ---- the draft of a section in its room
+byte-back : (b : Bool) → eqb (boolByte b) 1 ≡ b
+byte-back true = refl
+byte-back false = refl
 
-pub first-drafted : (code part : List ℕ) (ts : List Token) (old out : List ℕ) (at size : ℕ) (d : Draft)
-    → tokensIn code part ≡ take (firstSection ts) ts → size ≡ firstSection ts → DraftOf (partsOf (tokensIn code part)) d
-    → Put old at (bodyWords ((partsOf (tokensIn code part)) .body)) (at + 2 * d .body .items) out
-    → FirstDrafted ts old at (record { draft = d; size = size }) out
-first-drafted code part ts old out at size d e s x y = record { size = s; draft = rw (← e) x; put = rw (← e) y }
+draft-back : (d : Draft) → draftFrom (d .colour) (λ j. getD (draftWords d) j 0) ≡ d
+draft-back d =
+    rw (byte-back (d .negative), byte-back (d .within), byte-back (d .body .fits), byte-back (d .body .within), byte-back (d .body .grouped), byte-back (d .body .twelve))
+
+draft-same : {c e : ℕ} {w v : ℕ → ℕ} → c ≡ e → ((j : ℕ) → j < 16 → w j ≡ v j) → draftFrom c w ≡ draftFrom e v
+draft-same {w = w} {v = v} x h =
+    let first : (j : ℕ) → cond (ltb j 16) (w j) 0 ≡ cond (ltb j 16) (v j) 0 = λ j. by-cases (ltb j 16) (λ t. rw t (h j (ltb-true j 16 t))) (λ t. rw t) in
+    λ t. draftFrom (x t) (λ j. first j t)
+
+kept-below : (vs ws : List ℕ) (at j : ℕ) → j < at → getD (sets ws at vs) j 0 ≡ getD ws j 0
+kept-below [] ws at j h = refl
+kept-below (v ∷ vs) ws at j h = kept-below vs (set ws at v) (suc at) j (omega arith) ∙ getD-set-other ws at j v 0 (λ e. omega arith)
+
+module _ {ws out : List ℕ} {r : ℕ} (k : ℕ) (d : Draft) (put : Put ws (16 * k) (draftWords d) r out) where
+  draft-kept : (i : ℕ) → i < k → draftIn out i ≡ draftIn ws i
+  draft-kept i h =
+      let kept : (j : ℕ) → j < 16 * k → getD out j 0 ≡ getD ws j 0 = λ j l. rw (put .room) (kept-below (draftWords d) ws (16 * k) j l) in
+      draft-same (kept (16 * i) (omega arith)) (λ j l. kept (j + 16 * i) (omega arith))
+
+  draft-put : 16 * k + 16 ≤ length ws → draftIn out k ≡ d
+  draft-put h =
+      let read : (j at : ℕ) → at ≡ 16 * k + j → j < 16 → getD out at 0 ≡ getD (draftWords d) j 0
+      = λ j at e l. rw (e, ← getD-drop (16 * k) out j 0, ← getD-take (r - 16 * k) (drop (16 * k) out) j 0 (omega (arith, put .next)), put-read put h) in
+      draft-same (read 0 (16 * k) (omega arith) (omega arith)) (λ j l. read j (j + 16 * k) (omega arith) l) ∙ draft-back d
 
 -- ---- the items' words of all sections
 items-length : (ps : List Parts) → length (itemWords ps) ≡ 2 * itemsInAll (map sectionOf ps)
@@ -55,12 +75,12 @@ unfolding sectionsIn
 items-room code h = omega (arith, items-length (partsIn code), items-most code)
 
 -- ---- one section more
-pub drafted-next : (ps : List Parts) (ds : List Draft) (k : ℕ) (d : Draft) → Drafted (take k ps) ds → k < length ps → k < length ds
-    → DraftOf (getD ps k noParts) d → Drafted (take (suc k) ps) (set ds k d)
-drafted-next [] ds k d a h l x = absurd (omega arith)
-drafted-next (p ∷ ps) [] k d a h l x = absurd (omega arith)
-drafted-next (p ∷ ps) (e ∷ ds) zero d a h l x = (x, tt)
-drafted-next (p ∷ ps) (e ∷ ds) (suc k) d a h l x = (a .0, drafted-next ps ds k d (a .1) (omega arith) (omega arith) x)
+drafted-next : (ps : List Parts) (ws out : List ℕ) (i k at : ℕ) → at ≡ i + k → Drafted (take k ps) i ws → k < length ps
+    → ((j : ℕ) → j < at → draftIn out j ≡ draftIn ws j) → DraftOf (getD ps k noParts) (draftIn out at) → Drafted (take (suc k) ps) i out
+drafted-next [] ws out i k at e a h kept x = absurd (omega arith)
+drafted-next (p ∷ ps) ws out i zero at e a h kept x = (subst (λ (j : ℕ). DraftOf p (draftIn out j)) (omega arith) x, tt)
+drafted-next (p ∷ ps) ws out i (suc k) at e a h kept x =
+    (subst (DraftOf p) (sym (kept i (omega arith))) (a .0), drafted-next ps ws out (i + 1) k at (omega arith) (a .1) (omega arith) kept x)
 
 first-few : (ts : List Token) → firstSection ts ≤ length ts
 unfolding firstSection
@@ -68,30 +88,29 @@ first-few [] = omega arith
 first-few (t ∷ ts) = let r = first-few ts in by-cases (isSemicolon t) (λ e. rw e (omega arith)) (λ e. rw e (omega arith))
 
 -- what the loop keeps: the sections from k on are those of the tokens from `first` on
-pub record Sectioning (code words old room : List ℕ) (ds : List Draft) (n first at k : ℕ) : Type 0 where
+pub record Sectioning (code words old room ds : List ℕ) (n first at k : ℕ) : Type 0 where
   pub small : length code ≤ 254
   pub words-small : length words ≤ 762
   pub few : n ≤ 4
   pub lexes : Lexes code words n
   pub inside : k ≤ n
-  pub size : length ds ≡ 4
+  pub size : length ds ≡ 64
   pub wide : length old ≡ 508
   pub place : k < n → 3 * first ≤ length words
   pub tokens : k < n → drop k (partsIn code) ≡ map partsOf (split (tokensIn code (drop (3 * first) words)))
-  pub done : Drafted (take k (partsIn code)) ds
+  pub done : Drafted (take k (partsIn code)) 0 ds
   pub rest : Rest old 0 (itemWords (partsIn code)) room at (itemWords (drop k (partsIn code)))
 
-pub sectioning-start : (code words old : List ℕ) (ds : List Draft) (n : ℕ)
-    → (length code ≤ 254) × (length words ≤ 762) × (length old ≡ 508) × (n ≤ 4) → Lexes code words n → length ds ≡ 4
-    → Sectioning code words old old ds n 0 0 0
+pub sectioning-start : (code words old ds : List ℕ) (n : ℕ)
+    → (length code ≤ 254) × (length words ≤ 762) × (length old ≡ 508) × (length ds ≡ 64) × (n ≤ 4) → Lexes code words n → Sectioning code words old old ds n 0 0 0
 unfolding partsIn
-sectioning-start code words old ds n h l e = record {
+sectioning-start code words old ds n h l = record {
   small = h .0;
   words-small = h .1;
-  few = h .3;
+  few = h .4;
   lexes = l;
   inside = omega arith;
-  size = e;
+  size = h .3;
   wide = h .2;
   place = λ t. omega arith;
   tokens = λ t. rw (l .same);
@@ -99,7 +118,7 @@ sectioning-start code words old ds n h l e = record {
   rest = rest-start old 0 _;
 }
 
-module _ {code words old room : List ℕ} {ds : List Draft} {n first at k : ℕ} (inv : Sectioning code words old room ds n first at k) (less : k < n) where
+module _ {code words old room ds : List ℕ} {n first at k : ℕ} (inv : Sectioning code words old room ds n first at k) (less : k < n) where
   abbrev ps : List Parts
   ps = partsIn code
 
@@ -107,12 +126,11 @@ module _ {code words old room : List ℕ} {ds : List Draft} {n first at k : ℕ}
   ts = tokensIn code (drop (3 * first) words)
 
   -- the part of the buffer that is left
-  pub left-part : tokensIn code (take (length words - 3 * first) (drop (3 * first) words)) ≡ ts
-  left-part = rw (take-all (length words - 3 * first) (drop (3 * first) words) (rw (length-drop (3 * first) words) (omega arith)))
+  abbrev left : List ℕ
+  left = take (length words - 3 * first) (drop (3 * first) words)
 
-  pub next-drafted : (r : Next) (out : List ℕ) → FirstDrafted (tokensIn code (take (length words - 3 * first) (drop (3 * first) words))) room at r out
-      → FirstDrafted ts room at r out
-  next-drafted r out d = rw left-part at d
+  left-all : left ≡ drop (3 * first) words
+  left-all = take-all (length words - 3 * first) (drop (3 * first) words) (rw (length-drop (3 * first) words) (omega arith))
 
   more : k < length ps
   more = omega (arith, inv .lexes .many)
@@ -130,14 +148,10 @@ module _ {code words old room : List ℕ} {ds : List Draft} {n first at k : ℕ}
   unfolding itemWords
   words-here = rw (drop-cons ps k noParts more, here)
 
-  -- what drafting the next section asks
-  pub next-room : at + length (bodyWords ((partsOf (take (firstSection ts) ts)) .body)) ≤ length room
+  next-room : at + length (bodyWords ((partsOf (take (firstSection ts) ts)) .body)) ≤ length room
   next-room =
       let l = ap length words-here ∙ length-append (bodyWords ((partsOf (take (firstSection ts) ts)) .body)) (itemWords (drop (suc k) ps)) in
       omega (arith, l, inv .rest .ends, inv .rest .size, inv .wide, items-room code (inv .small))
-
-  pub next-digits : T (every hasDigit ts)
-  next-digits = digits-drop code words first (rw (inv .lexes .same) (digits-all code))
 
   -- the sections behind it, where there are any
   later-split : suc k < n → eqb (firstSection ts) (length ts) ≡ false
@@ -159,32 +173,48 @@ module _ {code words old room : List ℕ} {ds : List Draft} {n first at k : ℕ}
   place-behind l =
       omega (arith, eqb-false (firstSection ts) (length ts) (later-split l), first-few ts, tokens-length code (drop (3 * first) words), length-drop (3 * first) words, inv .place less)
 
-  module _ (r : Next) (out : List ℕ) (d : FirstDrafted ts room at r out) where
-    pub next-size : 3 * r .size ≤ 762
-    next-size = omega (arith, d .size, first-few ts, tokens-length code (drop (3 * first) words), length-drop (3 * first) words, inv .words-small)
+  module _ (size : ℕ) (e : SectionEnd left size) where
+    same : size ≡ firstSection ts
+    same = e .same code ∙ rw left-all
 
-    pub next-items : at + 2 * r .draft .body .items ≤ 508
-    next-items = omega (arith, d .put .next, next-room, inv .rest .size, inv .wide)
+    part : tokensIn code (take (3 * size) left) ≡ take (firstSection ts) ts
+    part = tokens-take code left size ∙ rw (left-all, same)
 
-    pub sectioning-step : Sectioning code words old out (set ds k (r .draft)) n (first + (r .size + 1)) (at + 2 * r .draft .body .items) (k + 1)
-    sectioning-step = rw (add-one k) (record {
-      small = inv .small;
-      words-small = inv .words-small;
-      few = inv .few;
-      lexes = inv .lexes;
-      inside = omega arith;
-      size = length-set ds k (r .draft) ∙ inv .size;
-      wide = inv .wide;
-      place = λ l. rw (d .size) (place-behind l);
-      tokens = λ l. rw (d .size) (tokens-behind l);
-      done = drafted-next ps ds k (r .draft) (inv .done) more (omega (arith, inv .size, inv .few)) (rw here (d .draft));
-      rest = rest-put (rw words-here at (inv .rest)) (d .put);
-    })
+    pub next-size : 3 * size ≤ 762
+    next-size = omega (arith, same, first-few ts, tokens-length code (drop (3 * first) words), length-drop (3 * first) words, inv .words-small)
 
-pub sectioning-end : {code words old room : List ℕ} {ds : List Draft} {n first at k : ℕ} → Sectioning code words old room ds n first at k → n ≤ k
-    → AllDrafted (partsIn code) old (record { drafts = ds; words = at }) room
+    -- what drafting the next section asks
+    pub next-asks : ((length code ≤ 254) × (length (take (3 * size) left) ≤ 762) × (length room ≤ 508))
+        × ((at + length (bodyWords ((partsOf (tokensIn code (take (3 * size) left))) .body)) ≤ length room) × T (every hasDigit (tokensIn code (take (3 * size) left))))
+    next-asks = (
+      (inv .small, omega (arith, length-take (3 * size) left, next-size), omega (arith, inv .rest .size, inv .wide)),
+      (rw part next-room, digits-take code left size (rw left-all (digits-drop code words first (rw (inv .lexes .same) (digits-all code))))),
+    )
+
+    module _ (d : Draft) (out : List ℕ) (drafted : DraftOf (partsOf (tokensIn code (take (3 * size) left))) d)
+        (put : Put room at (bodyWords ((partsOf (tokensIn code (take (3 * size) left))) .body)) (at + 2 * d .body .items) out) where
+      pub next-items : at + 2 * d .body .items ≤ 508
+      next-items = omega (arith, put .next, next-asks .1 .0, inv .rest .size, inv .wide)
+
+      pub sectioning-step : {ds′ : List ℕ} {r : ℕ} → Put ds (16 * k) (draftWords d) r ds′ → Sectioning code words old out ds′ n (first + (size + 1)) (at + 2 * d .body .items) (k + 1)
+      sectioning-step {ds′} x = rw (add-one k) (record {
+        small = inv .small;
+        words-small = inv .words-small;
+        few = inv .few;
+        lexes = inv .lexes;
+        inside = omega arith;
+        size = put-size x ∙ inv .size;
+        wide = inv .wide;
+        place = λ l. rw same (place-behind l);
+        tokens = λ l. rw same (tokens-behind l);
+        done = drafted-next ps ds ds′ 0 k k (omega arith) (inv .done) more (draft-kept k d x) (subst (DraftOf (getD ps k noParts)) (sym (draft-put k d x (omega (arith, inv .size, inv .few)))) (rw (here, ← part) drafted));
+        rest = rest-put (rw words-here at (inv .rest)) (rw part at put);
+      })
+
+pub sectioning-end : {code words old room ds : List ℕ} {n first at k : ℕ} → Sectioning code words old room ds n first at k → n ≤ k
+    → AllDrafted (partsIn code) old at room ds
 unfolding itemWords
-sectioning-end {code} {ds = ds} {k = k} inv h =
+sectioning-end {code} {k = k} inv h =
     let ps : List Parts = partsIn code in
     let all : k ≡ length ps = omega (arith, inv .inside, inv .lexes .many) in
     record {

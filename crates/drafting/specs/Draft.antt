@@ -1,29 +1,27 @@
 -- What one section of a code is drafted as, and what the tests and the heads ask of drafts.
 -- Assumes nothing.
-use Prim.Native.Nat.{ℕ, _+_, _*_}
+use Prim.Native.Nat.{ℕ, zero, suc, _+_, _*_}
 use mathlib.Core.Path.{_≡_}
 use mathlib.Core.Bool.{Bool, true, false, cond, not, _&&_, _||_}
 use mathlib.Core.List.{List, [], _∷_, _++_}
 use mathlib.Core.Option.{Option, none, some}
-use lib.ListN.{length, take}
+use lib.ListN.{length, getD}
 use lib.Dec.{eqb}
+use mir.Val.{boolByte}
 use Rattle.lists.specs.Lists.{isEmpty}
 use Rattle.formats.specs.Tokens.{Token, Written, lex}
 use Rattle.formats.specs.Items.{kindOf, settled}
 use Rattle.formats.specs.Accept.{placedOf, tokensOf, partsIn}
-use Rattle.formats.specs.Kinds.{Parts, partsOf, conditionIn, conditionOf, sectionOf, fits, bodyItems, lastFill}
+use Rattle.formats.specs.Kinds.{Parts, conditionIn, conditionOf, sectionOf, fits, bodyItems, lastFill}
 use Rattle.formats.specs.Limits.{writtenWithin, withinLimits, sectionWithin}
 use Rattle.tables.specs.Words.{entriesWords}
-use Rattle.tables.specs.Encode.{kindWord, operatorWord, negativeWord, wholePart, millionthsPart, bit, shiftWord, hasHalf, decimalsWord, entriesOf}
+use Rattle.tables.specs.Encode.{kindWord, operatorWord, negativeWord, wholePart, millionthsPart, bit, lowWord, highWord, shiftWord, hasHalf, decimalsWord, entriesOf}
 use Rattle.tables.specs.Standing.{shiftOf}
 use Rattle.marks.specs.Marks.{tokenAt, tokensIn}
 use Rattle.bodies.specs.declared.conditions.Compared.{Compared}
 use Rattle.drafting.specs.declared.Draft.{Draft}
 use Rattle.drafting.specs.declared.Body.{Body}
-use Rattle.drafting.specs.declared.sections.Next.{Next}
-use Rattle.drafting.specs.declared.sections.Drafts.{Drafts}
 use Rattle.writing.specs.Put.{Put}
-use Rattle.bodies.specs.Sections.{firstSection}
 use Rattle.bodies.specs.declared.sections.Heading.{Heading}
 use Rattle.bodies.specs.declared.facts.Facts.{Facts}
 use Rattle.bodies.specs.declared.commas.Commas.{Commas}
@@ -50,15 +48,36 @@ headingCondition code h = cond (h .condition) (conditionIn (tokenAt code 24 (h .
 abbrev pub noCondition : Compared
 noCondition = record { operator = 0; negative = false; whole = 0; millionths = 0; within = true }
 
--- the draft of no section
-abbrev pub noDraft : Draft
-noDraft =
+-- the words that tell a draft
+abbrev pub draftWords : Draft → List ℕ
+draftWords d =
+    d .colour ∷ d .operator ∷ boolByte (d .negative) ∷ d .«whole_low» ∷ d .«whole_high» ∷ d .«millionths_low» ∷ d .«millionths_high» ∷ boolByte (d .within)
+    ∷ boolByte (d .body .fits) ∷ boolByte (d .body .within) ∷ d .body .kind ∷ d .body .shift ∷ boolByte (d .body .grouped) ∷ boolByte (d .body .twelve)
+    ∷ d .body .decimals ∷ d .body .items ∷ []
+
+-- the draft that words tell, the first of them and the others by their places
+abbrev pub draftFrom : ℕ → (ℕ → ℕ) → Draft
+draftFrom colour w =
     record {
-      colour = 0;
-      within = true;
-      condition = noCondition;
-      body = record { fits = true; within = true; kind = 0; shift = 0; grouped = false; twelve = false; decimals = 0; items = 0 };
+      colour = colour;
+      operator = w 1;
+      negative = eqb (w 2) 1;
+      «whole_low» = w 3;
+      «whole_high» = w 4;
+      «millionths_low» = w 5;
+      «millionths_high» = w 6;
+      within = eqb (w 7) 1;
+      body = record { fits = eqb (w 8) 1; within = eqb (w 9) 1; kind = w 10; shift = w 11; grouped = eqb (w 12) 1; twelve = eqb (w 13) 1; decimals = w 14; items = w 15 };
     }
+
+-- the draft of section i in a room, sixteen words a section
+abbrev pub draftIn : List ℕ → ℕ → Draft
+draftIn ws i = draftFrom (getD ws (16 * i) 0) (λ j. getD ws (j + 16 * i) 0)
+
+-- the drafts of n sections there, from section i on
+unfoldable pub draftsIn : ℕ → ℕ → List ℕ → List Draft
+draftsIn zero i ws = []
+draftsIn (suc n) i ws = draftIn ws i ∷ draftsIn n (i + 1) ws
 
 -- the body of a section by its facts, its commas, the tally of its items and their count
 abbrev pub thousandsBy : Facts → Commas → ℕ
@@ -99,34 +118,32 @@ pub record BodyOf (p : Parts) (b : Body) : Type 0 where
   pub decimals : b .decimals ≡ decimalsWord (sectionOf p)
   pub items : b .items ≡ length ((sectionOf p) .items)
 
--- what a section is drafted as
+-- what a section is drafted as; its condition is only told within the limits
 pub record DraftOf (p : Parts) (d : Draft) : Type 0 where
   pub colour : d .colour ≡ p .colour
+  pub operator : d .operator ≡ operatorWord (conditionOf (p .condition))
   pub within : d .within ≡ withinLimits p
-  pub condition : ConditionAs (p .condition) (d .condition)
+  pub negative : d .within ≡ true → bit (d .negative) ≡ negativeWord (conditionOf (p .condition))
+  pub wholeLow : d .within ≡ true → d .«whole_low» ≡ lowWord (wholePart (conditionOf (p .condition)))
+  pub wholeHigh : d .within ≡ true → d .«whole_high» ≡ highWord (wholePart (conditionOf (p .condition)))
+  pub millionthsLow : d .within ≡ true → d .«millionths_low» ≡ lowWord (millionthsPart (conditionOf (p .condition)))
+  pub millionthsHigh : d .within ≡ true → d .«millionths_high» ≡ highWord (millionthsPart (conditionOf (p .condition)))
   pub body : BodyOf p (d .body)
 
--- the sections are drafted as the first of these
-abbrev pub Drafted : List Parts → List Draft → Type 0
-Drafted [] ds = Unit {0}
-Drafted (p ∷ ps) [] = ⊥
-Drafted (p ∷ ps) (d ∷ ds) = DraftOf p d × Drafted ps ds
+-- the sections are drafted in a room of words, the first of them as section i
+abbrev pub Drafted : List Parts → ℕ → List ℕ → Type 0
+Drafted [] i ws = Unit {0}
+Drafted (p ∷ ps) i ws = DraftOf p (draftIn ws i) × Drafted ps (i + 1) ws
 
 -- the words of the items of sections, one behind the other
 unfoldable pub itemWords : List Parts → List ℕ
 itemWords [] = []
 itemWords (p ∷ ps) = bodyWords (p .body) ++ itemWords ps
 
--- the first section of these tokens is drafted, and the words of its items are put
-pub record FirstDrafted (ts : List Token) (old : List ℕ) (at : ℕ) (r : Next) (out : List ℕ) : Type 0 where
-  pub size : r .size ≡ firstSection ts
-  pub draft : DraftOf (partsOf (take (firstSection ts) ts)) (r .draft)
-  pub put : Put old at (bodyWords ((partsOf (take (firstSection ts) ts)) .body)) (at + 2 * r .draft .body .items) out
-
 -- the sections of a code are drafted, and the words of their items are put
-pub record AllDrafted (ps : List Parts) (old : List ℕ) (r : Drafts) (out : List ℕ) : Type 0 where
-  pub each : Drafted ps (r .drafts)
-  pub put : Put old 0 (itemWords ps) (r .words) out
+pub record AllDrafted (ps : List Parts) (old : List ℕ) (r : ℕ) (out drafts : List ℕ) : Type 0 where
+  pub each : Drafted ps 0 drafts
+  pub put : Put old 0 (itemWords ps) r out
 
 -- the buffer holds the tokens of the code, of n sections
 pub record Lexes (code tokens : List ℕ) (n : ℕ) : Type 0 where
@@ -134,7 +151,7 @@ pub record Lexes (code tokens : List ℕ) (n : ℕ) : Type 0 where
   pub many : n ≡ length (partsIn code)
 
 abbrev pub hasConditionBy : Draft → Bool
-hasConditionBy d = not (eqb (d .condition .operator) 0)
+hasConditionBy d = not (eqb (d .operator) 0)
 
 -- ---- a condition token's units write a condition
 unfoldable pub writesDigit : Option Written → Bool

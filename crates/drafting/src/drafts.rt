@@ -199,8 +199,13 @@ pub fn draft_section(code: &[u16], part: &[u16], items: &mut [u16], at: usize) -
     let body = draft_body(code, &part[from..], items, at);
     Draft {
         colour: h.colour,
+        operator: condition.operator,
+        negative: condition.negative,
+        whole_low: (condition.whole % 65536) as u16,
+        whole_high: (condition.whole / 65536) as u16,
+        millionths_low: (condition.millionths % 65536) as u16,
+        millionths_high: (condition.millionths / 65536) as u16,
         within: condition.within & body.within,
-        condition,
         body,
     }
 }

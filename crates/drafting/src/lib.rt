@@ -2,8 +2,8 @@
 mod drafts;
 mod places;
 pub mod sections;
+pub mod words;
 
-use bodies::conditions::Compared;
 ghost use mathlib.Core.Path.{_≡_};
 ghost use Rattle.drafting.specs.Draft.{hasConditionBy};
 
@@ -19,17 +19,21 @@ pub struct Body {
     pub items: u16,
 }
 
-// A section: its colour or 0, whether it is within the limits, its condition and its body.
+// A section: its colour or 0, its condition as its head has it, whether it is within the limits, and its body.
 pub struct Draft {
     pub colour: u16,
+    pub operator: u16,
+    pub negative: bool,
+    pub whole_low: u16,
+    pub whole_high: u16,
+    pub millionths_low: u16,
+    pub millionths_high: u16,
     pub within: bool,
-    pub condition: Compared,
     pub body: Body,
 }
 
 pub fn has_condition(d: Draft) -> bool
     ensures { λ r. ⌜ r ≡ hasConditionBy d ⌝ }
 {
-    let condition = d.condition;
-    condition.operator != 0
+    d.operator != 0
 }

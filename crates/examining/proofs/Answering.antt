@@ -25,65 +25,64 @@ use Rattle.lexing.specs.declared.buffer.Filled.{Filled}
 use Rattle.lexing.specs.Buffer.{lexMeant, countOf, Fills, semicolonsIn}
 use Rattle.lexing.proofs.Semicolons.{semicolons-in}
 use Rattle.writing.proofs.Laws.{put-size}
-use Rattle.drafting.specs.declared.sections.Drafts.{Drafts}
 use Rattle.examining.specs.declared.Examined.{Examined}
-use Rattle.drafting.specs.Draft.{itemWords, AllDrafted, Lexes}
+use Rattle.drafting.specs.Draft.{draftsIn, itemWords, AllDrafted, Lexes}
 use Rattle.examining.specs.Examine.{passesBy, foundBelow, verdictOf, sectionsVerdict, ExaminedAs, Buffered}
 use Rattle.drafting.proofs.Settled.{put-read}
 use Rattle.drafting.proofs.Sectioning.{items-room}
 use Rattle.examining.proofs.Refusing.{kind-told, where-told, limit-told}
 
 -- ---- a refusal
-pub examined-refused : (code tokens out : List ℕ) (r : Examined) (a : Answer) (k : ℕ) → (r .answer ≡ a) × (r .place ≡ k) → eqb (numberOf a) 0 ≡ false
-    → verdict code ≡ refused a k → ExaminedAs code tokens r out
+pub examined-refused : (code tokens out drafts : List ℕ) (r : Examined) (a : Answer) (k : ℕ) → (r .answer ≡ a) × (r .place ≡ k) → eqb (numberOf a) 0 ≡ false
+    → verdict code ≡ refused a k → ExaminedAs code tokens r out drafts
 unfolding verdictOf
-examined-refused code tokens out r a k e z v = record {
+examined-refused code tokens out drafts r a k e z v = record {
   told = rw (e .0, e .1, z) (sym v);
   sound = λ t. absurd (true≢false (sym (eq-eqb (numberOf a) 0 (sym (ap numberOf (e .0)) ∙ t)) ∙ z));
 }
 
 -- ---- 4, 5 and 6
-module _ (code : List ℕ) (v : verdict code ≡ sectionsVerdict code) {old out : List ℕ} (r : Drafts) (d : AllDrafted (partsIn code) old r out)
+module _ (code : List ℕ) (v : verdict code ≡ sectionsVerdict code) {old out drafts : List ℕ} (words : ℕ) (d : AllDrafted (partsIn code) old words out drafts)
     (n : ℕ) (many : n ≡ length (partsIn code)) where
   abbrev found : ℕ → ℕ → Type 0
-  found test k = firstFailing (passesBy test n) 0 (take n (r .drafts)) ≡ foundBelow n k
+  found test k = firstFailing (passesBy test n) 0 (draftsIn n 0 drafts) ≡ foundBelow n k
 
   pub verdict-kind : (k : ℕ) → found 4 k → k < n → verdict code ≡ refused answer.Kind k
   unfolding sectionsVerdict orElse
-  verdict-kind k e l = v ∙ rw (kind-told (partsIn code) (r .drafts) (d .each) n k many e, lt-ltb k n l)
+  verdict-kind k e l = v ∙ rw (kind-told (partsIn code) drafts (d .each) n k many e, lt-ltb k n l)
 
   module _ (j : ℕ) (kinds : found 4 j) (kinds-none : n ≤ j) where
     kinds-fine : kindVerdict (partsIn code) ≡ fine
-    kinds-fine = kind-told (partsIn code) (r .drafts) (d .each) n j many kinds ∙ rw (le-ltb j n kinds-none)
+    kinds-fine = kind-told (partsIn code) drafts (d .each) n j many kinds ∙ rw (le-ltb j n kinds-none)
 
     pub verdict-where : (k : ℕ) → found 5 k → k < n → verdict code ≡ refused answer.Standing k
     unfolding sectionsVerdict orElse sectionsIn
-    verdict-where k e l = v ∙ rw (kinds-fine, where-told (partsIn code) (r .drafts) (d .each) n k many e, lt-ltb k n l)
+    verdict-where k e l = v ∙ rw (kinds-fine, where-told (partsIn code) drafts (d .each) n k many e, lt-ltb k n l)
 
     module _ (i : ℕ) (stand : found 5 i) (stand-none : n ≤ i) where
       stands-fine : whereVerdict (sectionsIn code) ≡ fine
       unfolding sectionsIn
-      stands-fine = where-told (partsIn code) (r .drafts) (d .each) n i many stand ∙ rw (le-ltb i n stand-none)
+      stands-fine = where-told (partsIn code) drafts (d .each) n i many stand ∙ rw (le-ltb i n stand-none)
 
       pub verdict-limit : (k : ℕ) → found 6 k → k < n → verdict code ≡ refused answer.Limit k
       unfolding sectionsVerdict orElse
-      verdict-limit k e l = v ∙ rw (kinds-fine, stands-fine, limit-told (partsIn code) (r .drafts) (d .each) n k many e, lt-ltb k n l)
+      verdict-limit k e l = v ∙ rw (kinds-fine, stands-fine, limit-told (partsIn code) drafts (d .each) n k many e, lt-ltb k n l)
 
       pub examined-done : (k : ℕ) → found 6 k → n ≤ k → n ≤ 4 → length old ≡ 508 → (tokens : List ℕ) (count : ℕ) → Buffered code tokens count
-          → ExaminedAs code tokens (record { answer = answer.Done; place = 0; tokens = count; sections = n; words = r .words; drafts = r .drafts }) out
+          → ExaminedAs code tokens (record { answer = answer.Done; place = 0; tokens = count; sections = n; words = words }) out drafts
       unfolding sectionsVerdict orElse verdictOf
       examined-done k e l few wide tokens count b =
-          let size : r .words ≡ 0 + length (itemWords (partsIn code)) = d .put .next in
+          let size : words ≡ 0 + length (itemWords (partsIn code)) = d .put .next in
           let room = items-room code (b .small) in
           record {
-            told = sym (v ∙ rw (kinds-fine, stands-fine, limit-told (partsIn code) (r .drafts) (d .each) n k many e, le-ltb k n l));
+            told = sym (v ∙ rw (kinds-fine, stands-fine, limit-told (partsIn code) drafts (d .each) n k many e, le-ltb k n l));
             sound = λ t.
                 record {
                   buffered = rw (take-all (3 * count) tokens (omega (arith, b .size))) b;
                   many = many;
                   few = few;
                   each = d .each;
-                  words = let z : r .words - 0 ≡ r .words = omega arith in rw z at (put-read (d .put) (omega arith));
+                  words = let z : words - 0 ≡ words = omega arith in rw z at (put-read (d .put) (omega arith));
                   short = omega arith;
                   room = omega (arith, put-size (d .put));
                 };
@@ -149,8 +148,8 @@ module _ (code old words : List ℕ) (r : Filled) (f : Fills code old words r) w
   filled-bad k e fair = let same : lexMeant code words (Bad k) ≡ lex code = rw e at (f .same) in rw (fair, ← same)
 
 -- what was told of the first words holds of all
-pub examined-front : (code words out : List ℕ) (r : Examined) (k : ℕ) → ExaminedAs code (take k words) r out → ExaminedAs code words r out
-examined-front code words out r k x = record {
+pub examined-front : (code words out drafts : List ℕ) (r : Examined) (k : ℕ) → ExaminedAs code (take k words) r out drafts → ExaminedAs code words r out drafts
+examined-front code words out drafts r k x = record {
   told = x .told;
   sound = λ t.
       let s = x .sound t in
@@ -180,11 +179,11 @@ unfolding lengthVerdict
 length-fair code z h = rw (ne-eqb (length code) 0 z, le-ltb 254 (length code) h)
 
 -- ---- from what examining told
-pub examined-no : (code tokens : List ℕ) (r : Examined) (out : List ℕ) (n : ℕ) → ExaminedAs code tokens r out → n ≡ numberOf (r .answer) → (n ≡ 0 → ⊥)
+pub examined-no : (code tokens : List ℕ) (r : Examined) (out drafts : List ℕ) (n : ℕ) → ExaminedAs code tokens r out drafts → n ≡ numberOf (r .answer) → (n ≡ 0 → ⊥)
     → verdict code ≡ refused (r .answer) (r .place)
 unfolding verdictOf
-examined-no code tokens r out n x e z = sym (x .told) ∙ rw (ne-eqb (numberOf (r .answer)) 0 (λ t. z (e ∙ t)))
+examined-no code tokens r out drafts n x e z = sym (x .told) ∙ rw (ne-eqb (numberOf (r .answer)) 0 (λ t. z (e ∙ t)))
 
-pub examined-fine : (code tokens : List ℕ) (r : Examined) (out : List ℕ) (n : ℕ) → ExaminedAs code tokens r out → n ≡ numberOf (r .answer) → n ≡ 0 → verdict code ≡ fine
+pub examined-fine : (code tokens : List ℕ) (r : Examined) (out drafts : List ℕ) (n : ℕ) → ExaminedAs code tokens r out drafts → n ≡ numberOf (r .answer) → n ≡ 0 → verdict code ≡ fine
 unfolding verdictOf
-examined-fine code tokens r out n x e z = sym (x .told) ∙ rw (eq-eqb (numberOf (r .answer)) 0 (sym e ∙ z))
+examined-fine code tokens r out drafts n x e z = sym (x .told) ∙ rw (eq-eqb (numberOf (r .answer)) 0 (sym e ∙ z))

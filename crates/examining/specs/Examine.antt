@@ -45,15 +45,15 @@ pub record Buffered (code tokens : List ℕ) (n : ℕ) : Type 0 where
   pub fair : lengthVerdict code ≡ fine
 
 -- the tokens of a code that is fine, and its sections as drafts, with the words of their items
-pub record Sound (code tokens : List ℕ) (r : Examined) (out : List ℕ) : Type 0 where
+pub record Sound (code tokens : List ℕ) (r : Examined) (out drafts : List ℕ) : Type 0 where
   pub buffered : Buffered code (take (3 * r .tokens) tokens) (r .tokens)
   pub many : r .sections ≡ length (partsIn code)
   pub few : r .sections ≤ 4
-  pub each : Drafted (partsIn code) (r .drafts)
+  pub each : Drafted (partsIn code) 0 drafts
   pub words : take (r .words) out ≡ itemWords (partsIn code)
   pub short : r .words ≤ 508
   pub room : r .words ≤ length out
 
-pub record ExaminedAs (code tokens : List ℕ) (r : Examined) (out : List ℕ) : Type 0 where
+pub record ExaminedAs (code tokens : List ℕ) (r : Examined) (out drafts : List ℕ) : Type 0 where
   pub told : verdictOf (r .answer) (r .place) ≡ verdict code
-  pub sound : numberOf (r .answer) ≡ 0 → Sound code tokens r out
+  pub sound : numberOf (r .answer) ≡ 0 → Sound code tokens r out drafts

@@ -2,9 +2,7 @@
 mod verdicts;
 
 use answers::Answer;
-use drafting::Draft;
 use drafting::sections::draft_all;
-use drafting::sections::no_draft;
 use lexing::buffer::Filled;
 use lexing::buffer::fill;
 use lexing::buffer::semicolon_count;
@@ -20,28 +18,24 @@ ghost use Rattle.formats.specs.Accept.{verdict};
 ghost use Rattle.drafting.specs.Draft.{Lexes};
 ghost use Rattle.examining.specs.Examine.{sectionsVerdict, Buffered, ExaminedAs};
 
-// An answer and its place; where it is `Done`, how many tokens and sections there are, how many words the items have, and the
-// sections' drafts.
+// An answer and its place; where it is `Done`, how many tokens and sections there are, and how many words the items have.
 pub struct Examined {
     pub answer: Answer,
     pub place: u32,
     pub tokens: usize,
     pub sections: usize,
     pub words: usize,
-    pub drafts: [Draft; 4],
 }
 
 fn refused(answer: Answer, place: u32) -> Examined
     ensures { λ r. ⌜ (r .answer ≡ answer) × (r .place ≡ place) ⌝ }
 {
-    let drafts = [no_draft(); 4];
     Examined {
         answer,
         place,
         tokens: 0,
         sections: 0,
         words: 0,
-        drafts,
     }
 }
 
@@ -52,15 +46,15 @@ fn examine_sections(
     count: usize,
     n: usize,
     items: &mut [u16],
+    drafts: &mut [u16],
 ) -> Examined
-    requires { ⌜ (length (now items) ≡ 508) × (n ≤ 4) ⌝ }
+    requires { ⌜ (length (now items) ≡ 508) × (length (now drafts) ≡ 64) × (n ≤ 4) ⌝ }
     requires { ⌜ Buffered (now code) (now tokens) count ⌝ }
     requires { ⌜ Lexes (now code) (now tokens) n ⌝ }
     requires { ⌜ verdict (now code) ≡ sectionsVerdict (now code) ⌝ }
-    ensures { λ r. ⌜ ExaminedAs (now (code .entry)) (now (tokens .entry)) r (now (items .exit)) ⌝ }
+    ensures { λ r. ⌜ ExaminedAs (now (code .entry)) (now (tokens .entry)) r (now (items .exit)) (now (drafts .exit)) ⌝ }
 {
-    let d = draft_all(code, tokens, n, items);
-    let drafts = d.drafts;
+    let words = draft_all(code, tokens, n, items, drafts);
     let unfit = first_failing(drafts, n, KIND);
     if unfit < n {
         return refused(Answer::Kind, unfit as u32);
@@ -78,29 +72,34 @@ fn examine_sections(
         place: 0,
         tokens: count,
         sections: n,
-        words: d.words,
-        drafts,
+        words,
     }
 }
 
 // The tests from 3 on of a code whose `count` tokens these are.
-fn examine_tokens(code: &[u16], tokens: &[u16], count: usize, items: &mut [u16]) -> Examined
-    requires { ⌜ length (now items) ≡ 508 ⌝ }
+fn examine_tokens(
+    code: &[u16],
+    tokens: &[u16],
+    count: usize,
+    items: &mut [u16],
+    drafts: &mut [u16],
+) -> Examined
+    requires { ⌜ (length (now items) ≡ 508) × (length (now drafts) ≡ 64) ⌝ }
     requires { ⌜ Buffered (now code) (now tokens) count ⌝ }
-    ensures { λ r. ⌜ ExaminedAs (now (code .entry)) (now (tokens .entry)) r (now (items .exit)) ⌝ }
+    ensures { λ r. ⌜ ExaminedAs (now (code .entry)) (now (tokens .entry)) r (now (items .exit)) (now (drafts .exit)) ⌝ }
 {
     let semicolons = semicolon_count(tokens, count);
     if 3 < semicolons {
         let place = semicolon_place(tokens, count, 3);
         return refused(Answer::SectionCount, place as u32);
     }
-    examine_sections(code, tokens, count, semicolons + 1, items)
+    examine_sections(code, tokens, count, semicolons + 1, items, drafts)
 }
 
-// Examines a code, with 762 words of room for its tokens and 508 for its items.
-pub fn examine(code: &[u16], tokens: &mut [u16], items: &mut [u16]) -> Examined
-    requires { ⌜ (length (now tokens) ≡ 762) × (length (now items) ≡ 508) ⌝ }
-    ensures { λ r. ⌜ ExaminedAs (now (code .entry)) (now (tokens .exit)) r (now (items .exit)) ⌝ }
+// Examines a code, with 762 words of room for its tokens, 508 for its items and 64 for its drafts.
+pub fn examine(code: &[u16], tokens: &mut [u16], items: &mut [u16], drafts: &mut [u16]) -> Examined
+    requires { ⌜ (length (now tokens) ≡ 762) × (length (now items) ≡ 508) × (length (now drafts) ≡ 64) ⌝ }
+    ensures { λ r. ⌜ ExaminedAs (now (code .entry)) (now (tokens .exit)) r (now (items .exit)) (now (drafts .exit)) ⌝ }
 {
     if code.len() == 0 {
         return refused(Answer::CodeLength, 0);
@@ -111,7 +110,7 @@ pub fn examine(code: &[u16], tokens: &mut [u16], items: &mut [u16]) -> Examined
     match fill(code, tokens) {
         Filled::All(count) => {
             let end = 3 * count;
-            examine_tokens(code, &tokens[..end], count, items)
+            examine_tokens(code, &tokens[..end], count, items, drafts)
         }
         Filled::Bad(k) => refused(Answer::Token, k as u32),
     }

@@ -1,13 +1,14 @@
 // The tests on the drafts of a code's sections.
 use drafting::Draft;
 use drafting::has_condition;
+use drafting::words::draft_at;
 use tables::kinds;
 ghost use mathlib.Core.Path.{_≡_};
 ghost use Prim.Native.Nat.{_+_, _≤_};
-ghost use lib.ListN.{take};
+ghost use lib.ListN.{length};
 ghost use Rattle.lists.specs.Lists.{firstFailing};
 ghost use Rattle.tables.specs.Standing.{headStands};
-ghost use Rattle.drafting.specs.Draft.{hasConditionBy};
+ghost use Rattle.drafting.specs.Draft.{draftsIn, hasConditionBy};
 ghost use Rattle.examining.specs.Examine.{passesBy, foundBelow};
 
 // The tests of a section, by the numbers of their answers.
@@ -52,13 +53,13 @@ fn passes(d: Draft, test: u16, n: usize, i: usize) -> bool
 }
 
 // The place of the first of n sections that fails a test, or n.
-pub fn first_failing(drafts: [Draft; 4], n: usize, test: u16) -> usize
-    requires { ⌜ n ≤ 4 ⌝ }
-    ensures { λ r. ⌜ firstFailing (passesBy test n) 0 (take n drafts) ≡ foundBelow n r ⌝ }
+pub fn first_failing(drafts: &[u16], n: usize, test: u16) -> usize
+    requires { ⌜ (n ≤ 4) × (length (now drafts) ≡ 64) ⌝ }
+    ensures { λ r. ⌜ firstFailing (passesBy test n) 0 (draftsIn n 0 (now (drafts .entry))) ≡ foundBelow n r ⌝ }
 {
     let mut place: usize = 0;
     while place < n {
-        if !passes(drafts[place], test, n, place) {
+        if !passes(draft_at(drafts, place), test, n, place) {
             return place;
         }
         place += 1;

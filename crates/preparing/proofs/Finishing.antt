@@ -3,7 +3,8 @@
 use Prim.Native.Nat.{ℕ, _+_, _*_, _≤_, _<_}
 use native.Mathlib.Omega.{arith}
 use mathlib.Core.Path.{_≡_, sym, _∙_, ap}
-use mathlib.Core.List.{List, [], _∷_}
+use mathlib.Core.Bool.{Bool}
+use mathlib.Core.List.{List}
 use lib.ListN.{length, take, length-append, length-map}
 use lib.Seq.{sets, length-take-le}
 use lib.Dec.{T}
@@ -13,7 +14,7 @@ use Rattle.answers.specs.declared.Answer.the-variants as answer
 use Rattle.answers.specs.Number.{donePrepared, refusedPrepared}
 use Rattle.lists.specs.Lists.{every, overlay}
 use Rattle.lists.proofs.First.{none-every}
-use Rattle.formats.specs.Kinds.{Parts, sectionOf}
+use Rattle.formats.specs.Kinds.{sectionOf}
 use Rattle.formats.specs.Limits.{withinLimits}
 use Rattle.formats.specs.Accept.{partsIn, sectionsIn, fine, refused, limitVerdict, verdict, sections, acceptedBy, accept}
 use Rattle.formats.proofs.First.{verdict-fine, fine-none}
@@ -24,8 +25,8 @@ use Rattle.writing.specs.Put.{Put}
 use Rattle.writing.proofs.Laws.{sets-overlay}
 use Rattle.drafting.specs.declared.Draft.{Draft}
 use Rattle.examining.specs.declared.Examined.{Examined}
-use Rattle.drafting.specs.Draft.{Drafted}
-use Rattle.preparing.specs.Table.{countedBy, firstBy, headsBy, tableBy}
+use Rattle.drafting.specs.Draft.{draftIn, draftsIn, hasConditionBy}
+use Rattle.preparing.specs.Table.{countedBy, headsBy, tableBy}
 use Rattle.examining.specs.Examine.{Sound}
 use Rattle.preparing.proofs.Tabling.{heads-size, table-same}
 
@@ -44,33 +45,27 @@ all-within : (code : List ℕ) → verdict code ≡ fine → T (every withinLimi
 unfolding limitVerdict
 all-within code v = none-every withinLimits 0 (partsIn code) (fine-none answer.Limit _ (verdict-fine code v .limits-fine))
 
-drafted-length : (ps : List Parts) (ds : List Draft) → Drafted ps ds → length ps ≤ length ds
-drafted-length [] ds h = omega arith
-drafted-length (p ∷ ps) [] h = absurd h
-drafted-length (p ∷ ps) (d ∷ ds) h = omega (arith, drafted-length ps ds (h .1))
-
-module _ (code : List ℕ) (v : verdict code ≡ fine) {tokens : List ℕ} (r : Examined) (out : List ℕ) (s : Sound code tokens r out) where
+module _ (code : List ℕ) (v : verdict code ≡ fine) {tokens : List ℕ} (r : Examined) (out drafts : List ℕ) (s : Sound code tokens r out drafts) where
   one-least : 1 ≤ r .sections
   unfolding sectionsIn
   one-least = omega (arith, s .many, section-count code, length-map (partsIn code) sectionOf)
 
   abbrev table : List ℕ
-  table = tableBy (r .sections) (r .drafts) (take (r .words) out)
+  table = tableBy (r .sections) drafts (take (r .words) out)
 
   table-is : table ≡ encode (sectionsIn code)
   unfolding sectionsIn
-  table-is = rw (s .words) (table-same (partsIn code) (r .drafts) (r .sections) (s .many) one-least (s .each) (all-within code v))
+  table-is = rw (s .words) (table-same (partsIn code) drafts (r .sections) (s .many) one-least (s .each) (all-within code v))
 
   table-size : length table ≡ 1 + 12 * r .sections + r .words
   unfolding tableBy
   table-size =
-      let ds : List Draft = take (r .sections) (r .drafts) in
-      let hs : List ℕ = headsBy (countedBy 0 ds) (firstBy (r .drafts)) 0 ds in
+      let ds : List Draft = draftsIn (r .sections) 0 drafts in
+      let first : Bool = hasConditionBy (draftIn drafts 0) in
       omega (
         arith,
-        length-append hs (take (r .words) out),
-        heads-size (countedBy 0 ds) (firstBy (r .drafts)) 0 ds,
-        length-take-le (r .sections) (r .drafts) (omega (arith, s .many, drafted-length (partsIn code) (r .drafts) (s .each))),
+        length-append (headsBy (countedBy 0 ds) first 0 ds) (take (r .words) out),
+        heads-size (countedBy 0 ds) first (r .sections) 0 drafts,
         length-take-le (r .words) out (s .room),
       )
 
@@ -95,7 +90,7 @@ module _ (code : List ℕ) (v : verdict code ≡ fine) {tokens : List ℕ} (r : 
     done-prepared old h = rw (accepted, long, le-leb size old h)
 
     pub done-table : (old new words : List ℕ) (k : ℕ) → size ≤ length old → words ≡ take (r .words) out
-        → Put old 0 (tableBy (r .sections) (r .drafts) words) k new → new ≡ tableAfter code old
+        → Put old 0 (tableBy (r .sections) drafts words) k new → new ≡ tableAfter code old
     unfolding tableAfter tableOf wordsOf written
     done-table old new words k h e put =
         let fits : length (encode (sectionsIn code)) ≤ length old = omega (arith, long) in

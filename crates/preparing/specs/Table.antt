@@ -1,15 +1,14 @@
 -- The words of a table, from the drafts of a code's sections.
 -- Assumes nothing.
 use Prim.Native.Nat.{ℕ, _+_}
-use mathlib.Core.Bool.{Bool, false}
+use mathlib.Core.Bool.{Bool}
 use mathlib.Core.List.{List, [], _∷_, _++_, map}
-use lib.ListN.{take}
 use Rattle.formats.specs.Minus.{exceptionA}
 use Rattle.tables.specs.Words.{Head, headWords}
-use Rattle.tables.specs.Encode.{lowWord, highWord, bit, flagsWord}
+use Rattle.tables.specs.Encode.{bit, flagsWord}
 use Rattle.tables.specs.Standing.{countedKinds}
 use Rattle.drafting.specs.declared.Draft.{Draft}
-use Rattle.drafting.specs.Draft.{hasConditionBy}
+use Rattle.drafting.specs.Draft.{draftIn, draftsIn, hasConditionBy}
 
 abbrev pub draftKind : Draft → ℕ
 draftKind d = d .body .kind
@@ -23,12 +22,12 @@ headBy n i firstHas d =
     record {
       kind = d .body .kind;
       colour = d .colour;
-      operator = d .condition .operator;
-      negative = bit (d .condition .negative);
-      wholeLow = lowWord (d .condition .whole);
-      wholeHigh = highWord (d .condition .whole);
-      millionthsLow = lowWord (d .condition .millionths);
-      millionthsHigh = highWord (d .condition .millionths);
+      operator = d .operator;
+      negative = bit (d .negative);
+      wholeLow = d .«whole_low»;
+      wholeHigh = d .«whole_high»;
+      millionthsLow = d .«millionths_low»;
+      millionthsHigh = d .«millionths_high»;
       shift = d .body .shift;
       flags = flagsWord (d .body .grouped) (exceptionA n i (hasConditionBy d) firstHas) (d .body .twelve);
       decimals = d .body .decimals;
@@ -40,10 +39,6 @@ unfoldable pub headsBy : ℕ → Bool → ℕ → List Draft → List ℕ
 headsBy n firstHas i [] = []
 headsBy n firstHas i (d ∷ ds) = headWords (headBy n i firstHas d) [] ++ headsBy n firstHas (i + 1) ds
 
-unfoldable pub firstBy : List Draft → Bool
-firstBy [] = false
-firstBy (d ∷ ds) = hasConditionBy d
-
--- the table of n drafts whose items have these words
-unfoldable pub tableBy : ℕ → List Draft → List ℕ → List ℕ
-tableBy n ds words = n ∷ (headsBy (countedBy 0 (take n ds)) (firstBy ds) 0 (take n ds) ++ words)
+-- the table of n drafts in a room whose items have these words
+unfoldable pub tableBy : ℕ → List ℕ → List ℕ → List ℕ
+tableBy n ws words = n ∷ (headsBy (countedBy 0 (draftsIn n 0 ws)) (hasConditionBy (draftIn ws 0)) 0 (draftsIn n 0 ws) ++ words)

@@ -20,7 +20,8 @@ pub fn prepare(code: &[u16], table: &mut [u16]) -> Prepared
 {
     let mut tokens = [0u16; 762];
     let mut items = [0u16; 508];
-    let e = examine(code, &mut tokens, &mut items);
+    let mut drafts = [0u16; 64];
+    let e = examine(code, &mut tokens, &mut items, &mut drafts);
     let answer = e.answer;
     if number(answer) != 0 {
         return refused_prepared(answer, e.place);
@@ -30,7 +31,6 @@ pub fn prepare(code: &[u16], table: &mut [u16]) -> Prepared
     if table.len() < size {
         return refused_prepared(Answer::TableRoom, 0);
     }
-    let drafts = e.drafts;
-    put_table(table, drafts, e.sections, &items[..end]);
+    put_table(table, &drafts, e.sections, &items[..end]);
     done_prepared(size as u32)
 }

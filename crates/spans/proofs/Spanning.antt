@@ -135,7 +135,7 @@ module _ (code : List ℕ) (n : ℕ) where
   unfolding sectionSpan
   section-fine v r s = rw v s
 
-  module _ (tokens : List ℕ) (r : Examined) (out : List ℕ) (s : Sound code tokens r out) where
+  module _ (tokens : List ℕ) (r : Examined) (out drafts : List ℕ) (s : Sound code tokens r out drafts) where
     many-sections : r .sections ≡ 1 + length (semicolons (placedOf (lex code)))
     unfolding sectionsIn
     many-sections = omega (arith, s .many, section-count code, length-map (partsIn code) sectionOf)

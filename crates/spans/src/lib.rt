@@ -70,7 +70,8 @@ pub fn section_span(code: &[u16], n: usize) -> SectionSpan
 {
     let mut tokens = [0u16; 762];
     let mut items = [0u16; 508];
-    let e = examine(code, &mut tokens, &mut items);
+    let mut drafts = [0u16; 64];
+    let e = examine(code, &mut tokens, &mut items, &mut drafts);
     let answer = e.answer;
     if number(answer) != 0 {
         return empty_start();

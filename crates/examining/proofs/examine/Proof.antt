@@ -17,7 +17,7 @@ use Rattle.examining.proofs.examine.Tie as tie
 -- what filling left, of a code of a length that is fine
 module _ (f : tie.After-fill) where
   abbrev code : List ℕ
-  code = now (f .before .before .before .before .before .before .before .args .code)
+  code = now (f .before .before .before .before .before .before .before .before .args .code)
 
   small : length code ≤ 254
   small = f .before .before .if2 .left
@@ -30,13 +30,13 @@ module _ (f : tie.After-fill) where
     few = filled-few _ _ _ _ (f .fill .ensures) n e
 
     buffered : Buffered code (take (3 * n) (f .fill .last .1 .0)) n
-    buffered = filled-all _ _ _ _ (f .fill .ensures) n e small (f .before .before .before .before .before .before .before .pre .0) fair
+    buffered = filled-all _ _ _ _ (f .fill .ensures) n e small (f .before .before .before .before .before .before .before .before .pre .0) fair
 
 returns : tie.Need-returns
-returns c = examined-refused _ _ _ _ _ _ (c .refused .ensures) refl (length-none _ (c .before .if1 .taken))
+returns c = examined-refused _ _ _ _ _ _ _ (c .refused .ensures) refl (length-none _ (c .before .if1 .taken))
 
 returns-2 : tie.Need-returns-2
-returns-2 c = examined-refused _ _ _ _ _ _ (c .refused2 .ensures) refl (length-over _ (c .before .if2 .taken))
+returns-2 c = examined-refused _ _ _ _ _ _ _ (c .refused2 .ensures) refl (length-over _ (c .before .if2 .taken))
 
 mul-end : tie.Need-mul-end
 mul-end c =
@@ -46,15 +46,17 @@ mul-end c =
 slice-reshare-prefix-examine-tokens : tie.Need-slice-reshare-prefix-examine-tokens
 slice-reshare-prefix-examine-tokens c =
     let f = c .before .before .before .before .before in
-    omega (arith, few f _ (c .before .count .given .1), small f, f .fill .ensures .size, f .before .before .before .before .before .before .before .pre .0)
+    omega (arith, few f _ (c .before .count .given .1), small f, f .fill .ensures .size, f .before .before .before .before .before .before .before .before .pre .0)
 
 slice-aggregate-examine-tokens : tie.Need-slice-aggregate-examine-tokens
 slice-aggregate-examine-tokens c = sym (buffered (c .before .before .before .before .before .before) _ (c .before .before .count .given .1) .size)
 
 examine-tokens-requires : tie.Need-examine-tokens-requires
 examine-tokens-requires c κs =
-    let f = c .before .before .before .before .before .before .before in
-    (f .before .before .before .before .before .before .before .pre .1, buffered f _ (c .before .before .before .count .given .1))
+    let a = c .before .before .before .before in
+    let f = a .before .before .before .before in
+    let s = f .before .before .before .before .before .before .before .before in
+    ((s .pre .1, s .pre .2), buffered f _ (a .count .given .1))
 
 cast-refused : tie.Need-cast-refused
 cast-refused c =
@@ -64,14 +66,14 @@ cast-refused c =
 
 returns-3 : tie.Need-returns-3
 returns-3 c =
-    let e = c .before .before in
-    examined-front _ _ _ _ (3 * e .before .before .before .before .count .given .0 .0) (e .examine-tokens .ensures)
+    let e = c .before .before .before .before in
+    examined-front _ _ _ _ _ (3 * e .before .before .before .before .before .count .given .0 .0) (e .examine-tokens .ensures)
 
 returns-4 : tie.Need-returns-4
 returns-4 c =
     let d = c .before in
     let f = d .before .before .before .before .before in
-    examined-refused _ _ _ _ _ _ (c .refused3 .ensures) refl (filled-bad (code f) _ _ _ (f .fill .ensures) _ (d .before .k .given .1) (fair f))
+    examined-refused _ _ _ _ _ _ _ (c .refused3 .ensures) refl (filled-bad (code f) _ _ _ (f .fill .ensures) _ (d .before .k .given .1) (fair f))
 
 pub examine-spec : {M : Type 1} → statement M
 examine-spec =
@@ -90,6 +92,7 @@ examine-spec =
     (λ c. search needs)
     cast-refused
     (λ c κs. search needs)
+    (λ c. search needs)
     (λ c. search needs)
     (λ c. search needs)
     returns-3

@@ -10,27 +10,28 @@ use Rattle.examining.proofs.examine_tokens.Tie as tie
 
 cast-refused : tie.Need-cast-refused
 cast-refused c =
-    let s = c .before .before .before .before .before .before in
+    let s = c .before .before .before .before .before .before .before in
     omega (arith, s .pre .1 .small, count-inside (now (s .args .code)) (c .semicolon-place .result) (verdict-count (now (s .args .code)) (now (s .args .tokens)) (s .args .count) (s .pre .1) (c .before .before .semicolon-count .result) (c .before .before .semicolon-count .ensures) (c .semicolon-place .result) (c .semicolon-place .ensures) (c .before .if1 .taken)))
 
 returns : tie.Need-returns
 returns c =
     let p = c .before in
-    let s = p .before .before .before .before .before .before in
-    examined-refused _ _ _ _ _ _ (c .refused .ensures) refl
+    let s = p .before .before .before .before .before .before .before in
+    examined-refused _ _ _ _ _ _ _ (c .refused .ensures) refl
     (verdict-count (now (s .args .code)) (now (s .args .tokens)) (s .args .count) (s .pre .1) _ (p .before .before .semicolon-count .ensures) _ (p .semicolon-place .ensures) (p .before .if1 .taken))
 
 examine-sections-requires : tie.Need-examine-sections-requires
 examine-sections-requires c κs =
-    let n = c .before .before in
-    let s = n .before .before .before .before in
+    let i = c .before .before in
+    let n = i .before in
+    let s = n .before .before .before .before .before in
     let b = s .pre .1 in (
-      (s .pre .0, omega (arith, c .before .if1 .left)),
+      (s .pre .0 .0, s .pre .0 .1, omega (arith, i .if1 .left)),
       (
         b,
         (
           lexes-all (now (s .args .code)) (now (s .args .tokens)) (s .args .count) b _ (n .semicolon-count .ensures),
-          verdict-sections (now (s .args .code)) (now (s .args .tokens)) (s .args .count) b _ (n .semicolon-count .ensures) (c .before .if1 .left),
+          verdict-sections (now (s .args .code)) (now (s .args .tokens)) (s .args .count) b _ (n .semicolon-count .ensures) (i .if1 .left),
         ),
       ),
     )
@@ -46,5 +47,6 @@ examine-tokens-spec =
     returns
     (λ c. search needs)
     examine-sections-requires
+    (λ c. search needs)
     (λ c. search needs)
     (λ c. search needs))

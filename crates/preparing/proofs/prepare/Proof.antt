@@ -18,18 +18,21 @@ use Rattle.preparing.proofs.prepare.Tie as tie
 -- what examining told of a code that is not refused
 module _ (k : tie.Else1) where
   abbrev code : List ℕ
-  code = now (k .before .before .before .before .before .before .before .before .before .args .code)
+  code = now (k .before .before .before .before .before .before .before .before .before .before .before .args .code)
+
+  abbrev x : tie.After-examine
+  x = k .before .before .before .before .before
 
   accepted : verdict code ≡ fine
-  accepted = examined-fine _ _ _ _ _ (k .before .before .before .before .examine .ensures) (k .before .number .ensures) (k .if1 .left)
+  accepted = examined-fine _ _ _ _ _ _ (x .examine .ensures) (k .before .number .ensures) (k .if1 .left)
 
-  sound : Sound code (k .before .before .before .before .examine .last .1 .0) (k .before .before .before .before .examine .result) (k .before .before .before .before .examine .last .1 .1 .0)
-  sound = k .before .before .before .before .examine .ensures .sound (sym (k .before .number .ensures) ∙ k .if1 .left)
+  sound : Sound code (x .examine .last .1 .0) (x .examine .result) (x .examine .last .1 .1 .0) (x .examine .last .1 .1 .1 .0)
+  sound = x .examine .ensures .sound (sym (k .before .number .ensures) ∙ k .if1 .left)
 
 returns : tie.Need-returns
 returns c =
     let m = c .before .before in
-    let v = examined-no _ _ _ _ _ (m .before .before .before .examine .ensures) (m .number .ensures) (c .before .if1 .taken) in
+    let v = examined-no _ _ _ _ _ _ (m .before .before .before .before .examine .ensures) (m .number .ensures) (c .before .if1 .taken) in
     (c .refused-prepared .ensures ∙ sym (refused-prepared _ _ _ v _), sym (refused-table _ _ _ v _))
 
 mul-size : tie.Need-mul-size
@@ -44,18 +47,18 @@ add-size-2 c = omega (arith, sound (c .before) .few, sound (c .before) .short)
 returns-2 : tie.Need-returns-2
 returns-2 c =
     let k = c .before .before .before in
-    (c .refused-prepared2 .ensures ∙ sym (room-prepared _ (accepted k) _ _ (sound k) _ refl _ (omega (arith, c .before .if2 .taken))), sym (room-table _ (accepted k) _ _ (sound k) _ refl _ (omega (arith, c .before .if2 .taken))))
+    (c .refused-prepared2 .ensures ∙ sym (room-prepared _ (accepted k) _ _ _ (sound k) _ refl _ (omega (arith, c .before .if2 .taken))), sym (room-table _ (accepted k) _ _ _ (sound k) _ refl _ (omega (arith, c .before .if2 .taken))))
 
 array-share-prefix-items : tie.Need-array-share-prefix-items
 array-share-prefix-items c = omega (arith, sound (c .before .before .before .before) .short)
 
-slice-aggregate-put-table : tie.Need-slice-aggregate-put-table
-slice-aggregate-put-table c = sym (length-take-le _ _ (omega (arith, sound (c .before .before .before .before .before) .room)))
+slice-aggregate-put-table-2 : tie.Need-slice-aggregate-put-table-2
+slice-aggregate-put-table-2 c = sym (length-take-le _ _ (omega (arith, sound (c .before .before .before .before .before) .room)))
 
 put-table-requires : tie.Need-put-table-requires
 put-table-requires c κs =
     let s = sound (c .before .before .before .before .before) in
-    (s .few, simp length-take (omega (arith, s .short)))
+    (s .few, search needs, simp length-take (omega (arith, s .short)))
 
 cast-size : tie.Need-cast-done-prepared
 cast-size c = let s = sound (c .before .before .before .before .before .before .before .before) in omega (arith, s .few, s .short)
@@ -64,12 +67,13 @@ returns-3 : tie.Need-returns-3
 returns-3 c =
     let f = c .before .before .before .before .before .before .before in
     let k = f .before .before in
-    (c .done-prepared .ensures ∙ sym (done-prepared _ (accepted k) _ _ (sound k) _ refl _ (omega (arith, f .if2 .left))), done-table _ (accepted k) _ _ (sound k) _ refl _ _ _ _ (omega (arith, f .if2 .left)) refl (c .before .before .before .put-table .ensures))
+    (c .done-prepared .ensures ∙ sym (done-prepared _ (accepted k) _ _ _ (sound k) _ refl _ (omega (arith, f .if2 .left))), done-table _ (accepted k) _ _ _ (sound k) _ refl _ _ _ _ (omega (arith, f .if2 .left)) refl (c .before .before .before .put-table .ensures))
 
 pub prepare-spec : {M : Type 1} → statement M
 prepare-spec =
     tie.close
     (tie.spec
+    (λ c. search needs)
     (λ c. search needs)
     (λ c. search needs)
     (λ c κs. search needs)
@@ -81,8 +85,9 @@ prepare-spec =
     add-size-2
     (λ c κs. search needs)
     returns-2
+    (λ c. search needs)
     array-share-prefix-items
-    slice-aggregate-put-table
+    slice-aggregate-put-table-2
     put-table-requires
     cast-size
     (λ c κs. search needs)

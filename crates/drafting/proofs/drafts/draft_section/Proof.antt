@@ -1,6 +1,6 @@
 -- `drafting::drafts::draft_section` meets its contract.
 -- Assumes nothing.
-use mathlib.Core.Path.{refl, sym}
+use mathlib.Core.Path.{sym}
 use denote.Ref.{now}
 use Prim.Native.Nat.{_-_, _*_}
 use lib.ListN.{length}
@@ -28,12 +28,12 @@ draft-body-requires c κs =
 
 returns : tie.Need-returns
 returns c =
-    let b = c .before .before .before .before in
+    let b = c .before .before .before .before .before .before .before .before in
     let d = b .before .before .before in
     let h = d .before .before in
     let s = h .before .before .before .before in
     let body = heading-body (now (s .args .code)) (now (s .args .part)) _ (h .heading-of .ensures) in (
-      section-drafted (now (s .args .code)) (now (s .args .part)) _ (h .heading-of .ensures) _ _ _ (d .heading-condition .ensures) (b .draft-body .ensures .0 _ (sym body)) refl,
+      section-drafted (now (s .args .code)) (now (s .args .part)) _ (h .heading-of .ensures) _ _ (d .heading-condition .ensures) (b .draft-body .ensures .0 _ (sym body)),
       rw (← body) (b .draft-body .ensures .1),
     )
 
@@ -49,5 +49,9 @@ draft-section-spec =
     (λ c. search needs)
     (λ c. search needs)
     draft-body-requires
+    (λ c. search needs)
+    (λ c. search needs)
+    (λ c. search needs)
+    (λ c. search needs)
     (λ c. search needs)
     returns)

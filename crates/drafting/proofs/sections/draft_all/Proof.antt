@@ -2,11 +2,11 @@
 -- Assumes nothing.
 use Prim.Native.Nat.{_+_, _-_, _*_, _≤_}
 use native.Mathlib.Omega.{arith}
-use mathlib.Core.Path.{refl}
+use mathlib.Core.Path.{sym, _∙_}
 use denote.Ref.{now}
 use lib.ListN.{length}
-use Rattle.drafting.proofs.Drafting.{part-short}
-use Rattle.drafting.proofs.Sectioning.{Sectioning, sectioning-start, left-part, next-drafted, next-room, next-digits, next-size, next-items, sectioning-step, sectioning-end}
+use lib.Seq.{length-take-le}
+use Rattle.drafting.proofs.Sectioning.{Sectioning, sectioning-start, next-size, next-asks, next-items, sectioning-step, sectioning-end}
 use borrow.Author.Needs.{needs}
 use Rattle.drafting.proofs.sections.draft_all.Statement.{statement}
 use Rattle.drafting.proofs.sections.draft_all.Tie as tie
@@ -17,80 +17,47 @@ Inv-loop code tokens n items₀ drafts₀ first₀ at₀ k₀ items drafts first
 abbrev μ-loop : tie.MeasureT-loop
 μ-loop code tokens n items₀ drafts₀ first₀ at₀ k₀ items drafts first at k = n - k
 
--- the next section's tokens and items are few
-next : (c : tie.After-draft-next Inv-loop μ-loop)
-    → (3 * c .draft-next .result .size ≤ 762) × (c .before .before .before .before .loop .at + 2 * c .draft-next .result .draft .body .items ≤ 508)
-next c =
-    let t = c .before .before .before in
-    let l = t .before .loop in
-    let d = next-drafted (l .inv) (t .loop-test .taken) _ _ (c .draft-next .ensures) in
-    (next-size (l .inv) (t .loop-test .taken) _ _ d, next-items (l .inv) (t .loop-test .taken) _ _ d)
+-- the tokens from the next section on, its tokens and its items are few
+from : (c : tie.In-loop Inv-loop μ-loop) → (3 * c .before .loop .first ≤ length (now (c .before .before .before .before .before .before .args .tokens))) × (3 * c .before .loop .first ≤ 762)
+from c = let p = c .before .loop .inv .place (c .loop-test .taken) in (p, omega (arith, c .before .loop .inv .words-small))
+
+size : (c : tie.After-section-end Inv-loop μ-loop) → 3 * c .section-end .result ≤ 762
+size c = let t = c .before .before in next-size (t .before .loop .inv) (t .loop-test .taken) _ (c .section-end .ensures)
+
+items : (c : tie.After-draft-section Inv-loop μ-loop) → c .before .before .before .before .before .before .loop .at + 2 * c .draft-section .result .body .items ≤ 508
+items c =
+    let e = c .before .before .before in
+    let t = e .before .before in
+    next-items (t .before .loop .inv) (t .loop-test .taken) _ (e .section-end .ensures) _ _ (c .draft-section .ensures .0) (c .draft-section .ensures .1)
+
+few : (c : tie.In-loop Inv-loop μ-loop) → c .before .loop .k ≤ 3
+few c = omega (arith, c .loop-test .taken, c .before .loop .inv .few)
+
+-- from the end of a turn back to where its section is drafted, and from there to where its tokens end
+abbrev drafted : tie.After-struct-known Inv-loop μ-loop → tie.After-draft-section Inv-loop μ-loop
+drafted c = c .before .before .before .before .before .before .before
+
+abbrev ended : tie.After-draft-section Inv-loop μ-loop → tie.After-section-end Inv-loop μ-loop
+ended c = c .before .before .before
 
 loop-holds : tie.Need-loop-holds Inv-loop μ-loop
-loop-holds c =
-    let s = c .before .before .before .before in
-    sectioning-start _ _ _ _ _ (s .pre .0) (s .pre .1) refl
+loop-holds c = let s = c .before .before .before .before in sectioning-start _ _ _ _ _ (s .pre .0) (s .pre .1)
 
-mul-from : tie.Need-mul-from Inv-loop μ-loop
-mul-from c = omega (arith, c .before .loop .inv .place (c .loop-test .taken), c .before .loop .inv .words-small)
-
-mul-draft-next : tie.Need-mul-draft-next Inv-loop μ-loop
-mul-draft-next c = omega (arith, c .before .loop .inv .place (c .loop-test .taken), c .before .loop .inv .words-small)
-
-sub-draft-next : tie.Need-sub-draft-next Inv-loop μ-loop
-sub-draft-next c = omega (arith, c .before .loop .inv .place (c .loop-test .taken), c .before .loop .inv .words-small)
-
-part-draft-next-start : tie.Need-part-draft-next-start Inv-loop μ-loop
-part-draft-next-start c = omega (arith, c .before .loop .inv .place (c .loop-test .taken), c .before .loop .inv .words-small)
-
-draft-next-requires : tie.Need-draft-next-requires Inv-loop μ-loop
-draft-next-requires c κs =
-    let t = c .before .before in
-    let l = t .before .loop in
-    let words = now (t .before .before .before .before .before .before .args .tokens) in (
-      (l .inv .small, part-short words (length words - 3 * l .first) (3 * l .first) (l .inv .words-small), omega (arith, l .inv .rest .size, l .inv .wide)),
-      (rw (left-part (l .inv) (t .loop-test .taken)) (next-room (l .inv) (t .loop-test .taken)), rw (left-part (l .inv) (t .loop-test .taken)) (next-digits (l .inv) (t .loop-test .taken))),
-    )
-
-array-set-from-drafts : tie.Need-array-set-from-drafts Inv-loop μ-loop
-array-set-from-drafts c =
-    let t = c .before .before .before .before .before .before in
-    omega (arith, t .loop-test .taken, t .before .loop .inv .few, t .before .loop .inv .size)
-
-mul-at : tie.Need-mul-at Inv-loop μ-loop
-mul-at c = omega (arith, next (c .before .before .before .before) .1)
-
-add-at : tie.Need-add-at Inv-loop μ-loop
-add-at c = omega (arith, next (c .before .before .before .before) .1)
-
-add-first : tie.Need-add-first Inv-loop μ-loop
-add-first c = omega (arith, next (c .before .before .before .before .before) .0)
-
-add-first-2 : tie.Need-add-first-2 Inv-loop μ-loop
-add-first-2 c =
-    let n = c .before .before .before .before .before in
-    let t = n .before .before .before in
-    omega (arith, next n .0, t .before .loop .inv .place (t .loop-test .taken), t .before .loop .inv .words-small)
-
-add-k : tie.Need-add-k Inv-loop μ-loop
-add-k c =
-    let t = c .before .before .before .before .before .before .before .before in
-    omega (arith, t .loop-test .taken, t .before .loop .inv .few)
-
-loop-less : tie.Need-loop-less Inv-loop μ-loop
-loop-less c =
-    let t = c .before .before .before .before .before .before .before .before in
-    omega (arith, t .loop-test .taken)
+draft-section-requires : tie.Need-draft-section-requires Inv-loop μ-loop
+draft-section-requires c κs =
+    let e = c .before .before in
+    let t = e .before .before in
+    next-asks (t .before .loop .inv) (t .loop-test .taken) _ (e .section-end .ensures)
 
 loop-again : tie.Need-loop-again Inv-loop μ-loop
 loop-again c =
-    let n = c .before .before .before .before .before in
-    let t = n .before .before .before in
-    let l = t .before .loop in
-    sectioning-step (l .inv) (t .loop-test .taken) _ _ (next-drafted (l .inv) (t .loop-test .taken) _ _ (n .draft-next .ensures))
+    let d = drafted c in
+    let e = ended d in
+    let t = e .before .before in
+    sectioning-step (t .before .loop .inv) (t .loop-test .taken) _ (e .section-end .ensures) _ _ (d .draft-section .ensures .0) (d .draft-section .ensures .1) (c .before .before .before .put-draft .ensures)
 
-returns : tie.Need-returns Inv-loop μ-loop
-returns c = sectioning-end (c .before .loop .inv) (c .loop-test .left)
+same-length-2 : tie.Need-same-length-2 Inv-loop μ-loop
+same-length-2 c = c .before .loop .inv .size ∙ sym (c .before .before .before .before .before .before .pre .0 .3)
 
 pub draft-all-spec : {M : Type 1} → statement M
 draft-all-spec =
@@ -98,23 +65,25 @@ draft-all-spec =
     (tie.spec
     Inv-loop
     μ-loop
-    (λ c κs. search needs)
     loop-holds
-    mul-from
-    mul-draft-next
-    sub-draft-next
-    part-draft-next-start
+    (λ c. omega (arith, from c .1))
+    (λ c. omega (arith, from c .1))
+    (λ c. omega (arith, from c .0))
+    (λ c. omega (arith, from c .0))
     (λ c. search needs)
-    draft-next-requires
+    (λ c κs. search needs)
+    (λ c. omega (arith, size c))
+    (λ c. sym (length-take-le _ _ (c .before .section-end .ensures .inside)))
+    draft-section-requires
+    (λ c κs. few (c .before .before .before .before .before .before .before .before))
     (λ c. search needs)
-    array-set-from-drafts
-    (λ c. search needs)
-    mul-at
-    add-at
-    add-first
-    add-first-2
-    add-k
-    loop-less
+    (λ c. omega (arith, items (drafted c)))
+    (λ c. omega (arith, items (drafted c)))
+    (λ c. omega (arith, size (ended (drafted c))))
+    (λ c. omega (arith, size (ended (drafted c)), from (ended (drafted c) .before .before) .1))
+    (λ c. omega (arith, few (ended (drafted c) .before .before)))
+    (λ c. omega (arith, ended (drafted c) .before .before .loop-test .taken))
     loop-again
     (λ c. search needs)
-    returns)
+    same-length-2
+    (λ c. sectioning-end (c .before .loop .inv) (c .loop-test .left)))

@@ -11,19 +11,23 @@ use Rattle.examining.proofs.verdicts.first_failing.Statement.{statement
 use Rattle.examining.proofs.verdicts.first_failing.Tie as tie
 
 abbrev Inv-loop : tie.InvT-loop
-Inv-loop n test drafts place₀ place = Seeking (passesBy test n) drafts n place
+Inv-loop drafts n test place₀ place = Seeking (passesBy test n) drafts n place
 
 abbrev μ-loop : tie.MeasureT-loop
-μ-loop n test drafts place₀ place = n - place
+μ-loop drafts n test place₀ place = n - place
 
 loop-holds : tie.Need-loop-holds Inv-loop μ-loop
-loop-holds c = seeking-start _ _ _ _ (omega arith) (search needs) (search needs)
+loop-holds c = seeking-start _ _ _ _ (omega arith) (search needs)
 
 returns : tie.Need-returns Inv-loop μ-loop
-returns c = seeking-fail (c .before .before .before .before .loop .inv) (c .before .before .before .loop-test .taken) _ (sym (c .before .passes .ensures) ∙ not-true _ (c .if1 .taken))
+returns c =
+    let d = c .before .before in
+    seeking-fail (d .before .before .loop .inv) (d .before .loop-test .taken) _ (d .draft-at .ensures) (sym (c .before .passes .ensures) ∙ not-true _ (c .if1 .taken))
 
 loop-again : tie.Need-loop-again Inv-loop μ-loop
-loop-again c = seeking-step (c .before .before .before .before .loop .inv) (c .before .before .before .loop-test .taken) _ (sym (c .before .passes .ensures) ∙ not-false _ (c .if1 .left))
+loop-again c =
+    let d = c .before .before in
+    seeking-step (d .before .before .loop .inv) (d .before .loop-test .taken) _ (d .draft-at .ensures) (sym (c .before .passes .ensures) ∙ not-false _ (c .if1 .left))
 
 returns-2 : tie.Need-returns-2 Inv-loop μ-loop
 returns-2 c = seeking-end (c .before .loop .inv) (c .loop-test .left)
@@ -35,8 +39,7 @@ first-failing-spec =
     Inv-loop
     μ-loop
     loop-holds
-    (λ c. search needs)
-    (λ c. search needs)
+    (λ c κs. search needs)
     (λ c κs. search needs)
     returns
     (λ c. search needs)

@@ -8,10 +8,10 @@ use Rattle.preparing.proofs.heads.put_heads.Statement.{statement}
 use Rattle.preparing.proofs.heads.put_heads.Tie as tie
 
 abbrev Inv-loop : tie.InvT-loop
-Inv-loop room₀ at n counted first drafts o₀ i₀ room o i = Heading counted first room₀ at drafts n room o i
+Inv-loop room₀ at drafts n counted first o₀ i₀ room o i = Heading counted first room₀ at drafts n room o i
 
 abbrev μ-loop : tie.MeasureT-loop
-μ-loop room₀ at n counted first drafts o₀ i₀ room o i = n - i
+μ-loop room₀ at drafts n counted first o₀ i₀ room o i = n - i
 
 loop-holds : tie.Need-loop-holds Inv-loop μ-loop
 loop-holds c = search (needs, heading-start)
@@ -19,14 +19,13 @@ loop-holds c = search (needs, heading-start)
 put-head-requires : tie.Need-put-head-requires Inv-loop μ-loop
 put-head-requires c κs =
     let l = c .before .before .before in
-    let s = l .before .before in
-    omega (arith, l .loop .inv .near, l .loop .inv .inside, l .loop .inv .few, s .pre .0)
+    omega (arith, l .loop .inv .near, c .before .before .loop-test .taken, l .loop .inv .few, l .before .before .before .pre .0)
 
 loop-again : tie.Need-loop-again Inv-loop μ-loop
 loop-again c =
     let p = c .before .before in
     let t = p .before .before .before in
-    heading-step (t .before .loop .inv) (t .loop-test .taken) _ _ _ (p .put-head .ensures)
+    heading-step (t .before .loop .inv) (t .loop-test .taken) _ _ _ (p .before .draft-at .ensures) (p .put-head .ensures)
 
 returns : tie.Need-returns Inv-loop μ-loop
 returns c = heading-end (c .before .loop .inv) (c .loop-test .left)
@@ -38,8 +37,7 @@ put-heads-spec =
     Inv-loop
     μ-loop
     loop-holds
-    (λ c. search needs)
-    (λ c. search needs)
+    (λ c κs. search needs)
     put-head-requires
     (λ c. search needs)
     (λ c. search needs)
