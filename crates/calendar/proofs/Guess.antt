@@ -1,12 +1,12 @@
 -- The search's guess is exact for the table, so that two turns find the year of every day of the table.
 -- Assumes nothing.
-use mathlib.Core.Path.{_≡_, refl, sym, ap, _∙_}
+use mathlib.Core.Path.{_≡_, refl, ap, _∙_}
 use mathlib.Core.Bool.{Bool, true, false}
-use Prim.Native.Nat.{ℕ, zero, suc, _+_, _-_, _*_, _/_, _≤_, _<_}
+use Prim.Native.Nat.{ℕ, suc, _+_, _-_, _*_, _/_, _≤_, _<_}
 use native.Mathlib.Omega.{arith}
 use borrow.Author.Tests.{ltb-true, ltb-false, leb-false, lt-ltb, le-ltb, le-leb, lt-leb}
 use lib.Dec.{leb, ltb}
-use lib.ListN.{length, getD}
+use lib.ListN.{length}
 use Rattle.lists.specs.Tables.{values}
 use Rattle.lists.proofs.Bools.{by-cases}
 use Rattle.searching.specs.declared.Search.{Search}
@@ -19,7 +19,7 @@ use Rattle.calendar.specs.Year.{gregorianLeap, leap, yearDays, firstDay}
 use Rattle.calendar.specs.Tables.{firstDays}
 use Rattle.calendar.proofs.Table.{first-at, same-values}
 use Rattle.calendar.proofs.Driving.{size}
-use Rattle.calendar.proofs.Years.{firstDay-next, yearDays-least, firstDay-far, firstDay-cycle, firstDay-1901}
+use Rattle.calendar.proofs.Years.{firstDay-far, firstDay-cycle, firstDay-1901}
 
 early : (d : ℕ) → d < 73416 → guessed d ≡ (4 * d + 1457) / 1461
 unfolding guessed

@@ -118,15 +118,16 @@ unfolding orderOf
 order-greater x y =
     by-cases (smaller x y) (λ h. rw (h, smaller-once x y h)) (λ h. by-cases (smaller y x) (λ k. rw (h, k)) (λ k. rw (h, k)))
 
+by-order : (P : Order → Type 0) → P Less → P Equal → P Greater → (o : Order) → P o
+by-order P l e g Less = l
+by-order P l e g Equal = e
+by-order P l e g Greater = g
+
 reversed-less : (o : Order) → isLess (reversed o) ≡ isGreater o
-reversed-less Less = refl
-reversed-less Equal = refl
-reversed-less Greater = refl
+reversed-less = by-order (λ (o : Order). isLess (reversed o) ≡ isGreater o) refl refl refl
 
 reversed-greater : (o : Order) → isGreater (reversed o) ≡ isLess o
-reversed-greater Less = refl
-reversed-greater Equal = refl
-reversed-greater Greater = refl
+reversed-greater = by-order (λ (o : Order). isGreater (reversed o) ≡ isLess o) refl refl refl
 
 -- with the signs
 unfoldable pub exactOrder : Exact → Exact → Order
@@ -156,14 +157,10 @@ greater-order x y = greater-signed (x .negative) (y .negative) (x .size) (y .siz
 
 -- a comparison by the order
 equal-holds : (o : Order) → not (isLess o) && not (isGreater o) ≡ isEqual o
-equal-holds Less = refl
-equal-holds Equal = refl
-equal-holds Greater = refl
+equal-holds = by-order (λ (o : Order). not (isLess o) && not (isGreater o) ≡ isEqual o) refl refl refl
 
 unequal-holds : (o : Order) → isLess o || isGreater o ≡ not (isEqual o)
-unequal-holds Less = refl
-unequal-holds Equal = refl
-unequal-holds Greater = refl
+unequal-holds = by-order (λ (o : Order). isLess o || isGreater o ≡ not (isEqual o)) refl refl refl
 
 pub compared-order : (c : Comparison) (x y : Exact) → compared c x y ≡ holdsFor c (exactOrder x y)
 unfolding compared holdsFor

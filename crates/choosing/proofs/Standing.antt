@@ -3,8 +3,8 @@
 -- Assumes nothing.
 use Prim.Native.Nat.{ℕ, suc, _-_, _≤_, _<_}
 use native.Mathlib.Omega.{arith}
-use mathlib.Core.Path.{_≡_, refl, sym, ap, _∙_}
-use mathlib.Core.Bool.{Bool, true, false, cond, not, _||_, true≢false}
+use mathlib.Core.Path.{_≡_, refl, sym, _∙_}
+use mathlib.Core.Bool.{Bool, true, false, cond, not, true≢false}
 use mathlib.Core.List.{List, [], _∷_}
 use lib.ListN.{length, getD}
 use lib.Dec.{T, eqb, ltb, eqb→eq, ltb→lt}
@@ -23,27 +23,33 @@ use Rattle.choosing.specs.declared.TextFound.the-variants as text
 use Rattle.choosing.specs.Seeking.{foundOf, textFoundOf, takes}
 
 -- every section stands where it may
-abbrev Stand : List Section → Type 0
-Stand ss = (i : ℕ) → i < length ss → T (standsAt (length ss) i (getD ss i noSection))
+record Stand (ss : List Section) : Type 0 where
+  at : (i : ℕ) → i < length ss → T (standsAt (length ss) i (getD ss i noSection))
 
-module _ (n i : ℕ) (s : Section) (t : T (standsAt n i s)) where
-  not-text : (suc i ≡ n → ⊥) → isText s ≡ false
+module _ {ss : List Section} (st : Stand ss) (i : ℕ) (h : i < length ss) where
+  abbrev here : Section
+  here = getD ss i noSection
+
+  plain : suc i < length ss → isText here ≡ false
   unfolding standsAt
-  not-text apart =
-      let rule : T (implies (isText s) (eqb (suc i) n)) = search (and-left) in
-      by-cases (isText s) (λ e. absurd (apart (eqb→eq (suc i) n (implied (isText s) (eqb (suc i) n) rule (true-T e))))) (λ e. e)
+  plain l =
+      let t = st .at i h in
+      let rule : T (implies (isText here) (eqb (suc i) (length ss))) = search (and-left) in
+      by-cases (isText here) (λ e. absurd (omega (arith, eqb→eq (suc i) (length ss) (implied (isText here) (eqb (suc i) (length ss)) rule (true-T e))))) (λ e. e)
 
-  unconditional : 2 ≤ i → hasCondition s ≡ false
+  unconditional : 2 ≤ i → hasCondition here ≡ false
   unfolding standsAt
   unconditional l =
-      let rule : T (implies (hasCondition s) (ltb i 2)) = search (and-left, and-right) in
-      by-cases (hasCondition s) (λ e. absurd (omega (arith, ltb→lt i 2 (implied (hasCondition s) (ltb i 2) rule (true-T e))))) (λ e. e)
+      let t = st .at i h in
+      let rule : T (implies (hasCondition here) (ltb i 2)) = search (and-left, and-right) in
+      by-cases (hasCondition here) (λ e. absurd (omega (arith, ltb→lt i 2 (implied (hasCondition here) (ltb i 2) rule (true-T e))))) (λ e. e)
 
-  conditional : hasCondition s ≡ true → isText s ≡ false
+  conditional : hasCondition here ≡ true → isText here ≡ false
   unfolding standsAt
-  conditional h =
-      let rule : T (implies (isText s) (not (hasCondition s))) = search (and-left, and-right) in
-      by-cases (isText s) (λ e. absurd (true≢false (sym h ∙ not-true (hasCondition s) (T-true _ (implied (isText s) (not (hasCondition s)) rule (true-T e)))))) (λ e. e)
+  conditional c =
+      let t = st .at i h in
+      let rule : T (implies (isText here) (not (hasCondition here))) = search (and-left, and-right) in
+      by-cases (isText here) (λ e. absurd (true≢false (sym c ∙ not-true (hasCondition here) (T-true _ (implied (isText here) (not (hasCondition here)) rule (true-T e)))))) (λ e. e)
 
 -- ---- N
 counted-is : (ss : List Section) → Stand ss → 1 ≤ length ss → length ss ≤ 4
@@ -51,18 +57,12 @@ counted-is : (ss : List Section) → Stand ss → 1 ≤ length ss → length ss 
 unfolding counted countedFrom
 counted-is [] st l m = absurd (omega arith)
 counted-is (a ∷ []) st l m = by-cases (isText a) (λ e. rw e) (λ e. rw e)
-counted-is (a ∷ b ∷ []) st l m =
-    let ta = not-text 2 0 a (st 0 (omega arith)) (λ e. omega arith) in
-    by-cases (isText b) (λ e. rw (ta, e)) (λ e. rw (ta, e))
+counted-is (a ∷ b ∷ []) st l m = rw (plain st 0 (omega arith) (omega arith)) (by-cases (isText b) (λ e. rw e) (λ e. rw e))
 counted-is (a ∷ b ∷ c ∷ []) st l m =
-    let ta = not-text 3 0 a (st 0 (omega arith)) (λ e. omega arith) in
-    let tb = not-text 3 1 b (st 1 (omega arith)) (λ e. omega arith) in
-    by-cases (isText c) (λ e. rw (ta, tb, e)) (λ e. rw (ta, tb, e))
+    rw (plain st 0 (omega arith) (omega arith), plain st 1 (omega arith) (omega arith)) (by-cases (isText c) (λ e. rw e) (λ e. rw e))
 counted-is (a ∷ b ∷ c ∷ d ∷ []) st l m =
-    let ta = not-text 4 0 a (st 0 (omega arith)) (λ e. omega arith) in
-    let tb = not-text 4 1 b (st 1 (omega arith)) (λ e. omega arith) in
-    let tc = not-text 4 2 c (st 2 (omega arith)) (λ e. omega arith) in
-    by-cases (isText d) (λ e. rw (ta, tb, tc, e)) (λ e. rw (ta, tb, tc, e))
+    rw (plain st 0 (omega arith) (omega arith), plain st 1 (omega arith) (omega arith), plain st 2 (omega arith) (omega arith))
+    (by-cases (isText d) (λ e. rw e) (λ e. rw e))
 counted-is (a ∷ b ∷ c ∷ d ∷ e ∷ ss) st l m = absurd (omega arith)
 
 -- ---- the section of a number or an instant
@@ -72,68 +72,35 @@ answer n a b x =
     cond (takes n 0 a x) (found.At 0)
     (cond (eqb n 1) found.Nothing (cond (takes n 1 b x) (found.At 1) (cond (eqb n 2) found.Nothing (found.At 2))))
 
-either : (b : Bool) (i : ℕ) (s : Section) (why : Reason) (c : Choice) → foundOf (cond b (chosen i s why) c) ≡ cond b (found.At i) (foundOf c)
+either : (b : Bool) (i : ℕ) (s : Section) (why : Reason) (c : Choice) {r : Found} → foundOf c ≡ r → foundOf (cond b (chosen i s why) c) ≡ cond b (found.At i) r
 unfolding foundOf
-either true i s why c = refl
-either false i s why c = refl
-
-module _ (n i : ℕ) (s : Section) (ss : List Section) (x : Exact) where
-  next : isText s ≡ false → (i ≡ 3 → ⊥) → foundOf (chooseFrom n i (s ∷ ss) x) ≡ cond (takes n i s x) (found.At i) (foundOf (chooseFrom n (suc i) ss x))
-  unfolding chooseFrom takes
-  next e apart = rw (e, ne-eqb i 3 apart) (either (takes n i s x) i s (reasonFor n i s) (chooseFrom n (suc i) ss x))
-
-none : (n i : ℕ) (s : Section) (x : Exact) → isText s || eqb i 3 ≡ true → foundOf (chooseFrom n i (s ∷ []) x) ≡ found.Nothing
-unfolding chooseFrom foundOf
-none n i s x e = rw e
-
-third : (s : Section) (ss : List Section) (x : Exact) → isText s ≡ false → hasCondition s ≡ false → foundOf (chooseFrom 3 2 (s ∷ ss) x) ≡ found.At 2
-unfolding chooseFrom reasonFor fallback reasonHolds foundOf
-third s ss x e f = rw (e, f)
-
-counting : (ss : List Section) (n : ℕ) (x : Exact) {r : Found} → (n ≡ 0 → ⊥) → counted ss ≡ n → foundOf (chooseFrom n 0 ss x) ≡ r → foundOf (choose ss x) ≡ r
-unfolding choose
-counting ss n x apart e h = rw (e, ne-eqb n 0 apart) h
-
-three : (a b c : Section) (ss : List Section) (x : Exact) → counted (a ∷ b ∷ c ∷ ss) ≡ 3 → isText a ≡ false → isText b ≡ false → isText c ≡ false
-    → hasCondition c ≡ false → foundOf (choose (a ∷ b ∷ c ∷ ss) x) ≡ answer 3 a b x
-three a b c ss x n ta tb tc hc =
-    counting (a ∷ b ∷ c ∷ ss) 3 x (λ z. omega arith) n (next 3 0 a (b ∷ c ∷ ss) x ta (λ f. omega arith)
-    ∙ ap (cond (takes 3 0 a x) (found.At 0)) (next 3 1 b (c ∷ ss) x tb (λ f. omega arith) ∙ ap (cond (takes 3 1 b x) (found.At 1)) (third c ss x tc hc)))
+either true i s why c e = refl
+either false i s why c e = e
 
 -- a section alone that has a condition
 alone : (a : Section) → Stand (a ∷ []) → hasCondition a ≡ true → counted (a ∷ []) ≡ 1
-alone a st h = counted-is (a ∷ []) st (omega arith) (omega arith) ∙ rw (conditional 1 0 a (st 0 (omega arith)) h)
+alone a st h = counted-is (a ∷ []) st (omega arith) (omega arith) ∙ rw (conditional st 0 (omega arith) h)
 
 -- the choice, unless a section stands alone and has no condition
 choice-is : (ss : List Section) → Stand ss → length ss ≤ 4 → (x : Exact) → (length ss ≡ 1 → hasCondition (getD ss 0 noSection) ≡ true) → 1 ≤ length ss
     → foundOf (choose ss x) ≡ answer (counted ss) (getD ss 0 noSection) (getD ss 1 noSection) x
-unfolding foundOf chooseFrom
+unfolding choose chooseFrom reasonFor fallback reasonHolds takes foundOf
 choice-is [] st m x p l = absurd (omega arith)
-choice-is (a ∷ []) st m x p l =
-    let n : counted (a ∷ []) ≡ 1 = alone a st (p refl) in
-    rw n (counting (a ∷ []) 1 x (λ z. omega arith) n (next 1 0 a [] x (conditional 1 0 a (st 0 (omega arith)) (p refl)) (λ e. omega arith)))
+choice-is (a ∷ []) st m x p l = rw (alone a st (p refl), conditional st 0 (omega arith) (p refl)) (either (takes 1 0 a x) 0 a _ _ refl)
 choice-is (a ∷ b ∷ []) st m x p l =
-    let ta = not-text 2 0 a (st 0 (omega arith)) (λ e. omega arith) in
+    let n = counted-is (a ∷ b ∷ []) st (omega arith) m in
     by-cases (isText b)
-    (λ e. let n : counted (a ∷ b ∷ []) ≡ 1 = counted-is (a ∷ b ∷ []) st (omega arith) m ∙ rw e in
-    rw n (counting (a ∷ b ∷ []) 1 x (λ z. omega arith) n (next 1 0 a (b ∷ []) x ta (λ f. omega arith) ∙ ap (cond (takes 1 0 a x) (found.At 0)) (none 1 1 b x (rw e)))))
-    (λ e. let n : counted (a ∷ b ∷ []) ≡ 2 = counted-is (a ∷ b ∷ []) st (omega arith) m ∙ rw e in
-    rw n (counting (a ∷ b ∷ []) 2 x (λ z. omega arith) n (next 2 0 a (b ∷ []) x ta (λ f. omega arith) ∙ ap (cond (takes 2 0 a x) (found.At 0)) (next 2 1 b [] x e (λ f. omega arith)))))
+    (λ e. rw (n, plain st 0 (omega arith) (omega arith), e) (either (takes 1 0 a x) 0 a _ _ refl))
+    (λ e. rw (n, plain st 0 (omega arith) (omega arith), e) (either (takes 2 0 a x) 0 a _ _ (either (takes 2 1 b x) 1 b _ _ refl)))
 choice-is (a ∷ b ∷ c ∷ []) st m x p l =
-    let ta = not-text 3 0 a (st 0 (omega arith)) (λ e. omega arith) in
-    let tb = not-text 3 1 b (st 1 (omega arith)) (λ e. omega arith) in
+    let n = counted-is (a ∷ b ∷ c ∷ []) st (omega arith) m in
     by-cases (isText c)
-    (λ e. let n : counted (a ∷ b ∷ c ∷ []) ≡ 2 = counted-is (a ∷ b ∷ c ∷ []) st (omega arith) m ∙ rw e in
-    rw n (counting (a ∷ b ∷ c ∷ []) 2 x (λ z. omega arith) n (next 2 0 a (b ∷ c ∷ []) x ta (λ f. omega arith)
-    ∙ ap (cond (takes 2 0 a x) (found.At 0)) (next 2 1 b (c ∷ []) x tb (λ f. omega arith) ∙ ap (cond (takes 2 1 b x) (found.At 1)) (none 2 2 c x (rw e))))))
-    (λ e. let n : counted (a ∷ b ∷ c ∷ []) ≡ 3 = counted-is (a ∷ b ∷ c ∷ []) st (omega arith) m ∙ rw e in
-    rw n (three a b c [] x n ta tb e (unconditional 3 2 c (st 2 (omega arith)) (omega arith))))
+    (λ e. rw (n, plain st 0 (omega arith) (omega arith), plain st 1 (omega arith) (omega arith), e) (either (takes 2 0 a x) 0 a _ _ (either (takes 2 1 b x) 1 b _ _ refl)))
+    (λ e. rw (n, plain st 0 (omega arith) (omega arith), plain st 1 (omega arith) (omega arith), e, unconditional st 2 (omega arith) (omega arith))
+    (either (takes 3 0 a x) 0 a _ _ (either (takes 3 1 b x) 1 b _ _ refl)))
 choice-is (a ∷ b ∷ c ∷ d ∷ []) st m x p l =
-    let ta = not-text 4 0 a (st 0 (omega arith)) (λ e. omega arith) in
-    let tb = not-text 4 1 b (st 1 (omega arith)) (λ e. omega arith) in
-    let tc = not-text 4 2 c (st 2 (omega arith)) (λ e. omega arith) in
-    let n : counted (a ∷ b ∷ c ∷ d ∷ []) ≡ 3 = counted-is (a ∷ b ∷ c ∷ d ∷ []) st (omega arith) m in
-    rw n (three a b c (d ∷ []) x n ta tb tc (unconditional 4 2 c (st 2 (omega arith)) (omega arith)))
+    rw (counted-is (a ∷ b ∷ c ∷ d ∷ []) st (omega arith) m, plain st 0 (omega arith) (omega arith), plain st 1 (omega arith) (omega arith), plain st 2 (omega arith) (omega arith), unconditional st 2 (omega arith) (omega arith))
+    (either (takes 3 0 a x) 0 a _ _ (either (takes 3 1 b x) 1 b _ _ refl))
 choice-is (a ∷ b ∷ c ∷ d ∷ e ∷ ss) st m x p l = absurd (omega arith)
 
 many : (ss : List Section) → Stand ss → (length ss ≡ 1 → hasCondition (getD ss 0 noSection) ≡ true) → 1 ≤ length ss → (counted ss ≡ 1 → ⊥)
@@ -154,13 +121,9 @@ text-is : (ss : List Section) → Stand ss → 1 ≤ length ss → length ss ≤
 unfolding chooseText fourthFrom textFrom textFoundOf
 text-is [] st l m = absurd (omega arith)
 text-is (a ∷ []) st l m = by-cases (isText a) (λ e. rw e) (λ e. rw e)
-text-is (a ∷ b ∷ []) st l m =
-    let ta = not-text 2 0 a (st 0 (omega arith)) (λ e. omega arith) in
-    by-cases (isText b) (λ e. rw (ta, e)) (λ e. rw (ta, e))
+text-is (a ∷ b ∷ []) st l m = rw (plain st 0 (omega arith) (omega arith)) (by-cases (isText b) (λ e. rw e) (λ e. rw e))
 text-is (a ∷ b ∷ c ∷ []) st l m =
-    let ta = not-text 3 0 a (st 0 (omega arith)) (λ e. omega arith) in
-    let tb = not-text 3 1 b (st 1 (omega arith)) (λ e. omega arith) in
-    by-cases (isText c) (λ e. rw (ta, tb, e)) (λ e. rw (ta, tb, e))
+    rw (plain st 0 (omega arith) (omega arith), plain st 1 (omega arith) (omega arith)) (by-cases (isText c) (λ e. rw e) (λ e. rw e))
 text-is (a ∷ b ∷ c ∷ d ∷ []) st l m = refl
 text-is (a ∷ b ∷ c ∷ d ∷ e ∷ ss) st l m = absurd (omega arith)
 
@@ -171,7 +134,7 @@ module _ (ws : List ℕ) (t : T (passes ws)) where
 
   stand : Stand (decode ws)
   unfolding sectionIn
-  stand i h = true-T (section-stands ws i t (omega (arith, sections-length ws)))
+  stand = record { at = λ i h. true-T (section-stands ws i t (omega (arith, sections-length ws))) }
 
   module _ {n : ℕ} (en : n ≡ getD ws 0 0) where
     size : length (decode ws) ≡ n

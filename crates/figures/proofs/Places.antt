@@ -135,14 +135,6 @@ used-stop : (j : ℕ) (l : List ℕ) → (getD l j 0 ≡ 0 → ⊥) → suc j �
 unfolding placesUsed
 used-stop j l d = rw (ne-eqb (getD l j 0) 0 d) refl
 
-lowest-step : (f k : ℕ) (l : List ℕ) → getD l k 0 ≡ 0 → lowestFrom f (suc k) l ≡ lowestFrom (suc f) k l
-unfolding lowestFrom
-lowest-step f k l d = rw (eq-eqb (getD l k 0) 0 d) refl
-
-lowest-stop : (f k : ℕ) (l : List ℕ) → (getD l k 0 ≡ 0 → ⊥) → k ≡ lowestFrom (suc f) k l
-unfolding lowestFrom
-lowest-stop f k l d = rw (ne-eqb (getD l k 0) 0 d) refl
-
 -- a step of the two loops, k being the place that they have reached
 module _ (k : ℕ) (l : List ℕ) (h : 0 < k) where
   before : suc (k - 1) ≡ k
@@ -155,17 +147,16 @@ module _ (k : ℕ) (l : List ℕ) (h : 0 < k) where
   used-below d = used-step (k - 1) l d ∙ ap (λ (x : ℕ). placesUsed x l) before
 
 module _ (k : ℕ) (l : List ℕ) (h : k < 40) where
-  after : suc (40 - (k + 1)) ≡ 40 - k
+  after : 40 - k ≡ suc (40 - (k + 1))
   after = omega arith
 
   pub lowest-here : (getD l k 0 ≡ 0 → ⊥) → k ≡ lowestFrom (40 - k) k l
-  lowest-here d = lowest-stop (40 - (k + 1)) k l d ∙ ap (λ (x : ℕ). lowestFrom x k l) after
+  unfolding lowestFrom
+  lowest-here d = rw (after, ne-eqb (getD l k 0) 0 d)
 
   pub lowest-further : getD l k 0 ≡ 0 → lowestFrom (40 - (k + 1)) (k + 1) l ≡ lowestFrom (40 - k) k l
-  lowest-further d =
-      ap (λ (x : ℕ). lowestFrom (40 - (k + 1)) x l) (add-one k)
-      ∙ lowest-step (40 - (k + 1)) k l d
-      ∙ ap (λ (x : ℕ). lowestFrom x k l) after
+  unfolding lowestFrom
+  lowest-further d = rw (after, eq-eqb (getD l k 0) 0 d, add-one k)
 
 pub used-end : (k : ℕ) (l : List ℕ) → k ≤ 0 → 0 ≡ placesUsed k l
 unfolding placesUsed

@@ -8,7 +8,6 @@ use mathlib.Core.List.{List, [], _∷_, _++_}
 use lib.IntN.{pos, negsuc}
 use lib.ListN.{replicate}
 use Rattle.values.specs.declared.Ask.{Ask}
-use Rattle.values.specs.declared.Value.the-variants as value
 use Rattle.values.specs.Ranges.{inRange}
 use Rattle.lists.specs.Lists.{All, every, isEmpty}
 use Rattle.calendar.specs.Names.{units}

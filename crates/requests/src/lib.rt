@@ -21,12 +21,23 @@ ghost use Rattle.calendar.specs.Names.{units};
 ghost use Rattle.requests.specs.Lines.{fieldOf};
 ghost use Rattle.requests.specs.Written.{sortOf, valueOf, textOf};
 ghost use Rattle.requests.specs.Request.{fromValue, fromThird, fromKind, fromSecond, requestOf};
-ghost use Rattle.requests.specs.Reads.{partOf, Ended, textPart, Reads};
+ghost use Rattle.requests.specs.Reads.{partOf, Within, Ended, textPart, Reads};
 
 // A code, what is asked, and the text beside it; or the first malformed line.
 pub enum RequestRead {
     Request(Part, Ask, Part),
     Malformed(u32),
+}
+
+// The units of a part.
+pub fn part_of(input: &[u16], p: Part) -> &[u16]
+    requires { ⌜ Within (now input) p ⌝ }
+    ensures units { λ r. ⌜ now r ≡ partOf (now (input .entry)) p ⌝ }
+    ensures short { λ r. ⌜ length (now r) ≤ 2048 ⌝ }
+{
+    let a = p.start;
+    let e = p.end;
+    &input[a..e]
 }
 
 // The part that is the text beside a value.
@@ -45,11 +56,9 @@ fn from_value(input: &[u16], code: Part, sort: Sort, value: Part) -> RequestRead
     requires { ⌜ Ended (now input) code × Ended (now input) value ⌝ }
     ensures { λ r. ⌜ Reads (now (input .entry)) (fromValue (partOf (now (input .entry)) code) (valueOf sort (partOf (now (input .entry)) value)) (textOf sort (partOf (now (input .entry)) value)) (drop (value .end + 1) (now (input .entry)))) r ⌝ }
 {
-    let a = value.start;
-    let e = value.end;
-    match value_of(sort, &input[a..e]) {
+    match value_of(sort, part_of(input, value)) {
         ValueRead::Known(v) => {
-            if e + 1 == input.len() {
+            if value.end + 1 == input.len() {
                 let text = text_part(sort, value);
                 return RequestRead::Request(code, asked(v), text);
             }
@@ -75,11 +84,8 @@ fn from_kind(input: &[u16], code: Part, kind: Part) -> RequestRead
     requires { ⌜ Ended (now input) code × Ended (now input) kind ⌝ }
     ensures { λ r. ⌜ Reads (now (input .entry)) (fromKind (partOf (now (input .entry)) code) (sortOf (partOf (now (input .entry)) kind)) (drop (kind .end + 1) (now (input .entry)))) r ⌝ }
 {
-    let a = kind.start;
-    let e = kind.end;
-    let next = e + 1;
-    match sort_of(&input[a..e]) {
-        SortRead::Known(sort) => from_third(input, code, sort, next),
+    match sort_of(part_of(input, kind)) {
+        SortRead::Known(sort) => from_third(input, code, sort, kind.end + 1),
         SortRead::Unknown => RequestRead::Malformed(2),
     }
 }

@@ -77,10 +77,11 @@ fn unsigned(negative: bool, us: &[u16]) -> ValueRead
     ensures { λ r. ⌜ r ≡ unsignedOf negative (now (us .entry)) ⌝ }
 {
     let n = scan(us, Set::But(POINT));
-    if !is_digits(&us[..n]) {
+    let digits = &us[..n];
+    if !is_digits(digits) {
         return ValueRead::Malformed;
     }
-    let whole = number_behind(0, &us[..n], LARGE);
+    let whole = number_behind(0, digits, LARGE);
     if n == us.len() {
         return ValueRead::Known(Value::Number(Number {
             coefficient: signed(negative, whole),
@@ -127,9 +128,11 @@ fn instant(us: &[u16]) -> ValueRead
         return ValueRead::Malformed;
     }
     let from = n + 1;
-    if is_digits(&us[..n]) & is_digits(&us[from..]) {
-        let day = Day(count(&us[..n]));
-        let millisecond = Millisecond(count(&us[from..]));
+    let before = &us[..n];
+    let behind = &us[from..];
+    if is_digits(before) & is_digits(behind) {
+        let day = Day(count(before));
+        let millisecond = Millisecond(count(behind));
         return ValueRead::Known(Value::Instant(day, millisecond));
     }
     ValueRead::Malformed

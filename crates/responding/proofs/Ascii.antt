@@ -16,17 +16,15 @@ use Rattle.lists.proofs.Tables.{each-passes}
 use Rattle.figures.specs.Digits.{digit, digitUnit, digitUnits, width, numeral}
 use Rattle.figures.specs.General.{generalTooWide, withoutEndZeros, pointed, generalUnits}
 use Rattle.calendar.specs.Names.{units, monthNames, weekdayNames, monthName, weekdayName, shortName, firstLetter}
-use Rattle.formats.specs.Tokens.{before, startsWith, Token, Place, zeroPlace, hashPlace, spacePlace, HalfDay, short, long, Letter, ExponentMark, ePlus, eMinus}
+use Rattle.formats.specs.Tokens.{before, startsWith, Token, Place, HalfDay, Letter, ExponentMark}
 use Rattle.formats.specs.Items.{Item, itemRow, literal, blank, fill, place, point, percent, general, at, year, month, day, hour, minute, second, part, elapsed, half, Section, kindOf, exponent, beforeE, fromE, sameKind, scientificKind}
 use Rattle.formats.specs.Kinds.{Parts, sectionOf, tokenItems, runItem}
-use Rattle.formats.specs.Accept.{partsIn, sectionsIn, Verdict, fine, verdict, acceptedBy, accept}
-use Rattle.formats.specs.Accept.{refused as wrong}
+use Rattle.formats.specs.Accept.{partsIn, sectionsIn, Verdict, fine, refused as wrong, verdict, acceptedBy, accept}
 use Rattle.formats.specs.Where.{isText}
-use Rattle.formats.specs.Choice.{numberExact, instantExact, Reason, Choice, nothing, chosen, choose, TextChoice, itself, textIn, fourthFrom, textFrom, chooseText}
-use Rattle.formats.specs.Reading.{Look, Reading, refused, within, takesNumber, takesInstant, showsGeneral, standingRounded, numberContext, instantContext, textContext, numberSign, numberUnits, readNumber, readInstant, readText, readValue, reading, readAccepted, codeReading, sectionText, exponentContext}
+use Rattle.formats.specs.Choice.{numberExact, instantExact, Choice, nothing, chosen, choose, TextChoice, itself, textIn, fourthFrom, textFrom, chooseText}
+use Rattle.formats.specs.Reading.{Look, Reading, refused, within, takesNumber, takesInstant, showsGeneral, standingRounded, numberContext, instantContext, textContext, numberUnits, readNumber, readInstant, readText, readValue, reading, readAccepted, codeReading, sectionText, exponentContext}
 use Rattle.answers.specs.declared.Answer.{Answer}
 use Rattle.answers.specs.declared.Answer.the-variants as answer
-use Rattle.answers.specs.Number.{numberOf}
 use Rattle.values.specs.declared.Number.{Number}
 use Rattle.values.specs.declared.Day.{Day}
 use Rattle.values.specs.declared.Millisecond.{Millisecond}
@@ -36,7 +34,7 @@ use Rattle.values.specs.declared.Ask.{Ask}
 use Rattle.values.specs.Ranges.{inRange}
 use borrow.Author.Tests.{leb-true}
 use Rattle.formats.proofs.Chosen.{chosen-passes}
-use Rattle.formats.proofs.Each.{by-token, by-letter}
+use Rattle.formats.proofs.Each.{by-token, by-letter, by-place, by-half, by-exponent}
 use Rattle.tables.specs.Calls.{textAs}
 use Rattle.preview.specs.Preview.{previewText}
 use Rattle.requests.specs.declared.written.Sort.{Sort}
@@ -48,8 +46,7 @@ use Rattle.requests.specs.declared.written.ValueRead.the-variants as read
 use Rattle.requests.specs.Bytes.{lowByte}
 use Rattle.requests.specs.Lines.{isAscii, isLine, Field, field, missing, fieldOf}
 use Rattle.requests.specs.Written.{sortOf, valueOf, textOf}
-use Rattle.requests.specs.Request.{Request, request, fromEnd, fromValue, fromThird, fromKind, fromSecond, fromFirst, requestOf}
-use Rattle.requests.specs.Request.{refused as unasked}
+use Rattle.requests.specs.Request.{Request, request, refused as unasked, fromEnd, fromValue, fromThird, fromKind, fromSecond, fromFirst, requestOf}
 use Rattle.responding.specs.Respond.{lineOf, fourLines, linesOf, responseOf}
 use Rattle.formats.specs.Minus.{Sign, minus, notNegative, noItem, forNegatives, nought, signUnits}
 use Rattle.formats.specs.Text.{Context, insignificant, idleUnits, endsGroup, withSeparator, figureUnits, extraUnits, placeUnits, pointUnits, yearUnits, namedUnits, partUnits, halfUnits, itemUnits, digitAfter, itemsUnits, sectionUnits, along, exponentUnits, firstOf}
@@ -88,16 +85,12 @@ pointed-ascii (u ∷ us) t = t
 
 general-ascii : (n : ℕ) → Ascii (generalUnits n)
 unfolding generalUnits
-general-ascii n =
-    every-append isAscii (numeral 1 (n / 10 ^ 15)) (pointed (withoutEndZeros (digitUnits 15 n))) (numeral-ascii 1 (n / 10 ^ 15))
-    (pointed-ascii (withoutEndZeros (digitUnits 15 n)) (without-ascii (digitUnits 15 n) (digits-ascii 15 n)))
+general-ascii n = search (every-append isAscii, numeral-ascii, pointed-ascii, without-ascii, digits-ascii)
 
 -- ---- figures
 idle-ascii : (p : Place) → Ascii (idleUnits p)
 unfolding idleUnits every isAscii
-idle-ascii zeroPlace = tt
-idle-ascii hashPlace = tt
-idle-ascii spacePlace = tt
+idle-ascii = by-place (λ (p : Place). Ascii (idleUnits p)) tt tt tt
 
 separated-ascii : (us : List ℕ) → Ascii us → Ascii (withSeparator us)
 unfolding withSeparator every isAscii
@@ -116,9 +109,7 @@ figure-ascii n grouped p q =
 extra-ascii : (n : ℕ) (grouped : Bool) (q count : ℕ) → Ascii (extraUnits n grouped q count)
 unfolding extraUnits every
 extra-ascii n grouped q zero = tt
-extra-ascii n grouped q (suc count) =
-    every-append isAscii (figureUnits n grouped hashPlace (q + count)) (extraUnits n grouped q count)
-    (figure-ascii n grouped hashPlace (q + count)) (extra-ascii n grouped q count)
+extra-ascii n grouped q (suc count) = let rest = extra-ascii n grouped q count in search (every-append isAscii, figure-ascii)
 
 perhaps-ascii : (b : Bool) (us vs : List ℕ) → Ascii us → Ascii vs → Ascii (cond b us [] ++ vs)
 perhaps-ascii true us vs s t = every-append isAscii us vs s t
@@ -155,17 +146,13 @@ weekday-ascii w = names-ascii weekdayNames w tt
 
 half-ascii : (h : HalfDay) (late : Bool) → Ascii (halfUnits h late)
 unfolding halfUnits units every isAscii
-half-ascii short true = tt
-half-ascii short false = tt
-half-ascii long true = tt
-half-ascii long false = tt
+half-ascii h true = by-half (λ (k : HalfDay). Ascii (halfUnits k true)) tt tt h
+half-ascii h false = by-half (λ (k : HalfDay). Ascii (halfUnits k false)) tt tt h
 
 exponent-ascii : (m : ExponentMark) (below : Bool) → Ascii (exponentUnits m below)
 unfolding exponentUnits units every isAscii
-exponent-ascii ePlus true = tt
-exponent-ascii ePlus false = tt
-exponent-ascii eMinus true = tt
-exponent-ascii eMinus false = tt
+exponent-ascii m true = by-exponent (λ (k : ExponentMark). Ascii (exponentUnits k true)) tt tt m
+exponent-ascii m false = by-exponent (λ (k : ExponentMark). Ascii (exponentUnits k false)) tt tt m
 
 -- ---- items: of a literal the unit is shown
 unfoldable literalAscii : Item → Bool
@@ -276,22 +263,6 @@ number-ascii s x t =
     (shown-ascii (exponentContext s x) (fromE is) tt (and-right (every literalAscii (beforeE is)) (every literalAscii (fromE is)) c)))
     (shown-ascii (numberContext s x) is standing t)
 
-number-fine : (ss : List Section) (room : ℕ) (x : Number) (i : ℕ) (s : Section) (why : Reason) → T (sectionAscii s)
-    → Fine room (readNumber ss x room (chosen i s why))
-unfolding readNumber numberUnits
-number-fine ss room x i s why t =
-    cond-both (Fine room) (not (takesNumber (kindOf s))) (fine-refused room answer.Sort)
-    (cond-both (Fine room) (showsGeneral (kindOf s) && generalTooWide ((numberExact x) .size)) (fine-refused room answer.General)
-    (fine-within room _
-    (every-append isAscii (signUnits (numberSign ss i s why x)) (sectionText s x) (sign-ascii _) (number-ascii s x t))))
-
-instant-fine : (room : ℕ) (d : Day) (m : Millisecond) (i : ℕ) (s : Section) (why : Reason) → T (sectionAscii s)
-    → Fine room (readInstant d m room (chosen i s why))
-unfolding readInstant instantContext every
-instant-fine room d m i s why t =
-    cond-both (Fine room) (not (takesInstant (kindOf s))) (fine-refused room answer.Sort)
-    (fine-within room _ (shown-ascii (instantContext s d m) (s .items) tt t))
-
 -- the section that takes a text
 abbrev TextPasses : TextChoice → Type 0
 TextPasses itself = Unit {0}
@@ -316,14 +287,19 @@ text-fine room text (textIn i s) t h = fine-within room _ (shown-ascii (textCont
 
 module _ (ss : List Section) (text : List ℕ) (room : ℕ) (h : T (every sectionAscii ss)) (t : Ascii text) where
   by-number : (x : Number) (k : Choice) → choose ss (numberExact x) ≡ k → Fine room (readNumber ss x room k)
-  unfolding readNumber
+  unfolding readNumber numberUnits
   by-number x nothing e = fine-refused room answer.NoSection
-  by-number x (chosen i s why) e = number-fine ss room x i s why (chosen-passes sectionAscii ss (numberExact x) i s why h e)
+  by-number x (chosen i s why) e =
+      cond-both (Fine room) (not (takesNumber (kindOf s))) (fine-refused room answer.Sort)
+      (cond-both (Fine room) (showsGeneral (kindOf s) && generalTooWide ((numberExact x) .size)) (fine-refused room answer.General)
+      (fine-within room _ (every-append isAscii _ _ (sign-ascii _) (number-ascii s x (chosen-passes sectionAscii ss (numberExact x) i s why h e)))))
 
   by-instant : (d : Day) (m : Millisecond) (k : Choice) → choose ss (instantExact d m) ≡ k → Fine room (readInstant d m room k)
-  unfolding readInstant
+  unfolding readInstant instantContext every
   by-instant d m nothing e = fine-refused room answer.NoSection
-  by-instant d m (chosen i s why) e = instant-fine room d m i s why (chosen-passes sectionAscii ss (instantExact d m) i s why h e)
+  by-instant d m (chosen i s why) e =
+      cond-both (Fine room) (not (takesInstant (kindOf s))) (fine-refused room answer.Sort)
+      (fine-within room _ (shown-ascii (instantContext s d m) (s .items) tt (chosen-passes sectionAscii ss (instantExact d m) i s why h e)))
 
   value-fine : (v : Value) → Fine room (readValue ss v text room)
   unfolding readValue chooseText
@@ -343,19 +319,17 @@ code-fine code ask text room c t = by-verdict (verdict code)
         (fine-refused room answer.Range)
 
 -- ---- lines that are read
-abbrev AsciiField : Field → Type 0
-AsciiField (field content rest) = Ascii content
-AsciiField missing = Unit {0}
-
-field-ascii : (name input : List ℕ) → AsciiField (fieldOf name input)
+-- what is made of a line, where it is missing and where its content is ASCII
+by-field : (P : Request → Type 0) (F : Field → Request) (name input : List ℕ) → P (F missing)
+    → ((us rest : List ℕ) → Ascii us → P (F (field us rest))) → P (F (fieldOf name input))
 unfolding fieldOf isLine
-field-ascii name input =
+by-field P F name input m f =
     let line = take (before 10 input) input in
-    cond-case AsciiField (ltb (before 10 input) (length input) && isLine name line)
+    cond-case (λ (x : Field). P (F x)) (ltb (before 10 input) (length input) && isLine name line)
     (λ e.
     let t : T (ltb (before 10 input) (length input) && (leb (length line) 2048 && every isAscii line && startsWith name line)) = true-T e in
-    every-drop isAscii (length name) line (search (and-left, and-right)))
-    (λ e. tt)
+    f _ _ (every-drop isAscii (length name) line (search (and-left, and-right))))
+    (λ e. m)
 
 abbrev AsciiRequest : Request → Type 0
 AsciiRequest (unasked a k) = Unit {0}
@@ -372,25 +346,18 @@ text-ascii sort.Number us t = tt
 text-ascii sort.Instant us t = tt
 text-ascii sort.Text us t = t
 
-third-ascii : (code : List ℕ) (s : Sort) (f : Field) → Ascii code → AsciiField f → AsciiRequest (fromThird code s f)
-unfolding fromThird
-third-ascii code s missing c t = tt
-third-ascii code s (field content rest) c t = value-ascii code (valueOf s content) (textOf s content) rest c (text-ascii s content t)
-
 kind-ascii : (code : List ℕ) (k : SortRead) (rest : List ℕ) → Ascii code → AsciiRequest (fromKind code k rest)
-unfolding fromKind
+unfolding fromKind fromThird
 kind-ascii code Unknown rest c = tt
-kind-ascii code (Known s) rest c = third-ascii code s (fieldOf (units "value=") rest) c (field-ascii (units "value=") rest)
+kind-ascii code (Known s) rest c =
+    by-field AsciiRequest (fromThird code s) (units "value=") rest tt
+    (λ us more t. value-ascii code (valueOf s us) (textOf s us) more c (text-ascii s us t))
 
-second-ascii : (code : List ℕ) (f : Field) → Ascii code → AsciiRequest (fromSecond code f)
-unfolding fromSecond
-second-ascii code missing c = tt
-second-ascii code (field content rest) c = kind-ascii code (sortOf content) rest c
-
-first-ascii : (f : Field) → AsciiField f → AsciiRequest (fromFirst f)
-unfolding fromFirst
-first-ascii missing t = tt
-first-ascii (field content rest) t = second-ascii content (fieldOf (units "kind=") rest) t
+request-ascii : (input : List ℕ) → AsciiRequest (requestOf input)
+unfolding requestOf fromFirst fromSecond
+request-ascii input =
+    by-field AsciiRequest fromFirst (units "code=") input tt
+    (λ code rest c. by-field AsciiRequest (fromSecond code) (units "kind=") rest tt (λ us more t. kind-ascii code (sortOf us) more c))
 
 -- ---- lines that are written
 line-ascii : (name content : List ℕ) → Ascii name → Ascii content → Ascii (lineOf name content)
@@ -399,14 +366,7 @@ line-ascii name content n c = every-append isAscii (name ++ content) (10 ∷ [])
 
 four-ascii : (a : Answer) (k colour : ℕ) (text : List ℕ) → Ascii text → Ascii (fourLines a k colour text)
 unfolding fourLines units every isAscii
-four-ascii a k colour text t =
-    let first = line-ascii (units "answer=") (numeral 1 (numberOf a)) tt (numeral-ascii 1 (numberOf a)) in
-    let second = line-ascii (units "place=") (numeral 1 k) tt (numeral-ascii 1 k) in
-    let third = line-ascii (units "colour=") (numeral 1 colour) tt (numeral-ascii 1 colour) in
-    let last = line-ascii (units "text=") text tt t in
-    let two = lineOf (units "answer=") (numeral 1 (numberOf a)) ++ lineOf (units "place=") (numeral 1 k) in
-    let three = two ++ lineOf (units "colour=") (numeral 1 colour) in
-    every-append isAscii three _ (every-append isAscii two _ (every-append isAscii (lineOf (units "answer=") (numeral 1 (numberOf a))) _ first second) third) last
+four-ascii a k colour text t = search (every-append isAscii, line-ascii, numeral-ascii) depth 16
 
 lines-ascii : (q : Request) → AsciiRequest q → Ascii (linesOf q)
 unfolding linesOf previewText every
@@ -414,8 +374,8 @@ lines-ascii (unasked a k) t = four-ascii a k 0 [] tt
 lines-ascii (request code ask text) t = four-ascii _ _ _ _ (code-fine code ask text 4096 (t .0) (t .1) .1)
 
 response-ascii : (input : List ℕ) → Ascii (responseOf input)
-unfolding responseOf requestOf
-response-ascii input = lines-ascii (requestOf input) (first-ascii (fieldOf (units "code=") input) (field-ascii (units "code=") input))
+unfolding responseOf
+response-ascii input = lines-ascii (requestOf input) (request-ascii input)
 
 -- ASCII units are written as the bytes that they are
 low-same : (us : List ℕ) → Ascii us → map lowByte us ≡ us

@@ -7,6 +7,7 @@ use preview::preview;
 use requests::RequestRead;
 use requests::bytes::narrow;
 use requests::bytes::put_bytes;
+use requests::part_of;
 use requests::read_request;
 use values::Ask;
 use values::integers::least;
@@ -62,11 +63,7 @@ fn respond(input: &[u16], out: &mut [u16]) -> Told
 {
     match read_request(input) {
         RequestRead::Request(code, ask, text) => {
-            let a = code.start;
-            let b = code.end;
-            let c = text.start;
-            let d = text.end;
-            respond_to(&input[a..b], ask, &input[c..d], out)
+            respond_to(part_of(input, code), ask, part_of(input, text), out)
         }
         RequestRead::Malformed(line) => {
             let length = put_lines(out, Answer::Line, line, 0, &input[..0]);

@@ -2,7 +2,7 @@
 -- Assumes nothing.
 use Prim.Native.Nat.{ℕ, zero, suc, _+_, _≤_, _<_}
 use native.Mathlib.Omega.{arith}
-use mathlib.Core.Path.{_≡_, sym}
+use mathlib.Core.Path.{_≡_, refl, sym, ap, _∙_}
 use mathlib.Core.Logic.{_⊎_, inl, inr, ⊎-elim}
 use mathlib.Core.List.{List, [], _∷_}
 use mathlib.Core.Option.{Option, none, some}
@@ -27,10 +27,10 @@ not-none : (n : ℕ) → some n ≡ none → ⊥
 not-none n e = let z : _≡_ {A = ℕ} 0 1 = cc in omega arith
 
 module _ (day : ℕ) where
-  -- the one kept stays, or a later one is found
-  record Later (k : ℕ) (xs : List ℕ) (n : ℕ) : Type 0 where
+  -- a later one is found
+  record Later (k : ℕ) (xs : List ℕ) (o : Option ℕ) : Type 0 where
     index : ℕ
-    place : k + index ≡ n
+    place : o ≡ some (k + index)
     last : Last day xs index
 
   above-more : (x : ℕ) (xs : List ℕ) → day < x → AllAbove day xs → AllAbove day (x ∷ xs)
@@ -51,48 +51,36 @@ module _ (day : ℕ) where
       rest zero p l = absurd (omega arith)
       rest (suc i) p l = r .later i (omega arith) (omega arith)
 
-  later-behind : (x k : ℕ) (xs : List ℕ) (n : ℕ) → Later (suc k) xs n → Later k (x ∷ xs) n
-  later-behind x k xs n r =
-      record { index = suc (r .index); place = omega (arith, r .place); last = last-behind x xs (r .index) (r .last) }
+  later-behind : (x k : ℕ) (xs : List ℕ) (o : Option ℕ) → Later (suc k) xs o → Later k (x ∷ xs) o
+  later-behind x k xs o r =
+      let e : suc k + r .index ≡ k + suc (r .index) = omega arith in
+      record { index = suc (r .index); place = r .place ∙ ap some e; last = last-behind x xs (r .index) (r .last) }
 
-  from-some : (k : ℕ) (kept : Option ℕ) (xs : List ℕ) (n : ℕ) → lastFrom day k kept xs ≡ some n
-      → ((kept ≡ some n) × AllAbove day xs) ⊎ Later k xs n
+  -- the one kept stays, or a later one is found
+  from : (k : ℕ) (kept : Option ℕ) (xs : List ℕ) → ((lastFrom day k kept xs ≡ kept) × AllAbove day xs) ⊎ Later k xs (lastFrom day k kept xs)
   unfolding lastFrom
-  from-some k kept [] n e = inl (e, λ i h. absurd (omega arith))
-  from-some k kept (x ∷ xs) n e =
+  from k kept [] = inl (refl, λ i h. absurd (omega arith))
+  from k kept (x ∷ xs) =
       by-cases (leb x day)
-      (λ t.
-      ⊎-elim
-      (λ w. inr (record { index = 0; place = omega (arith, same-some k n (w .0)); last = last-here x xs (leb-true x day t) (w .1) }))
-      (λ r. inr (later-behind x k xs n r))
-      (from-some (suc k) (some k) xs n (rw t at e)))
-      (λ f.
-      ⊎-elim
-      (λ w. inl (w .0, above-more x xs (leb-false x day f) (w .1)))
-      (λ r. inr (later-behind x k xs n r))
-      (from-some (suc k) kept xs n (rw f at e)))
-
-  from-none : (k : ℕ) (kept : Option ℕ) (xs : List ℕ) → lastFrom day k kept xs ≡ none → (kept ≡ none) × AllAbove day xs
-  unfolding lastFrom
-  from-none k kept [] e = (e, λ i h. absurd (omega arith))
-  from-none k kept (x ∷ xs) e =
-      by-cases (leb x day)
-      (λ t. absurd (not-none k (from-none (suc k) (some k) xs (rw t at e) .0)))
-      (λ f.
-      let r = from-none (suc k) kept xs (rw f at e) in
-      (r .0, above-more x xs (leb-false x day f) (r .1)))
+      (λ t. rw t
+      (⊎-elim
+      (λ w. let e : k ≡ k + 0 = omega arith in inr (record { index = 0; place = w .0 ∙ ap some e; last = last-here x xs (leb-true x day t) (w .1) }))
+      (λ r. inr (later-behind x k xs _ r))
+      (from (suc k) (some k) xs)))
+      (λ f. rw f
+      (⊎-elim (λ w. inl (w .0, above-more x xs (leb-false x day f) (w .1))) (λ r. inr (later-behind x k xs _ r)) (from (suc k) kept xs)))
 
   pub last-found : (numbers : List ℕ) (n : ℕ) → lastNotAbove day numbers ≡ some n → Last day numbers n
   unfolding lastNotAbove
   last-found numbers n e =
       ⊎-elim
-      (λ w. absurd (not-none n (sym (w .0))))
-      (λ (r : Later 0 numbers n). let s : r .index ≡ n = omega (arith, r .place) in rw s at (r .last))
-      (from-some 0 none numbers n e)
+      (λ w. absurd (not-none n (sym e ∙ w .0)))
+      (λ (r : Later 0 numbers (lastFrom day 0 none numbers)). let s : r .index ≡ n = omega (arith, same-some n (0 + r .index) (sym e ∙ r .place)) in rw s at (r .last))
+      (from 0 none numbers)
 
   pub last-none : (numbers : List ℕ) → lastNotAbove day numbers ≡ none → AllAbove day numbers
   unfolding lastNotAbove
-  last-none numbers e = from-none 0 none numbers e .1
+  last-none numbers e = ⊎-elim (λ w. w .1) (λ r. absurd (not-none _ (sym (r .place) ∙ e))) (from 0 none numbers)
 
 -- the turn that answers tells the entry
 pub answered-same : (o : Option ℕ) (n : ℕ) → answered o ≡ answered (some n) → o ≡ some n

@@ -1,14 +1,14 @@
 -- Whoever hands the entries over need not read the found one again: its number is the last one handed over that is not above the day.
 -- Assumes nothing.
-use Prim.Native.Nat.{ℕ, zero, suc, _+_, _-_, _≤_, _<_}
+use Prim.Native.Nat.{ℕ, zero, suc, _+_, _-_, _<_}
 use native.Mathlib.Omega.{arith}
 use mathlib.Core.Path.{_≡_, refl}
 use mathlib.Core.Bool.{cond, _&&_}
 use mathlib.Core.List.{List}
-use borrow.Author.Tests.{lt-leb, le-leb, leb-true, leb-false, lt-ltb, le-ltb}
-use lib.Dec.{leb, ltb}
+use borrow.Author.Tests.{lt-leb, le-leb}
+use lib.Dec.{leb}
 use lib.ListN.{getD}
-use Rattle.lists.proofs.Bools.{by-cases, cond-both, cond-case}
+use Rattle.lists.proofs.Bools.{cond-both}
 use Rattle.searching.specs.declared.Search.{Search}
 use Rattle.searching.specs.declared.Turn.{Turn}
 use Rattle.searching.specs.declared.Turn.the-variants.{Read, Found, Nothing}

@@ -5,14 +5,13 @@ use native.Mathlib.Omega.{arith}
 use mathlib.Core.Path.{_≡_, subst, _∙_}
 use mathlib.Core.Bool.{Bool, true, false, _&&_}
 use mathlib.Core.List.{List}
-use borrow.Author.Tests.{ltb-true, ltb-false, leb-true, leb-false, lt-ltb, le-leb}
+use borrow.Author.Tests.{ltb-true, ltb-false, leb-true, leb-false, lt-ltb}
 use lib.Dec.{leb, ltb}
 use lib.ListN.{length, getD}
 use Rattle.lists.proofs.Bools.{no, cond-case}
 use Rattle.searching.specs.declared.Search.{Search}
 use Rattle.searching.specs.declared.Turn.{Turn}
-use Rattle.searching.specs.declared.Turn.the-variants.{Found}
-use Rattle.searching.specs.Machine.{laterGuess, guessed, border, firstAsked, reading, answer, between, above, notAbove, started, toldOf}
+use Rattle.searching.specs.Machine.{laterGuess, guessed, border, firstAsked, reading, answer, between, above, notAbove, started}
 use Rattle.searching.specs.Search.{Rising, lastNotAbove, handed, driven, answered}
 use Rattle.searching.proofs.Last.{Known, known-answer}
 use Rattle.searching.proofs.Turns.{driven-answer}

@@ -95,15 +95,11 @@ width-two n h g = width-unique n 2 (omega arith) (omega arith) (omega arith) (λ
 -- a numeral is as many digits as are asked for at least, or as the number has
 pub numeral-least : (least n w : ℕ) → w ≡ width n → w < least → numeral least n ≡ digitUnits least n
 unfolding numeral
-numeral-least least n w e h =
-    let f : max least (width n) ≡ least = max-eq-left (omega arith) in
-    ap (λ (k : ℕ). digitUnits k n) f
+numeral-least least n w e h = let f : max least (width n) ≡ least = max-eq-left (omega arith) in rw f
 
 pub numeral-whole : (least n w : ℕ) → w ≡ width n → least ≤ w → numeral least n ≡ digitUnits w n
 unfolding numeral
-numeral-whole least n w e h =
-    let f : max least (width n) ≡ width n = max-eq-right (omega arith) in
-    ap (λ (k : ℕ). digitUnits k n) (f ∙ sym e)
+numeral-whole least n w e h = let f : max least (width n) ≡ w = max-eq-right (omega arith) ∙ sym e in rw f
 
 -- its length, where no more digits are asked for than a number has at most
 pub numeral-short : (least n : ℕ) → least ≤ 25 → length (numeral least n) ≤ 25

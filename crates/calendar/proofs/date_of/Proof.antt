@@ -6,9 +6,6 @@ use Rattle.calendar.proofs.Made.{made-years-few, date-made}
 use Rattle.calendar.proofs.date_of.Statement.{statement}
 use Rattle.calendar.proofs.date_of.Tie as tie
 
-year-day-of-requires : tie.Need-year-day-of-requires
-year-day-of-requires c κs = search needs
-
 month-day-of-requires : tie.Need-month-day-of-requires
 month-day-of-requires c κs =
     omega (arith, made-years-few (c .before .before .args .d .0) (c .year-day-of .result) (c .year-day-of .ensures))
@@ -25,4 +22,4 @@ returns c =
     date-made (c .before .before .before .before .args .d .0) (y .result) (m .result) (y .ensures) (m .ensures)
 
 pub date-of-spec : {M : Type 1} → statement M
-date-of-spec = tie.close (tie.spec year-day-of-requires month-day-of-requires add-t5 returns)
+date-of-spec = tie.close (tie.spec (λ c κs. search needs) month-day-of-requires add-t5 returns)

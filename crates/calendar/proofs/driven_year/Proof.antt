@@ -44,21 +44,6 @@ loop-holds c = driving-start _ _ _ _ (c .start .ensures) (omega arith)
 returns : tie.Need-returns Inv-loop μ-loop
 returns c = absurd (omega (arith, there (c .before)))
 
-cast-number : tie.Need-cast-number Inv-loop μ-loop
-cast-number c = omega (arith, there (c .before))
-
-mul-number : tie.Need-mul-number Inv-loop μ-loop
-mul-number c = omega (arith, there (c .before))
-
-array-read-number : tie.Need-array-read-number Inv-loop μ-loop
-array-read-number c = omega (arith, there (c .before))
-
-sub-left : tie.Need-sub-left Inv-loop μ-loop
-sub-left c = omega (arith, there (c .before .before .before))
-
-loop-less : tie.Need-loop-less Inv-loop μ-loop
-loop-less c = omega (arith, there (c .before .before .before))
-
 loop-again : tie.Need-loop-again Inv-loop μ-loop
 loop-again c =
     let k = c .before .before .before in
@@ -85,13 +70,13 @@ driven-year-spec =
     loop-holds
     (λ c. search needs)
     returns
-    cast-number
-    mul-number
-    array-read-number
+    (λ c. omega (arith, there (c .before)))
+    (λ c. omega (arith, there (c .before)))
+    (λ c. omega (arith, there (c .before)))
     (λ c κs. search needs)
     (λ c κs. search needs)
-    sub-left
-    loop-less
+    (λ c. omega (arith, there (c .before .before .before)))
+    (λ c. omega (arith, there (c .before .before .before)))
     loop-again
     (λ c. search needs)
     returns-2

@@ -8,9 +8,6 @@ use Rattle.choosing.proofs.Standing.{bounds, text-told}
 use Rattle.choosing.proofs.choose_text.Statement.{statement}
 use Rattle.choosing.proofs.choose_text.Tie as tie
 
-section-count-requires : tie.Need-section-count-requires
-section-count-requires c κs = omega (arith, long _ (c .before .pre))
-
 returns : tie.Need-returns
 returns c =
     let n = c .before in
@@ -45,4 +42,4 @@ returns-3 c =
 pub choose-text-spec : {M : Type 1} → statement M
 choose-text-spec =
     tie.close
-    (tie.spec section-count-requires returns sub-last is-text-requires cast-t6 returns-2 returns-3)
+    (tie.spec (λ c κs. omega (arith, long _ (c .before .pre))) returns sub-last is-text-requires cast-t6 returns-2 returns-3)

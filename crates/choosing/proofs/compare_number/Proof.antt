@@ -6,21 +6,12 @@ use Rattle.choosing.proofs.Comparing.{few-decimals, many-decimals, rest
 use Rattle.choosing.proofs.compare_number.Statement.{statement}
 use Rattle.choosing.proofs.compare_number.Tie as tie
 
-rem-rest : tie.Need-rem-rest
-rem-rest c = power-positive _ _ (c .power .ensures)
-
-div-compare-parts : tie.Need-div-compare-parts
-div-compare-parts c = power-positive _ _ (c .before .power .ensures)
-
 mul-compare-parts : tie.Need-mul-compare-parts
 mul-compare-parts c =
     omega (arith, rest-small (c .before .before .before .args .above) _ _ _ (c .before .if1 .taken) (c .before .before .power .ensures) (c .power2 .ensures))
 
 returns : tie.Need-returns
 returns c = search few-decimals
-
-div-compare-parts-2 : tie.Need-div-compare-parts-2
-div-compare-parts-2 c = power-positive _ _ (c .before .power .ensures)
 
 mul-compare-parts-2 : tie.Need-mul-compare-parts-2
 mul-compare-parts-2 c =
@@ -34,13 +25,13 @@ compare-number-spec =
     tie.close
     (tie.spec
     (λ c κs. search needs)
-    rem-rest
-    div-compare-parts
+    (λ c. power-positive _ _ (c .power .ensures))
+    (λ c. power-positive _ _ (c .before .power .ensures))
     (λ c κs. search needs)
     mul-compare-parts
     (λ c κs. search needs)
     returns
-    div-compare-parts-2
+    (λ c. power-positive _ _ (c .before .power .ensures))
     (λ c. search needs)
     (λ c κs. search needs)
     mul-compare-parts-2

@@ -19,12 +19,6 @@ abbrev μ-loop : tie.MeasureT-loop
 loop-holds : tie.Need-loop-holds Inv-loop μ-loop
 loop-holds c = (search needs, λ j h. absurd (omega arith))
 
-add-k : tie.Need-add-k Inv-loop μ-loop
-add-k c = omega arith
-
-loop-less : tie.Need-loop-less Inv-loop μ-loop
-loop-less c = omega arith
-
 loop-again : tie.Need-loop-again Inv-loop μ-loop
 loop-again c = (length-set (c .before .loop .zeros) (c .before .loop .k) 0 ∙ c .before .loop .inv .0, fill-next (λ (j : ℕ). 0) 40 (c .before .loop .zeros) (c .before .loop .k) 0 (c .before .loop .inv .0) (c .loop-test .taken) refl (c .before .loop .inv .1))
 
@@ -34,4 +28,4 @@ returns c = figures-ext (c .before .loop .zeros) 0 (c .before .loop .inv .0) (λ
 pub cleared-spec : {M : Type 1} → statement M
 cleared-spec =
     tie.close
-    (tie.spec Inv-loop μ-loop loop-holds (λ c. search needs) add-k loop-less loop-again returns)
+    (tie.spec Inv-loop μ-loop loop-holds (λ c. search needs) (λ c. omega arith) (λ c. omega arith) loop-again returns)

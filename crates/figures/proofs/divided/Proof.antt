@@ -14,9 +14,6 @@ returns c = nearest-far (c .before .args .m) (c .before .args .k) (omega arith) 
 div-q : tie.Need-div-q
 div-q c = omega (arith, ten-pos (c .before .before .args .k))
 
-rem-r : tie.Need-rem-r
-rem-r c = omega (arith, ten-pos (c .before .before .args .k))
-
 sub-if2 : tie.Need-sub-if2
 sub-if2 c = omega (arith, ten-pos (c .before .before .args .k), mod-lt (c .before .before .args .m) (div-q c))
 
@@ -34,4 +31,4 @@ returns-3 c = let a = c .before .before .before .args in divided-down (a .m) (c 
 pub divided-spec : {M : Type 1} → statement M
 divided-spec =
     tie.close
-    (tie.spec returns (λ c κs. search needs) div-q rem-r sub-if2 add-result returns-2 returns-3)
+    (tie.spec returns (λ c κs. search needs) div-q (λ c. omega (arith, ten-pos (c .before .before .args .k))) sub-if2 add-result returns-2 returns-3)

@@ -9,9 +9,6 @@ use Rattle.figures.proofs.Sign.{minus-fits, minus-is, back, below-is, n
 use Rattle.figures.proofs.magnitude.Statement.{statement}
 use Rattle.figures.proofs.magnitude.Tie as tie
 
-sub-result : tie.Need-sub-result
-sub-result c = minus-fits w64 (c .before .args .c) (omega arith)
-
 cast-result : tie.Need-cast-result
 cast-result c =
     let z : ℤ = c .before .args .c in
@@ -26,4 +23,4 @@ returns : tie.Need-returns
 returns c = ap natAbs (minus-is w64 (c .before .args .c) (omega arith)) ∙ natAbs-negℤ (c .before .args .c)
 
 pub magnitude-spec : {M : Type 1} → statement M
-magnitude-spec = tie.close (tie.spec sub-result cast-result cast-result-2 returns (λ c. search needs))
+magnitude-spec = tie.close (tie.spec (λ c. minus-fits w64 (c .before .args .c) (omega arith)) cast-result cast-result-2 returns (λ c. search needs))

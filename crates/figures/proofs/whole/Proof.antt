@@ -12,11 +12,8 @@ use Rattle.figures.proofs.whole.Tie as tie
 returns : tie.Need-returns
 returns c = sym (div-eq-of-lt (omega (arith, ten-le 20 (c .before .args .k) (c .if1 .taken))))
 
-div-result : tie.Need-div-result
-div-result c = omega (arith, ten-pos (c .before .before .args .k))
-
 returns-2 : tie.Need-returns-2
 returns-2 c = ap (λ (p : ℕ). c .before .before .args .m / p) (c .power .ensures)
 
 pub whole-spec : {M : Type 1} → statement M
-whole-spec = tie.close (tie.spec returns (λ c κs. search needs) div-result returns-2)
+whole-spec = tie.close (tie.spec returns (λ c κs. search needs) (λ c. omega (arith, ten-pos (c .before .before .args .k))) returns-2)

@@ -35,12 +35,6 @@ returns c =
     let v = examined-no _ _ _ _ _ _ (m .before .before .before .before .examine .ensures) (m .number .ensures) (c .before .if1 .taken) in
     (c .refused-prepared .ensures ∙ sym (refused-prepared _ _ _ v _), sym (refused-table _ _ _ v _))
 
-mul-size : tie.Need-mul-size
-mul-size c = omega (arith, sound (c .before) .few)
-
-add-size : tie.Need-add-size
-add-size c = omega (arith, sound (c .before) .few)
-
 add-size-2 : tie.Need-add-size-2
 add-size-2 c = omega (arith, sound (c .before) .few, sound (c .before) .short)
 
@@ -80,8 +74,8 @@ prepare-spec =
     (λ c κs. search needs)
     (λ c κs. search needs)
     returns
-    mul-size
-    add-size
+    (λ c. omega (arith, sound (c .before) .few))
+    (λ c. omega (arith, sound (c .before) .few))
     add-size-2
     (λ c κs. search needs)
     returns-2

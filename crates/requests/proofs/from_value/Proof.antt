@@ -1,6 +1,5 @@
 -- `requests::from_value` meets its contract.
 -- Assumes nothing.
-use mathlib.Core.Path.{sym, _∙_}
 use native.Mathlib.Omega.{arith}
 use borrow.Author.Needs.{needs}
 use denote.Ref.{now}
@@ -10,29 +9,31 @@ use Rattle.requests.proofs.from_value.Tie as tie
 
 returns : tie.Need-returns
 returns c =
-    let t = c .before in
-    let v = t .before .before .before in
+    let v = c .before .before .before .before .before in
     let k = v .before .before in
     let b = k .before .before .before in
-    rw (c .asked .ensures, t .text-part .ensures)
-    (value-end (now (b .args .input)) (b .args .code) (b .args .value) (b .args .sort) _ (sym (k .value-of .ensures) ∙ v .v .given .1) (b .pre .0) (b .pre .1) (omega arith))
+    let a = b .args in
+    rw (c .asked .ensures, c .before .text-part .ensures)
+    (value-end (now (a .input)) (a .code) (a .value) (a .sort) (k .before .part-of .ensures .0) (k .value-of .ensures) (v .v .given .1) (b .pre .0) (b .pre .1) (omega arith))
 
 returns-2 : tie.Need-returns-2
 returns-2 c =
-    let a = c .before .before .before .before .before .before .before .args in
-    value-more (now (a .input)) (a .code) (a .value) (a .sort) _ (sym (c .before .before .before .before .value-of .ensures) ∙ c .before .before .v .given .1) (omega arith)
+    let v = c .before .before .before in
+    let k = v .before .before in
+    let a = k .before .before .before .args in
+    value-more (now (a .input)) (a .code) (a .value) (a .sort) (k .before .part-of .ensures .0) (k .value-of .ensures) (v .v .given .1) (omega arith)
 
 returns-3 : tie.Need-returns-3
-returns-3 c = value-bad _ _ _ _ _ (sym (c .before .before .value-of .ensures) ∙ c .enum-told .given .1)
+returns-3 c =
+    let k = c .before .before in
+    let a = k .before .before .before .args in
+    value-bad (now (a .input)) (a .code) (a .value) (a .sort) (k .before .part-of .ensures .0) (k .value-of .ensures) (c .enum-told .given .1)
 
 pub from-value-spec : {M : Type 1} → statement M
 from-value-spec =
     tie.close
     (tie.spec
-    (λ c. search needs)
-    (λ c. search needs)
-    (λ c. search needs)
-    (λ c. search needs)
+    (λ c κs. search needs)
     (λ c κs. search needs)
     (λ c. search needs)
     (λ c. search needs)

@@ -8,18 +8,6 @@ use borrow.Author.Needs.{needs}
 use Rattle.responding.proofs.respond_front.Statement.{statement}
 use Rattle.responding.proofs.respond_front.Tie as tie
 
-least-requires : tie.Need-least-requires
-least-requires c κs = search needs
-
-slice-aggregate-respond-bytes : tie.Need-slice-aggregate-respond-bytes
-slice-aggregate-respond-bytes c = simp length-take (omega arith)
-
-respond-bytes-requires : tie.Need-respond-bytes-requires
-respond-bytes-requires c κs = search needs
-
-same-length : tie.Need-same-length
-same-length c = search needs
-
 returns : tie.Need-returns
 returns c =
     let w = c .before .before in
@@ -31,4 +19,4 @@ returns c =
 pub respond-front-spec : {M : Type 1} → statement M
 respond-front-spec =
     tie.close
-    (tie.spec least-requires slice-aggregate-respond-bytes respond-bytes-requires same-length returns)
+    (tie.spec (λ c κs. search needs) (λ c. simp length-take (omega arith)) (λ c κs. search needs) (λ c. search needs) returns)

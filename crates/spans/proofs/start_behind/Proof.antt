@@ -21,12 +21,9 @@ begins c = behind-some _ _ _ (omega (arith, c .before .if1 .left)) (c .semicolon
 returns : tie.Need-returns
 returns c = behind-none _ _ (omega (arith, c .if1 .taken))
 
-add-result : tie.Need-add-result
-add-result c = omega (arith, c .before .before .before .pre .2, begins c)
-
 returns-2 : tie.Need-returns-2
 returns-2 c = omega (arith, begins c)
 
 pub start-behind-spec : {M : Type 1} → statement M
 start-behind-spec =
-    tie.close (tie.spec returns (λ c. search needs) (λ c κs. search needs) add-result returns-2)
+    tie.close (tie.spec returns (λ c. search needs) (λ c κs. search needs) (λ c. omega (arith, c .before .before .before .pre .2, begins c)) returns-2)

@@ -14,9 +14,6 @@ Inv-loop table i start₀ k₀ start k = Starting table i k start
 abbrev μ-loop : tie.MeasureT-loop
 μ-loop table i start₀ k₀ start k = i - k
 
-section-count-requires : tie.Need-section-count-requires Inv-loop μ-loop
-section-count-requires c κs = omega (arith, long _ (c .before .pre .0))
-
 mul-start : tie.Need-mul-start Inv-loop μ-loop
 mul-start c = omega (arith, c .section-count .ensures, long _ (c .before .before .pre .0))
 
@@ -52,7 +49,7 @@ items-start-spec =
     (tie.spec
     Inv-loop
     μ-loop
-    section-count-requires
+    (λ c κs. omega (arith, long _ (c .before .pre .0)))
     mul-start
     add-start
     loop-holds

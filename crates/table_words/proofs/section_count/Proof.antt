@@ -5,8 +5,5 @@ use borrow.Author.Needs.{needs}
 use Rattle.table_words.proofs.section_count.Statement.{statement}
 use Rattle.table_words.proofs.section_count.Tie as tie
 
-cast-result : tie.Need-cast-result
-cast-result c = omega (arith, c .shared-slice-known .given 0)
-
 pub section-count-spec : {M : Type 1} → statement M
-section-count-spec = tie.close (tie.spec (λ c. search needs) cast-result (λ c. search needs))
+section-count-spec = tie.close (tie.spec (λ c. search needs) (λ c. omega (arith, c .shared-slice-known .given 0)) (λ c. search needs))

@@ -11,38 +11,17 @@ Inv-loop room₀ at count n end rest₀ o₀ room rest o = Peeled room₀ at cou
 abbrev μ-loop : tie.MeasureT-loop
 μ-loop room₀ at count n end rest₀ o₀ room rest o = o
 
-add-end : tie.Need-add-end Inv-loop μ-loop
-add-end c = search needs
-
 returns : tie.Need-returns Inv-loop μ-loop
 returns c = digits-out _ _ _ _ (c .if1 .taken)
 
 loop-holds : tie.Need-loop-holds Inv-loop μ-loop
 loop-holds c = peeled-start _ _ _ _
 
-sub-o : tie.Need-sub-o Inv-loop μ-loop
-sub-o c = search needs
-
-cast-digit-unit : tie.Need-cast-digit-unit Inv-loop μ-loop
-cast-digit-unit c = search needs
-
-digit-unit-requires : tie.Need-digit-unit-requires Inv-loop μ-loop
-digit-unit-requires c κs = search needs
-
-put-unit-requires : tie.Need-put-unit-requires Inv-loop μ-loop
-put-unit-requires c κs = search needs
-
-loop-less : tie.Need-loop-less Inv-loop μ-loop
-loop-less c = search needs
-
 loop-again : tie.Need-loop-again Inv-loop μ-loop
 loop-again c =
     let p = c .before .before in
     let t = p .before .before .before in
     peeled-put (t .before .loop .inv) (t .loop-test .taken) (rw (p .before .digit-unit .ensures) at (p .put-unit .ensures))
-
-same-length : tie.Need-same-length Inv-loop μ-loop
-same-length c = search needs
 
 returns-2 : tie.Need-returns-2 Inv-loop μ-loop
 returns-2 c = peeled-done (c .before .loop .inv) (c .loop-test .left)
@@ -53,14 +32,14 @@ put-digits-spec =
     (tie.spec
     Inv-loop
     μ-loop
-    add-end
+    (λ c. search needs)
     returns
     loop-holds
-    sub-o
-    cast-digit-unit
-    digit-unit-requires
-    put-unit-requires
-    loop-less
+    (λ c. search needs)
+    (λ c. search needs)
+    (λ c κs. search needs)
+    (λ c κs. search needs)
+    (λ c. search needs)
     loop-again
-    same-length
+    (λ c. search needs)
     returns-2)

@@ -6,27 +6,6 @@ use borrow.Author.Needs.{needs}
 use Rattle.writing.proofs.put_two.Statement.{statement}
 use Rattle.writing.proofs.put_two.Tie as tie
 
-cast-digit-unit : tie.Need-cast-digit-unit
-cast-digit-unit c = search needs
-
-digit-unit-requires : tie.Need-digit-unit-requires
-digit-unit-requires c κs = search needs
-
-put-unit-requires : tie.Need-put-unit-requires
-put-unit-requires c κs = search needs
-
-cast-digit-unit-2 : tie.Need-cast-digit-unit-2
-cast-digit-unit-2 c = search needs
-
-digit-unit-requires-2 : tie.Need-digit-unit-requires-2
-digit-unit-requires-2 c κs = search needs
-
-put-unit-requires-2 : tie.Need-put-unit-requires-2
-put-unit-requires-2 c κs = search needs
-
-same-length : tie.Need-same-length
-same-length c = search needs
-
 returns : tie.Need-returns
 returns c =
     let b = c .before .before in
@@ -38,11 +17,11 @@ pub put-two-spec : {M : Type 1} → statement M
 put-two-spec =
     tie.close
     (tie.spec
-    cast-digit-unit
-    digit-unit-requires
-    put-unit-requires
-    cast-digit-unit-2
-    digit-unit-requires-2
-    put-unit-requires-2
-    same-length
+    (λ c. search needs)
+    (λ c κs. search needs)
+    (λ c κs. search needs)
+    (λ c. search needs)
+    (λ c κs. search needs)
+    (λ c κs. search needs)
+    (λ c. search needs)
     returns)

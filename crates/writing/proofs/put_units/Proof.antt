@@ -17,45 +17,12 @@ Inv-loop room₀ at text end stop o₀ j₀ room o j = Rest room₀ at text room
 abbrev μ-loop : tie.MeasureT-loop
 μ-loop room₀ at text end stop o₀ j₀ room o j = stop - o
 
-add-end : tie.Need-add-end Inv-loop μ-loop
-add-end c = search needs
-
-least-requires : tie.Need-least-requires Inv-loop μ-loop
-least-requires c κs = search needs
-
-loop-holds : tie.Need-loop-holds Inv-loop μ-loop
-loop-holds c = search needs
-
-mul-room : tie.Need-mul-room Inv-loop μ-loop
-mul-room c = search needs
-
-shared-slice-read-room : tie.Need-shared-slice-read-room Inv-loop μ-loop
-shared-slice-read-room c = search needs
-
-mul-room-2 : tie.Need-mul-room-2 Inv-loop μ-loop
-mul-room-2 c = search needs
-
-slice-write-room : tie.Need-slice-write-room Inv-loop μ-loop
-slice-write-room c = search needs
-
-add-o : tie.Need-add-o Inv-loop μ-loop
-add-o c = search needs
-
-add-j : tie.Need-add-j Inv-loop μ-loop
-add-j c = search needs
-
-loop-less : tie.Need-loop-less Inv-loop μ-loop
-loop-less c = search needs
-
 loop-again : tie.Need-loop-again Inv-loop μ-loop
 loop-again c =
     let l = c .before .before .loop in
     let text = now (c .before .before .before .before .before .before .args .text) in
     let h : l .j < length text = omega arith in
     (rest-copy text (l .j) (l .inv .0) h, search needs, search needs)
-
-same-length : tie.Need-same-length Inv-loop μ-loop
-same-length c = search needs
 
 returns : tie.Need-returns Inv-loop μ-loop
 returns c = rest-stop (c .before .loop .inv .0) (c .loop-test .left) (c .before .before .least .ensures)
@@ -66,16 +33,16 @@ put-units-spec =
     (tie.spec
     Inv-loop
     μ-loop
-    add-end
-    least-requires
-    loop-holds
-    mul-room
-    shared-slice-read-room
-    mul-room-2
-    slice-write-room
-    add-o
-    add-j
-    loop-less
+    (λ c. search needs)
+    (λ c κs. search needs)
+    (λ c. search needs)
+    (λ c. search needs)
+    (λ c. search needs)
+    (λ c. search needs)
+    (λ c. search needs)
+    (λ c. search needs)
+    (λ c. search needs)
+    (λ c. search needs)
     loop-again
-    same-length
+    (λ c. search needs)
     returns)

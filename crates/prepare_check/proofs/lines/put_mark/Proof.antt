@@ -8,14 +8,8 @@ use Rattle.prepare_check.proofs.lines.put_mark.Tie as tie
 returns : tie.Need-returns
 returns c = (search needs, mark-none _ _ _ (c .if1 .taken))
 
-put-unit-requires : tie.Need-put-unit-requires
-put-unit-requires c κs = search needs
-
-same-length : tie.Need-same-length
-same-length c = search needs
-
 returns-2 : tie.Need-returns-2
 returns-2 c = (search needs, mark-put _ (c .before .before .before .before .if1 .left) (c .before .before .put-unit .ensures))
 
 pub put-mark-spec : {M : Type 1} → statement M
-put-mark-spec = tie.close (tie.spec returns put-unit-requires same-length returns-2)
+put-mark-spec = tie.close (tie.spec returns (λ c κs. search needs) (λ c. search needs) returns-2)

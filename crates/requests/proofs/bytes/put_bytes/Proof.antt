@@ -19,20 +19,8 @@ abbrev μ-loop : tie.MeasureT-loop
 loop-holds : tie.Need-loop-holds Inv-loop μ-loop
 loop-holds c = (rest-start _ _ _, search needs, search needs)
 
-shared-slice-read-put-unit : tie.Need-shared-slice-read-put-unit Inv-loop μ-loop
-shared-slice-read-put-unit c = search needs
-
 cast-put-unit : tie.Need-cast-put-unit Inv-loop μ-loop
 cast-put-unit c = omega (arith, c .shared-slice-known2 .given (c .before .before .before .loop .i))
-
-put-unit-requires : tie.Need-put-unit-requires Inv-loop μ-loop
-put-unit-requires c κs = search needs
-
-add-i : tie.Need-add-i Inv-loop μ-loop
-add-i c = search needs
-
-loop-less : tie.Need-loop-less Inv-loop μ-loop
-loop-less c = search needs
 
 loop-again : tie.Need-loop-again Inv-loop μ-loop
 loop-again c =
@@ -40,9 +28,6 @@ loop-again c =
     let t = p .before .before .before in
     let l = t .before .loop in
     (rest-put {p = _ ∷ []} (rw (drop-first _ _ (t .loop-test .taken)) at (l .inv .0)) (p .put-unit .ensures), search needs, omega (arith, p .put-unit .ensures .next))
-
-same-length : tie.Need-same-length Inv-loop μ-loop
-same-length c = c .before .loop .inv .0 .size
 
 returns : tie.Need-returns Inv-loop μ-loop
 returns c =
@@ -56,11 +41,11 @@ put-bytes-spec =
     Inv-loop
     μ-loop
     loop-holds
-    shared-slice-read-put-unit
+    (λ c. search needs)
     cast-put-unit
-    put-unit-requires
-    add-i
-    loop-less
+    (λ c κs. search needs)
+    (λ c. search needs)
+    (λ c. search needs)
     loop-again
-    same-length
+    (λ c. c .before .loop .inv .0 .size)
     returns)

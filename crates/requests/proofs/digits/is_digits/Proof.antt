@@ -10,11 +10,8 @@ use Rattle.requests.proofs.digits.is_digits.Tie as tie
 returns : tie.Need-returns
 returns c = digits-none (now (c .before .before .args .us)) (omega arith)
 
-scan-requires : tie.Need-scan-requires
-scan-requires c κs = search needs
-
 returns-2 : tie.Need-returns-2
 returns-2 c = digits-test (now (c .before .before .before .args .us)) (c .before .if1 .left) _ (c .scan .ensures .0)
 
 pub is-digits-spec : {M : Type 1} → statement M
-is-digits-spec = tie.close (tie.spec returns scan-requires returns-2)
+is-digits-spec = tie.close (tie.spec returns (λ c κs. search needs) returns-2)

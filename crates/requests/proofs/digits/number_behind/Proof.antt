@@ -18,31 +18,10 @@ abbrev μ-loop : tie.MeasureT-loop
 loop-holds : tie.Need-loop-holds Inv-loop μ-loop
 loop-holds c = counting-start _ _ _ (search needs)
 
-mul-at-most : tie.Need-mul-at-most Inv-loop μ-loop
-mul-at-most c = search needs
-
-mul-digit-of : tie.Need-mul-digit-of Inv-loop μ-loop
-mul-digit-of c = search needs
-
-shared-slice-read-digit-of : tie.Need-shared-slice-read-digit-of Inv-loop μ-loop
-shared-slice-read-digit-of c = search needs
-
 digit-of-requires : tie.Need-digit-of-requires Inv-loop μ-loop
 digit-of-requires c κs =
     let a = c .before .before .before .before .args in
     digit-bounds (now (a .us)) (c .before .before .loop .i) (c .before .before .before .before .pre .2) (c .before .loop-test .taken)
-
-add-at-most : tie.Need-add-at-most Inv-loop μ-loop
-add-at-most c = search needs
-
-at-most-requires : tie.Need-at-most-requires Inv-loop μ-loop
-at-most-requires c κs = search needs
-
-add-i : tie.Need-add-i Inv-loop μ-loop
-add-i c = search needs
-
-loop-less : tie.Need-loop-less Inv-loop μ-loop
-loop-less c = search needs
 
 loop-again : tie.Need-loop-again Inv-loop μ-loop
 loop-again c = counting-step _ _ _ _ _ (c .before .before .before .before .loop .inv) (search needs) _ _ (c .before .digit-of .ensures .0) (c .at-most .ensures)
@@ -57,13 +36,13 @@ number-behind-spec =
     Inv-loop
     μ-loop
     loop-holds
-    mul-at-most
-    mul-digit-of
-    shared-slice-read-digit-of
+    (λ c. search needs)
+    (λ c. search needs)
+    (λ c. search needs)
     digit-of-requires
-    add-at-most
-    at-most-requires
-    add-i
-    loop-less
+    (λ c. search needs)
+    (λ c κs. search needs)
+    (λ c. search needs)
+    (λ c. search needs)
     loop-again
     returns)

@@ -12,16 +12,10 @@ returns c =
     let a = c .before .before .before .args in
     line-long (now (a .name)) (now (a .line)) (omega arith)
 
-is-ascii-requires : tie.Need-is-ascii-requires
-is-ascii-requires c κs = search needs
-
-starts-with-requires : tie.Need-starts-with-requires
-starts-with-requires c κs = search needs
-
 returns-2 : tie.Need-returns-2
 returns-2 c =
     let a = c .before .before .before .before .before .args in
     line-short (now (a .name)) (now (a .line)) _ _ (search needs) (c .before .is-ascii .ensures) (c .starts-with .ensures)
 
 pub is-line-spec : {M : Type 1} → statement M
-is-line-spec = tie.close (tie.spec returns is-ascii-requires starts-with-requires returns-2)
+is-line-spec = tie.close (tie.spec returns (λ c κs. search needs) (λ c κs. search needs) returns-2)

@@ -5,15 +5,9 @@ use Rattle.requests.specs.Written.{numeralUpTo}
 use Rattle.requests.proofs.written.count.Statement.{statement}
 use Rattle.requests.proofs.written.count.Tie as tie
 
-number-behind-requires : tie.Need-number-behind-requires
-number-behind-requires c κs = search needs
-
-cast-result : tie.Need-cast-result
-cast-result c = search needs
-
 returns : tie.Need-returns
 unfolding numeralUpTo
 returns c = search needs
 
 pub count-spec : {M : Type 1} → statement M
-count-spec = tie.close (tie.spec number-behind-requires cast-result returns)
+count-spec = tie.close (tie.spec (λ c κs. search needs) (λ c. search needs) returns)

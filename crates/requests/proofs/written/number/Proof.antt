@@ -13,20 +13,11 @@ use Rattle.requests.proofs.Valuing.{number-minus, number-plain}
 use Rattle.requests.proofs.written.number.Statement.{statement}
 use Rattle.requests.proofs.written.number.Tie as tie
 
-slice-aggregate-starts-with : tie.Need-slice-aggregate-starts-with
-slice-aggregate-starts-with c = search needs
-
-starts-with-requires : tie.Need-starts-with-requires
-starts-with-requires c κs = search needs
-
 sub-unsigned : tie.Need-sub-unsigned
 sub-unsigned c = omega (arith, word-most (45 ∷ []) (now (c .before .before .before .before .args .us)) (sym (c .before .starts-with .ensures) ∙ c .if1 .taken))
 
 part-unsigned-start : tie.Need-part-unsigned-start
 part-unsigned-start c = omega (arith, word-most (45 ∷ []) (now (c .before .before .before .before .args .us)) (sym (c .before .starts-with .ensures) ∙ c .if1 .taken))
-
-part-unsigned-end : tie.Need-part-unsigned-end
-part-unsigned-end c = search needs
 
 unsigned-requires : tie.Need-unsigned-requires
 unsigned-requires c κs = rw (rest-all (now (c .before .before .before .before .before .args .us)) 1, length-drop) (search needs)
@@ -36,9 +27,6 @@ unfolding units
 returns c =
     let us = now (c .before .before .before .before .before .before .args .us) in
     rw (rest-all us 1) at (c .unsigned .ensures) ∙ number-minus us (sym (c .before .before .before .starts-with .ensures) ∙ c .before .before .if1 .taken)
-
-unsigned-requires-2 : tie.Need-unsigned-requires-2
-unsigned-requires-2 c κs = search needs
 
 returns-2 : tie.Need-returns-2
 unfolding units
@@ -50,12 +38,12 @@ pub number-spec : {M : Type 1} → statement M
 number-spec =
     tie.close
     (tie.spec
-    slice-aggregate-starts-with
-    starts-with-requires
+    (λ c. search needs)
+    (λ c κs. search needs)
     sub-unsigned
     part-unsigned-start
-    part-unsigned-end
+    (λ c. search needs)
     unsigned-requires
     returns
-    unsigned-requires-2
+    (λ c κs. search needs)
     returns-2)

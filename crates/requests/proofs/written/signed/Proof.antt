@@ -9,12 +9,6 @@ use Rattle.requests.specs.Written.{signedBy}
 use Rattle.requests.proofs.written.signed.Statement.{statement}
 use Rattle.requests.proofs.written.signed.Tie as tie
 
-cast-c : tie.Need-cast-c
-cast-c c = search needs
-
-sub-result : tie.Need-sub-result
-sub-result c = minus-fits w64 (pos (c .before .args .n)) (omega arith)
-
 returns : tie.Need-returns
 unfolding signedBy
 returns c = rw (c .if1 .taken) (minus-is w64 (pos (c .before .args .n)) (omega arith))
@@ -24,4 +18,4 @@ unfolding signedBy
 returns-2 c = rw (c .if1 .left) (back w64 (pos (c .before .args .n)) (omega arith))
 
 pub signed-spec : {M : Type 1} → statement M
-signed-spec = tie.close (tie.spec cast-c sub-result returns returns-2)
+signed-spec = tie.close (tie.spec (λ c. search needs) (λ c. minus-fits w64 (pos (c .before .args .n)) (omega arith)) returns returns-2)

@@ -5,21 +5,6 @@ use Rattle.requests.specs.Written.{valueOf}
 use Rattle.requests.proofs.written.value_of.Statement.{statement}
 use Rattle.requests.proofs.written.value_of.Tie as tie
 
-enum-told : tie.Need-enum-told
-enum-told c = search needs
-
-number-requires : tie.Need-number-requires
-number-requires c κs = search needs
-
-enum-told-2 : tie.Need-enum-told-2
-enum-told-2 c = search needs
-
-instant-requires : tie.Need-instant-requires
-instant-requires c κs = search needs
-
-enum-told-3 : tie.Need-enum-told-3
-enum-told-3 c = search needs
-
 returns : tie.Need-returns
 unfolding valueOf
 returns c = rw (c .before .enum-told .given .1) (c .number .ensures)
@@ -36,11 +21,11 @@ pub value-of-spec : {M : Type 1} → statement M
 value-of-spec =
     tie.close
     (tie.spec
-    enum-told
-    number-requires
-    enum-told-2
-    instant-requires
-    enum-told-3
+    (λ c. search needs)
+    (λ c κs. search needs)
+    (λ c. search needs)
+    (λ c κs. search needs)
+    (λ c. search needs)
     returns
     returns-2
     returns-3)

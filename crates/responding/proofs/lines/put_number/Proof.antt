@@ -8,20 +8,11 @@ use borrow.Author.Needs.{needs}
 use Rattle.responding.proofs.lines.put_number.Statement.{statement}
 use Rattle.responding.proofs.lines.put_number.Tie as tie
 
-put-bytes-requires : tie.Need-put-bytes-requires
-put-bytes-requires c κs = search needs
-
-put-numeral-requires : tie.Need-put-numeral-requires
-put-numeral-requires c κs = search needs
-
 put-unit-requires : tie.Need-put-unit-requires
 put-unit-requires c κs =
     let n = c .before .before .before in
     let b = n .before .before .before .before in
     omega (arith, numeral-short 1 (b .before .before .before .before .args .n) (omega arith), n .put-numeral .ensures .next, b .put-bytes .ensures .next)
-
-same-length : tie.Need-same-length
-same-length c = search needs
 
 returns : tie.Need-returns
 unfolding lineOf
@@ -36,4 +27,4 @@ returns c =
 pub put-number-spec : {M : Type 1} → statement M
 put-number-spec =
     tie.close
-    (tie.spec put-bytes-requires put-numeral-requires put-unit-requires same-length returns)
+    (tie.spec (λ c κs. search needs) (λ c κs. search needs) put-unit-requires (λ c. search needs) returns)

@@ -6,18 +6,6 @@ use borrow.Author.Needs.{needs}
 use Rattle.responding.proofs.lines.put_text.Statement.{statement}
 use Rattle.responding.proofs.lines.put_text.Tie as tie
 
-put-bytes-requires : tie.Need-put-bytes-requires
-put-bytes-requires c κs = search needs
-
-put-units-requires : tie.Need-put-units-requires
-put-units-requires c κs = search needs
-
-put-unit-requires : tie.Need-put-unit-requires
-put-unit-requires c κs = search needs
-
-same-length : tie.Need-same-length
-same-length c = search needs
-
 returns : tie.Need-returns
 unfolding lineOf
 returns c =
@@ -29,4 +17,4 @@ returns c =
 pub put-text-spec : {M : Type 1} → statement M
 put-text-spec =
     tie.close
-    (tie.spec put-bytes-requires put-units-requires put-unit-requires same-length returns)
+    (tie.spec (λ c κs. search needs) (λ c κs. search needs) (λ c κs. search needs) (λ c. search needs) returns)
