@@ -6,7 +6,7 @@ use native.Mathlib.Nat.{sub-zero}
 use mathlib.Core.Path.{_≡_, refl, sym, _∙_, ap}
 use mathlib.Core.Bool.{Bool, true, false, cond, _||_}
 use mathlib.Core.List.{List, [], _∷_}
-use lib.ListN.{length, getD, drop, take, length-drop, length-take}
+use lib.ListN.{length, getD, drop, take, length-drop}
 use lib.Seq.{drop-drop}
 use lib.Dec.{eqb}
 use Rattle.lists.specs.Lists.{every}
@@ -80,9 +80,6 @@ module _ (ws : List ℕ) (n i sum : ℕ) (inv : Summing ws n i sum) where
       (omega (arith, inv .same, z), omega (arith, inv .small, inv .inside, inv .most))
 
 -- ---- the rows
-pub part-short : (m : ℕ) (l : List ℕ) (items : ℕ) → items ≤ 254 → m ≡ 2 * items → length (take m l) ≤ 508
-part-short m l items h e = rw (length-take m l) (omega arith)
-
 pub record Rowing (ws : List ℕ) (n i at : ℕ) : Type 0 where
   pub sized : Sized ws
   pub sections : n ≡ getD ws 0 0

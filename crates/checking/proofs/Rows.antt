@@ -9,12 +9,12 @@ use lib.Dec.{T, leb, ltb, eqb, leb→le, le→leb, ltb→lt, eqb→eq}
 use borrow.Author.Tests.{eqb-true, eq-eqb, ne-eqb, lt-ltb, lt-leb, leb-false, not-true, not-false}
 use Rattle.lists.specs.Lists.{every, count}
 use Rattle.lists.proofs.Bools.{and-left, and-right, and-in, carry, same-test, by-cases, true-T}
-use Rattle.lists.proofs.Counts.{every-weaker}
-use Rattle.formats.specs.Items.{Item, Kind, numberKind, sameKind, showsPlaces, kindOf, itemsKind, itemAllowed, itemInRange, isPercent, itemsFit, integerPlaces, decimalPlaces, exponentPlaces}
+use Rattle.lists.proofs.Counts.{every-weaker, none-count}
+use Rattle.formats.specs.Items.{Item, Kind, numberKind, sameKind, showsPlaces, kindOf, itemsKind, itemAllowed, itemInRange, isPlace, isPercent, itemsFit, integerPlaces, decimalPlaces, exponentPlaces}
 use Rattle.formats.specs.Where.{implies}
 use Rattle.formats.specs.Limits.{elapsedShort, sectionWithin}
 use Rattle.formats.specs.WellFormed.{oneFill, partsFollow, isSettled, groupingFits, sectionFits}
-use Rattle.formats.proofs.Cutting.{bare-from, held-bare}
+use Rattle.formats.proofs.Cutting.{bare-from}
 use Rattle.formats.proofs.Each.{by-item, by-kind}
 use Rattle.tables.specs.Words.{Head, Entry, Row}
 use Rattle.tables.specs.Encode.{kindWord, hasHalf, decimalsWord}
@@ -26,12 +26,14 @@ use Rattle.tables.proofs.BackEntries.{items-ranged, span-at}
 use Rattle.tables.proofs.Standing.{number-word}
 use Rattle.tallies.specs.declared.date_rows.DatedRow.{DatedRow}
 use Rattle.tallies.specs.declared.number_rows.NumberRow.{NumberRow}
-use Rattle.tallies.specs.declared.Tally.{Tally}
-use Rattle.tallies.specs.Tally.{tallyOf, soundEntries, itemsOf}
+use Rattle.tallies.specs.declared.scientific_rows.ScientificRow.{ScientificRow}
+use Rattle.tallies.specs.Tally.{soundEntries, itemsOf}
 use Rattle.tallies.specs.DateRows.{DateTold}
 use Rattle.tallies.specs.NumberRows.{numberItems, NumberTold}
-use Rattle.tallies.proofs.Powers.{places-counted}
-use Rattle.tallies.proofs.Told.{no-places, no-percents, no-half, places-word}
+use Rattle.tallies.specs.ScientificRows.{scientificItems, ScientificTold}
+use Rattle.tallies.proofs.Places.{places-counted}
+use Rattle.tallies.proofs.Held.{Apart, apart, no-figures, no-dates}
+use Rattle.tallies.proofs.Told.{places-word}
 use Rattle.table_words.specs.declared.HeadWords.{HeadWords}
 use Rattle.table_words.specs.Sections.{headFrom}
 use Rattle.checking.specs.Checking.{agree, conditionTold, numberTold, scientificTold, otherTold, rowWith, halfFits, rowGood}
@@ -219,6 +221,9 @@ module _ (h : Head) (es : List Entry) where
     unfolding itemsFit
     allowed = let items = f .items in search and-left depth 6
 
+    kept : Apart (itemsKind is) is
+    kept = apart (itemsKind is) is allowed
+
     number-kind : h .kind ≡ 2 → sameKind (itemsKind is) numberKind ≡ true
     number-kind e = sym (number-word (itemsKind is)) ∙ eq-eqb (kindWord (itemsKind is)) 2 (word ∙ e)
 
@@ -234,15 +239,15 @@ module _ (h : Head) (es : List Entry) where
 
     none-half : (h .kind ≡ 4 → ⊥) → hasHalf is ≡ false
     unfolding kindWord
-    none-half n = no-half (itemsKind is) is allowed (ne-eqb 4 (kindWord (itemsKind is)) (λ e. n (sym word ∙ sym e)))
+    none-half n = unfold hasHalf in no-dates is (kept .dates (ne-eqb 4 (kindWord (itemsKind is)) (λ e. n (sym word ∙ sym e)))) .1
 
     none-percent : (h .kind ≡ 2 → ⊥) → count isPercent is ≡ 0
     unfolding kindWord
-    none-percent n = no-percents (itemsKind is) is allowed (ne-eqb 2 (kindWord (itemsKind is)) (λ e. n (sym word ∙ sym e)))
+    none-percent n = none-count isPercent is (kept .percents (ne-eqb 2 (kindWord (itemsKind is)) (λ e. n (sym word ∙ sym e))))
 
     none-placed : showsPlaces (itemsKind is) ≡ false → (integerPlaces is ≡ 0) × (decimalPlaces is ≡ 0)
     none-placed e =
-        let none = no-places (itemsKind is) is allowed e in
+        let none = none-count isPlace is (no-figures is (kept .figures e) .0) in
         let places = places-counted is in
         (omega (arith, none, places), omega (arith, none, places))
 
@@ -250,8 +255,7 @@ module _ (h : Head) (es : List Entry) where
     none-behind : (h .kind ≡ 5 → ⊥) → T (leb (exponentPlaces is) 3)
     unfolding kindWord exponentPlaces count
     none-behind n =
-        let other = ne-eqb (kindWord (itemsKind is)) 5 (λ e. n (sym word ∙ e)) in
-        rw (bare-from is (held-bare (itemsKind is) is other allowed)) tt
+        rw (bare-from is (kept .exponents (ne-eqb 5 (kindWord (itemsKind is)) (λ e. n (sym word ∙ sym e))))) tt
 
   -- ---- a number section
   module _ (k : h .kind ≡ 2) where
@@ -301,9 +305,10 @@ module _ (h : Head) (es : List Entry) where
     no-number-kind : h .kind ≡ 2 → ⊥
     no-number-kind e = absurd (omega (arith, k, e))
 
-    scientific-in : Front h → ItemFacts (h .kind) es → T (scientificTold h (tallyOf es)) → T (rowGood row)
-    unfolding scientificTold tallyOf halfFits
-    scientific-in front f t =
+    scientific-in : Front h → T (scientificItems es) → T (scientificTold h (decimalPlaces is)) → T (rowGood row)
+    unfolding scientificItems scientificTold halfFits
+    scientific-in front items t =
+        let f : ItemFacts (h .kind) es = rw k (item-facts 5 es (and-left (itemsOf 5 es) _ items)) in
         let other = other-kind f no-number-kind in
         let shift : T (eqb (h .shift) 0) = search and-left depth 8 in
         let integers : T (leb (integerPlaces is) 20) = search (and-left, and-right) depth 8 in
@@ -320,9 +325,10 @@ module _ (h : Head) (es : List Entry) where
         (carry (sym (decimals-by true (shown f true (rw k)))) same)
         (neither (leb 4 (h .flags)) (hasHalf is) (lt-leb 4 (h .flags) (flags .0)) (none-half f (λ e. absurd (omega (arith, k, e)))))
 
-    scientific-out : RowFacts row → T (halfFits row) → T (scientificTold h (tallyOf es))
-    unfolding scientificTold tallyOf halfFits
+    scientific-out : RowFacts row → T (halfFits row) → T (scientificItems es) × T (scientificTold h (decimalPlaces is))
+    unfolding scientificItems scientificTold halfFits
     scientific-out r half =
+        let held : T (itemsOf 5 es) = rw k at (items-out r) in
         let f = item-facts (h .kind) es (items-out r) in
         let other = other-kind f no-number-kind in
         let limits = carry (within-by false other) (r .within) in
@@ -334,7 +340,7 @@ module _ (h : Head) (es : List Entry) where
         let none = none-half f (λ e. absurd (omega (arith, k, e))) in
         let few : h .flags < 4 = leb-false 4 (h .flags) (not-either (leb 4 (h .flags)) (hasHalf is) none half) in
         let flags : T (eqb (h .flags) 0 || eqb (h .flags) 2) = no-other-flags (h .flags) few (ungrouped (groupedAt (h .flags)) (carry (grouping-by false other) (r .grouping))) in
-        search and-in depth 8
+        (search and-in depth 8, search and-in depth 8)
 
   -- ---- another section
   module _ (k : h .kind ≡ 2 → ⊥) (n : h .kind ≡ 5 → ⊥) where
@@ -392,14 +398,14 @@ module _ (h : Head) (es : List Entry) where
       (λ t. let o = number-out k (row-facts row (and-left (rowFits row) (halfFits row) t)) (and-right (rowFits row) (halfFits row) t) in
       and-in (numberItems es) told (o .0) (o .1))
 
-  row-scientific : h .kind ≡ 5 → Front h → (scientificTold h (tallyOf es) && itemsOf (h .kind) es) ≡ rowGood row
+  row-scientific : h .kind ≡ 5 → Front h → (scientificItems es && scientificTold h (decimalPlaces is)) ≡ rowGood row
   unfolding rowGood
   row-scientific k front =
-      let told = scientificTold h (tallyOf es) in
-      same-test (told && itemsOf (h .kind) es) (rowGood row)
-      (λ t. scientific-in k front (item-facts (h .kind) es (and-right told (itemsOf (h .kind) es) t)) (and-left told (itemsOf (h .kind) es) t))
-      (λ t. let r = row-facts row (and-left (rowFits row) (halfFits row) t) in
-      and-in told (itemsOf (h .kind) es) (scientific-out k r (and-right (rowFits row) (halfFits row) t)) (items-out r))
+      let told = scientificTold h (decimalPlaces is) in
+      same-test (scientificItems es && told) (rowGood row)
+      (λ t. scientific-in k front (and-left (scientificItems es) told t) (and-right (scientificItems es) told t))
+      (λ t. let o = scientific-out k (row-facts row (and-left (rowFits row) (halfFits row) t)) (and-right (rowFits row) (halfFits row) t) in
+      and-in (scientificItems es) told (o .0) (o .1))
 
   row-other : (h .kind ≡ 2 → ⊥) → (h .kind ≡ 5 → ⊥) → Front h → (half : Bool) → (T (itemsOf (h .kind) es) → half ≡ hasHalf is)
       → (otherTold h half && itemsOf (h .kind) es) ≡ rowGood row
@@ -426,8 +432,8 @@ module _ (h : Head) (es : List Entry) where
   number-answer k front n t e r told =
       told ∙ rw (t .integers e, t .decimals e, t .percents e) (rw (sym (t .fits) ∙ e) at (row-number k front))
 
-  pub no-dates : h .kind ≡ 4 → (n : DatedRow) → DateTold es n → n .fits ≡ false → false ≡ rowGood row
-  no-dates k n t e = refused (λ r c. carry (ap (λ (x : ℕ). itemsOf x es) k ∙ sym (t .fits) ∙ e) (items-out r))
+  pub no-dated : h .kind ≡ 4 → (n : DatedRow) → DateTold es n → n .fits ≡ false → false ≡ rowGood row
+  no-dated k n t e = refused (λ r c. carry (ap (λ (x : ℕ). itemsOf x es) k ∙ sym (t .fits) ∙ e) (items-out r))
 
   pub dated-answer : h .kind ≡ 4 → Front h → (n : DatedRow) → DateTold es n → n .fits ≡ true
       → (r : Bool) → r ≡ otherTold h (n .halves) → r ≡ rowGood row
@@ -435,14 +441,12 @@ module _ (h : Head) (es : List Entry) where
       let held : itemsOf (h .kind) es ≡ true = ap (λ (x : ℕ). itemsOf x es) k ∙ sym (t .fits) ∙ f in
       e ∙ other-answer (λ x. absurd (omega (arith, k, x))) (λ x. absurd (omega (arith, k, x))) front (n .halves) (λ i. t .halves f) held
 
-  pub no-scientific : h .kind ≡ 5 → (b : Bool) → b ≡ itemsOf 5 es → not b ≡ true → false ≡ rowGood row
-  no-scientific k b e n = refused (λ r c. carry (ap (λ (x : ℕ). itemsOf x es) k ∙ sym e ∙ not-true b n) (items-out r))
+  pub no-scientific : h .kind ≡ 5 → Front h → (n : ScientificRow) → ScientificTold es n → n .fits ≡ false → false ≡ rowGood row
+  no-scientific k front n t e = rw (sym (t .fits) ∙ e) at (row-scientific k front)
 
-  pub scientific-answer : h .kind ≡ 5 → Front h → (b : Bool) → b ≡ itemsOf 5 es → not b ≡ false → (t : Tally) → t ≡ tallyOf es
-      → (r : Bool) → r ≡ scientificTold h t → r ≡ rowGood row
-  scientific-answer k front b e n t tally r told =
-      let held : itemsOf (h .kind) es ≡ true = ap (λ (x : ℕ). itemsOf x es) k ∙ sym e ∙ not-false b n in
-      told ∙ ap (scientificTold h) tally ∙ sym (and-true (scientificTold h (tallyOf es))) ∙ rw held at (row-scientific k front)
+  pub scientific-answer : h .kind ≡ 5 → Front h → (n : ScientificRow) → ScientificTold es n → n .fits ≡ true
+      → (r : Bool) → r ≡ scientificTold h (n .decimals) → r ≡ rowGood row
+  scientific-answer k front n t e r told = told ∙ rw (t .decimals e) (rw (sym (t .fits) ∙ e) at (row-scientific k front))
 
   pub no-bare : (b : Bool) → b ≡ itemsOf (h .kind) es → not b ≡ true → false ≡ rowGood row
   no-bare b e n = refused (λ r c. carry (sym e ∙ not-true b n) (items-out r))
@@ -469,8 +473,8 @@ module _ (h again : HeadWords) (head : Head) (e : headFrom h ≡ head) (f : head
   pub number-again : (i d p : ℕ) → r ≡ numberTold (headFrom again) i d p → r ≡ numberTold (headFrom h) i d p
   number-again i d p t = t ∙ ap (λ (x : Head). numberTold x i d p) (f ∙ sym e)
 
-  pub scientific-again : (x : Tally) → r ≡ scientificTold (headFrom again) x → r ≡ scientificTold (headFrom h) x
-  scientific-again x t = t ∙ ap (λ (y : Head). scientificTold y x) (f ∙ sym e)
+  pub scientific-again : (d : ℕ) → r ≡ scientificTold (headFrom again) d → r ≡ scientificTold (headFrom h) d
+  scientific-again d t = t ∙ ap (λ (x : Head). scientificTold x d) (f ∙ sym e)
 
   pub other-again : (half : Bool) → r ≡ otherTold (headFrom again) half → r ≡ otherTold (headFrom h) half
   other-again half t = t ∙ ap (λ (x : Head). otherTold x half) (f ∙ sym e)

@@ -13,7 +13,6 @@ use Rattle.tables.specs.Encode.{hasHalf}
 use Rattle.tables.specs.Standing.{headStands, countedKinds}
 use Rattle.tables.specs.Decode.{wholeAt, millionthsAt, itemsAt, groupedAt}
 use Rattle.tables.specs.Rules.{shiftTells, rowFits}
-use Rattle.tallies.specs.declared.Tally.{Tally}
 
 -- both or neither
 abbrev pub agree : Bool → Bool → Bool
@@ -50,14 +49,8 @@ numberTold h integers places percents =
     shiftTells (h .shift) percents && (eqb (h .decimals) places && ltb (h .flags) 4 && (not (groupedAt (h .flags)) || leb 2 integers))
 
 -- a scientific section's, which has no flag but that of exception (a)
-unfoldable pub scientificTold : Head → Tally → Bool
-scientificTold h t =
-    eqb (h .shift) 0
-    && leb (t .integers) 20
-    && leb (t .decimals) 15
-    && leb (t .«exponent_places») 3
-    && eqb (h .decimals) (t .decimals)
-    && (eqb (h .flags) 0 || eqb (h .flags) 2)
+unfoldable pub scientificTold : Head → ℕ → Bool
+scientificTold h places = eqb (h .shift) 0 && eqb (h .decimals) places && (eqb (h .flags) 0 || eqb (h .flags) 2)
 
 -- another section's, which has a half-day mark or none
 unfoldable pub otherTold : Head → Bool → Bool

@@ -18,14 +18,12 @@ use table_words::section_count;
 use tables::flags;
 use tables::heads;
 use tables::kinds;
-use tallies::Tally;
+use tallies::bare_rows::bare_fits;
 use tallies::date_rows::dated_row;
-use tallies::is_bare;
-use tallies::is_scientific;
 use tallies::number_rows::NumberRow;
 use tallies::number_rows::number_row;
-use tallies::tally_of;
-use tallies::walk_words;
+use tallies::scientific_rows::ScientificRow;
+use tallies::scientific_rows::scientific_row;
 
 fn agree(a: bool, b: bool) -> bool
     ensures { λ r. ⌜ r ≡ agree a b ⌝ }
@@ -102,14 +100,11 @@ fn number_fits(h: HeadWords, items: NumberRow) -> bool
 }
 
 // Those of a scientific section's: nothing is shifted, and no digits are grouped.
-fn scientific_fits(h: HeadWords, t: Tally) -> bool
-    ensures { λ r. ⌜ r ≡ scientificTold (headFrom h) t ⌝ }
+fn scientific_fits(h: HeadWords, items: ScientificRow) -> bool
+    ensures { λ r. ⌜ r ≡ scientificTold (headFrom h) (items .decimals) ⌝ }
 {
     (h.shift == 0)
-        & (t.integers <= 20)
-        & (t.decimals <= 15)
-        & (t.exponent_places <= 3)
-        & (h.decimals == t.decimals)
+        & (h.decimals == items.decimals)
         & ((h.flags == 0) | (h.flags == flags::NO_MINUS))
 }
 
@@ -127,7 +122,7 @@ fn other_fits(h: HeadWords, half: bool) -> bool
 // The rules for section i that do not speak of where it stands. A word that another word or the items tell is in its range
 // where they are. The head is read again behind the items: what is kept over them costs more than a second reading.
 fn row_fits(table: &[u16], i: usize, items: &[u16]) -> bool
-    requires { ⌜ (i ≤ 3) × (13 + 12 * i ≤ length (now table)) × (length (now items) ≤ 508) × (headAt (drop (1 + 12 * i) (now table)) .items ≤ 254) ⌝ }
+    requires { ⌜ (i ≤ 3) × (13 + 12 * i ≤ length (now table)) × (headAt (drop (1 + 12 * i) (now table)) .items ≤ 254) ⌝ }
     ensures { λ r. ⌜ r ≡ rowGood (rowWith (headAt (drop (1 + 12 * i) (now (table .entry)))) (entriesIn (now (items .entry)))) ⌝ }
 {
     let h = head_at(table, i);
@@ -152,14 +147,13 @@ fn row_fits(table: &[u16], i: usize, items: &[u16]) -> bool
         return other_fits(head_at(table, i), row.halves);
     }
     if h.kind == kinds::SCIENTIFIC {
-        let w = walk_words(items);
-        if !is_scientific(w) {
+        let row = scientific_row(items);
+        if !row.fits {
             return false;
         }
-        return scientific_fits(head_at(table, i), tally_of(w));
+        return scientific_fits(head_at(table, i), row);
     }
-    let w = walk_words(items);
-    if !is_bare(w, h.kind) {
+    if !bare_fits(items, h.kind) {
         return false;
     }
     other_fits(head_at(table, i), false)

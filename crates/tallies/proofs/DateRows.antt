@@ -7,33 +7,33 @@ use mathlib.Core.Path.{_≡_, refl, sym, _∙_, ap}
 use mathlib.Core.Bool.{Bool, true, false, true≢false, cond, not, _&&_, _||_, and-true}
 use mathlib.Core.List.{List, [], _∷_}
 use lib.ListN.{length, getD}
-use lib.Dec.{T, leb, eqb, leb→le, le→leb, eqb→eq}
+use lib.Dec.{T, leb, eqb, eqb→eq}
 use borrow.Author.Tests.{eqb-true, eq-eqb, ne-eqb, le-leb, lt-leb}
 use Rattle.values.specs.Ranges.{between}
 use Rattle.lists.specs.Lists.{every, any, count}
 use Rattle.lists.proofs.Bools.{no, and-left, and-right, and-in, by-cases, true-T, T-true, same-test, or-cond, or-right, or-false, carry, every-head, every-tail, every-cons}
-use Rattle.lists.proofs.Counts.{any-map, any-same}
 use Rattle.formats.specs.Tokens.{Elapsed, hours, minutes, seconds, elapsedIndex}
-use Rattle.formats.specs.Items.{Item, half, dateKind, itemAllowed, itemMakes, itemsKind, itemsFit, isFill, isPart, isGeneral, isPoint, isHour, isMinute, isSecond, isElapsed, isElapsedOf, isHalf, noPlain, runOf, runOfElapsed, elapsed, integerPlaces, exponentPlaces, exponentFits}
+use Rattle.formats.specs.Items.{Item, half, dateKind, itemAllowed, itemMakes, isFill, isPart, isHour, isMinute, isSecond, isElapsed, isElapsedOf, isHalf, noPlain, runOf, runOfElapsed, elapsed}
 use Rattle.formats.specs.Where.{implies}
-use Rattle.formats.specs.Text.{firstOf}
-use Rattle.formats.specs.WellFormed.{isSeconds, oneFill, partsFrom, partsFollow, isSettled}
+use Rattle.formats.specs.WellFormed.{isSeconds, partsFrom, partsFollow}
 use Rattle.formats.proofs.Each.{by-item, by-elapsed}
 use Rattle.formats.proofs.ByNumber.{by-number}
 use Rattle.tables.specs.Words.{Entry, entriesAt, entriesIn}
-use Rattle.tables.specs.Encode.{entry, kindWord, hasHalf}
+use Rattle.tables.specs.Encode.{entry, hasHalf}
 use Rattle.tables.specs.Decode.{halfAt, itemAt, itemsAt, itemsByTag}
-use Rattle.tables.specs.Rules.{entryInRange, powersFrom, powersRunDown}
+use Rattle.tables.specs.Rules.{entryInRange}
 use Rattle.tables.proofs.Words.{entriesLeft, entries-front}
 use Rattle.tables.proofs.MadeHeads.{bit-back}
 use Rattle.tables.proofs.BackEntries.{between-facts, span-at}
 use Rattle.tallies.specs.declared.date_rows.DateWalk.{DateWalk}
-use Rattle.tallies.specs.Tally.{makesDate, soundEntries, itemsOf}
-use Rattle.tallies.specs.Walk.{runAfter, earlierAfter, mayStand, answers}
-use Rattle.tallies.specs.DateRows.{DateTold, noDates, dateSound, dateAfter, noDate, dateNext, passed, hasTag, plainTold}
+use Rattle.tallies.specs.Tally.{makesDate, itemsOf}
+use Rattle.tallies.specs.Runs.{runAfter, earlierAfter, mayStand, answers}
+use Rattle.tallies.specs.DateRows.{DateTold, noDates, dateSound, dateAfter, noDate, dateNext, passed, plainTold}
 use Rattle.tallies.proofs.Runs.{runsFrom, runs-front, runs-end, runs-start}
 use Rattle.tallies.proofs.Told.{no-plain-every}
-use Rattle.tallies.proofs.Held.{bare-exponent, date-bare, date-made, date-generals, date-points, date-powers, date-word, date-dated}
+use Rattle.tallies.proofs.Held.{holds, holds-back}
+use Rattle.tallies.proofs.Scanned.{tag-is, any-tagged}
+use Rattle.tallies.specs.Scans.{hasTag}
 
 -- what is left to be asked of the entries that are left
 pub record Left (s : DateWalk) (es : List Entry) : Type 0 where
@@ -198,23 +198,6 @@ module _ (s : DateWalk) (e : Entry) (sound : T (dateSound s e)) where
         fill = let f = k .fill in unfold dateAfter in (by-cases (isFill (itemAt e)) (λ h. rw h (omega arith)) (λ h. rw h f));
       }
 
--- ---- the plain equivalents by their tags
-hour-tag : (e : Entry) → isHour (itemAt e) ≡ eqb (e .tag) 14
-unfolding itemAt
-hour-tag e = by-number isHour (λ (n : ℕ). eqb n 14) (itemsByTag (e .argument)) 24 (half (halfAt (e .argument))) refl (λ n h. sym (ne-eqb n 14 (λ x. absurd (omega arith)))) (e .tag)
-
-minute-tag : (e : Entry) → isMinute (itemAt e) ≡ eqb (e .tag) 15
-unfolding itemAt
-minute-tag e = by-number isMinute (λ (n : ℕ). eqb n 15) (itemsByTag (e .argument)) 24 (half (halfAt (e .argument))) refl (λ n h. sym (ne-eqb n 15 (λ x. absurd (omega arith)))) (e .tag)
-
-second-tag : (e : Entry) → isSecond (itemAt e) ≡ eqb (e .tag) 16
-unfolding itemAt
-second-tag e = by-number isSecond (λ (n : ℕ). eqb n 16) (itemsByTag (e .argument)) 24 (half (halfAt (e .argument))) refl (λ n h. sym (ne-eqb n 16 (λ x. absurd (omega arith)))) (e .tag)
-
-tagged : (p : Item → Bool) (m : ℕ) → ((e : Entry) → p (itemAt e) ≡ eqb (e .tag) m) → (es : List Entry) → any p (itemsAt es) ≡ hasTag es m
-unfolding itemsAt
-tagged p m f es = any-map p itemAt es ∙ any-same (λ (e : Entry). p (itemAt e)) (λ (e : Entry). eqb (e .tag) m) f es
-
 -- ---- the whole section
 module _ (es : List Entry) where
   abbrev is : List Item
@@ -231,44 +214,27 @@ module _ (es : List Entry) where
   Rules = (any makesDate is ≡ true) × T (every (noPlain is) is)
 
   dates-out : T (itemsOf 4 es) → Rules × Left begun es
-  unfolding itemsOf soundEntries itemsFit oneFill partsFollow
+  unfolding partsFollow
   dates-out t =
-      let word : T (eqb 4 (kindWord (itemsKind is))) = search (and-left, and-right) depth 8 in
-      let allowed : T (every (itemAllowed (itemsKind is)) is) = search (and-left, and-right) depth 12 in
-      let plain : T (every (noPlain is) is) = search (and-left, and-right) depth 12 in
-      let settled : T (isSettled is) = search (and-left, and-right) depth 12 in
-      let parts : T (partsFrom false is) = search (and-left, and-right) depth 12 in
-      let fill : count isFill is ≤ 1 = search (and-left, and-right, leb→le) depth 12 in
-      let elapsed : count isElapsed is ≤ 1 = search (and-left, and-right, leb→le) depth 12 in
-      let ranges : T (every entryInRange es) = search (and-left, and-right) depth 12 in (
-        (date-dated is word, plain),
-        record {
-          items = rw (date-word (itemsKind is) word) at allowed;
-          ranges = ranges;
-          fill = omega arith;
-          elapsed = elapsed;
-          runs = carry (sym (runs-start is)) settled;
-          parts = parts;
-        },
+      let h = holds dateKind es t in
+      let d = h .dates refl in (
+        (T-true (any makesDate is) (h .made), d .plain),
+        record { items = h .items; ranges = h .ranges; fill = omega (arith, h .fill); elapsed = d .elapsed; runs = carry (sym (runs-start is)) (d .settled); parts = d .parts },
       )
 
   dates-back : Rules → Left begun es → T (itemsOf 4 es)
-  unfolding itemsOf soundEntries itemsFit oneFill powersRunDown partsFollow
+  unfolding partsFollow
   dates-back w l =
-      let kind : itemsKind is ≡ dateKind = date-made is (l .items) (w .0) in
-      let word : T (eqb 4 (kindWord (itemsKind is))) = rw kind (unfold kindWord in tt) in
-      let allowed : T (every (itemAllowed (itemsKind is)) is) = rw kind (l .items) in
-      let parts : T (partsFrom false is) = l .parts in
-      let settled : T (isSettled is) = carry (runs-start is) (l .runs) in
-      let powers : T (powersFrom (firstOf (exponentPlaces is)) (firstOf (integerPlaces is)) es) = date-powers (firstOf (exponentPlaces is)) (firstOf (integerPlaces is)) es (l .items) in
-      let ranges : T (every entryInRange es) = l .ranges in
-      let generals : T (leb (count isGeneral is) 1) = le→leb (count isGeneral is) 1 (omega (arith, date-generals is (l .items))) in
-      let points : T (leb (count isPoint is) 1) = le→leb (count isPoint is) 1 (omega (arith, date-points is (l .items))) in
-      let elapsed : T (leb (count isElapsed is) 1) = le→leb (count isElapsed is) 1 (l .elapsed) in
-      let plain : T (every (noPlain is) is) = w .1 in
-      let exponent : T (exponentFits is) = bare-exponent is (date-bare is (l .items)) in
-      let fill : T (leb (count isFill is) 1) = le→leb (count isFill is) 1 (omega (arith, l .fill)) in
-      search and-in depth 12
+      holds-back dateKind es (record {
+        items = l .items;
+        made = true-T (w .0);
+        ranges = l .ranges;
+        fill = omega (arith, l .fill);
+        general = λ e. no e;
+        figures = λ e. no e;
+        exponent = λ e. no e;
+        dates = λ e. record { parts = l .parts; settled = carry (runs-start is) (l .runs); elapsed = l .elapsed; plain = w .1 };
+      })
 
   refused-told : (T (itemsOf 4 es) → ⊥) → DateTold es noDates
   refused-told f = record { fits = by-cases (itemsOf 4 es) (λ e. absurd (f (true-T e))) (λ e. sym e); halves = λ e. no e }
@@ -288,7 +254,7 @@ module _ (es : List Entry) where
       → every (noPlain is) is ≡ not (plainTold es x)
   plain-told x t f =
       no-plain-every is
-      ∙ rw (f hours, f minutes, f seconds, tagged isHour 14 hour-tag es, tagged isMinute 15 minute-tag es, tagged isSecond 16 second-tag es) (beside-told x t)
+      ∙ rw (f hours, f minutes, f seconds, any-tagged isHour 14 (λ e. tag-is isHour 14 e refl (omega arith) refl) es, any-tagged isMinute 15 (λ e. tag-is isMinute 15 e refl (omega arith) refl) es, any-tagged isSecond 16 (λ e. tag-is isSecond 16 e refl (omega arith) refl) es) (beside-told x t)
 
 or-nothing : (b : Bool) → (b || false) ≡ b
 or-nothing true = refl

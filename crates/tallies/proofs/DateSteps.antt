@@ -3,10 +3,9 @@
 use Prim.Native.Nat.{ℕ, _≤_, _<_}
 use native.Mathlib.Omega.{arith}
 use mathlib.Core.Path.{_≡_, refl}
-use mathlib.Core.Bool.{true, false, cond, _&&_, _||_, and-true, and-false}
-use mathlib.Core.List.{List, _∷_}
+use mathlib.Core.Bool.{Bool, true, false, cond, _&&_, _||_, and-true, and-false}
 use lib.Dec.{leb, eqb}
-use borrow.Author.Tests.{eq-eqb, ne-eqb, lt-ltb, leb-true, leb-false}
+use borrow.Author.Tests.{ne-eqb, lt-ltb, leb-true, leb-false}
 use Rattle.values.specs.Ranges.{between}
 use Rattle.lists.specs.Lists.{any}
 use Rattle.lists.proofs.Bools.{and-parts, by-cases}
@@ -19,8 +18,8 @@ use Rattle.tables.specs.Decode.{itemAt}
 use Rattle.tables.specs.Rules.{entryInRange}
 use Rattle.tables.proofs.BackEntries.{span-at, late-tag}
 use Rattle.tallies.specs.declared.date_rows.DateWalk.{DateWalk}
-use Rattle.tallies.specs.Walk.{runAfter, earlierAfter, mayStand, answers}
-use Rattle.tallies.specs.DateRows.{dateSound, dateAfter, noDate, dateNext, passed, ran, elapsedTaken, hasTag}
+use Rattle.tallies.specs.Runs.{runAfter, earlierAfter, mayStand, answers}
+use Rattle.tallies.specs.DateRows.{dateSound, dateAfter, noDate, dateNext, passed, ran, elapsedTaken}
 
 -- opens all that a step at a known tag computes by
 unfoldable pub computed : DateWalk → Entry → DateWalk
@@ -75,9 +74,9 @@ module _ (s : DateWalk) (a : ℕ) where
   unfolding computed
   second-step = refl
 
-  pub part-step : cond (eqb (s .behind) 1 && between 1 3 a) (passed s (s .earlier) 0) noDate ≡ dateNext s (entry 17 a)
+  pub part-step : (b : Bool) → b ≡ between 1 3 a → (t : Bool) → (eqb (s .behind) 1 && b) ≡ t → cond t (passed s (s .earlier) 0) noDate ≡ dateNext s (entry 17 a)
   unfolding computed
-  part-step = rw (and-true (between 1 3 a))
+  part-step b e t f = rw (← f, e, and-true (between 1 3 a))
 
   pub elapsed-hours-step : elapsedTaken s 18 a 1 0 ≡ dateNext s (entry 18 a)
   unfolding computed
@@ -113,12 +112,3 @@ module _ (s : DateWalk) (a : ℕ) where
       by-cases (leb t 23)
       (λ m. span-at (λ (k : ℕ). noDate ≡ dateNext s (entry k a)) 22 2 t (refl, (refl, tt)) (omega arith) (omega (arith, leb-true t 23 m)))
       (λ m. rw (late-tag t a (leb-false t 23 m), ne-eqb 21 t (λ e. absurd (omega arith))))
-
--- an entry with this tag is the first, or is among the others
-pub tag-here : (t : ℕ) (e : Entry) (es : List Entry) → e .tag ≡ t → hasTag (e ∷ es) t ≡ true
-unfolding any
-tag-here t e es h = rw (eq-eqb (e .tag) t h)
-
-pub tag-later : (t : ℕ) (e : Entry) (es : List Entry) → (e .tag ≡ t → ⊥) → hasTag (e ∷ es) t ≡ hasTag es t
-unfolding any
-tag-later t e es n = rw (ne-eqb (e .tag) t n)

@@ -1,165 +1,281 @@
--- What a section of a known kind does not hold, and the rules that hold of it for that.
+-- What a section of a kind holds: the rules for its items as facts, without those that hold by its kind.
 -- Assumes nothing.
-use Prim.Native.Nat.{ℕ, _-_}
-use mathlib.Core.Path.{_≡_, refl, ap}
-use mathlib.Core.Bool.{Bool, true, false, true≢false, cond, _&&_, _||_}
+use Prim.Native.Nat.{ℕ, _-_, _≤_}
+use native.Mathlib.Omega.{arith}
+use mathlib.Core.Path.{_≡_, refl, sym, _∙_, ap}
+use mathlib.Core.Bool.{Bool, true, false, true≢false, cond, not, _&&_, _||_, and-true}
 use mathlib.Core.List.{List, [], _∷_}
-use lib.Dec.{T, eqb}
+use lib.Dec.{T, leb, eqb, leb→le, le→leb, eqb→eq}
 use borrow.Author.Tests.{eq-eqb}
 use Rattle.lists.specs.Lists.{every, any, count}
-use Rattle.lists.proofs.Bools.{by-cases, every-head, every-tail}
-use Rattle.lists.proofs.Counts.{any-same, none-count, every-weaker}
-use Rattle.formats.specs.Items.{Item, Kind, textKind, generalKind, dateKind, scientificKind, numberKind, literalKind, itemMakes, itemAllowed, kindFrom, itemsKind, itemNumber, isPlace, isPoint, isGeneral, isMonth, isMinute, isPart, isElapsed, isExponent, exponentPlaces, exponentFits, noPlain, Run, settledItem}
-use Rattle.formats.specs.WellFormed.{partsFrom, settledTest, isSeconds}
-use Rattle.formats.proofs.Each.{by-item, by-kind}
-use Rattle.formats.proofs.Cutting.{makes-exponent, held-bare, bare-from}
-use Rattle.formats.proofs.FigureItems.{makes-place}
+use Rattle.lists.proofs.Bools.{and-left, and-right, and-in, or-false, by-cases, T-true, true-T, carry}
+use Rattle.lists.proofs.Counts.{any-same, every-same, any-either, every-and, every-not-beside, none-count}
+use Rattle.formats.specs.Items.{Item, Kind, kindRow, textKind, generalKind, dateKind, scientificKind, numberKind, literalKind, sameKind, showsPlaces, kindFrom, itemMakes, itemsKind, itemAllowed, itemNumber, isFill, isPlace, isPoint, isPercent, isGeneral, isMonth, isMinute, isPart, isElapsed, isHalf, isExponent, exponentFits, noPlain, itemsFit, Run, noRun, settledItem}
+use Rattle.formats.specs.WellFormed.{oneFill, partsFrom, partsFollow, settledTest, isSettled, isSeconds}
 use Rattle.formats.specs.Text.{digitAfter, along}
+use Rattle.formats.proofs.Each.{by-item, by-kind}
+use Rattle.formats.proofs.Cutting.{makes-exponent}
+use Rattle.formats.proofs.FigureItems.{makes-place}
 use Rattle.tables.specs.Words.{Entry}
 use Rattle.tables.specs.Encode.{kindWord}
 use Rattle.tables.specs.Decode.{itemAt, itemsAt}
-use Rattle.tables.specs.Rules.{powerFits, allOf, powersFrom}
+use Rattle.tables.specs.Rules.{entryInRange, powerFits, allOf, powersFrom, powersRunDown}
+use Rattle.tallies.specs.Tally.{makesText, makesDate, belongsDate, soundEntries, itemsOf}
 
--- no item passes a test that none which the kind holds passes
-none-held : (k : Kind) (p : Item → Bool) → ((i : Item) → T (itemAllowed k i) → p i ≡ false) → (is : List Item) → T (every (itemAllowed k) is) → any p is ≡ false
+-- ---- the kind of items by what is among them
+makes-general : (i : Item) → itemMakes generalKind i ≡ isGeneral i
+unfolding itemMakes
+makes-general =
+    by-item (λ i. itemMakes generalKind i ≡ isGeneral i) (λ u. refl) (λ u. refl) (λ u. refl) (λ p. refl) refl refl refl refl
+    (λ n. refl) (λ n. refl) (λ n. refl) (λ n. refl) (λ n. refl) (λ n. refl) (λ n. refl) (λ e n. refl) (λ h. refl) (λ m. refl)
+
+abbrev pub kindBy : Bool → Bool → Bool → Bool → Bool → Kind
+kindBy t g d x n = cond t textKind (cond g generalKind (cond d dateKind (cond x scientificKind (cond n numberKind literalKind))))
+
+pub kind-is : (is : List Item) → itemsKind is ≡ kindBy (any makesText is) (any isGeneral is) (any makesDate is) (any isExponent is) (any isPlace is)
+unfolding itemsKind kindFrom
+kind-is is =
+    rw (
+      any-same (itemMakes generalKind) isGeneral makes-general is,
+      any-same (itemMakes scientificKind) isExponent makes-exponent is,
+      any-same (itemMakes numberKind) isPlace makes-place is,
+    )
+
+-- what makes a section of the kind
+abbrev pub madeBy : Kind → Bool → Bool → Bool → Bool → Bool → Bool
+madeBy textKind t g d x n = t
+madeBy generalKind t g d x n = g
+madeBy dateKind t g d x n = d
+madeBy scientificKind t g d x n = x
+madeBy numberKind t g d x n = n
+madeBy literalKind t g d x n = true
+
+made-by : (t g d x n : Bool) → T (madeBy (kindBy t g d x n) t g d x n)
+made-by true g d x n = tt
+made-by false true d x n = tt
+made-by false false true x n = tt
+made-by false false false true n = tt
+made-by false false false false true = tt
+made-by false false false false false = tt
+
+abbrev pub isMade : Kind → List Item → Bool
+isMade k is = madeBy k (any makesText is) (any isGeneral is) (any makesDate is) (any isExponent is) (any isPlace is)
+
+-- ---- no item belongs to another kind
+abbrev pub figureItem : Item → Bool
+figureItem i = isPlace i || isPoint i
+
+-- an item is there that only sections of some kinds hold, where this one is of such a kind or not
+abbrev held : Bool → Bool → Bool
+held same some = not (some && not same)
+
+abbrev pub allowedBy : Kind → Bool → Bool → Bool → Bool → Bool → Bool → Bool
+allowedBy k T G D F P X =
+    held (sameKind textKind k) T
+    && (held (sameKind generalKind k) G
+    && (held (sameKind dateKind k) D
+    && (held (showsPlaces k) F
+    && (held (sameKind numberKind k) P && held (sameKind scientificKind k) X))))
+
+twice : (b : Bool) → b ≡ not (not b)
+twice true = refl
+twice false = refl
+
+allowed-one : (k : Kind) (i : Item) → itemAllowed k i ≡ allowedBy k (makesText i) (isGeneral i) (belongsDate i) (figureItem i) (isPercent i) (isExponent i)
+unfolding itemAllowed itemMakes
+allowed-one k =
+    let once : (b : Bool) → b ≡ (not (not b) && true) = λ b. twice b ∙ sym (and-true (not (not b))) in
+    let date : sameKind dateKind k ≡ (not (not (sameKind dateKind k)) && true) = once (sameKind dateKind k) in
+    by-item (λ i. itemAllowed k i ≡ allowedBy k (makesText i) (isGeneral i) (belongsDate i) (figureItem i) (isPercent i) (isExponent i)) (λ u. refl) (λ u. refl) (λ u. refl)
+    (λ p. once (showsPlaces k)) (once (showsPlaces k)) (once (sameKind numberKind k)) (once (sameKind generalKind k)) (once (sameKind textKind k))
+    (λ n. date) (λ n. date) (λ n. date) (λ n. date) (λ n. date) (λ n. date) (λ n. date) (λ e n. date) (λ h. date) (λ m. twice (sameKind scientificKind k))
+
+pub allowed-every : (k : Kind) (is : List Item)
+    → every (itemAllowed k) is
+    ≡ allowedBy k (any makesText is) (any isGeneral is) (any belongsDate is) (any figureItem is) (any isPercent is) (any isExponent is)
+allowed-every k is =
+    let one : Bool → (Item → Bool) → Item → Bool = λ (same : Bool) (p : Item → Bool) (i : Item). held same (p i) in
+    let beside : (same : Bool) (p : Item → Bool) → every (one same p) is ≡ held same (any p is) = λ same p. every-not-beside p (not same) is in
+    let T = one (sameKind textKind k) makesText in
+    let G = one (sameKind generalKind k) isGeneral in
+    let D = one (sameKind dateKind k) belongsDate in
+    let F = one (showsPlaces k) figureItem in
+    let P = one (sameKind numberKind k) isPercent in
+    let X = one (sameKind scientificKind k) isExponent in
+    every-same (itemAllowed k) (λ (i : Item). T i && (G i && (D i && (F i && (P i && X i))))) (allowed-one k) is
+    ∙ every-and T (λ (i : Item). G i && (D i && (F i && (P i && X i)))) is
+    ∙ rw (
+      every-and G (λ (i : Item). D i && (F i && (P i && X i))) is,
+      every-and D (λ (i : Item). F i && (P i && X i)) is,
+      every-and F (λ (i : Item). P i && X i) is,
+      every-and P X is,
+      beside (sameKind textKind k) makesText,
+      beside (sameKind generalKind k) isGeneral,
+      beside (sameKind dateKind k) belongsDate,
+      beside (showsPlaces k) figureItem,
+      beside (sameKind numberKind k) isPercent,
+      beside (sameKind scientificKind k) isExponent,
+    )
+
+none-foreign : (some same : Bool) → T (held same some) → same ≡ false → some ≡ false
+none-foreign true true t e = absurd (true≢false e)
+none-foreign true false t e = absurd t
+none-foreign false same t e = refl
+
+-- no item is there that only another kind holds
+pub record Apart (k : Kind) (is : List Item) : Type 0 where
+  pub texts : sameKind textKind k ≡ false → any makesText is ≡ false
+  pub generals : sameKind generalKind k ≡ false → any isGeneral is ≡ false
+  pub dates : sameKind dateKind k ≡ false → any belongsDate is ≡ false
+  pub figures : showsPlaces k ≡ false → any figureItem is ≡ false
+  pub percents : sameKind numberKind k ≡ false → any isPercent is ≡ false
+  pub exponents : sameKind scientificKind k ≡ false → any isExponent is ≡ false
+
+pub apart : (k : Kind) (is : List Item) → T (every (itemAllowed k) is) → Apart k is
+apart k is t =
+    let all = carry (allowed-every k is) t in
+    record {
+      texts = none-foreign (any makesText is) _ (search and-left);
+      generals = none-foreign (any isGeneral is) _ (search (and-left, and-right) depth 8);
+      dates = none-foreign (any belongsDate is) _ (search (and-left, and-right) depth 8);
+      figures = none-foreign (any figureItem is) _ (search (and-left, and-right) depth 8);
+      percents = none-foreign (any isPercent is) _ (search (and-left, and-right) depth 8);
+      exponents = none-foreign (any isExponent is) _ (search (and-left, and-right) depth 8);
+    }
+
+-- neither a place nor a point; neither a date item, a half-day mark nor a part of a second
+pub no-figures : (is : List Item) → any figureItem is ≡ false → (any isPlace is ≡ false) × (any isPoint is ≡ false)
+no-figures is e = or-false (any isPlace is) (any isPoint is) (sym (any-either isPlace isPoint is) ∙ e)
+
+pub no-dates : (is : List Item) → any belongsDate is ≡ false → (any makesDate is ≡ false) × (any isHalf is ≡ false)
+no-dates is e =
+    let apart = or-false (any makesDate is) _ (sym (any-either makesDate (λ (i : Item). isHalf i || isPart i) is) ∙ e) in
+    (apart .0, or-false (any isHalf is) _ (sym (any-either isHalf isPart is) ∙ apart .1) .0)
+
+-- ---- the kind
+pub same-kind : (j k : Kind) → T (sameKind j k) → j ≡ k
+same-kind j k t = sym (back j) ∙ ap numbered (eqb→eq (kindRow j .number) (kindRow k .number) t) ∙ back k
+  where
+    numbered : ℕ → Kind
+    numbered n = cond (eqb n 0) literalKind (cond (eqb n 1) generalKind (cond (eqb n 2) numberKind (cond (eqb n 3) textKind (cond (eqb n 4) dateKind scientificKind))))
+
+    back : (k : Kind) → numbered (kindRow k .number) ≡ k
+    back = by-kind (λ (k : Kind). numbered (kindRow k .number) ≡ k) refl refl refl refl refl refl
+
+kind-held : (k : Kind) (is : List Item) → Apart k is → T (isMade k is) → kindBy (any makesText is) (any isGeneral is) (any makesDate is) (any isExponent is) (any isPlace is) ≡ k
+kind-held textKind is a m = rw (T-true (any makesText is) m)
+kind-held generalKind is a m = rw (a .texts refl, T-true (any isGeneral is) m)
+kind-held dateKind is a m = rw (a .texts refl, a .generals refl, T-true (any makesDate is) m)
+kind-held scientificKind is a m = rw (a .texts refl, a .generals refl, no-dates is (a .dates refl) .0, T-true (any isExponent is) m)
+kind-held numberKind is a m = rw (a .texts refl, a .generals refl, no-dates is (a .dates refl) .0, a .exponents refl, T-true (any isPlace is) m)
+kind-held literalKind is a m =
+    rw (a .texts refl, a .generals refl, no-dates is (a .dates refl) .0, a .exponents refl, no-figures is (a .figures refl) .0)
+
+-- ---- what only a date-time section must keep
+pub record Dated (is : List Item) : Type 0 where
+  pub parts : T (partsFollow is)
+  pub settled : T (isSettled is)
+  pub elapsed : count isElapsed is ≤ 1
+  pub plain : T (every (noPlain is) is)
+
+undated-item : (i : Item) → belongsDate i ≡ false → (isPart i ≡ false) × (isElapsed i ≡ false) × ((isMonth i || isMinute i) ≡ false)
+unfolding itemMakes
+undated-item =
+    by-item (λ i. belongsDate i ≡ false → (isPart i ≡ false) × (isElapsed i ≡ false) × ((isMonth i || isMinute i) ≡ false))
+    (λ u e. (refl, refl, refl)) (λ u e. (refl, refl, refl)) (λ u e. (refl, refl, refl)) (λ p e. (refl, refl, refl))
+    (λ e. (refl, refl, refl)) (λ e. (refl, refl, refl)) (λ e. (refl, refl, refl)) (λ e. (refl, refl, refl))
+    (λ n e. absurd (true≢false e)) (λ n e. absurd (true≢false e)) (λ n e. absurd (true≢false e)) (λ n e. absurd (true≢false e)) (λ n e. absurd (true≢false e))
+    (λ n e. absurd (true≢false e)) (λ n e. absurd (true≢false e)) (λ d n e. absurd (true≢false e)) (λ h e. absurd (true≢false e)) (λ m e. (refl, refl, refl))
+
+none-front : (p : Item → Bool) (i : Item) (is : List Item) → any p (i ∷ is) ≡ false → (p i ≡ false) × (any p is ≡ false)
 unfolding any
-none-held k p f [] t = refl
-none-held k p f (i ∷ is) t =
-    rw (f i (every-head (itemAllowed k) i is t)) (none-held k p f is (every-tail (itemAllowed k) i is t))
+none-front p i is e = by-cases (p i) (λ h. absurd (true≢false (rw h at e))) (λ h. (h, rw h at e))
 
--- ---- without an E
-module _ (is : List Item) (bare : any isExponent is ≡ false) where
-  pub bare-exponent : T (exponentFits is)
-  unfolding exponentFits
-  bare-exponent = rw bare tt
+-- a test of an earlier item, an earlier run, all items
+undated-tests : (b : Bool) (r : Run) (all is : List Item) → any belongsDate is ≡ false
+    → T (partsFrom b is) × T (settledTest r is) × (count isElapsed is ≡ 0) × T (every (noPlain all) is)
+unfolding partsFrom settledTest settledItem noPlain every count
+undated-tests b r all [] e = (tt, tt, refl, tt)
+undated-tests b r all (i ∷ is) e =
+    let f = none-front belongsDate i is e in
+    let u = undated-item i (f .0) in
+    let t = undated-tests (isSeconds i) _ all is (f .1) in
+    rw (u .0, u .1, u .2, eq-eqb (itemNumber i) (itemNumber i) refl) t
 
-  pub bare-behind : exponentPlaces is ≡ 0
-  unfolding exponentPlaces count
-  bare-behind = ap (count isPlace) (bare-from is bare)
+undated : (is : List Item) → any belongsDate is ≡ false → Dated is
+unfolding partsFollow isSettled
+undated is e =
+    let t = undated-tests false noRun is is e in
+    record { parts = t .0; settled = t .1; elapsed = omega (arith, t .2); plain = t .3 }
 
--- the digit anew does not matter
+-- without a place no power is asked for
+no-powers : (anew q : ℕ) (es : List Entry) → any isPlace (itemsAt es) ≡ false → T (powersFrom anew q es)
+unfolding powersFrom allOf along itemsAt
+no-powers anew q [] e = tt
+no-powers anew q (x ∷ es) e =
+    let f = none-front isPlace (itemAt x) (itemsAt es) e in rw (f .0) (no-powers anew (digitAfter anew q (itemAt x)) es (f .1))
+
+-- without an E the digit anew does not matter
 pub powers-bare : (a b q : ℕ) (es : List Entry) → any isExponent (itemsAt es) ≡ false → powersFrom a q es ≡ powersFrom b q es
-unfolding powersFrom allOf along digitAfter itemsAt any
+unfolding powersFrom allOf along digitAfter itemsAt
 powers-bare a b q [] bare = refl
 powers-bare a b q (e ∷ es) bare =
-    by-cases (isExponent (itemAt e)) (λ x. absurd (true≢false (rw x at bare)))
-    (λ x. rw x (ap (λ (r : Bool). powerFits q e && r) (powers-bare a b (cond (isPlace (itemAt e)) (q - 1) q) es (rw x at bare))))
+    let f = none-front isExponent (itemAt e) (itemsAt es) bare in
+    rw (f .0) (ap (λ (r : Bool). powerFits q e && r) (powers-bare a b (cond (isPlace (itemAt e)) (q - 1) q) es (f .1)))
 
--- ---- number sections
-abbrev NumberItem : Item → Type 0
-NumberItem i =
-    (isPart i ≡ false) × (isElapsed i ≡ false) × (isGeneral i ≡ false) × ((isMonth i || isMinute i) ≡ false)
-    × (itemMakes textKind i ≡ false) × (itemMakes generalKind i ≡ false) × (itemMakes dateKind i ≡ false)
+-- ---- the rules for the items of a section of the kind
+pub record Holds (k : Kind) (es : List Entry) : Type 0 where
+  pub items : T (every (itemAllowed k) (itemsAt es))
+  pub made : T (isMade k (itemsAt es))
+  pub ranges : T (every entryInRange es)
+  pub fill : count isFill (itemsAt es) ≤ 1
+  pub general : sameKind generalKind k ≡ true → count isGeneral (itemsAt es) ≤ 1
+  pub figures : showsPlaces k ≡ true → (count isPoint (itemsAt es) ≤ 1) × T (powersRunDown es)
+  pub exponent : sameKind scientificKind k ≡ true → T (exponentFits (itemsAt es))
+  pub dates : sameKind dateKind k ≡ true → Dated (itemsAt es)
 
-number-item : (i : Item) → T (itemAllowed numberKind i) → NumberItem i
-unfolding itemAllowed itemMakes
-number-item =
-    by-item (λ i. T (itemAllowed numberKind i) → NumberItem i)
-    (λ u t. (refl, refl, refl, refl, refl, refl, refl)) (λ u t. (refl, refl, refl, refl, refl, refl, refl)) (λ u t. (refl, refl, refl, refl, refl, refl, refl))
-    (λ p t. (refl, refl, refl, refl, refl, refl, refl)) (λ t. (refl, refl, refl, refl, refl, refl, refl)) (λ t. (refl, refl, refl, refl, refl, refl, refl))
-    (λ t. absurd t) (λ t. absurd t)
-    (λ n t. absurd t) (λ n t. absurd t) (λ n t. absurd t) (λ n t. absurd t) (λ n t. absurd t) (λ n t. absurd t) (λ n t. absurd t) (λ e n t. absurd t) (λ h t. absurd t)
-    (λ m t. absurd t)
+module _ (k : Kind) (es : List Entry) where
+  abbrev is : List Item
+  is = itemsAt es
 
-module _ (is : List Item) (t : T (every (itemAllowed numberKind) is)) where
-  pub number-bare : any isExponent is ≡ false
-  number-bare = held-bare numberKind is refl t
+  pub holds : T (itemsOf (kindRow k .number) es) → Holds k es
+  unfolding itemsOf soundEntries itemsFit oneFill kindWord
+  holds t =
+      let word : T (sameKind k (itemsKind is)) = search (and-left, and-right) depth 8 in
+      let allowed : T (every (itemAllowed (itemsKind is)) is) = search (and-left, and-right) depth 12 in
+      let kind : itemsKind is ≡ k = sym (same-kind k (itemsKind is) word) in
+      let points : count isPoint is ≤ 1 = search (and-left, and-right, leb→le) depth 12 in
+      let powers : T (powersRunDown es) = search (and-left, and-right) depth 12 in
+      let dates : Dated is = search (and-left, and-right, leb→le) depth 12 in
+      record {
+        items = rw kind at allowed;
+        made = rw (sym (kind-is is) ∙ kind) at (made-by (any makesText is) (any isGeneral is) (any makesDate is) (any isExponent is) (any isPlace is));
+        ranges = search (and-left, and-right) depth 12;
+        fill = search (and-left, and-right, leb→le) depth 12;
+        general = λ e. search (and-left, and-right, leb→le) depth 12;
+        figures = λ e. (points, powers);
+        exponent = λ e. search (and-left, and-right) depth 12;
+        dates = λ e. dates;
+      }
 
-  pub number-made : any isPlace is ≡ true → itemsKind is ≡ numberKind
-  unfolding itemsKind kindFrom
-  number-made e =
-      rw (
-        none-held numberKind (itemMakes textKind) (λ i a. number-item i a .4) is t,
-        none-held numberKind (itemMakes generalKind) (λ i a. number-item i a .5) is t,
-        none-held numberKind (itemMakes dateKind) (λ i a. number-item i a .6) is t,
-        any-same (itemMakes scientificKind) isExponent makes-exponent is,
-        number-bare,
-        any-same (itemMakes numberKind) isPlace makes-place is,
-        e,
-      )
-
-  pub number-generals : count isGeneral is ≡ 0
-  number-generals = none-count isGeneral is (none-held numberKind isGeneral (λ i a. number-item i a .2) is t)
-
-  pub number-elapsed : count isElapsed is ≡ 0
-  number-elapsed = none-count isElapsed is (none-held numberKind isElapsed (λ i a. number-item i a .1) is t)
-
-  pub number-plain : T (every (noPlain is) is)
-  unfolding noPlain
-  number-plain = every-weaker (itemAllowed numberKind) (noPlain is) (λ i a. rw (number-item i a .1) tt) is t
-
-pub number-parts : (b : Bool) (is : List Item) → T (every (itemAllowed numberKind) is) → T (partsFrom b is)
-unfolding partsFrom
-number-parts b [] t = tt
-number-parts b (i ∷ is) t =
-    rw (number-item i (every-head (itemAllowed numberKind) i is t) .0) (number-parts (isSeconds i) is (every-tail (itemAllowed numberKind) i is t))
-
-pub number-settled : (r : Run) (is : List Item) → T (every (itemAllowed numberKind) is) → T (settledTest r is)
-unfolding settledTest settledItem
-number-settled r [] t = tt
-number-settled r (i ∷ is) t =
-    rw (number-item i (every-head (itemAllowed numberKind) i is t) .3, eq-eqb (itemNumber i) (itemNumber i) refl) (number-settled _ is (every-tail (itemAllowed numberKind) i is t))
-
--- ---- by the kind word
-pub number-word : (k : Kind) → T (eqb 2 (kindWord k)) → k ≡ numberKind
-unfolding kindWord
-number-word = by-kind (λ k. T (eqb 2 (kindWord k)) → k ≡ numberKind) (λ t. absurd t) (λ t. absurd t) (λ t. absurd t) (λ t. refl) (λ t. absurd t) (λ t. absurd t)
-
--- ---- date-time sections
-abbrev DateItem : Item → Type 0
-DateItem i = (isPlace i ≡ false) × (isPoint i ≡ false) × (isGeneral i ≡ false) × (itemMakes textKind i ≡ false) × (itemMakes generalKind i ≡ false)
-
-date-item : (i : Item) → T (itemAllowed dateKind i) → DateItem i
-unfolding itemAllowed itemMakes
-date-item =
-    by-item (λ i. T (itemAllowed dateKind i) → DateItem i)
-    (λ u t. (refl, refl, refl, refl, refl)) (λ u t. (refl, refl, refl, refl, refl)) (λ u t. (refl, refl, refl, refl, refl))
-    (λ p t. absurd t) (λ t. absurd t) (λ t. absurd t) (λ t. absurd t) (λ t. absurd t)
-    (λ n t. (refl, refl, refl, refl, refl)) (λ n t. (refl, refl, refl, refl, refl)) (λ n t. (refl, refl, refl, refl, refl)) (λ n t. (refl, refl, refl, refl, refl))
-    (λ n t. (refl, refl, refl, refl, refl)) (λ n t. (refl, refl, refl, refl, refl)) (λ n t. (refl, refl, refl, refl, refl)) (λ e n t. (refl, refl, refl, refl, refl))
-    (λ h t. (refl, refl, refl, refl, refl)) (λ m t. absurd t)
-
-module _ (is : List Item) (t : T (every (itemAllowed dateKind) is)) where
-  pub date-bare : any isExponent is ≡ false
-  date-bare = held-bare dateKind is refl t
-
-  pub date-made : any (itemMakes dateKind) is ≡ true → itemsKind is ≡ dateKind
-  unfolding itemsKind kindFrom
-  date-made e =
-      rw (
-        none-held dateKind (itemMakes textKind) (λ i a. date-item i a .3) is t,
-        none-held dateKind (itemMakes generalKind) (λ i a. date-item i a .4) is t,
-        e,
-      )
-
-  pub date-generals : count isGeneral is ≡ 0
-  date-generals = none-count isGeneral is (none-held dateKind isGeneral (λ i a. date-item i a .2) is t)
-
-  pub date-points : count isPoint is ≡ 0
-  date-points = none-count isPoint is (none-held dateKind isPoint (λ i a. date-item i a .1) is t)
-
-pub date-powers : (anew q : ℕ) (es : List Entry) → T (every (itemAllowed dateKind) (itemsAt es)) → T (powersFrom anew q es)
-unfolding powersFrom allOf along itemsAt
-date-powers anew q [] t = tt
-date-powers anew q (e ∷ es) t =
-    rw (date-item (itemAt e) (every-head (itemAllowed dateKind) (itemAt e) (itemsAt es) t) .0)
-    (date-powers anew (digitAfter anew q (itemAt e)) es (every-tail (itemAllowed dateKind) (itemAt e) (itemsAt es) t))
-
-pub date-word : (k : Kind) → T (eqb 4 (kindWord k)) → k ≡ dateKind
-unfolding kindWord
-date-word = by-kind (λ k. T (eqb 4 (kindWord k)) → k ≡ dateKind) (λ t. absurd t) (λ t. absurd t) (λ t. refl) (λ t. absurd t) (λ t. absurd t) (λ t. absurd t)
-
-no-date : (t g x n : Bool) → T (eqb 4 (kindWord (cond t textKind (cond g generalKind (cond x scientificKind (cond n numberKind literalKind)))))) → ⊥
-unfolding kindWord
-no-date true g x n t = t
-no-date false true x n t = t
-no-date false false true n t = t
-no-date false false false true t = t
-no-date false false false false t = t
-
-pub date-dated : (is : List Item) → T (eqb 4 (kindWord (itemsKind is))) → any (itemMakes dateKind) is ≡ true
-unfolding itemsKind kindFrom
-date-dated is t =
-    by-cases (any (itemMakes dateKind) is) (λ e. e)
-    (λ e. absurd (no-date (any (itemMakes textKind) is) (any (itemMakes generalKind) is) (any (itemMakes scientificKind) is) (any (itemMakes numberKind) is)
-    (rw e at t)))
+  pub holds-back : Holds k es → T (itemsOf (kindRow k .number) es)
+  unfolding itemsOf soundEntries itemsFit oneFill kindWord powersRunDown
+  holds-back h =
+      let a = apart k is (h .items) in
+      let kind : itemsKind is ≡ k = kind-is is ∙ kind-held k is a (h .made) in
+      let figure : (count isPoint is ≤ 1) × T (powersRunDown es) = by-cases (showsPlaces k) (h .figures)
+      (λ e. let f = no-figures is (a .figures e) in (omega (arith, none-count isPoint is (f .1)), no-powers _ _ es (f .0))) in
+      let date : Dated is = by-cases (sameKind dateKind k) (h .dates) (λ e. undated is (a .dates e)) in
+      let word : T (eqb (kindRow k .number) (kindRow (itemsKind is) .number)) = rw kind (true-T (eq-eqb (kindRow k .number) _ refl)) in
+      let allowed : T (every (itemAllowed (itemsKind is)) is) = rw kind (h .items) in
+      let generals : count isGeneral is ≤ 1 = by-cases (sameKind generalKind k) (h .general) (λ e. omega (arith, none-count isGeneral is (a .generals e))) in
+      let exponent : T (exponentFits is) = by-cases (sameKind scientificKind k) (h .exponent) (λ e. unfold exponentFits in rw (a .exponents e) tt) in
+      let fill = h .fill in
+      let ranges = h .ranges in
+      let parts = date .parts in
+      let settled = date .settled in
+      let elapsed = date .elapsed in
+      let plain = date .plain in
+      let points = figure .0 in
+      let powers = figure .1 in
+      search (and-in, le→leb) depth 12

@@ -13,22 +13,20 @@ use Rattle.values.specs.Ranges.{between}
 use Rattle.lists.specs.Lists.{every, any, count}
 use Rattle.lists.proofs.Bools.{no, cond-left, cond-right, and-left, and-right, and-in, by-cases, cond-case, true-T, T-true, carry}
 use Rattle.lists.proofs.Counts.{any-count, positive-count}
-use Rattle.formats.specs.Items.{Item, half, numberKind, itemAllowed, itemsKind, itemsFit, isFill, isPlace, isPoint, isPercent, isGeneral, isElapsed, noPlain, noRun, beforeE, integerPlaces, decimalPlaces, exponentPlaces, exponentFits}
+use Rattle.formats.specs.Items.{Item, half, numberKind, itemAllowed, isFill, isPlace, isPoint, isPercent, beforeE, integerPlaces, decimalPlaces}
 use Rattle.formats.proofs.ByNumber.{by-number}
-use Rattle.formats.proofs.FigureItems.{number-place}
-use Rattle.formats.specs.WellFormed.{oneFill, partsFrom, partsFollow, settledTest, isSettled}
 use Rattle.formats.specs.Text.{digitAfter, along, firstOf}
 use Rattle.tables.specs.Words.{Entry, entriesAt, entriesIn}
-use Rattle.tables.specs.Encode.{entry, kindWord}
+use Rattle.tables.specs.Encode.{entry}
 use Rattle.tables.specs.Decode.{halfAt, itemAt, itemsAt, itemsByTag}
 use Rattle.tables.specs.Rules.{entryInRange, allOf, powersFrom, powersRunDown}
 use Rattle.tables.proofs.Words.{entriesLeft, entries-front}
 use Rattle.tables.proofs.BackEntries.{between-facts, span-at}
 use Rattle.tallies.proofs.Steps.{no-place-beyond}
 use Rattle.tallies.specs.declared.number_rows.NumberWalk.{NumberWalk}
-use Rattle.tallies.specs.Tally.{soundEntries, itemsOf}
-use Rattle.tallies.proofs.Powers.{places-counted}
-use Rattle.tallies.proofs.Held.{bare-exponent, bare-behind, powers-bare, number-bare, number-made, number-generals, number-elapsed, number-plain, number-parts, number-settled, number-word}
+use Rattle.tallies.specs.Tally.{itemsOf}
+use Rattle.tallies.proofs.Places.{places-bare}
+use Rattle.tallies.proofs.Held.{apart, holds, holds-back, powers-bare}
 use Rattle.tallies.specs.NumberRows.{numberItems, greatestPower, NumberTold, noRow, noNumber, countedAt, placeTaken, pointTaken, percentTaken, fillTaken, numberAfter}
 
 -- the power and 15 that the next place must have, with n integer places left: before the first place it is theirs
@@ -365,47 +363,33 @@ module _ (es : List Entry) where
   number-known = record { places = (refl, refl, refl, refl); percents = omega arith; few = omega arith; fill = omega arith }
 
   number-out : T (numberItems es) → Limits × Left begun es
-  unfolding numberItems itemsOf soundEntries itemsFit oneFill powersRunDown
+  unfolding numberItems powersRunDown
   number-out t =
-      let word : T (eqb 2 (kindWord (itemsKind is))) = search (and-left, and-right) depth 8 in
-      let allowed : T (every (itemAllowed (itemsKind is)) is) = search (and-left, and-right) depth 12 in
-      let fill : count isFill is ≤ 1 = search (and-left, and-right, leb→le) depth 12 in
-      let points : count isPoint is ≤ 1 = search (and-left, and-right, leb→le) depth 12 in
-      let powers : T (powersFrom (firstOf (exponentPlaces is)) (firstOf (integerPlaces is)) es) = search (and-left, and-right) depth 12 in
-      let ranges : T (every entryInRange es) = search (and-left, and-right) depth 12 in
-      let integers : integerPlaces is ≤ 20 = search (and-left, and-right, leb→le) depth 12 in
-      let decimals : decimalPlaces is ≤ 15 = search (and-left, and-right, leb→le) depth 12 in
-      let percents : count isPercent is ≤ 5 = search (and-left, and-right, leb→le) depth 12 in
-      let kind = number-word (itemsKind is) word in
-      let items : T (every (itemAllowed numberKind) is) = rw kind at allowed in
-      let bare = number-bare is items in
-      let some = any-count isPlace is (number-place is kind) in (
-        record { some = omega (arith, places-counted is, bare-behind is bare); integers = integers; decimals = decimals; percents = percents },
-        record { items = items; ranges = ranges; fill = omega arith; points = points; powers = carry (powers-bare _ 0 (firstOf (integerPlaces is)) es bare) powers; ends = tt },
+      let integers : integerPlaces is ≤ 20 = search (and-left, and-right, leb→le) depth 6 in
+      let decimals : decimalPlaces is ≤ 15 = search (and-left, and-right, leb→le) depth 6 in
+      let percents : count isPercent is ≤ 5 = search (and-left, and-right, leb→le) depth 6 in
+      let h = holds numberKind es (and-left (itemsOf 2 es) _ t) in
+      let bare = apart numberKind is (h .items) .exponents refl in
+      let some = any-count isPlace is (T-true (any isPlace is) (h .made)) in (
+        record { some = omega (arith, places-bare is bare); integers = integers; decimals = decimals; percents = percents },
+        record { items = h .items; ranges = h .ranges; fill = omega (arith, h .fill); points = h .figures refl .0; powers = carry (powers-bare _ 0 (firstOf (integerPlaces is)) es bare) (h .figures refl .1); ends = tt },
       )
 
   number-back : Limits → Left begun es → T (numberItems es)
-  unfolding numberItems itemsOf soundEntries itemsFit oneFill powersRunDown partsFollow isSettled
+  unfolding numberItems powersRunDown
   number-back w l =
-      let bare = number-bare is (l .items) in
-      let placed : any isPlace is ≡ true = sym (positive-count isPlace is) ∙ lt-ltb 0 (count isPlace is) (omega (arith, w .some, places-counted is, bare-behind is bare)) in
-      let kind : itemsKind is ≡ numberKind = number-made is (l .items) placed in
-      let word : T (eqb 2 (kindWord (itemsKind is))) = rw kind (unfold kindWord in tt) in
-      let allowed : T (every (itemAllowed (itemsKind is)) is) = rw kind (l .items) in
-      let parts : T (partsFrom false is) = number-parts false is (l .items) in
-      let settled : T (settledTest noRun is) = number-settled noRun is (l .items) in
-      let powers : T (powersFrom (firstOf (exponentPlaces is)) (firstOf (integerPlaces is)) es) = carry (powers-bare 0 _ (firstOf (integerPlaces is)) es bare) (l .powers) in
-      let ranges : T (every entryInRange es) = l .ranges in
-      let generals : T (leb (count isGeneral is) 1) = le→leb (count isGeneral is) 1 (omega (arith, number-generals is (l .items))) in
-      let points : T (leb (count isPoint is) 1) = le→leb (count isPoint is) 1 (l .points) in
-      let elapsed : T (leb (count isElapsed is) 1) = le→leb (count isElapsed is) 1 (omega (arith, number-elapsed is (l .items))) in
-      let plain : T (every (noPlain is) is) = number-plain is (l .items) in
-      let exponent : T (exponentFits is) = bare-exponent is bare in
-      let fill : T (leb (count isFill is) 1) = le→leb (count isFill is) 1 (omega (arith, l .fill)) in
-      let integers : T (leb (integerPlaces is) 20) = le→leb (integerPlaces is) 20 (w .integers) in
-      let decimals : T (leb (decimalPlaces is) 15) = le→leb (decimalPlaces is) 15 (w .decimals) in
-      let percents : T (leb (count isPercent is) 5) = le→leb (count isPercent is) 5 (w .percents) in
-      search and-in depth 12
+      let bare = apart numberKind is (l .items) .exponents refl in
+      let items : T (itemsOf 2 es) = holds-back numberKind es (record {
+        items = l .items;
+        made = true-T (sym (positive-count isPlace is) ∙ lt-ltb 0 (count isPlace is) (omega (arith, w .some, places-bare is bare)));
+        ranges = l .ranges;
+        fill = omega (arith, l .fill);
+        general = λ e. no e;
+        figures = λ e. (l .points, carry (powers-bare 0 _ (firstOf (integerPlaces is)) es bare) (l .powers));
+        exponent = λ e. no e;
+        dates = λ e. no e;
+      }) in
+      search (and-in, le→leb) depth 6
 
   refused-told : (T (numberItems es) → ⊥) → NumberTold es noRow
   refused-told f =

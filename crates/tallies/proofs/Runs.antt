@@ -11,7 +11,7 @@ use Rattle.formats.specs.Tokens.{Elapsed}
 use Rattle.formats.specs.Items.{Item, month, minute, elapsed, itemNumber, Run, secondRun, otherRun, isHourRun, isSecondRun, runOf, runOfElapsed, nearer, firstRun, meansMinutes, monthOrMinute, settledItem}
 use Rattle.formats.specs.WellFormed.{settledTest, isSettled}
 use Rattle.formats.proofs.Each.{by-item, by-elapsed}
-use Rattle.tallies.specs.Walk.{runAt, runAfter, earlierAfter, mayStand, answers}
+use Rattle.tallies.specs.Runs.{runAt, runAfter, earlierAfter, mayStand, answers}
 
 -- what an m that waits asks of the nearest later run
 waits : ℕ → Run → Bool

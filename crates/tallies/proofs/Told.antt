@@ -2,30 +2,23 @@
 -- Assumes nothing.
 use Prim.Native.Nat.{ℕ, _+_, _≤_}
 use mathlib.Core.Path.{_≡_, refl, sym, _∙_, ap}
-use mathlib.Core.Bool.{Bool, true, false, true≢false, cond, not, _&&_, _||_, and-false, and-true}
+use mathlib.Core.Bool.{Bool, true, false, cond, not, _&&_, _||_, and-false, and-true}
 use mathlib.Core.List.{List}
-use lib.Dec.{T, leb, ltb, eqb}
+use lib.Dec.{leb, ltb, eqb}
 use native.Mathlib.Omega.{arith}
 use Rattle.lists.specs.Lists.{every, any, count}
-use Rattle.lists.proofs.Counts.{either-positive, any-same, every-same, any-either, every-and, every-not-beside, none-count, positive-count}
-use Rattle.lists.proofs.Bools.{and-left, and-right, or-false, carry}
+use Rattle.lists.proofs.Counts.{either-positive, every-same, any-either, every-and, every-not-beside, positive-count}
 use Rattle.formats.specs.Tokens.{Elapsed, hours, minutes, seconds}
-use Rattle.formats.specs.Items.{Item, elapsed, Section, Kind, textKind, generalKind, dateKind, scientificKind, numberKind, literalKind, sameKind, showsPlaces, kindFrom, itemMakes, itemsKind, kindOf, itemAllowed, isPlace, isPoint, isPercent, isGeneral, isHour, isMinute, isSecond, isPart, isElapsed, isElapsedOf, isHalf, isExponent, isSpace, fromE, noPlain, exponentFits, itemsFit, integerPlaces, decimalPlaces, exponentPlaces}
+use Rattle.formats.specs.Items.{Item, elapsed, Section, Kind, showsPlaces, itemsKind, kindOf, itemAllowed, isPlace, isPoint, isPercent, isGeneral, isHour, isMinute, isSecond, isElapsed, isElapsedOf, isExponent, isSpace, fromE, noPlain, exponentFits, itemsFit, integerPlaces, decimalPlaces, exponentPlaces}
 use Rattle.formats.specs.Limits.{elapsedShort, sectionWithin}
 use Rattle.tables.specs.Words.{Entry}
 use Rattle.tables.specs.Encode.{kindWord, hasHalf, decimalsWord}
 use Rattle.tables.specs.Decode.{itemsAt}
-use Rattle.formats.proofs.FigureItems.{makes-place}
-use Rattle.formats.proofs.Cutting.{makes-exponent, bare-from}
+use Rattle.formats.proofs.Cutting.{bare-from}
 use Rattle.formats.proofs.Each.{by-item, by-elapsed, by-kind}
 use Rattle.tallies.specs.Tally.{makesText, makesDate, belongsDate, tallyOf, hasPlaces, hasFigures, NoExponent, kindTold, allowedTold, exponentTold, itemsFitTold, withinTold, decimalsTold}
-use Rattle.tallies.proofs.Powers.{places-counted}
-
-makes-general : (i : Item) → itemMakes generalKind i ≡ isGeneral i
-unfolding itemMakes
-makes-general =
-    by-item (λ i. itemMakes generalKind i ≡ isGeneral i) (λ u. refl) (λ u. refl) (λ u. refl) (λ p. refl) refl refl refl refl
-    (λ n. refl) (λ n. refl) (λ n. refl) (λ n. refl) (λ n. refl) (λ n. refl) (λ n. refl) (λ e n. refl) (λ h. refl) (λ m. refl)
+use Rattle.tallies.proofs.Places.{places-counted}
+use Rattle.tallies.proofs.Held.{kindBy, kind-is, figureItem, allowedBy, allowed-every}
 
 -- ---- the places
 module _ (es : List Entry) where
@@ -45,18 +38,6 @@ module _ (es : List Entry) where
   exponents-told = positive-count isExponent (itemsAt es)
 
 -- ---- the kind
-abbrev kindBy : Bool → Bool → Bool → Bool → Bool → Kind
-kindBy t g d x n = cond t textKind (cond g generalKind (cond d dateKind (cond x scientificKind (cond n numberKind literalKind))))
-
-kind-is : (is : List Item) → itemsKind is ≡ kindBy (any makesText is) (any isGeneral is) (any makesDate is) (any isExponent is) (any isPlace is)
-unfolding itemsKind kindFrom
-kind-is is =
-    rw (
-      any-same (itemMakes generalKind) isGeneral makes-general is,
-      any-same (itemMakes scientificKind) isExponent makes-exponent is,
-      any-same (itemMakes numberKind) isPlace makes-place is,
-    )
-
 kind-word : (t g d x n : Bool) → cond t 3 (cond g 1 (cond d 4 (cond x 5 (cond n 2 0)))) ≡ kindWord (kindBy t g d x n)
 unfolding kindWord
 kind-word true g d x n = refl
@@ -78,90 +59,6 @@ unfolding kindWord
 places-word = by-kind (λ (k : Kind). (eqb (kindWord k) 2 || eqb (kindWord k) 5) ≡ showsPlaces k) refl refl refl refl refl refl
 
 -- ---- no item belongs to another kind
-abbrev figureItem : Item → Bool
-figureItem i = isPlace i || isPoint i
-
--- an item is there that only sections of some kinds hold, where this one is of such a kind or not
-abbrev held : Bool → Bool → Bool
-held same some = not (some && not same)
-
-abbrev allowedBy : Kind → Bool → Bool → Bool → Bool → Bool → Bool → Bool
-allowedBy k T G D F P X =
-    held (sameKind textKind k) T
-    && (held (sameKind generalKind k) G
-    && (held (sameKind dateKind k) D
-    && (held (showsPlaces k) F
-    && (held (sameKind numberKind k) P && held (sameKind scientificKind k) X))))
-
-twice : (b : Bool) → b ≡ not (not b)
-twice true = refl
-twice false = refl
-
-allowed-one : (k : Kind) (i : Item) → itemAllowed k i ≡ allowedBy k (makesText i) (isGeneral i) (belongsDate i) (figureItem i) (isPercent i) (isExponent i)
-unfolding itemAllowed itemMakes
-allowed-one k =
-    let once : (b : Bool) → b ≡ (not (not b) && true) = λ b. twice b ∙ sym (and-true (not (not b))) in
-    let date : sameKind dateKind k ≡ (not (not (sameKind dateKind k)) && true) = once (sameKind dateKind k) in
-    by-item (λ i. itemAllowed k i ≡ allowedBy k (makesText i) (isGeneral i) (belongsDate i) (figureItem i) (isPercent i) (isExponent i)) (λ u. refl) (λ u. refl) (λ u. refl)
-    (λ p. once (showsPlaces k)) (once (showsPlaces k)) (once (sameKind numberKind k)) (once (sameKind generalKind k)) (once (sameKind textKind k))
-    (λ n. date) (λ n. date) (λ n. date) (λ n. date) (λ n. date) (λ n. date) (λ n. date) (λ e n. date) (λ h. date) (λ m. twice (sameKind scientificKind k))
-
-allowed-every : (k : Kind) (is : List Item)
-    → every (itemAllowed k) is
-    ≡ allowedBy k (any makesText is) (any isGeneral is) (any belongsDate is) (any figureItem is) (any isPercent is) (any isExponent is)
-allowed-every k is =
-    let one : Bool → (Item → Bool) → Item → Bool = λ (same : Bool) (p : Item → Bool) (i : Item). held same (p i) in
-    let beside : (same : Bool) (p : Item → Bool) → every (one same p) is ≡ held same (any p is) = λ same p. every-not-beside p (not same) is in
-    let T = one (sameKind textKind k) makesText in
-    let G = one (sameKind generalKind k) isGeneral in
-    let D = one (sameKind dateKind k) belongsDate in
-    let F = one (showsPlaces k) figureItem in
-    let P = one (sameKind numberKind k) isPercent in
-    let X = one (sameKind scientificKind k) isExponent in
-    every-same (itemAllowed k) (λ (i : Item). T i && (G i && (D i && (F i && (P i && X i))))) (allowed-one k) is
-    ∙ every-and T (λ (i : Item). G i && (D i && (F i && (P i && X i)))) is
-    ∙ rw (
-      every-and G (λ (i : Item). D i && (F i && (P i && X i))) is,
-      every-and D (λ (i : Item). F i && (P i && X i)) is,
-      every-and F (λ (i : Item). P i && X i) is,
-      every-and P X is,
-      beside (sameKind textKind k) makesText,
-      beside (sameKind generalKind k) isGeneral,
-      beside (sameKind dateKind k) belongsDate,
-      beside (showsPlaces k) figureItem,
-      beside (sameKind numberKind k) isPercent,
-      beside (sameKind scientificKind k) isExponent,
-    )
-
--- no item is there that only another kind holds
-none-foreign : (some same : Bool) → T (held same some) → same ≡ false → some ≡ false
-none-foreign true true t e = absurd (true≢false e)
-none-foreign true false t e = absurd t
-none-foreign false same t e = refl
-
-module _ (k : Kind) (is : List Item) (t : T (every (itemAllowed k) is)) where
-  all-held : T (allowedBy k (any makesText is) (any isGeneral is) (any belongsDate is) (any figureItem is) (any isPercent is) (any isExponent is))
-  all-held = carry (allowed-every k is) t
-
-  pub no-places : showsPlaces k ≡ false → count isPlace is ≡ 0
-  no-places e =
-      let all = all-held in
-      let none : any figureItem is ≡ false = none-foreign (any figureItem is) (showsPlaces k) (search (and-left, and-right) depth 8) e in
-      none-count isPlace is (or-false (any isPlace is) (any isPoint is) (sym (any-either isPlace isPoint is) ∙ none) .0)
-
-  pub no-percents : sameKind numberKind k ≡ false → count isPercent is ≡ 0
-  no-percents e =
-      let all = all-held in
-      none-count isPercent is (none-foreign (any isPercent is) (sameKind numberKind k) (search (and-left, and-right) depth 8) e)
-
-  pub no-half : sameKind dateKind k ≡ false → hasHalf is ≡ false
-  unfolding hasHalf
-  no-half e =
-      let all = all-held in
-      let none : any belongsDate is ≡ false = none-foreign (any belongsDate is) (sameKind dateKind k) (search (and-left, and-right) depth 8) e in
-      let apart = or-false (any makesDate is) _ (sym (any-either makesDate (λ (i : Item). isHalf i || isPart i) is) ∙ none) in
-      or-false (any isHalf is) _ (sym (any-either isHalf isPart is) ∙ apart .1) .0
-
 -- the tests of `allowedTold` are those of the kind that the flags make
 neither-nor : (a b : Bool) → not (a || b) ≡ (not a && not b)
 neither-nor true b = refl

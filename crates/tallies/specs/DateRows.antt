@@ -6,7 +6,6 @@ use mathlib.Core.Bool.{Bool, true, false, cond, _&&_}
 use mathlib.Core.List.{List}
 use lib.Dec.{ltb, eqb}
 use Rattle.values.specs.Ranges.{between}
-use Rattle.lists.specs.Lists.{any}
 use Rattle.formats.specs.Items.{dateKind, itemAllowed, isFill, isPart, isElapsed, isHalf, runOf}
 use Rattle.formats.specs.Where.{implies}
 use Rattle.formats.specs.WellFormed.{isSeconds}
@@ -15,7 +14,8 @@ use Rattle.tables.specs.Encode.{bit, hasHalf}
 use Rattle.tables.specs.Decode.{itemAt, itemsAt}
 use Rattle.tables.specs.Rules.{entryInRange}
 use Rattle.tallies.specs.Tally.{itemsOf}
-use Rattle.tallies.specs.Walk.{earlierAfter, mayStand, answered, answers}
+use Rattle.tallies.specs.Scans.{hasTag}
+use Rattle.tallies.specs.Runs.{earlierAfter, mayStand, answered, answers}
 use Rattle.tallies.specs.declared.date_rows.DatedRow.{DatedRow}
 use Rattle.tallies.specs.declared.date_rows.DateWalk.{DateWalk}
 
@@ -70,8 +70,5 @@ elapsedTaken s tag a run behind =
     (record { fits = true; earlier = run; behind = behind; fills = s .fills; elapsed = tag; halves = s .halves }) noDate
 
 -- ---- the plain equivalent of an elapsed item has the number that is 4 below its own
-abbrev pub hasTag : List Entry → ℕ → Bool
-hasTag es tag = any (λ (e : Entry). eqb (e .tag) tag) es
-
 abbrev pub plainTold : List Entry → ℕ → Bool
 plainTold es elapsed = cond (ltb elapsed 18) false (hasTag es (elapsed - 4))

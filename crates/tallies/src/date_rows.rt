@@ -9,12 +9,13 @@ use super::earlier_runs::SECONDS_BEFORE;
 use super::earlier_runs::answers;
 use super::earlier_runs::minutes_run;
 use super::earlier_runs::month_run;
+use super::scans::has_tag;
 use tables::tags;
 use values::integers::is_between;
 ghost use mathlib.Core.Path.{_≡_};
 ghost use Rattle.tables.specs.Words.{entriesIn};
 ghost use Rattle.tables.specs.Encode.{entry};
-ghost use Rattle.tallies.specs.DateRows.{DateTold, noDates, noDate, dateNext, passed, ran, hasTag, plainTold, elapsedTaken};
+ghost use Rattle.tallies.specs.DateRows.{DateTold, noDates, noDate, dateNext, passed, ran, plainTold, elapsedTaken};
 
 // Whether the items are those of a date-time section; where they are, whether a half-day mark is among them.
 pub struct DatedRow {
@@ -189,20 +190,6 @@ fn step(s: DateWalk, tag: u16, a: u16) -> DateWalk
         tags::HALF_DAY => half_day(s, a),
         _ => refused(),
     }
-}
-
-fn has_tag(words: &[u16], tag: u16) -> bool
-    ensures { λ r. ⌜ r ≡ hasTag (entriesIn (now (words .entry))) tag ⌝ }
-{
-    let n = words.len() / 2;
-    let mut k: usize = 0;
-    while k < n {
-        if words[2 * k] == tag {
-            return true;
-        }
-        k += 1;
-    }
-    false
 }
 
 // Whether the plain equivalent of the elapsed item is there, whose tag is 4 below.

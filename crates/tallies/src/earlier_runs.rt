@@ -1,7 +1,7 @@
 // What an item leaves for the next one by the rule for m: the nearest earlier run, and whether the item just before is seconds.
 ghost use mathlib.Core.Path.{_≡_};
 ghost use mathlib.Core.Bool.{cond};
-ghost use Rattle.tallies.specs.Walk.{answered};
+ghost use Rattle.tallies.specs.Runs.{answered};
 
 // The nearest earlier run: none, hours, seconds or another. An m of 1 or 2 that nothing before it makes minutes waits for the next
 // run: said to be a month, it is wrong before seconds; said to be minutes, it is right before them alone.

@@ -1,26 +1,18 @@
-// One pass over a section's item words: what its rules ask of its items.
+// What the rules ask of a section's items: counts for preparing, a walk for each sort of section for the table check.
+pub mod bare_rows;
 pub mod date_rows;
 mod earlier_runs;
 pub mod number_rows;
+mod scans;
+pub mod scientific_rows;
 
-use earlier_runs::HOUR_RUN;
-use earlier_runs::NO_RUN;
-use earlier_runs::OTHER_BEFORE;
-use earlier_runs::OTHER_RUN;
-use earlier_runs::SECOND_RUN;
-use earlier_runs::SECONDS_BEFORE;
-use earlier_runs::answers;
-use earlier_runs::minutes_run;
-use earlier_runs::month_run;
 ghost use mathlib.Core.Path.{_≡_};
-ghost use mathlib.Core.List.{List};
 ghost use Prim.Native.Nat.{_≤_, _<_};
 ghost use lib.ListN.{length};
-ghost use Rattle.values.specs.Ranges.{between};
-ghost use Rattle.tables.specs.Words.{Entry, entriesIn};
+ghost use Rattle.tables.specs.Words.{entriesIn};
 ghost use Rattle.tables.specs.Encode.{entry};
-ghost use Rattle.tallies.specs.Tally.{tallyOf, itemsOf, hasPlaces, hasNumberItems, NoExponent, kindTold, allowedTold, noPlainTold, exponentTold, itemsFitTold, withinTold, decimalsTold};
-ghost use Rattle.tallies.specs.Walk.{lower, runDown, faultOf, tooLong, behindE, countedOf, placeTest, placedOf, datedOf, placeWeight, stepOf, startOf, Walked, Few, Weights};
+ghost use Rattle.tallies.specs.Tally.{tallyOf, hasPlaces, hasNumberItems, NoExponent, kindTold, allowedTold, noPlainTold, exponentTold, itemsFitTold, withinTold, decimalsTold};
+ghost use Rattle.tallies.specs.Walk.{countedOf, placedOf, elapsedOf, stepOf, startOf, finishedOf, Few, Weights};
 use tables::kinds;
 use tables::tags;
 use values::integers::is_between;
@@ -53,25 +45,42 @@ pub struct Tally {
     pub halves: bool,
 }
 
-// What one item adds to the numbers of a walk: one to its digit, by base 65536.
+// What one item adds to the numbers of a walk: one to its digit, by base 256.
 const INTEGERS: u64 = 1;
 
-const DECIMALS: u64 = 65536;
+const DECIMALS: u64 = 256;
 
-const POINTS: u64 = 4294967296;
+const POINTS: u64 = 65536;
 
-const PERCENTS: u64 = 281474976710656;
+const PERCENTS: u64 = 16777216;
 
-// To the others, by base 65536.
+const EXPONENTS: u64 = 4294967296;
+
+// Behind the first E: a place, and a point or a place `?`, which are misplaced there.
+const EXPONENT_PLACES: u64 = 1099511627776;
+
+const MISPLACED: u64 = 281474976710656;
+
+const MISPLACED_POINTS: u64 = 281474976776192;
+
+const SPACE_PLACES: u64 = 282574488338432;
+
+// To the others.
 const GENERALS: u64 = 1;
 
-const FILLS: u64 = 65536;
+const TEXTS: u64 = 256;
 
-const ELAPSED_RUNS: u64 = 4294967296;
+const ELAPSED_RUNS: u64 = 65536;
 
-const TEXTS: u64 = 281474976710656;
+const LONG_RUNS: u64 = 16777216;
 
-// To the dates, by base 256. Years, months and days share a digit.
+const LONG_ELAPSED_RUNS: u64 = 16842752;
+
+const HALVES: u64 = 4294967296;
+
+const PARTS: u64 = 1099511627776;
+
+// To the dates. Years, months and days share a digit.
 const DAYS: u64 = 1;
 
 const HOURS: u64 = 256;
@@ -86,52 +95,17 @@ const ELAPSED_MINUTES: u64 = 1099511627776;
 
 const ELAPSED_SECONDS: u64 = 281474976710656;
 
-// To the marks, by base 65536, whose lowest digit counts the faults.
-const LONG_RUNS: u64 = 65536;
-
-const HALVES: u64 = 4294967296;
-
-const PARTS: u64 = 281474976710656;
-
-// To the exponents, by base 65536: an E, and behind the first E a place, a point, and a place `?`.
-const EXPONENTS: u64 = 1;
-
-const EXPONENT_PLACES: u64 = 65536;
-
-const MISPLACED: u64 = 4294967296;
-
-const SPACE_PLACES: u64 = 4295032832;
-
-// What the next place must have before the first place and behind an E, and behind the first point: no argument is as large as
-// the one, the other is that of -1.
-const ANY_POWER: u64 = 65536;
-
-const DECIMAL_POWER: u64 = 15;
-
-// What a place adds to the numbers behind an E.
-const NO_UNIT: u64 = 0;
-
 // What is kept from one item to the next. Counts stand in numbers, a digit each: no section has more than 254 items. All
 // fields are of one width, and few, so that the compiler keeps them in registers.
-pub struct Walk {
-    // places, points and percents
+struct Walk {
+    // places, points, percents and E
     numbers: u64,
-    // Generals, fills, elapsed and text items
+    // Generals, text and elapsed items, too long elapsed runs, half-day marks and parts of a second
     others: u64,
     // the runs of a date-time section
     dates: u64,
-    // items that fail a test of order, argument or power; too long elapsed runs; half-day marks; parts of a second
-    marks: u64,
-    // E; the places, points and `?` behind the first
-    exponents: u64,
-    // what a place adds: INTEGERS up to the first point, DECIMALS from there, NO_UNIT from the first E on
+    // what a place adds: INTEGERS up to the first point, DECIMALS from there, EXPONENT_PLACES from the first E on
     unit: u64,
-    // the argument that the next place must have
-    next: u64,
-    // the nearest earlier run
-    earlier: u64,
-    // whether the item just before is seconds
-    behind: u64,
 }
 
 fn start() -> Walk
@@ -141,210 +115,66 @@ fn start() -> Walk
         numbers: 0,
         others: 0,
         dates: 0,
-        marks: 0,
-        exponents: 0,
         unit: INTEGERS,
-        next: ANY_POWER,
-        earlier: NO_RUN,
-        behind: OTHER_BEFORE,
     }
 }
 
-fn fault(fits: bool) -> u64
-    ensures { λ r. ⌜ (r ≡ faultOf fits) × (r ≤ 1) ⌝ }
+fn counted(w: Walk, number: u64, other: u64, date: u64) -> Walk
+    requires { ⌜ Few 253 w × Weights number other date ⌝ }
+    ensures { λ r. ⌜ r ≡ countedOf w number other date ⌝ }
 {
-    if fits { 0 } else { 1 }
-}
-
-// What every item does: it adds its weights, and a fault where it does not fit.
-fn counted(
-    w: Walk,
-    number: u64,
-    other: u64,
-    date: u64,
-    fits: bool,
-    mark: u64,
-    exponent: u64,
-) -> Walk
-    requires { ⌜ Few 253 w × Weights number other date mark exponent ⌝ }
-    ensures { λ r. ⌜ r ≡ countedOf w number other date fits mark exponent ⌝ }
-{
-    let wrong = fault(fits);
     Walk {
         numbers: w.numbers + number,
         others: w.others + other,
         dates: w.dates + date,
-        marks: w.marks + (wrong + mark),
-        exponents: w.exponents + exponent,
         unit: w.unit,
-        next: w.next,
-        earlier: w.earlier,
-        behind: OTHER_BEFORE,
     }
 }
 
-// An argument is at least 1.
-fn lowered(n: u64) -> u64
-    ensures { λ r. ⌜ r ≡ lower n ⌝ }
-{
-    if 1 < n { n - 1 } else { 1 }
-}
-
-// What an item adds behind an E, and not before it.
-fn behind_exponent(unit: u64, more: u64) -> u64
-    ensures { λ r. ⌜ (r ≡ behindE unit more) × (r ≤ more) ⌝ }
-{
-    if unit == NO_UNIT { more } else { 0 }
-}
-
-fn place_weight(tag: u16) -> u64
-    ensures { λ r. ⌜ (r ≡ placeWeight tag) × (r ≤ 4295032832) ⌝ }
-{
-    if tag == tags::SPACE_PLACE {
-        SPACE_PLACES
-    } else {
-        EXPONENT_PLACES
-    }
-}
-
-// The first place, and the first behind an E, may have any power; each other place has the power below. A place that has the power
-// expected is in range where the first is.
-fn place(w: Walk, more: u64, a: u16) -> Walk
-    requires { ⌜ Few 253 w × (more ≤ 4295032832) ⌝ }
-    ensures { λ r. ⌜ r ≡ placedOf w (placeTest (w .next) a) more a ⌝ }
-{
-    let power = a as u64;
-    if w.next == power {
-        let mut p = counted(w, w.unit, 0, 0, true, 0, more);
-        p.next = lowered(w.next);
-        return p;
-    }
-    let mut p = counted(
-        w,
-        w.unit,
-        0,
-        0,
-        (w.next == ANY_POWER) & is_between(1, 35, a),
-        0,
-        more,
-    );
-    p.next = lowered(power);
-    p
-}
-
-// Behind the first point the powers go on from -1, which the last integer place must have led to.
-fn point(w: Walk, a: u16) -> Walk
+fn place(w: Walk, tag: u16) -> Walk
     requires { ⌜ Few 253 w ⌝ }
-    ensures { λ r. ⌜ r ≡ stepOf w (entry 7 a) ⌝ }
+    ensures { λ r. ⌜ r ≡ placedOf w tag ⌝ }
+{
+    if (tag == tags::SPACE_PLACE) & (w.unit == EXPONENT_PLACES) {
+        return counted(w, SPACE_PLACES, 0, 0);
+    }
+    counted(w, w.unit, 0, 0)
+}
+
+// Behind the first point stand the decimal places.
+fn point(w: Walk) -> Walk
+    requires { ⌜ Few 253 w ⌝ }
+    ensures { λ r. ⌜ r ≡ stepOf w (entry 7 0) ⌝ }
 {
     if w.unit == INTEGERS {
-        let mut p = counted(
-            w,
-            POINTS,
-            0,
-            0,
-            ((w.next == ANY_POWER) | (w.next == DECIMAL_POWER)) & (a == 0),
-            0,
-            0,
-        );
+        let mut p = counted(w, POINTS, 0, 0);
         p.unit = DECIMALS;
-        p.next = DECIMAL_POWER;
         return p;
     }
-    let more = behind_exponent(w.unit, MISPLACED);
-    counted(w, POINTS, 0, 0, a == 0, 0, more)
+    if w.unit == EXPONENT_PLACES {
+        return counted(w, MISPLACED_POINTS, 0, 0);
+    }
+    counted(w, POINTS, 0, 0)
 }
 
-// Whether the powers end where they may: at 0, or behind a point.
-fn is_run_down(w: Walk) -> bool
-    ensures { λ r. ⌜ r ≡ runDown (w .unit) (w .next) ⌝ }
-{
-    (w.unit == DECIMALS) | ((w.next == ANY_POWER) | (w.next == DECIMAL_POWER))
-}
-
-// At an E the powers end, and begin anew behind it.
-fn exponent(w: Walk, a: u16) -> Walk
+// Behind an E stand the exponent places.
+fn exponent(w: Walk) -> Walk
     requires { ⌜ Few 253 w ⌝ }
-    ensures { λ r. ⌜ r ≡ stepOf w (entry 22 a) ⌝ }
+    ensures { λ r. ⌜ r ≡ stepOf w (entry 22 0) ⌝ }
 {
-    let down = is_run_down(w);
-    let mut e = counted(w, 0, 0, 0, down & (a == 0), 0, EXPONENTS);
-    e.unit = NO_UNIT;
-    e.next = ANY_POWER;
+    let mut e = counted(w, EXPONENTS, 0, 0);
+    e.unit = EXPONENT_PLACES;
     e
 }
 
-// A date or time run, by its weight, the answer of its own tests, its number, and whether it is seconds.
-fn dated(w: Walk, date: u64, fits: bool, run: u64, behind: u64) -> Walk
-    requires { ⌜ Few 253 w × Weights 0 0 date 0 0 ⌝ }
-    ensures { λ r. ⌜ r ≡ datedOf w 0 date fits 0 run behind ⌝ }
+fn elapsed(w: Walk, date: u64, a: u16) -> Walk
+    requires { ⌜ Few 253 w × Weights 0 0 date ⌝ }
+    ensures { λ r. ⌜ r ≡ elapsedOf w date a ⌝ }
 {
-    let right = answers(w.earlier, run);
-    let mut d = counted(w, 0, 0, date, right & fits, 0, 0);
-    d.earlier = run;
-    d.behind = behind;
-    d
-}
-
-// A month of 1 or 2 does not stand behind hours.
-fn month(w: Walk, a: u16) -> Walk
-    requires { ⌜ Few 253 w ⌝ }
-    ensures { λ r. ⌜ r ≡ stepOf w (entry 12 a) ⌝ }
-{
-    let short = a <= 2;
-    let minutes = short & (w.earlier == HOUR_RUN);
-    let run = month_run(short);
-    dated(w, DAYS, !minutes & is_between(1, 5, a), run, OTHER_BEFORE)
-}
-
-fn minute(w: Walk, a: u16) -> Walk
-    requires { ⌜ Few 253 w ⌝ }
-    ensures { λ r. ⌜ r ≡ stepOf w (entry 15 a) ⌝ }
-{
-    let run = minutes_run(w.earlier == HOUR_RUN);
-    dated(w, MINUTES, is_between(1, 2, a), run, OTHER_BEFORE)
-}
-
-// A part of a second stands directly behind seconds.
-fn part(w: Walk, a: u16) -> Walk
-    requires { ⌜ Few 253 w ⌝ }
-    ensures { λ r. ⌜ r ≡ stepOf w (entry 17 a) ⌝ }
-{
-    counted(
-        w,
-        0,
-        0,
-        0,
-        (w.behind == SECONDS_BEFORE) & is_between(1, 3, a),
-        PARTS,
-        0,
-    )
-}
-
-fn too_long(a: u16) -> u64
-    ensures { λ r. ⌜ (r ≡ tooLong a) × (r ≤ 65536) ⌝ }
-{
-    if 9 < a { LONG_RUNS } else { 0 }
-}
-
-fn elapsed(w: Walk, date: u64, a: u16, run: u64, behind: u64) -> Walk
-    requires { ⌜ Few 253 w × Weights 0 0 date 0 0 ⌝ }
-    ensures { λ r. ⌜ r ≡ datedOf w 4294967296 date (between 1 9 a) (tooLong a) run behind ⌝ }
-{
-    let mark = too_long(a);
-    let right = answers(w.earlier, run);
-    let mut d = counted(
-        w,
-        0,
-        ELAPSED_RUNS,
-        date,
-        right & is_between(1, 9, a),
-        mark,
-        0,
-    );
-    d.earlier = run;
-    d.behind = behind;
-    d
+    if 9 < a {
+        return counted(w, 0, LONG_ELAPSED_RUNS, date);
+    }
+    counted(w, 0, ELAPSED_RUNS, date)
 }
 
 // The pass by one item, with its tag and its argument. Places are most items, so they are told first. An unknown tag is
@@ -354,69 +184,65 @@ fn step(w: Walk, tag: u16, a: u16) -> Walk
     ensures { λ r. ⌜ r ≡ stepOf w (entry tag a) ⌝ }
 {
     if is_between(tags::ZERO_PLACE, tags::SPACE_PLACE, tag) {
-        if w.unit == NO_UNIT {
-            let weight = place_weight(tag);
-            return place(w, weight, a);
-        }
-        return place(w, 0, a);
+        return place(w, tag);
     }
     match tag {
-        tags::LITERAL => counted(w, 0, 0, 0, true, 0, 0),
-        tags::BLANK => counted(w, 0, 0, 0, true, 0, 0),
-        tags::FILL => counted(w, 0, FILLS, 0, true, 0, 0),
-        tags::POINT => point(w, a),
-        tags::PERCENT => counted(w, PERCENTS, 0, 0, a == 0, 0, 0),
-        tags::GENERAL => counted(w, 0, GENERALS, 0, a == 0, 0, 0),
-        tags::AT => counted(w, 0, TEXTS, 0, a == 0, 0, 0),
-        tags::YEAR => dated(w, DAYS, (a == 2) | (a == 4), OTHER_RUN, OTHER_BEFORE),
-        tags::MONTH => month(w, a),
-        tags::DAY => dated(w, DAYS, is_between(1, 4, a), OTHER_RUN, OTHER_BEFORE),
-        tags::HOUR => dated(w, HOURS, is_between(1, 2, a), HOUR_RUN, OTHER_BEFORE),
-        tags::MINUTE => minute(w, a),
-        tags::SECOND => dated(w, SECONDS, is_between(1, 2, a), SECOND_RUN, SECONDS_BEFORE),
-        tags::PART => part(w, a),
-        tags::ELAPSED_HOURS => elapsed(w, ELAPSED_HOURS, a, HOUR_RUN, OTHER_BEFORE),
-        tags::ELAPSED_MINUTES => elapsed(w, ELAPSED_MINUTES, a, OTHER_RUN, OTHER_BEFORE),
-        tags::ELAPSED_SECONDS => elapsed(w, ELAPSED_SECONDS, a, SECOND_RUN, SECONDS_BEFORE),
-        tags::HALF_DAY => counted(w, 0, 0, 0, is_between(1, 2, a), HALVES, 0),
-        tags::EXPONENT_PLUS => exponent(w, a),
-        tags::EXPONENT_MINUS => exponent(w, a),
-        _ => counted(w, 0, 0, 0, false, HALVES, 0),
+        tags::LITERAL => counted(w, 0, 0, 0),
+        tags::BLANK => counted(w, 0, 0, 0),
+        tags::FILL => counted(w, 0, 0, 0),
+        tags::POINT => point(w),
+        tags::PERCENT => counted(w, PERCENTS, 0, 0),
+        tags::GENERAL => counted(w, 0, GENERALS, 0),
+        tags::AT => counted(w, 0, TEXTS, 0),
+        tags::YEAR => counted(w, 0, 0, DAYS),
+        tags::MONTH => counted(w, 0, 0, DAYS),
+        tags::DAY => counted(w, 0, 0, DAYS),
+        tags::HOUR => counted(w, 0, 0, HOURS),
+        tags::MINUTE => counted(w, 0, 0, MINUTES),
+        tags::SECOND => counted(w, 0, 0, SECONDS),
+        tags::PART => counted(w, 0, PARTS, 0),
+        tags::ELAPSED_HOURS => elapsed(w, ELAPSED_HOURS, a),
+        tags::ELAPSED_MINUTES => elapsed(w, ELAPSED_MINUTES, a),
+        tags::ELAPSED_SECONDS => elapsed(w, ELAPSED_SECONDS, a),
+        tags::HALF_DAY => counted(w, 0, HALVES, 0),
+        tags::EXPONENT_PLUS => exponent(w),
+        tags::EXPONENT_MINUS => exponent(w),
+        _ => counted(w, 0, HALVES, 0),
     }
 }
 
-// What the items of a walk tell: the digits of its numbers.
-pub fn tally_of(w: Walk) -> Tally
-    ensures { λ r. ⌜ ((es : List Entry) → Walked es w → r ≡ tallyOf es) ⌝ }
+// What a walk tells: the digits of its numbers.
+fn tally_of(w: Walk) -> Tally
+    ensures { λ r. ⌜ r ≡ finishedOf w ⌝ }
 {
     Tally {
-        short: w.marks / LONG_RUNS % 65536 == 0,
-        integers: (w.numbers % 65536) as u16,
-        decimals: (w.numbers / DECIMALS % 65536) as u16,
-        points: (w.numbers / POINTS % 65536) as u16,
-        percents: (w.numbers / PERCENTS % 65536) as u16,
-        generals: (w.others % 65536) as u16,
-        elapsed: (w.others / ELAPSED_RUNS % 65536) as u16,
-        exponents: (w.exponents % 65536) as u16,
-        exponent_places: (w.exponents / EXPONENT_PLACES % 65536) as u16,
-        misplaced: 0 < w.exponents / MISPLACED % 65536,
-        texts: 0 < w.others / TEXTS % 65536,
+        short: w.others / LONG_RUNS % 256 == 0,
+        integers: (w.numbers % 256) as u16,
+        decimals: (w.numbers / DECIMALS % 256) as u16,
+        points: (w.numbers / POINTS % 256) as u16,
+        percents: (w.numbers / PERCENTS % 256) as u16,
+        generals: (w.others % 256) as u16,
+        elapsed: (w.others / ELAPSED_RUNS % 256) as u16,
+        exponents: (w.numbers / EXPONENTS % 256) as u16,
+        exponent_places: (w.numbers / EXPONENT_PLACES % 256) as u16,
+        misplaced: 0 < w.numbers / MISPLACED % 256,
+        texts: 0 < w.others / TEXTS % 256,
         dating: 0 < w.dates,
-        dates: (0 < w.dates) | (0 < w.marks / HALVES),
+        dates: (0 < w.dates) | (0 < w.others / HALVES),
         hours: 0 < w.dates / HOURS % 256,
         minutes: 0 < w.dates / MINUTES % 256,
         seconds: 0 < w.dates / SECONDS % 256,
         elapsed_hours: 0 < w.dates / ELAPSED_HOURS % 256,
         elapsed_minutes: 0 < w.dates / ELAPSED_MINUTES % 256,
         elapsed_seconds: 0 < w.dates / ELAPSED_SECONDS % 256,
-        halves: 0 < w.marks / HALVES % 65536,
+        halves: 0 < w.others / HALVES % 256,
     }
 }
 
-// The pass over the items of a section, whose words these are.
-pub fn walk_words(words: &[u16]) -> Walk
+// What the items of a section tell, whose words these are.
+pub fn tally_words(words: &[u16]) -> Tally
     requires { ⌜ length (now words) ≤ 508 ⌝ }
-    ensures { λ r. ⌜ Walked (entriesIn (now (words .entry))) r ⌝ }
+    ensures { λ r. ⌜ r ≡ tallyOf (entriesIn (now (words .entry))) ⌝ }
 {
     let n = words.len() / 2;
     let mut w = start();
@@ -427,15 +253,7 @@ pub fn walk_words(words: &[u16]) -> Walk
         w = step(w, words[i], words[j]);
         k += 1;
     }
-    w
-}
-
-// What the items of a section tell, whose words these are.
-pub fn tally_words(words: &[u16]) -> Tally
-    requires { ⌜ length (now words) ≤ 508 ⌝ }
-    ensures { λ r. ⌜ r ≡ tallyOf (entriesIn (now (words .entry))) ⌝ }
-{
-    tally_of(walk_words(words))
+    tally_of(w)
 }
 
 // Most sections have no E: their tests look at nothing that only an E brings.
@@ -511,42 +329,6 @@ fn exponent_fits(t: Tally) -> bool
     ensures { λ r. ⌜ r ≡ exponentTold t ⌝ }
 {
     (t.exponents <= 1) & (1 <= t.integers) & (1 <= t.exponent_places) & !t.misplaced
-}
-
-// Whether the items of a walk keep the rules for a scientific section's items: every test on the way; no date item, General, text
-// or percent; at most one fill and one point; an integer place, one E, and behind it a place and neither point nor `?`.
-pub fn is_scientific(w: Walk) -> bool
-    ensures { λ r. ⌜ ((es : List Entry) → Walked es w → r ≡ itemsOf 5 es) ⌝ }
-{
-    (w.marks == 0)
-        & (w.dates == 0)
-        & (w.others % FILLS == 0)
-        & (w.others / FILLS <= 1)
-        & (0 < w.numbers % 65536)
-        & (w.numbers / POINTS <= 1)
-        & (w.exponents % 65536 == 1)
-        & (EXPONENT_PLACES <= w.exponents)
-        & (w.exponents < MISPLACED)
-        & is_run_down(w)
-}
-
-// Those for a literal, General or text section's: neither a number item nor a date item.
-pub fn is_bare(w: Walk, kind: u16) -> bool
-    ensures { λ r. ⌜ ((es : List Entry) → Walked es w → (kind ≡ 2 → ⊥) → (kind ≡ 4 → ⊥) → (kind ≡ 5 → ⊥) → r ≡ itemsOf kind es) ⌝ }
-{
-    if (0 < w.numbers) | (0 < w.marks) | (0 < w.dates) | (0 < w.exponents) {
-        return false;
-    }
-    match kind {
-        kinds::LITERAL => (w.others % FILLS == 0) & (w.others / FILLS <= 1),
-        kinds::GENERAL => (w.others % FILLS == 1) & (w.others / FILLS <= 1),
-        kinds::TEXT => {
-            (w.others % FILLS == 0)
-                & (w.others / FILLS % 65536 <= 1)
-                & (0 < w.others / TEXTS % 65536)
-        }
-        _ => false,
-    }
 }
 
 pub fn items_fit(t: Tally) -> bool

@@ -6,7 +6,7 @@ use borrow.Author.Tests.{not-true, not-false}
 use Rattle.tables.proofs.Ranges.{head-ranges}
 use Rattle.table_words.specs.Sections.{headFrom}
 use Rattle.lists.proofs.Bools.{carry}
-use Rattle.checking.proofs.Rows.{Front, refused, no-number, number-answer, no-dates, dated-answer, no-scientific, scientific-answer, no-bare, bare-answer, rowed, front-of, number-again, scientific-again, other-again}
+use Rattle.checking.proofs.Rows.{Front, refused, no-number, number-answer, no-dated, dated-answer, no-scientific, scientific-answer, no-bare, bare-answer, rowed, front-of, number-again, scientific-again, other-again}
 use borrow.Author.Needs.{needs}
 use Rattle.checking.proofs.row_fits.Statement.{statement}
 use Rattle.checking.proofs.row_fits.Tie as tie
@@ -29,7 +29,7 @@ front c =
     let t = c .before .before in
     let f = t .before .before .before in
     let words = c .struct-known2 .given in
-    front-of (f .head-at .result) _ (f .head-at .ensures) (f .before .before .before .pre .3) (omega (arith, words)) (omega (arith, t .before .if1 .left))
+    front-of (f .head-at .result) _ (f .head-at .ensures) (f .before .before .before .pre .2) (omega (arith, words)) (omega (arith, t .before .if1 .left))
     (sym (t .condition-fits .ensures) ∙ not-false _ (c .before .if2 .left))
 
 returns-3 : tie.Need-returns-3
@@ -54,7 +54,7 @@ returns-5 c =
     let d = c .before .before in
     let k = d .before .before .before .before in
     let h = k .before .before .before .before .before .head-at in
-    rowed _ _ _ _ (h .ensures) (no-dates (headFrom (h .result)) _ (d .before .if5 .taken) _ (d .dated-row .ensures) (not-true _ (c .if6 .taken)))
+    rowed _ _ _ _ (h .ensures) (no-dated (headFrom (h .result)) _ (d .before .if5 .taken) _ (d .dated-row .ensures) (not-true _ (c .if6 .taken)))
 
 returns-6 : tie.Need-returns-6
 returns-6 c =
@@ -67,59 +67,42 @@ returns-6 c =
 
 returns-7 : tie.Need-returns-7
 returns-7 c =
-    let q = c .before in
-    let w = q .before in
-    let k = w .before .before .before .before .before .before in
+    let q = c .before .before in
+    let k = q .before .before .before .before .before .before in
     let h = k .before .before .before .before .before .head-at in
     rowed _ _ _ _ (h .ensures)
-    (no-scientific (headFrom (h .result)) _ (w .before .if7 .taken) _ (q .is-scientific .ensures _ (w .walk-words .ensures)) (c .if8 .taken))
-
-head-at-requires-4 : tie.Need-head-at-requires-4
-head-at-requires-4 c κs =
-    let k = c .before .before .before .before .before .before .before .before in
-    let start = k .before .before .before .before .before .before .before .before .pre in
-    (start .0, start .1)
+    (no-scientific (headFrom (h .result)) _ (q .before .if7 .taken) (front k) _ (q .scientific-row .ensures) (not-true _ (c .if8 .taken)))
 
 returns-8 : tie.Need-returns-8
 returns-8 c =
     let q = c .before .before .before .before in
-    let w = q .before in
-    let k = w .before .before .before .before .before .before in
+    let k = q .before .before .before .before .before .before in
     let h = k .before .before .before .before .before .head-at in
     rowed _ _ _ _ (h .ensures)
-    (scientific-answer (headFrom (h .result)) _ (w .before .if7 .taken) (front k) _ (q .is-scientific .ensures _ (w .walk-words .ensures)) (c .before .before .before .if8 .left) _
-    (c .before .tally-of .ensures _ (w .walk-words .ensures)) _
-    (scientific-again _ _ _ (h .ensures) (c .before .before .head-at4 .ensures) _ _ (c .scientific-fits .ensures)))
+    (scientific-answer (headFrom (h .result)) _ (q .before .if7 .taken) (front k) _ (q .scientific-row .ensures) (not-false _ (c .before .before .if8 .left)) _
+    (scientific-again _ _ _ (h .ensures) (c .before .head-at4 .ensures) _ _ (c .scientific-fits .ensures)))
 
 returns-9 : tie.Need-returns-9
 returns-9 c =
     let b = c .before in
-    let w = b .before in
-    let n = w .before .if7 .left in
-    let d = w .before .before .before in
+    let n = b .before .if7 .left in
+    let d = b .before .before .before in
     let i = d .before .before in
     let h = i .before .before .before .before .before .before .head-at in
     rowed _ _ _ _ (h .ensures)
-    (no-bare (headFrom (h .result)) _ _ (b .is-bare .ensures _ (w .walk-words2 .ensures) (i .if3 .left) (d .if5 .left) n) (c .if9 .taken))
-
-head-at-requires-5 : tie.Need-head-at-requires-5
-head-at-requires-5 c κs =
-    let k = c .before .before .before .before .before .before .before .before in
-    let start = k .before .before .before .before .before .before .before .before .pre in
-    (start .0, start .1)
+    (no-bare (headFrom (h .result)) _ _ (b .bare-fits .ensures (i .if3 .left) (d .if5 .left) n) (c .if9 .taken))
 
 returns-10 : tie.Need-returns-10
 returns-10 c =
     let b = c .before .before .before in
-    let w = b .before in
-    let n = w .before .if7 .left in
-    let d = w .before .before .before in
+    let n = b .before .if7 .left in
+    let d = b .before .before .before in
     let i = d .before .before in
     let k = i .before in
     let h = k .before .before .before .before .before .head-at in
     rowed _ _ _ _ (h .ensures)
     (bare-answer (headFrom (h .result)) _ (i .if3 .left) (d .if5 .left) n (front k) _
-    (b .is-bare .ensures _ (w .walk-words2 .ensures) (i .if3 .left) (d .if5 .left) n) (c .before .before .if9 .left) _
+    (b .bare-fits .ensures (i .if3 .left) (d .if5 .left) n) (c .before .before .if9 .left) _
     (other-again _ _ _ (h .ensures) (c .before .head-at5 .ensures) _ _ (c .other-fits2 .ensures)))
 
 pub row-fits-spec : {M : Type 1} → statement M
@@ -132,24 +115,17 @@ row-fits-spec =
     returns-2
     (λ c κs. search needs)
     returns-3
-    (λ c κs. search needs)
-    (λ c κs. search needs)
+    (λ c κs. search needs) (λ c κs. search needs)
     returns-4
     (λ c κs. search needs)
     returns-5
-    (λ c κs. search needs)
-    (λ c κs. search needs)
+    (λ c κs. search needs) (λ c κs. search needs)
     returns-6
     (λ c κs. search needs)
-    (λ c κs. search needs)
     returns-7
-    head-at-requires-4
-    (λ c κs. search needs)
-    (λ c κs. search needs)
+    (λ c κs. search needs) (λ c κs. search needs)
     returns-8
     (λ c κs. search needs)
-    (λ c κs. search needs)
     returns-9
-    head-at-requires-5
-    (λ c κs. search needs)
+    (λ c κs. search needs) (λ c κs. search needs)
     returns-10)

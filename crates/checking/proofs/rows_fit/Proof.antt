@@ -3,10 +3,8 @@
 use Prim.Native.Nat.{_+_, _*_, _-_}
 use native.Mathlib.Omega.{arith}
 use mathlib.Core.Path.{refl}
-use lib.ListN.{drop}
-use denote.Ref.{now}
 use borrow.Author.Tests.{not-true, not-false}
-use Rattle.checking.proofs.Loops.{part-short, Rowing, rowing-start, rowing-step, rowing-fails, rowing-end, within}
+use Rattle.checking.proofs.Loops.{Rowing, rowing-start, rowing-step, rowing-fails, rowing-end, within}
 use borrow.Author.Needs.{needs}
 use Rattle.checking.proofs.rows_fit.Statement.{statement}
 use Rattle.checking.proofs.rows_fit.Tie as tie
@@ -27,14 +25,7 @@ row-fits-requires : tie.Need-row-fits-requires Inv-loop μ-loop
 row-fits-requires c κs =
     let h = c .before .before in
     let l = h .before .before in
-    let w = within _ _ _ _ (l .loop .inv) (omega arith) _ (h .head-at .ensures) in
-    let at = l .loop .at in
-    let items = h .head-at .result .items in (
-      search needs,
-      search needs,
-      part-short (at + 2 * items - at) (drop at (now (l .before .before .before .args .table))) items (w .few) (omega arith),
-      within _ _ _ _ (l .loop .inv) (omega arith) _ refl .few,
-    )
+    (search needs, search needs, within _ _ _ _ (l .loop .inv) (omega arith) _ refl .few)
 
 returns : tie.Need-returns Inv-loop μ-loop
 returns c =
@@ -61,21 +52,12 @@ rows-fit-spec =
     (tie.spec
     Inv-loop
     μ-loop
-    (λ c κs. search needs)
-    (λ c. search needs)
-    (λ c. search needs)
+    (λ c κs. search needs) (λ c. search needs) (λ c. search needs)
     loop-holds
-    (λ c κs. search needs)
-    (λ c. search needs)
-    (λ c. search needs)
-    (λ c. search needs)
-    (λ c. search needs)
-    (λ c. search needs)
-    (λ c. search needs)
+    (λ c κs. search needs) (λ c. search needs) (λ c. search needs) (λ c. search needs) (λ c. search needs) (λ c. search needs) (λ c. search needs)
     part-row-fits-end
     row-fits-requires
     returns
-    (λ c. search needs)
-    (λ c. search needs)
+    (λ c. search needs) (λ c. search needs)
     loop-again
     returns-2)

@@ -8,15 +8,12 @@ use borrow.Author.Needs.{needs}
 use Rattle.tallies.proofs.exponent_decimals.Statement.{statement}
 use Rattle.tallies.proofs.exponent_decimals.Tie as tie
 
-returns : tie.Need-returns
-returns c =
-    let k = c .before in
-    exponent-decimals (k .before .args .t) (k .before .pre) true (eq-eqb _ 5 (sym (k .exponent-kind .ensures) ∙ c .if1 .taken))
-
-returns-2 : tie.Need-returns-2
-returns-2 c =
-    let k = c .before in
-    exponent-decimals (k .before .args .t) (k .before .pre) false (ne-eqb _ 5 (λ e. c .if1 .left (k .exponent-kind .ensures ∙ e)))
-
 pub exponent-decimals-spec : {M : Type 1} → statement M
-exponent-decimals-spec = tie.close (tie.spec (λ c κs. search needs) returns returns-2)
+exponent-decimals-spec =
+    tie.close
+    (tie.spec
+    (λ c κs. search needs)
+    (λ c. let k = c .before in
+    exponent-decimals (k .before .args .t) (k .before .pre) true (eq-eqb _ 5 (sym (k .exponent-kind .ensures) ∙ c .if1 .taken)))
+    (λ c. let k = c .before in
+    exponent-decimals (k .before .args .t) (k .before .pre) false (ne-eqb _ 5 (λ e. c .if1 .left (k .exponent-kind .ensures ∙ e)))))

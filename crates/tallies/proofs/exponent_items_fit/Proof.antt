@@ -6,17 +6,15 @@ use borrow.Author.Needs.{needs}
 use Rattle.tallies.proofs.exponent_items_fit.Statement.{statement}
 use Rattle.tallies.proofs.exponent_items_fit.Tie as tie
 
-returns : tie.Need-returns
-returns c =
-    let k = c .before in
-    exponent-refused (k .before .args .t) (k .before .pre) (λ e. c .if1 .taken (k .exponent-kind .ensures ∙ e))
-
-returns-2 : tie.Need-returns-2
-returns-2 c =
-    let f = c .before .before .before .before .before .before in
+pub exponent-items-fit-spec : {M : Type 1} → statement M
+exponent-items-fit-spec =
+    tie.close
+    (tie.spec
+    (λ c κs. search needs)
+    (λ c. let k = c .before in
+    exponent-refused (k .before .args .t) (k .before .pre) (λ e. c .if1 .taken (k .exponent-kind .ensures ∙ e)))
+    (λ c κs. search needs) (λ c κs. search needs)
+    (λ c. let f = c .before .before .before .before .before .before in
     let k = f .before in
     rw (c .exponent-fits .ensures, c .before .no-plain .ensures)
-    (exponent-items-fit (k .before .args .t) (k .before .pre) (sym (k .exponent-kind .ensures) ∙ f .if1 .left))
-
-pub exponent-items-fit-spec : {M : Type 1} → statement M
-exponent-items-fit-spec = tie.close (tie.spec (λ c κs. search needs) returns (λ c κs. search needs) (λ c κs. search needs) returns-2)
+    (exponent-items-fit (k .before .args .t) (k .before .pre) (sym (k .exponent-kind .ensures) ∙ f .if1 .left))))

@@ -12,13 +12,10 @@ none-elapsed false true c x y z h = absurd (true≢false h)
 none-elapsed false false true x y z h = absurd (true≢false h)
 none-elapsed false false false x y z h = refl
 
-returns : tie.Need-returns
-returns c = search needs
-
-returns-2 : tie.Need-returns-2
-returns-2 c =
-    let t = c .before .before .before .args .t in
-    none-elapsed (t .«elapsed_hours») (t .«elapsed_minutes») (t .«elapsed_seconds») (t .hours) (t .minutes) (t .seconds) (c .if1 .left)
-
 pub no-plain-spec : {M : Type 1} → statement M
-no-plain-spec = tie.close (tie.spec returns returns-2)
+no-plain-spec =
+    tie.close
+    (tie.spec
+    (λ c. search needs)
+    (λ c. let t = c .before .before .before .args .t in
+    none-elapsed (t .«elapsed_hours») (t .«elapsed_minutes») (t .«elapsed_seconds») (t .hours) (t .minutes) (t .seconds) (c .if1 .left)))

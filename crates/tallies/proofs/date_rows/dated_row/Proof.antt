@@ -14,26 +14,6 @@ Inv-loop words n s₀ k₀ s k = Dating words n k s
 abbrev μ-loop : tie.MeasureT-loop
 μ-loop words n s₀ k₀ s k = n - k
 
-loop-holds : tie.Need-loop-holds Inv-loop μ-loop
-loop-holds c = dating-start _ _ _ refl (c .start .ensures)
-
-returns : tie.Need-returns Inv-loop μ-loop
-returns c =
-    let l = c .before .before .before .before .before .before .before in
-    rw (c .no-row .ensures) (dating-fault _ _ _ _ (l .loop .inv) _ (search needs) (c .before .before .before .step .ensures) (not-true _ (c .before .if1 .taken)))
-
-loop-again : tie.Need-loop-again Inv-loop μ-loop
-loop-again c =
-    let l = c .before .before .before .before .before .before in
-    dating-step _ _ _ _ (l .loop .inv) _ (search needs) (c .before .before .step .ensures) (not-false _ (c .if1 .left))
-
-returns-2 : tie.Need-returns-2 Inv-loop μ-loop
-returns-2 c = rw (c .no-row2 .ensures) (dating-open _ _ _ _ (c .before .before .before .before .before .loop .inv) (search needs) (c .before .if2 .taken))
-
-returns-3 : tie.Need-returns-3 Inv-loop μ-loop
-returns-3 c =
-    dating-told _ _ _ _ (c .before .before .before .before .before .loop .inv) (search needs) (c .before .if2 .left) _ (c .has-plain .ensures)
-
 pub dated-row-spec : {M : Type 1} → statement M
 dated-row-spec =
     tie.close
@@ -41,20 +21,15 @@ dated-row-spec =
     Inv-loop
     μ-loop
     (λ c κs. search needs)
-    loop-holds
-    (λ c. search needs)
-    (λ c. search needs)
-    (λ c. search needs)
-    (λ c. search needs)
-    (λ c. search needs)
-    (λ c. search needs)
+    (λ c. dating-start _ _ _ refl (c .start .ensures))
+    (λ c. search needs) (λ c. search needs) (λ c. search needs) (λ c. search needs) (λ c. search needs) (λ c. search needs) (λ c κs. search needs)
     (λ c κs. search needs)
+    (λ c. let l = c .before .before .before .before .before .before .before in
+    rw (c .no-row .ensures) (dating-fault _ _ _ _ (l .loop .inv) _ (search needs) (c .before .before .before .step .ensures) (not-true _ (c .before .if1 .taken))))
+    (λ c. search needs) (λ c. search needs)
+    (λ c. let l = c .before .before .before .before .before .before in
+    dating-step _ _ _ _ (l .loop .inv) _ (search needs) (c .before .before .step .ensures) (not-false _ (c .if1 .left)))
     (λ c κs. search needs)
-    returns
-    (λ c. search needs)
-    (λ c. search needs)
-    loop-again
+    (λ c. rw (c .no-row2 .ensures) (dating-open _ _ _ _ (c .before .before .before .before .before .loop .inv) (search needs) (c .before .if2 .taken)))
     (λ c κs. search needs)
-    returns-2
-    (λ c κs. search needs)
-    returns-3)
+    (λ c. dating-told _ _ _ _ (c .before .before .before .before .before .loop .inv) (search needs) (c .before .if2 .left) _ (c .has-plain .ensures)))

@@ -6,15 +6,13 @@ use borrow.Author.Needs.{needs}
 use Rattle.tallies.proofs.date_rows.month.Statement.{statement}
 use Rattle.tallies.proofs.date_rows.month.Tie as tie
 
-returns : tie.Need-returns
-returns c = c .refused .ensures ∙ hours-step _ _ (c .before .if1 .taken)
-
-returns-2 : tie.Need-returns-2
-returns-2 c =
-    let b = c .before in
-    let a = b .before .before .before .before .args in
-    rw (← month-step (a .s) (a .a) (b .before .before .if1 .left), ← b .is-between .ensures, ← b .before .month-run .ensures) (c .run .ensures)
-
 pub month-spec : {M : Type 1} → statement M
 month-spec =
-    tie.close (tie.spec (λ c κs. search needs) returns (λ c κs. search needs) (λ c κs. search needs) (λ c κs. search needs) returns-2)
+    tie.close
+    (tie.spec
+    (λ c κs. search needs)
+    (λ c. c .refused .ensures ∙ hours-step _ _ (c .before .if1 .taken))
+    (λ c κs. search needs) (λ c κs. search needs) (λ c κs. search needs)
+    (λ c. let b = c .before in
+    let a = b .before .before .before .before .args in
+    rw (← month-step (a .s) (a .a) (b .before .before .if1 .left), ← b .is-between .ensures, ← b .before .month-run .ensures) (c .run .ensures)))

@@ -6,19 +6,15 @@ use borrow.Author.Needs.{needs}
 use Rattle.tallies.proofs.date_rows.run.Statement.{statement}
 use Rattle.tallies.proofs.date_rows.run.Tie as tie
 
-returns : tie.Need-returns
-returns c = rw (not-true (c .before .before .args .sound) (c .before .if1 .taken)) (c .refused .ensures)
-
-returns-2 : tie.Need-returns-2
-returns-2 c =
-    let a = c .before .before in
-    rw (not-false (a .before .before .args .sound) (a .before .if1 .left), sym (a .answers .ensures) ∙ c .before .if2 .taken) (c .pass .ensures)
-
-returns-3 : tie.Need-returns-3
-returns-3 c =
-    let a = c .before .before in
-    rw (not-false (a .before .before .args .sound) (a .before .if1 .left), sym (a .answers .ensures) ∙ c .before .if2 .left) (c .refused2 .ensures)
-
 pub run-spec : {M : Type 1} → statement M
 run-spec =
-    tie.close (tie.spec (λ c κs. search needs) returns (λ c κs. search needs) (λ c κs. search needs) returns-2 (λ c κs. search needs) returns-3)
+    tie.close
+    (tie.spec
+    (λ c κs. search needs)
+    (λ c. rw (not-true (c .before .before .args .sound) (c .before .if1 .taken)) (c .refused .ensures))
+    (λ c κs. search needs) (λ c κs. search needs)
+    (λ c. let a = c .before .before in
+    rw (not-false (a .before .before .args .sound) (a .before .if1 .left), sym (a .answers .ensures) ∙ c .before .if2 .taken) (c .pass .ensures))
+    (λ c κs. search needs)
+    (λ c. let a = c .before .before in
+    rw (not-false (a .before .before .args .sound) (a .before .if1 .left), sym (a .answers .ensures) ∙ c .before .if2 .left) (c .refused2 .ensures)))

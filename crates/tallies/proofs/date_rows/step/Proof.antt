@@ -12,57 +12,31 @@ use borrow.Author.Needs.{needs}
 use Rattle.tallies.proofs.date_rows.step.Statement.{statement}
 use Rattle.tallies.proofs.date_rows.step.Tie as tie
 
-returns : tie.Need-returns
-returns c = rw (c .before .match .keys1) (c .pass .ensures ∙ literal-step _ _ (search needs))
-
-returns-2 : tie.Need-returns-2
-returns-2 c = rw (c .before .match .keys2) (c .pass2 .ensures ∙ blank-step _ _ (search needs))
-
-returns-3 : tie.Need-returns-3
-returns-3 c = rw (c .before .match .keys3) (c .fill .ensures)
-
-returns-4 : tie.Need-returns-4
-returns-4 c = rw (c .before .match .keys4) (c .run .ensures ∙ year-step _ _)
-
-returns-5 : tie.Need-returns-5
-returns-5 c = rw (c .before .match .keys5) (c .month .ensures)
-
-returns-6 : tie.Need-returns-6
-returns-6 c =
-    let a = c .before .before .before .args in
-    rw (c .before .before .match .keys6, ← day-step (a .s) (a .a), ← c .before .is-between .ensures) (c .run2 .ensures)
-
-returns-7 : tie.Need-returns-7
-returns-7 c =
-    let a = c .before .before .before .args in
-    rw (c .before .before .match .keys7, ← hour-step (a .s) (a .a), ← c .before .is-between2 .ensures) (c .run3 .ensures)
-
-returns-8 : tie.Need-returns-8
-returns-8 c = rw (c .before .match .keys8) (c .minute .ensures)
-
-returns-9 : tie.Need-returns-9
-returns-9 c =
-    let a = c .before .before .before .args in
-    rw (c .before .before .match .keys9, ← second-step (a .s) (a .a), ← c .before .is-between3 .ensures) (c .run4 .ensures)
-
-returns-10 : tie.Need-returns-10
-returns-10 c = rw (c .before .match .keys10) (c .part .ensures)
-
-returns-11 : tie.Need-returns-11
-returns-11 c = rw (c .before .match .keys11) (c .elapsed .ensures ∙ elapsed-hours-step _ _)
-
-returns-12 : tie.Need-returns-12
-returns-12 c = rw (c .before .match .keys12) (c .elapsed2 .ensures ∙ elapsed-minutes-step _ _)
-
-returns-13 : tie.Need-returns-13
-returns-13 c = rw (c .before .match .keys13) (c .elapsed3 .ensures ∙ elapsed-seconds-step _ _)
-
-returns-14 : tie.Need-returns-14
-returns-14 c = rw (c .before .match .keys14) (c .half-day .ensures)
-
-returns-15 : tie.Need-returns-15
-returns-15 c =
-    let a = c .before .before .args in
+pub step-spec : {M : Type 1} → statement M
+step-spec =
+    tie.close
+    (tie.spec
+    (λ c κs. search needs) (λ c κs. search needs) (λ c κs. search needs) (λ c κs. search needs) (λ c κs. search needs) (λ c κs. search needs)
+    (λ c κs. search needs) (λ c κs. search needs) (λ c κs. search needs) (λ c κs. search needs) (λ c κs. search needs) (λ c κs. search needs)
+    (λ c κs. search needs) (λ c κs. search needs) (λ c κs. search needs) (λ c κs. search needs) (λ c κs. search needs) (λ c κs. search needs)
+    (λ c. rw (c .before .match .keys1) (c .pass .ensures ∙ literal-step _ _ (search needs)))
+    (λ c. rw (c .before .match .keys2) (c .pass2 .ensures ∙ blank-step _ _ (search needs)))
+    (λ c. rw (c .before .match .keys3) (c .fill .ensures))
+    (λ c. rw (c .before .match .keys4) (c .run .ensures ∙ year-step _ _))
+    (λ c. rw (c .before .match .keys5) (c .month .ensures))
+    (λ c. let a = c .before .before .before .args in
+    rw (c .before .before .match .keys6, ← day-step (a .s) (a .a), ← c .before .is-between .ensures) (c .run2 .ensures))
+    (λ c. let a = c .before .before .before .args in
+    rw (c .before .before .match .keys7, ← hour-step (a .s) (a .a), ← c .before .is-between2 .ensures) (c .run3 .ensures))
+    (λ c. rw (c .before .match .keys8) (c .minute .ensures))
+    (λ c. let a = c .before .before .before .args in
+    rw (c .before .before .match .keys9, ← second-step (a .s) (a .a), ← c .before .is-between3 .ensures) (c .run4 .ensures))
+    (λ c. rw (c .before .match .keys10) (c .part .ensures))
+    (λ c. rw (c .before .match .keys11) (c .elapsed .ensures ∙ elapsed-hours-step _ _))
+    (λ c. rw (c .before .match .keys12) (c .elapsed2 .ensures ∙ elapsed-minutes-step _ _))
+    (λ c. rw (c .before .match .keys13) (c .elapsed3 .ensures ∙ elapsed-seconds-step _ _))
+    (λ c. rw (c .before .match .keys14) (c .half-day .ensures))
+    (λ c. let a = c .before .before .args in
     let t = a .tag in
     let r = c .before .match .rest in
     let First : Type 0 = Others (Unit {0}) t 0 3 in
@@ -71,42 +45,4 @@ returns-15 c =
     ∙ by-cases (eqb t 0) (λ e. rw (eqb-true t 0 e) (nought-step _ _))
     (λ e. let least = three (eqb-false t 0 e) in
     by-cases (leb t 10) (λ m. foreign-step (a .s) (a .a) t (omega arith) (omega (arith, leb-true t 10 m)))
-    (λ m. unknown-step (a .s) (a .a) t (beyond First t 10 11 r (leb-false t 10 m))))
-
-pub step-spec : {M : Type 1} → statement M
-step-spec =
-    tie.close
-    (tie.spec
-    (λ c κs. search needs)
-    (λ c κs. search needs)
-    (λ c κs. search needs)
-    (λ c κs. search needs)
-    (λ c κs. search needs)
-    (λ c κs. search needs)
-    (λ c κs. search needs)
-    (λ c κs. search needs)
-    (λ c κs. search needs)
-    (λ c κs. search needs)
-    (λ c κs. search needs)
-    (λ c κs. search needs)
-    (λ c κs. search needs)
-    (λ c κs. search needs)
-    (λ c κs. search needs)
-    (λ c κs. search needs)
-    (λ c κs. search needs)
-    (λ c κs. search needs)
-    returns
-    returns-2
-    returns-3
-    returns-4
-    returns-5
-    returns-6
-    returns-7
-    returns-8
-    returns-9
-    returns-10
-    returns-11
-    returns-12
-    returns-13
-    returns-14
-    returns-15)
+    (λ m. unknown-step (a .s) (a .a) t (beyond First t 10 11 r (leb-false t 10 m))))))

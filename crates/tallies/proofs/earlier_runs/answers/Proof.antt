@@ -4,11 +4,9 @@ use borrow.Author.Tests.{ne-eqb}
 use Rattle.tallies.proofs.earlier_runs.answers.Statement.{statement}
 use Rattle.tallies.proofs.earlier_runs.answers.Tie as tie
 
-returns : tie.Need-returns
-returns c = rw (c .if1 .taken)
-
-returns-2 : tie.Need-returns-2
-returns-2 c = rw (ne-eqb _ _ (c .if1 .left))
-
 pub answers-spec : {M : Type 1} → statement M
-answers-spec = tie.close (tie.spec returns returns-2)
+answers-spec =
+    tie.close
+    (tie.spec
+    (λ c. rw (c .if1 .taken))
+    (λ c. rw (ne-eqb _ _ (c .if1 .left))))

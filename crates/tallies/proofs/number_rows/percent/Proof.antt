@@ -6,21 +6,16 @@ use borrow.Author.Needs.{needs}
 use Rattle.tallies.proofs.number_rows.percent.Statement.{statement}
 use Rattle.tallies.proofs.number_rows.percent.Tie as tie
 
-returns : tie.Need-returns
-unfolding percentTaken
-returns c = rw (c .refused .ensures, ne-eqb (c .before .before .args .a) 0 (search needs))
-
-returns-2 : tie.Need-returns-2
-unfolding percentTaken
-returns-2 c =
-    let a = c .before .before .before .before .before .args in
-    rw (c .counted .ensures, eq-eqb (a .a) 0 (search needs), lt-ltb (a .s .percents) 5 (search needs))
-
-returns-3 : tie.Need-returns-3
-unfolding percentTaken
-returns-3 c =
-    let a = c .before .before .before .before .args in
-    rw (c .refused2 .ensures, eq-eqb (a .a) 0 (search needs), le-ltb (a .s .percents) 5 (search needs))
-
 pub percent-spec : {M : Type 1} → statement M
-percent-spec = tie.close (tie.spec (λ c κs. search needs) returns (λ c. search needs) (λ c κs. search needs) returns-2 (λ c κs. search needs) returns-3)
+unfolding percentTaken
+percent-spec =
+    tie.close
+    (tie.spec
+    (λ c κs. search needs)
+    (λ c. rw (c .refused .ensures, ne-eqb (c .before .before .args .a) 0 (search needs)))
+    (λ c. search needs) (λ c κs. search needs)
+    (λ c. let a = c .before .before .before .before .before .args in
+    rw (c .counted .ensures, eq-eqb (a .a) 0 (search needs), lt-ltb (a .s .percents) 5 (search needs)))
+    (λ c κs. search needs)
+    (λ c. let a = c .before .before .before .before .args in
+    rw (c .refused2 .ensures, eq-eqb (a .a) 0 (search needs), le-ltb (a .s .percents) 5 (search needs))))
