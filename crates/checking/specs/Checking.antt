@@ -13,6 +13,8 @@ use Rattle.tables.specs.Encode.{hasHalf}
 use Rattle.tables.specs.Standing.{headStands, countedKinds}
 use Rattle.tables.specs.Decode.{wholeAt, millionthsAt, itemsAt, groupedAt}
 use Rattle.tables.specs.Rules.{shiftTells, rowFits}
+use Rattle.tallies.specs.Tally.{itemsOf}
+use Rattle.tallies.specs.FractionRows.{fractionItems}
 
 -- both or neither
 abbrev pub agree : Bool → Bool → Bool
@@ -51,6 +53,10 @@ numberTold h integers places percents =
 -- a scientific section's, which has no flag but that of exception (a)
 unfoldable pub scientificTold : Head → ℕ → Bool
 scientificTold h places = eqb (h .shift) 0 && eqb (h .decimals) places && (eqb (h .flags) 0 || eqb (h .flags) 2)
+
+-- the items of a section that is neither a number section nor scientific, and a fraction's limits
+unfoldable pub otherItems : ℕ → List Entry → Bool
+otherItems kind es = cond (eqb kind 6) (fractionItems es) (itemsOf kind es)
 
 -- another section's, which has a half-day mark or none
 unfoldable pub otherTold : Head → Bool → Bool

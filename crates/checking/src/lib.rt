@@ -10,7 +10,7 @@ ghost use Rattle.tables.specs.Standing.{countedOne, countedKinds};
 ghost use Rattle.tables.specs.Decode.{thousandsAt};
 ghost use Rattle.tables.specs.Rules.{shiftTells, passes};
 ghost use Rattle.table_words.specs.Sections.{headFrom};
-ghost use Rattle.checking.specs.Checking.{agree, sized, Sized, comparedTold, conditionTold, numberTold, scientificTold, otherTold, rowWith, rowGood, comparedStands, plainFits, placeFits, kindsIn, placesFit};
+ghost use Rattle.checking.specs.Checking.{agree, sized, Sized, comparedTold, conditionTold, numberTold, scientificTold, otherItems, otherTold, rowWith, rowGood, comparedStands, plainFits, placeFits, kindsIn, placesFit};
 use table_words::HeadWords;
 use table_words::head_at;
 use table_words::number;
@@ -20,6 +20,7 @@ use tables::heads;
 use tables::kinds;
 use tallies::bare_rows::bare_fits;
 use tallies::date_rows::dated_row;
+use tallies::fraction_rows::fraction_row;
 use tallies::number_rows::NumberRow;
 use tallies::number_rows::number_row;
 use tallies::scientific_rows::ScientificRow;
@@ -119,6 +120,16 @@ fn other_fits(h: HeadWords, half: bool) -> bool
         & agree(flags::TWELVE_HOUR <= h.flags, half)
 }
 
+// The items of a literal, General or text section, or of a fraction.
+fn rest_fits(items: &[u16], kind: u16) -> bool
+    ensures { λ r. ⌜ ((kind ≡ 2 → ⊥) → (kind ≡ 4 → ⊥) → (kind ≡ 5 → ⊥) → r ≡ otherItems kind (entriesIn (now (items .entry)))) ⌝ }
+{
+    if kind == kinds::FRACTION {
+        return fraction_row(items);
+    }
+    bare_fits(items, kind)
+}
+
 // The rules for section i that do not speak of where it stands. A word that another word or the items tell is in its range
 // where they are. The head is read again behind the items: what is kept over them costs more than a second reading.
 fn row_fits(table: &[u16], i: usize, items: &[u16]) -> bool
@@ -153,7 +164,7 @@ fn row_fits(table: &[u16], i: usize, items: &[u16]) -> bool
         }
         return scientific_fits(head_at(table, i), row);
     }
-    if !bare_fits(items, h.kind) {
+    if !rest_fits(items, h.kind) {
         return false;
     }
     other_fits(head_at(table, i), false)

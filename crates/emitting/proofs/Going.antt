@@ -14,7 +14,7 @@ use Rattle.formats.proofs.FormedItems.{places-lastFill, exponents-lastFill}
 use Rattle.marks.specs.Marks.{tokensIn}
 use Rattle.marks.proofs.Words.{tokens-end}
 use Rattle.tables.specs.Words.{entriesWords}
-use Rattle.tables.specs.Encode.{entriesOf}
+use Rattle.tables.specs.Encode.{runEntries}
 use Rattle.writing.specs.Put.{Put, Rest}
 use Rattle.writing.proofs.Laws.{rest-start, rest-put, rest-done}
 use Rattle.emitting.specs.declared.Walk.{Walk}
@@ -28,8 +28,8 @@ walkFrom at fills integers = record { at = at; behind = false; skip = 0; digit =
 
 -- all words of a body are left at its start
 words-start : (is : List Item) (n m : ℕ) → n ≡ integerPlaces is → m ≡ exponentPlaces is
-    → itemsWords (firstOf m) (firstOf n) (lastFill is) ≡ entriesWords (entriesOf (lastFill is)) []
-unfolding itemsWords entriesOf
+    → itemsWords (firstOf m) (firstOf n) (lastFill is) ≡ entriesWords (runEntries (lastFill is)) []
+unfolding itemsWords runEntries
 words-start is n m e f = rw (places-lastFill is, exponents-lastFill is, e, f)
 
 left-start : (date : Bool) (ts : List Token) (at fills integers exponents : ℕ) → date ≡ sameKind (bodyKind ts) dateKind

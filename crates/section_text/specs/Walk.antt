@@ -12,6 +12,7 @@ use Rattle.formats.specs.Text.{Context, itemUnits, itemsUnits, firstOf}
 use Rattle.tables.specs.Words.{Entry, entriesIn}
 use Rattle.tables.specs.Decode.{itemAt, itemsAt}
 use Rattle.tables.specs.Rules.{entryInRange, powersFrom}
+pub use Rattle.table_words.specs.Runs.{itemsIn, CutAt}
 use Rattle.writing.specs.Put.{Put}
 use Rattle.date_text.specs.Moment.{ClockIs, DateIs}
 use Rattle.section_text.specs.declared.Subject.{Subject}

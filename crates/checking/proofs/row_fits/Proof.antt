@@ -6,7 +6,7 @@ use borrow.Author.Tests.{not-true, not-false}
 use Rattle.tables.proofs.Ranges.{head-ranges}
 use Rattle.table_words.specs.Sections.{headFrom}
 use Rattle.lists.proofs.Bools.{carry}
-use Rattle.checking.proofs.Rows.{Front, refused, no-number, number-answer, no-dated, dated-answer, no-scientific, scientific-answer, no-bare, bare-answer, rowed, front-of, number-again, scientific-again, other-again}
+use Rattle.checking.proofs.Rows.{Front, refused, no-number, number-answer, no-dated, dated-answer, no-scientific, scientific-answer, no-rest, rest-answer, rowed, front-of, number-again, scientific-again, other-again}
 use borrow.Author.Needs.{needs}
 use Rattle.checking.proofs.row_fits.Statement.{statement}
 use Rattle.checking.proofs.row_fits.Tie as tie
@@ -90,7 +90,7 @@ returns-9 c =
     let i = d .before .before in
     let h = i .before .before .before .before .before .before .head-at in
     rowed _ _ _ _ (h .ensures)
-    (no-bare (headFrom (h .result)) _ _ (b .bare-fits .ensures (i .if3 .left) (d .if5 .left) n) (c .if9 .taken))
+    (no-rest (headFrom (h .result)) _ (i .if3 .left) n _ (b .rest-fits .ensures (i .if3 .left) (d .if5 .left) n) (c .if9 .taken))
 
 returns-10 : tie.Need-returns-10
 returns-10 c =
@@ -101,8 +101,8 @@ returns-10 c =
     let k = i .before in
     let h = k .before .before .before .before .before .head-at in
     rowed _ _ _ _ (h .ensures)
-    (bare-answer (headFrom (h .result)) _ (i .if3 .left) (d .if5 .left) n (front k) _
-    (b .bare-fits .ensures (i .if3 .left) (d .if5 .left) n) (c .before .before .if9 .left) _
+    (rest-answer (headFrom (h .result)) _ (i .if3 .left) (d .if5 .left) n (front k) _
+    (b .rest-fits .ensures (i .if3 .left) (d .if5 .left) n) (c .before .before .if9 .left) _
     (other-again _ _ _ (h .ensures) (c .before .head-at5 .ensures) _ _ (c .other-fits2 .ensures)))
 
 pub row-fits-spec : {M : Type 1} → statement M
@@ -115,17 +115,21 @@ row-fits-spec =
     returns-2
     (λ c κs. search needs)
     returns-3
-    (λ c κs. search needs) (λ c κs. search needs)
+    (λ c κs. search needs)
+    (λ c κs. search needs)
     returns-4
     (λ c κs. search needs)
     returns-5
-    (λ c κs. search needs) (λ c κs. search needs)
+    (λ c κs. search needs)
+    (λ c κs. search needs)
     returns-6
     (λ c κs. search needs)
     returns-7
-    (λ c κs. search needs) (λ c κs. search needs)
+    (λ c κs. search needs)
+    (λ c κs. search needs)
     returns-8
     (λ c κs. search needs)
     returns-9
-    (λ c κs. search needs) (λ c κs. search needs)
+    (λ c κs. search needs)
+    (λ c κs. search needs)
     returns-10)
