@@ -11,28 +11,29 @@ use lib.Dec.{leb, ltb, eqb}
 use borrow.Author.Tests.{le-leb, lt-leb, lt-ltb, le-ltb, ne-eqb, eqb-true, ltb-true, ltb-false}
 use lib.ListN.{length, getD}
 use Rattle.lists.specs.Lists.{every, any, count}
-use Rattle.lists.proofs.Bools.{by-cases}
+use Rattle.lists.proofs.Bools.{by-cases, cond-both}
 use Rattle.lists.proofs.Counts.{count-least, positive-count}
 use Rattle.formats.specs.Tokens.{Token}
-use Rattle.formats.specs.Items.{Kind, textKind, generalKind, dateKind, scientificKind, numberKind, literalKind, sameKind, isKind, kindFrom}
-use Rattle.formats.specs.Kinds.{formOf, isPlace, isPoint, isComma, isExponent, isFillToken, integerPlaceTokens, isSolidus, startsWithPlace, solidusFrom, solidusFits, noBracket, tokenRow, tokenMakes, bodyKind}
+use Rattle.formats.specs.Items.{Kind, textKind, generalKind, dateKind, scientificKind, fractionKind, numberKind, literalKind, sameKind, isKind, kindFrom}
+use Rattle.formats.specs.Kinds.{formOf, isPlace, isPoint, isComma, isExponent, isOver, isFillToken, integerPlaceTokens, noBracket, tokenRow, tokenMakes, bodyKind}
 use Rattle.formats.proofs.Each.{by-kind}
 use Rattle.marks.specs.Marks.{markRows, markToken, conditionOf, tokensIn}
 use Rattle.bodies.specs.declared.facts.Facts.{Facts}
 use Rattle.bodies.specs.declared.facts.Seen.{Seen}
-use Rattle.bodies.specs.Forms.{one, placeForm, dateForms, weightForm, unitForm}
-use Rattle.bodies.specs.Bodies.{exponentPlaceTokens, factsOf, seen, seeForm, Roomy}
+use Rattle.bodies.specs.Forms.{one, dateForms}
+use Rattle.bodies.specs.Bodies.{hasPlace, exponentPlaceTokens, factsOf, seen, seeForm, Roomy}
 use Rattle.marks.proofs.ByForm.{by-form}
 use Rattle.marks.proofs.Words.{passed, Passed, passed-start, passed-end, passed-step, tokens-length}
-use Rattle.bodies.proofs.Tests.{weight-most, unit-most}
+use Rattle.bodies.proofs.Tests.{Grown, see-grown}
 
 -- the weight of a kind, by which it comes before others: no 254 tokens of lighter kinds weigh as much
 abbrev weightKind : Kind → ℕ
 weightKind literalKind = 0
 weightKind numberKind = 1
-weightKind scientificKind = 256
-weightKind dateKind = 65536
-weightKind generalKind = 16777216
+weightKind fractionKind = 256
+weightKind scientificKind = 65536
+weightKind dateKind = 16777216
+weightKind generalKind = 4294967296
 weightKind textKind = 4294967296
 
 abbrev weightMade : Option Kind → ℕ
@@ -50,14 +51,14 @@ abbrev weightOf : Token → ℕ
 weightOf t = weightMade (tokenRow t .makes) + above (one (isBracket t)) (one (isFillToken t)) (one (isComma t))
 
 abbrev unitAfter : ℕ → Token → ℕ
-unitAfter unit t = cond (isExponent t) 65536 (cond (isPoint t && eqb unit 1) 0 unit)
+unitAfter unit t = cond (isExponent t || isOver t) 65536 (cond (isPoint t && eqb unit 1) 0 unit)
 
 -- one token more
 abbrev see : Seen → Token → Seen
-see s t = seen s (weightOf t) (unitAfter (s .unit) t) (isPlace t) (isSolidus t)
+see s t = seen s (weightOf t) (unitAfter (s .unit) t) (hasPlace t)
 
 abbrev pub nothingSeen : Seen
-nothingSeen = record { sum = 0; unit = 1; places = 0; solidus = true; behind = false; divided = false }
+nothingSeen = record { sum = 0; unit = 1; places = 0 }
 
 -- a sum of kinds that is at least the one, and below the other
 abbrev within : ℕ → ℕ → ℕ → Bool
@@ -67,11 +68,11 @@ abbrev seenFacts : Seen → Facts
 seenFacts s =
     let kinds = s .sum % 1099511627776 in
     record {
-      date = within 65536 16777216 kinds;
-      scientific = within 256 65536 kinds;
+      date = within 16777216 4294967296 kinds;
+      scientific = within 65536 16777216 kinds;
+      fraction = within 256 65536 kinds;
       number = within 1 256 kinds;
       plain = eqb (s .sum / 1099511627776 % 256) 0;
-      solidus = s .solidus;
       fills = s .sum / 281474976710656 % 256;
       commas = leb 72057594037927936 (s .sum);
       places = s .places % 65536;
@@ -83,47 +84,50 @@ unfolding any dateForms
 no-date n h =
     rw (ne-eqb n 15 (omega arith), ne-eqb n 16 (omega arith), ne-eqb n 17 (omega arith), ne-eqb n 18 (omega arith), ne-eqb n 19 (omega arith), ne-eqb n 20 (omega arith), ne-eqb n 21 (omega arith), ne-eqb n 22 (omega arith))
 
--- what a token says, by its form and argument
-see-form : (s : Seen) (f a : ℕ) (us : List ℕ) → see s (markToken f a us) ≡ seeForm s f a
-unfolding markRows conditionOf isSolidus noBracket any dateForms
-see-form s f a us = by-form (see s) (λ (n : ℕ). seeForm s n a) a us refl
-    (λ n h. rw (lt-leb n 6 (omega arith), le-leb 4 n (omega arith), lt-leb n 26 (omega arith), le-leb 25 n (omega arith), no-date n (omega arith), ne-eqb n 12 (omega arith), ne-eqb n 10 (omega arith), ne-eqb n 23 (omega arith), ne-eqb n 24 (omega arith), ne-eqb n 3 (omega arith), ne-eqb n 8 (omega arith), ne-eqb n 7 (omega arith), ne-eqb n 1 (omega arith))) f
+-- what a token says, by its form
+see-form : (s : Seen) (f a : ℕ) (us : List ℕ) → see s (markToken f a us) ≡ seeForm s f
+unfolding markRows conditionOf noBracket any dateForms
+see-form s f a us = by-form (see s) (seeForm s) a us refl
+    (λ n h. rw (lt-leb n 6 (omega arith), le-leb 4 n (omega arith), lt-leb n 32 (omega arith), le-leb 25 n (omega arith), no-date n (omega arith), ne-eqb n 12 (omega arith), ne-eqb n 10 (omega arith), ne-eqb n 23 (omega arith), ne-eqb n 24 (omega arith), ne-eqb n 3 (omega arith), ne-eqb n 8 (omega arith), ne-eqb n 7 (omega arith))) f
 
 -- ---- the kind
 -- a list of kinds by those that it holds
-abbrev kindBy : Bool → Bool → Bool → Bool → Bool → Kind
-kindBy text general date scientific number =
-    cond text textKind (cond general generalKind (cond date dateKind (cond scientific scientificKind (cond number numberKind literalKind))))
+abbrev kindBy : Bool → Bool → Bool → Bool → Bool → Bool → Kind
+kindBy text general date scientific fraction number =
+    cond text textKind
+    (cond general generalKind (cond date dateKind (cond scientific scientificKind (cond fraction fractionKind (cond number numberKind literalKind)))))
 
 -- a kind, or none, in front of others: the higher weight is the weight of all
-abbrev Higher : Option Kind → Bool → Bool → Bool → Bool → Bool → Type 0
-Higher k a b c d e =
-    weightKind (kindBy (cond (isKind textKind k) true a) (cond (isKind generalKind k) true b) (cond (isKind dateKind k) true c) (cond (isKind scientificKind k) true d) (cond (isKind numberKind k) true e))
-    ≡ weightMade k + (weightKind (kindBy a b c d e) - weightMade k)
+abbrev Higher : Option Kind → Bool → Bool → Bool → Bool → Bool → Bool → Type 0
+Higher k a b c d e f =
+    weightKind (kindBy (cond (isKind textKind k) true a) (cond (isKind generalKind k) true b) (cond (isKind dateKind k) true c) (cond (isKind scientificKind k) true d) (cond (isKind fractionKind k) true e) (cond (isKind numberKind k) true f))
+    ≡ weightMade k + (weightKind (kindBy a b c d e f) - weightMade k)
 
-six : (P : Bool → Bool → Bool → Bool → Bool → Type 0)
-    → ((b c d e : Bool) → P true b c d e) → ((c d e : Bool) → P false true c d e) → ((d e : Bool) → P false false true d e)
-    → ((e : Bool) → P false false false true e) → P false false false false true → P false false false false false
-    → (a b c d e : Bool) → P a b c d e
-six P t g u s n l true b c d e = t b c d e
-six P t g u s n l false true c d e = g c d e
-six P t g u s n l false false true d e = u d e
-six P t g u s n l false false false true e = s e
-six P t g u s n l false false false false true = n
-six P t g u s n l false false false false false = l
+seven : (P : Bool → Bool → Bool → Bool → Bool → Bool → Type 0)
+    → ((b c d e f : Bool) → P true b c d e f) → ((c d e f : Bool) → P false true c d e f) → ((d e f : Bool) → P false false true d e f)
+    → ((e f : Bool) → P false false false true e f) → ((f : Bool) → P false false false false true f) → P false false false false false true → P false false false false false false
+    → (a b c d e f : Bool) → P a b c d e f
+seven P t g u s r n l true b c d e f = t b c d e f
+seven P t g u s r n l false true c d e f = g c d e f
+seven P t g u s r n l false false true d e f = u d e f
+seven P t g u s r n l false false false true e f = s e f
+seven P t g u s r n l false false false false true f = r f
+seven P t g u s r n l false false false false false true = n
+seven P t g u s r n l false false false false false false = l
 
-higher : (k : Option Kind) (a b c d e : Bool) → Higher k a b c d e
-higher none = six (Higher none) (λ b c d e. refl) (λ c d e. refl) (λ d e. refl) (λ e. refl) refl refl
-higher (some textKind) = six (Higher (some textKind)) (λ b c d e. refl) (λ c d e. refl) (λ d e. refl) (λ e. refl) refl refl
-higher (some generalKind) = six (Higher (some generalKind)) (λ b c d e. refl) (λ c d e. refl) (λ d e. refl) (λ e. refl) refl refl
-higher (some dateKind) = six (Higher (some dateKind)) (λ b c d e. refl) (λ c d e. refl) (λ d e. refl) (λ e. refl) refl refl
-higher (some scientificKind) = six (Higher (some scientificKind)) (λ b c d e. refl) (λ c d e. refl) (λ d e. refl) (λ e. refl) refl refl
-higher (some numberKind) = six (Higher (some numberKind)) (λ b c d e. refl) (λ c d e. refl) (λ d e. refl) (λ e. refl) refl refl
-higher (some literalKind) = six (Higher (some literalKind)) (λ b c d e. refl) (λ c d e. refl) (λ d e. refl) (λ e. refl) refl refl
+higher : (k : Option Kind) (a b c d e f : Bool) → Higher k a b c d e f
+higher none = seven (Higher none) (λ b c d e f. refl) (λ c d e f. refl) (λ d e f. refl) (λ e f. refl) (λ f. refl) refl refl
+higher (some textKind) = seven (Higher (some textKind)) (λ b c d e f. refl) (λ c d e f. refl) (λ d e f. refl) (λ e f. refl) (λ f. refl) refl refl
+higher (some generalKind) = seven (Higher (some generalKind)) (λ b c d e f. refl) (λ c d e f. refl) (λ d e f. refl) (λ e f. refl) (λ f. refl) refl refl
+higher (some dateKind) = seven (Higher (some dateKind)) (λ b c d e f. refl) (λ c d e f. refl) (λ d e f. refl) (λ e f. refl) (λ f. refl) refl refl
+higher (some scientificKind) = seven (Higher (some scientificKind)) (λ b c d e f. refl) (λ c d e f. refl) (λ d e f. refl) (λ e f. refl) (λ f. refl) refl refl
+higher (some fractionKind) = seven (Higher (some fractionKind)) (λ b c d e f. refl) (λ c d e f. refl) (λ d e f. refl) (λ e f. refl) (λ f. refl) refl refl
+higher (some numberKind) = seven (Higher (some numberKind)) (λ b c d e f. refl) (λ c d e f. refl) (λ d e f. refl) (λ e f. refl) (λ f. refl) refl refl
+higher (some literalKind) = seven (Higher (some literalKind)) (λ b c d e f. refl) (λ c d e f. refl) (λ d e f. refl) (λ e f. refl) (λ f. refl) refl refl
 
 weight-cons : (t : Token) (ts : List Token) → weightKind (bodyKind (t ∷ ts)) ≡ weightMade (tokenRow t .makes) + (weightKind (bodyKind ts) - weightMade (tokenRow t .makes))
 unfolding bodyKind kindFrom any tokenMakes
-weight-cons t ts = higher (tokenRow t .makes) (any (tokenMakes textKind) ts) (any (tokenMakes generalKind) ts) (any (tokenMakes dateKind) ts) (any (tokenMakes scientificKind) ts) (any (tokenMakes numberKind) ts)
+weight-cons t ts = higher (tokenRow t .makes) (any (tokenMakes textKind) ts) (any (tokenMakes generalKind) ts) (any (tokenMakes dateKind) ts) (any (tokenMakes scientificKind) ts) (any (tokenMakes fractionKind) ts) (any (tokenMakes numberKind) ts)
 
 -- what the tokens weigh by the kinds that they make
 unfoldable kindsSum : List Token → ℕ
@@ -145,7 +149,7 @@ kinds-most (t ∷ ts) =
 
 kind-most : (k : Kind) → weightKind k ≤ 4294967296
 kind-most =
-    by-kind (λ (k : Kind). weightKind k ≤ 4294967296) (omega arith) (omega arith) (omega arith) (omega arith) (omega arith) (omega arith)
+    by-kind (λ (k : Kind). weightKind k ≤ 4294967296) (omega arith) (omega arith) (omega arith) (omega arith) (omega arith) (omega arith) (omega arith)
 
 -- the kind is told by the border that its tokens' sum does not pass
 module _ (least border n : ℕ) where
@@ -160,17 +164,19 @@ module _ (least border n : ℕ) where
 
 abbrev KindsTold : ℕ → Kind → Type 0
 KindsTold n k =
-    (within 65536 16777216 n ≡ sameKind k dateKind) × (within 256 65536 n ≡ sameKind k scientificKind) × (within 1 256 n ≡ sameKind k numberKind)
+    (within 16777216 4294967296 n ≡ sameKind k dateKind) × (within 65536 16777216 n ≡ sameKind k scientificKind)
+    × (within 256 65536 n ≡ sameKind k fractionKind) × (within 1 256 n ≡ sameKind k numberKind)
 
 kinds-told : (n : ℕ) (k : Kind) → weightKind k ≤ n → n ≤ 254 * weightKind k → KindsTold n k
 kinds-told n =
     by-kind (λ (k : Kind). weightKind k ≤ n → n ≤ 254 * weightKind k → KindsTold n k)
-    (λ l m. (over 65536 16777216 n (omega arith), over 256 65536 n (omega arith), over 1 256 n (omega arith)))
-    (λ l m. (over 65536 16777216 n (omega arith), over 256 65536 n (omega arith), over 1 256 n (omega arith)))
-    (λ l m. (inside 65536 16777216 n (omega arith) (omega arith), over 256 65536 n (omega arith), over 1 256 n (omega arith)))
-    (λ l m. (under 65536 16777216 n (omega arith), under 256 65536 n (omega arith), inside 1 256 n (omega arith) (omega arith)))
-    (λ l m. (under 65536 16777216 n (omega arith), under 256 65536 n (omega arith), under 1 256 n (omega arith)))
-    (λ l m. (under 65536 16777216 n (omega arith), inside 256 65536 n (omega arith) (omega arith), over 1 256 n (omega arith)))
+    (λ l m. (over 16777216 4294967296 n (omega arith), over 65536 16777216 n (omega arith), over 256 65536 n (omega arith), over 1 256 n (omega arith)))
+    (λ l m. (over 16777216 4294967296 n (omega arith), over 65536 16777216 n (omega arith), over 256 65536 n (omega arith), over 1 256 n (omega arith)))
+    (λ l m. (inside 16777216 4294967296 n (omega arith) (omega arith), over 65536 16777216 n (omega arith), over 256 65536 n (omega arith), over 1 256 n (omega arith)))
+    (λ l m. (under 16777216 4294967296 n (omega arith), under 65536 16777216 n (omega arith), under 256 65536 n (omega arith), inside 1 256 n (omega arith) (omega arith)))
+    (λ l m. (under 16777216 4294967296 n (omega arith), under 65536 16777216 n (omega arith), under 256 65536 n (omega arith), under 1 256 n (omega arith)))
+    (λ l m. (under 16777216 4294967296 n (omega arith), inside 65536 16777216 n (omega arith) (omega arith), over 256 65536 n (omega arith), over 1 256 n (omega arith)))
+    (λ l m. (under 16777216 4294967296 n (omega arith), under 65536 16777216 n (omega arith), inside 256 65536 n (omega arith) (omega arith), over 1 256 n (omega arith)))
 
 -- ---- the sum
 count-cons : (f : Token → Bool) (t : Token) (ts : List Token) → count f (t ∷ ts) ≡ one (f t) + count f ts
@@ -210,7 +216,7 @@ plain-told [] = refl
 plain-told (t ∷ ts) = by-cases (noBracket t) (λ e. rw e (plain-told ts)) (λ e. rw (e, ne-eqb (suc (count isBracket ts)) 0 (omega arith)))
 
 -- ---- the places
--- where the places met add: to the integer places, to none behind the point, to the exponent places behind an E
+-- where the places met add: to the integer places, to none behind the point, to the later places behind an E or solidus
 data Phase : Type 0 where
   whole decimal behindE : Phase
 
@@ -225,33 +231,35 @@ pointed decimal = decimal
 pointed behindE = behindE
 
 abbrev phaseAfter : Phase → Token → Phase
-phaseAfter p t = cond (isExponent t) behindE (cond (isPoint t) (pointed p) p)
+phaseAfter p t = cond (isExponent t || isOver t) behindE (cond (isPoint t) (pointed p) p)
 
 -- what the places of tokens add
 abbrev placesTold : Phase → List Token → ℕ
 placesTold whole ts = integerPlaceTokens ts + 65536 * exponentPlaceTokens ts
 placesTold decimal ts = 65536 * exponentPlaceTokens ts
-placesTold behindE ts = 65536 * count isPlace ts
+placesTold behindE ts = 65536 * count hasPlace ts
 
 unit-phase : (p : Phase) (t : Token) → unitAfter (unitOf p) t ≡ unitOf (phaseAfter p t)
-unit-phase whole t = by-cases (isExponent t) (λ e. rw e) (λ e. by-cases (isPoint t) (λ h. rw (e, h)) (λ h. rw (e, h)))
-unit-phase decimal t = by-cases (isExponent t) (λ e. rw e) (λ e. by-cases (isPoint t) (λ h. rw (e, h)) (λ h. rw (e, h)))
-unit-phase behindE t = by-cases (isExponent t) (λ e. rw e) (λ e. by-cases (isPoint t) (λ h. rw (e, h)) (λ h. rw (e, h)))
+unit-phase whole t = by-cases (isExponent t || isOver t) (λ e. rw e) (λ e. by-cases (isPoint t) (λ h. rw (e, h)) (λ h. rw (e, h)))
+unit-phase decimal t = by-cases (isExponent t || isOver t) (λ e. rw e) (λ e. by-cases (isPoint t) (λ h. rw (e, h)) (λ h. rw (e, h)))
+unit-phase behindE t = by-cases (isExponent t || isOver t) (λ e. rw e) (λ e. by-cases (isPoint t) (λ h. rw (e, h)) (λ h. rw (e, h)))
 
--- a token is a place, a point, an E, or nothing of these
-by-sort : (P : Type 0) (t : Token) → (formOf t ≡ 4 → P) → (formOf t ≡ 7 → P) → (formOf t ≡ 25 → P)
-    → (isPlace t ≡ false → isPoint t ≡ false → isExponent t ≡ false → P) → P
-by-sort P t place point anE other =
+-- a token is a place, a point, an E, a place with a solidus, or nothing of these
+by-sort : (P : Type 0) (t : Token) → (formOf t ≡ 4 → P) → (formOf t ≡ 7 → P) → (formOf t ≡ 25 → P) → (formOf t ≡ 27 → P) → (formOf t ≡ 30 → P)
+    → (isPlace t ≡ false → isPoint t ≡ false → isExponent t ≡ false → isOver t ≡ false → P) → P
+by-sort P t place point anE over fixed other =
     by-cases (isPlace t) (λ a. place (eqb-true (formOf t) 4 a))
     (λ a. by-cases (isPoint t) (λ b. point (eqb-true (formOf t) 7 b))
-    (λ b. by-cases (isExponent t) (λ c. anE (eqb-true (formOf t) 25 c)) (λ c. other a b c)))
+    (λ b. by-cases (isExponent t) (λ c. anE (eqb-true (formOf t) 25 c))
+    (λ c. by-cases (eqb (formOf t) 27) (λ d. over (eqb-true (formOf t) 27 d))
+    (λ d. by-cases (eqb (formOf t) 30) (λ e. fixed (eqb-true (formOf t) 30 e)) (λ e. other a b c (rw (d, e) refl))))))
 
 places-turn : (p : Phase) (n : ℕ) (t : Token) (ts : List Token)
-    → cond (isPlace t) (n + unitOf p) n + placesTold (phaseAfter p t) ts ≡ n + placesTold p (t ∷ ts)
+    → cond (hasPlace t) (n + unitOf p) n + placesTold (phaseAfter p t) ts ≡ n + placesTold p (t ∷ ts)
 unfolding integerPlaceTokens exponentPlaceTokens count
-places-turn whole n t ts = by-sort _ t (λ e. rw e (omega arith)) (λ e. rw e (omega arith)) (λ e. rw e (omega arith)) (λ a b c. rw (a, b, c))
-places-turn decimal n t ts = by-sort _ t (λ e. rw e (omega arith)) (λ e. rw e (omega arith)) (λ e. rw e (omega arith)) (λ a b c. rw (a, b, c))
-places-turn behindE n t ts = by-sort _ t (λ e. rw e (omega arith)) (λ e. rw e (omega arith)) (λ e. rw e (omega arith)) (λ a b c. rw (a, b, c))
+places-turn whole n t ts = by-sort _ t (λ e. rw e (omega arith)) (λ e. rw e (omega arith)) (λ e. rw e (omega arith)) (λ e. rw e (omega arith)) (λ e. rw e (omega arith)) (λ a b c d. rw (a, b, c, d))
+places-turn decimal n t ts = by-sort _ t (λ e. rw e (omega arith)) (λ e. rw e (omega arith)) (λ e. rw e (omega arith)) (λ e. rw e (omega arith)) (λ e. rw e (omega arith)) (λ a b c d. rw (a, b, c, d))
+places-turn behindE n t ts = by-sort _ t (λ e. rw e (omega arith)) (λ e. rw e (omega arith)) (λ e. rw e (omega arith)) (λ e. rw e (omega arith)) (λ e. rw e (omega arith)) (λ a b c d. rw (a, b, c, d))
 
 places-seen : (p : Phase) (s : Seen) (ts : List Token) → s .unit ≡ unitOf p → (passed see s ts) .places ≡ s .places + placesTold p ts
 unfolding passed
@@ -260,7 +268,7 @@ places-seen decimal s [] e = unfold exponentPlaceTokens in omega arith
 places-seen behindE s [] e = unfold count in omega arith
 places-seen p s (t ∷ ts) e =
     places-seen (phaseAfter p t) (see s t) ts (ap (λ (u : ℕ). unitAfter u t) e ∙ unit-phase p t)
-    ∙ ap (λ (u : ℕ). cond (isPlace t) (s .places + u) (s .places) + placesTold (phaseAfter p t) ts) e
+    ∙ ap (λ (u : ℕ). cond (hasPlace t) (s .places + u) (s .places) + placesTold (phaseAfter p t) ts) e
     ∙ places-turn p (s .places) t ts
 
 pub integers-few : (ts : List Token) → integerPlaceTokens ts ≤ length ts
@@ -268,31 +276,14 @@ unfolding integerPlaceTokens
 integers-few [] = omega arith
 integers-few (t ∷ ts) =
     let r = integers-few ts in
-    by-cases (isPoint t || isExponent t) (λ p. rw p (omega arith)) (λ p. rw p (by-cases (isPlace t) (λ q. rw q (omega arith)) (λ q. rw q (omega arith))))
-
--- a solidus behind a place is told by the token behind it
-solidus-seen : (s : Seen) (ts : List Token)
-    → (passed see s ts) .solidus ≡ ((s .solidus && not (s .divided && startsWithPlace ts)) && solidusFrom (s .behind) ts)
-unfolding passed startsWithPlace solidusFrom
-solidus-seen s [] = go (s .solidus) (s .divided)
+    most (isPoint t || isExponent t) (omega arith) (most (isOver t) (omega arith) (most (isPlace t) (omega arith) (omega arith)))
   where
-    go : (a b : Bool) → a ≡ ((a && not (b && false)) && true)
-    go true true = refl
-    go true false = refl
-    go false b = refl
-solidus-seen s (t ∷ ts) =
-    solidus-seen (see s t) ts ∙ go (s .solidus && not (s .divided && isPlace t)) (s .behind) (isSolidus t) (startsWithPlace ts) (solidusFrom (isPlace t) ts)
-  where
-    go : (a x y z w : Bool) → ((a && not ((x && y) && z)) && w) ≡ (a && cond (x && y && z) false w)
-    go true true true true w = refl
-    go true true true false w = refl
-    go true true false z w = refl
-    go true false y z w = refl
-    go false x y z w = refl
+    most : (b : Bool) {m n : ℕ} → m ≤ suc (length ts) → n ≤ suc (length ts) → cond b m n ≤ suc (length ts)
+    most b h k = cond-both (λ (n : ℕ). n ≤ suc (length ts)) b h k
 
 -- one pass gives the facts
 pub facts-seen : (ts : List Token) → length ts ≤ 254 → seenFacts (passed see nothingSeen ts) ≡ factsOf ts
-unfolding factsOf solidusFits
+unfolding factsOf
 facts-seen ts h =
     let kind = bodyKind ts in
     let most : kindsSum ts ≤ 254 * weightKind kind = let m = mul-le-mul-right (weightKind kind) h in omega (arith, kinds-most ts) in
@@ -314,11 +305,11 @@ facts-seen ts h =
       told .0,
       told .1,
       told .2,
+      told .3,
       plain-told ts,
       positive-count isComma ts,
       integers,
       exponents,
-      solidus-seen nothingSeen ts,
     )
 
 -- ---- the pass
@@ -347,19 +338,15 @@ module _ (ws : List ℕ) (i : ℕ) (s : Seen) (inv : Seeing ws i s) where
         places = omega (arith, inv .places, inv .all .small);
       }
 
-  pub seeing-step : i + 2 < length ws → (s′ : Seen) → s′ ≡ seeForm s (getD ws i 0) (getD ws (i + 1) 0) → Seeing ws (i + 3) s′
+  pub seeing-step : i + 2 < length ws → (s′ : Seen) → s′ ≡ seeForm s (getD ws i 0) → Seeing ws (i + 3) s′
   seeing-step h s′ e =
       let f = getD ws i 0 in
-      let a = getD ws (i + 1) 0 in
-      let sum : s′ .sum ≡ s .sum + weightForm f = ap (λ (x : Seen). x .sum) e in
-      let unit : s′ .unit ≡ unitForm (s .unit) f = ap (λ (x : Seen). x .unit) e in
-      let places : s′ .places ≡ cond (placeForm f) (s .places + s .unit) (s .places) = ap (λ (x : Seen). x .places) e in
+      let g : Grown s s′ = rw e (see-grown s f (inv .unit)) in
       let k = inv .sum in
       let l = inv .places in
-      let m = inv .unit in
       record {
-        all = passed-step see nothingSeen ws i s (inv .all) h s′ (λ us. see-form s f a us ∙ sym e);
-        sum = omega (arith, weight-most f);
-        unit = omega (arith, unit-most (s .unit) f m);
-        places = rw places (by-cases (placeForm f) (λ p. rw p (omega arith)) (λ p. rw p (omega arith)));
+        all = passed-step see nothingSeen ws i s (inv .all) h s′ (λ us. see-form s f (getD ws (i + 1) 0) us ∙ sym e);
+        sum = omega (arith, g);
+        unit = g .1;
+        places = omega (arith, g);
       }

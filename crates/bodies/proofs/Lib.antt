@@ -6,3 +6,5 @@ pub mod Numbers
 pub mod Inside
 pub mod Uses
 pub mod Bodies
+pub mod Fractions
+pub mod Callers

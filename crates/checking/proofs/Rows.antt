@@ -4,17 +4,17 @@ use Prim.Native.Nat.{ℕ, _+_, _*_, _≤_, _<_}
 use native.Mathlib.Omega.{arith}
 use mathlib.Core.Path.{_≡_, refl, sym, _∙_, ap}
 use mathlib.Core.List.{List}
-use mathlib.Core.Bool.{Bool, true, false, true≢false, cond, not, _&&_, _||_, and-true}
+use mathlib.Core.Bool.{Bool, true, false, true≢false, cond, not, _&&_, _||_, and-true, and-false, and-comm}
 use lib.Dec.{T, leb, ltb, eqb, leb→le, le→leb, ltb→lt, eqb→eq}
-use borrow.Author.Tests.{eqb-true, eq-eqb, ne-eqb, lt-ltb, lt-leb, leb-false, not-true, not-false}
-use Rattle.lists.specs.Lists.{every, count}
+use borrow.Author.Tests.{eqb-true, eqb-false, eq-eqb, ne-eqb, lt-ltb, lt-leb, leb-false, not-true, not-false}
+use Rattle.lists.specs.Lists.{every, any, count}
 use Rattle.lists.proofs.Bools.{and-left, and-right, and-in, carry, same-test, by-cases, true-T}
 use Rattle.lists.proofs.Counts.{every-weaker, none-count}
-use Rattle.formats.specs.Items.{Item, Kind, numberKind, sameKind, showsPlaces, kindOf, itemsKind, itemAllowed, itemInRange, isPlace, isPercent, itemsFit, integerPlaces, decimalPlaces, exponentPlaces}
+use Rattle.formats.specs.Items.{Item, Kind, numberKind, sameKind, showsPlaces, kindOf, itemsKind, itemAllowed, itemInRange, isPlace, isPercent, itemsFit, integerPlaces, decimalPlaces, placesBehind, wholeItems, mainItems}
 use Rattle.formats.specs.Where.{implies}
-use Rattle.formats.specs.Limits.{elapsedShort, sectionWithin}
+use Rattle.formats.specs.Limits.{elapsedShort, fixedSmall, sectionWithin}
 use Rattle.formats.specs.WellFormed.{oneFill, partsFollow, isSettled, groupingFits, sectionFits}
-use Rattle.formats.proofs.Cutting.{bare-from}
+use Rattle.formats.proofs.Cutting.{bare-from, whole-none, main-all, no-decimals}
 use Rattle.formats.proofs.Each.{by-item, by-kind}
 use Rattle.tables.specs.Words.{Head, Entry, Row}
 use Rattle.tables.specs.Encode.{kindWord, hasHalf, decimalsWord}
@@ -27,16 +27,17 @@ use Rattle.tables.proofs.Standing.{number-word}
 use Rattle.tallies.specs.declared.date_rows.DatedRow.{DatedRow}
 use Rattle.tallies.specs.declared.number_rows.NumberRow.{NumberRow}
 use Rattle.tallies.specs.declared.scientific_rows.ScientificRow.{ScientificRow}
-use Rattle.tallies.specs.Tally.{soundEntries, itemsOf}
+use Rattle.tallies.specs.Tally.{makesFraction, soundEntries, itemsOf}
 use Rattle.tallies.specs.DateRows.{DateTold}
 use Rattle.tallies.specs.NumberRows.{numberItems, NumberTold}
 use Rattle.tallies.specs.ScientificRows.{scientificItems, ScientificTold}
+use Rattle.tallies.specs.FractionRows.{fractionItems}
 use Rattle.tallies.proofs.Places.{places-counted}
-use Rattle.tallies.proofs.Held.{Apart, apart, no-figures, no-dates}
+use Rattle.tallies.proofs.Held.{takesPoint, Apart, apart, no-dates, no-solidi, uncut}
 use Rattle.tallies.proofs.Told.{places-word}
 use Rattle.table_words.specs.declared.HeadWords.{HeadWords}
 use Rattle.table_words.specs.Sections.{headFrom}
-use Rattle.checking.specs.Checking.{agree, conditionTold, numberTold, scientificTold, otherTold, rowWith, halfFits, rowGood}
+use Rattle.checking.specs.Checking.{agree, conditionTold, numberTold, scientificTold, otherItems, otherTold, cutTold, rowWith, halfFits, rowGood}
 
 -- ---- the words that every head must pass
 abbrev noneTest : Head → Bool
@@ -84,7 +85,7 @@ condition-in h f =
     let c : Compared h = compared h (true-T (f .condition)) in
     and-in (noneTest h) (signTest h) (c .none) (c .sign)
 
-range-in : (h : Head) → Front h → h .kind ≤ 5 → h .shift ≤ 25 → h .flags ≤ 7 → h .decimals ≤ 15 → T (headInRange h)
+range-in : (h : Head) → Front h → h .kind ≤ 6 → h .shift ≤ 25 → h .flags ≤ 7 → h .decimals ≤ 15 → T (headInRange h)
 range-in h f k s g d =
     let c : Compared h = compared h (true-T (f .condition)) in
     head-in-ranges h (record {
@@ -124,9 +125,9 @@ ungrouped : (g : Bool) → T (not g || false) → T (not g)
 ungrouped true t = t
 ungrouped false t = tt
 
-kind-few : (k : Kind) → kindWord k ≤ 5
+kind-few : (k : Kind) → kindWord k ≤ 6
 unfolding kindWord
-kind-few = by-kind (λ (k : Kind). kindWord k ≤ 5) (omega arith) (omega arith) (omega arith) (omega arith) (omega arith) (omega arith)
+kind-few = by-kind (λ (k : Kind). kindWord k ≤ 6) (omega arith) (omega arith) (omega arith) (omega arith) (omega arith) (omega arith) (omega arith)
 
 -- neither grouping nor twelve-hour
 few-flags : (flags : ℕ) → T (eqb flags 0 || eqb flags 2) → (flags < 4) × T (not (groupedAt flags))
@@ -151,6 +152,14 @@ unfolding itemInRange elapsedShort
 short-ranged =
     by-item (λ i. T (itemInRange i) → T (elapsedShort i)) (λ u t. tt) (λ u t. tt) (λ u t. tt) (λ p t. tt) (λ t. tt) (λ t. tt) (λ t. tt) (λ t. tt)
     (λ n t. tt) (λ n t. tt) (λ n t. tt) (λ n t. tt) (λ n t. tt) (λ n t. tt) (λ n t. tt) (λ e n t. and-right (leb 1 n) (leb n 9) t) (λ h t. tt) (λ m t. tt)
+    (λ t. tt) (λ n t. tt)
+
+small-ranged : (i : Item) → T (itemInRange i) → T (fixedSmall i)
+unfolding itemInRange fixedSmall
+small-ranged =
+    by-item (λ i. T (itemInRange i) → T (fixedSmall i)) (λ u t. tt) (λ u t. tt) (λ u t. tt) (λ p t. tt) (λ t. tt) (λ t. tt) (λ t. tt) (λ t. tt)
+    (λ n t. tt) (λ n t. tt) (λ n t. tt) (λ n t. tt) (λ n t. tt) (λ n t. tt) (λ n t. tt) (λ e n t. tt) (λ h t. tt) (λ m t. tt)
+    (λ t. tt) (λ n t. and-right (leb 1 n) (leb n 999) t)
 
 -- ---- the rules for the items as facts
 record ItemFacts (k : ℕ) (es : List Entry) : Type 0 where
@@ -201,8 +210,8 @@ module _ (h : Head) (es : List Entry) where
     grouping-by = rw e
 
     within-by : sectionWithin (sectionAt row)
-        ≡ (leb (integerPlaces is) 20 && leb (decimalPlaces is) 15 && leb (exponentPlaces is) 3 && leb (count isPercent is) 5
-        && leb (cond b (thousandsAt (h .shift) (count isPercent is)) 0) 5 && every elapsedShort is)
+        ≡ (leb (integerPlaces (wholeItems is)) 20 && leb (integerPlaces (mainItems is)) 20 && leb (decimalPlaces is) 15 && leb (placesBehind is) 3 && leb (count isPercent is) 5
+        && leb (cond b (thousandsAt (h .shift) (count isPercent is)) 0) 5 && every elapsedShort is && every fixedSmall is)
     unfolding sectionWithin sectionAt
     within-by = rw e
 
@@ -216,6 +225,9 @@ module _ (h : Head) (es : List Entry) where
 
     short : T (every elapsedShort is)
     short = every-weaker itemInRange elapsedShort short-ranged is (items-ranged es (f .ranges))
+
+    small : T (every fixedSmall is)
+    small = every-weaker itemInRange fixedSmall small-ranged is (items-ranged es (f .ranges))
 
     allowed : T (every (itemAllowed (itemsKind is)) is)
     unfolding itemsFit
@@ -231,10 +243,10 @@ module _ (h : Head) (es : List Entry) where
     other-kind n = sym (number-word (itemsKind is)) ∙ ne-eqb (kindWord (itemsKind is)) 2 (λ e. n (sym word ∙ e))
 
     -- whether its places show digits
-    places-kind : showsPlaces (itemsKind is) ≡ (eqb (h .kind) 2 || eqb (h .kind) 5)
-    places-kind = sym (places-word (itemsKind is)) ∙ ap (λ (n : ℕ). eqb n 2 || eqb n 5) word
+    places-kind : showsPlaces (itemsKind is) ≡ (eqb (h .kind) 2 || (eqb (h .kind) 5 || eqb (h .kind) 6))
+    places-kind = sym (places-word (itemsKind is)) ∙ ap (λ (n : ℕ). eqb n 2 || (eqb n 5 || eqb n 6)) word
 
-    shown : (b : Bool) → (eqb (h .kind) 2 || eqb (h .kind) 5) ≡ b → showsPlaces (itemsKind is) ≡ b
+    shown : (b : Bool) → (eqb (h .kind) 2 || (eqb (h .kind) 5 || eqb (h .kind) 6)) ≡ b → showsPlaces (itemsKind is) ≡ b
     shown b e = places-kind ∙ e
 
     none-half : (h .kind ≡ 4 → ⊥) → hasHalf is ≡ false
@@ -247,15 +259,37 @@ module _ (h : Head) (es : List Entry) where
 
     none-placed : showsPlaces (itemsKind is) ≡ false → (integerPlaces is ≡ 0) × (decimalPlaces is ≡ 0)
     none-placed e =
-        let none = none-count isPlace is (no-figures is (kept .figures e) .0) in
+        let none = none-count isPlace is (kept .places e) in
         let places = places-counted is in
         (omega (arith, none, places), omega (arith, none, places))
 
-    -- only a scientific section has an E
-    none-behind : (h .kind ≡ 5 → ⊥) → T (leb (exponentPlaces is) 3)
-    unfolding kindWord exponentPlaces count
-    none-behind n =
-        rw (bare-from is (kept .exponents (ne-eqb 5 (kindWord (itemsKind is)) (λ e. n (sym word ∙ sym e))))) tt
+    -- a point stands in number and scientific sections only, a solidus in fractions only
+    none-decimal : (h .kind ≡ 2 → ⊥) → (h .kind ≡ 5 → ⊥) → decimalPlaces is ≡ 0
+    unfolding kindWord
+    none-decimal k n =
+        let other : takesPoint (itemsKind is) ≡ false =
+        rw (ne-eqb 2 (kindWord (itemsKind is)) (λ e. k (sym word ∙ sym e)), ne-eqb 5 (kindWord (itemsKind is)) (λ e. n (sym word ∙ sym e))) in
+        no-decimals is (kept .points other)
+
+    module _ (s : h .kind ≡ 6 → ⊥) where
+      none-solidus : any makesFraction is ≡ false
+      unfolding kindWord
+      none-solidus = kept .solidi (ne-eqb 6 (kindWord (itemsKind is)) (λ e. s (sym word ∙ sym e)))
+
+      none-whole : integerPlaces (wholeItems is) ≡ 0
+      unfolding integerPlaces
+      none-whole = ap integerPlaces (whole-none is (no-solidi is none-solidus .0))
+
+      wholes-few : T (leb (integerPlaces (wholeItems is)) 20)
+      wholes-few = rw none-whole tt
+
+      main-places : integerPlaces (mainItems is) ≡ integerPlaces is
+      main-places = ap integerPlaces (main-all is (no-solidi is none-solidus .0))
+
+      none-behind : (h .kind ≡ 5 → ⊥) → T (leb (placesBehind is) 3)
+      unfolding kindWord placesBehind count
+      none-behind n =
+          rw (bare-from is (uncut is (kept .exponents (ne-eqb 5 (kindWord (itemsKind is)) (λ e. n (sym word ∙ sym e)))) none-solidus)) tt
 
   -- ---- a number section
   module _ (k : h .kind ≡ 2) where
@@ -267,7 +301,10 @@ module _ (h : Head) (es : List Entry) where
         let number = number-kind f k in
         let integers : T (leb (integerPlaces is) 20) = search (and-left, and-right) depth 8 in
         let places : T (leb (decimalPlaces is) 15) = search (and-left, and-right) depth 8 in
-        let behind : T (leb (exponentPlaces is) 3) = none-behind f (λ e. absurd (omega (arith, k, e))) in
+        let whole : h .kind ≡ 6 → ⊥ = λ e. absurd (omega (arith, k, e)) in
+        let wholes = wholes-few f whole in
+        let mains : T (leb (integerPlaces (mainItems is)) 20) = rw (main-places f whole) integers in
+        let behind : T (leb (placesBehind is) 3) = none-behind f whole (λ e. absurd (omega (arith, k, e))) in
         let percents : T (leb (count isPercent is) 5) = search (and-left, and-right) depth 8 in
         let shifted : T (shiftTells (h .shift) (count isPercent is)) = search and-left in
         let same : T (eqb (h .decimals) (decimalPlaces is)) = search (and-left, and-right) depth 8 in
@@ -275,10 +312,11 @@ module _ (h : Head) (es : List Entry) where
         let grouping : T (not (groupedAt (h .flags)) || leb 2 (integerPlaces is)) = search and-right depth 8 in
         let most = shift-most (h .shift) (count isPercent is) shifted (leb→le (count isPercent is) 5 percents) in
         let thousands : T (leb (thousandsAt (h .shift) (count isPercent is)) 5) = most .1 in
-        let shorts : T (every elapsedShort is) = short f in
+        let shorts = short f in
+        let smalls = small f in
         let decimals : h .decimals ≤ 15 = omega (arith, eqb→eq (h .decimals) (decimalPlaces is) same, leb→le (decimalPlaces is) 15 places) in
         good-in f (range-in h front (omega (arith, k)) (most .0) (omega arith) decimals) (condition-in h front) (carry (sym (grouping-by true number)) grouping)
-        (carry (sym (within-by true number)) (search and-in depth 7)) (carry (sym (shift-by true number)) shifted)
+        (carry (sym (within-by true number)) (search and-in depth 9)) (carry (sym (shift-by true number)) shifted)
         (carry (sym (decimals-by true (shown f true (rw k)))) same)
         (neither (leb 4 (h .flags)) (hasHalf is) (lt-leb 4 (h .flags) flags) (none-half f (λ e. absurd (omega (arith, k, e)))))
 
@@ -291,9 +329,10 @@ module _ (h : Head) (es : List Entry) where
         let number = number-kind f k in
         let limits = carry (within-by true number) (r .within) in
         let shifted : T (shiftTells (h .shift) (count isPercent is)) = carry (shift-by true number) (r .shift) in
-        let integers : T (leb (integerPlaces is) 20) = search and-left depth 8 in
-        let places : T (leb (decimalPlaces is) 15) = search (and-left, and-right) depth 8 in
-        let percents : T (leb (count isPercent is) 5) = search (and-left, and-right) depth 8 in
+        let mains : T (leb (integerPlaces (mainItems is)) 20) = search (and-left, and-right) depth 10 in
+        let integers : T (leb (integerPlaces is) 20) = rw (← main-places f (λ e. absurd (omega (arith, k, e)))) mains in
+        let places : T (leb (decimalPlaces is) 15) = search (and-left, and-right) depth 10 in
+        let percents : T (leb (count isPercent is) 5) = search (and-left, and-right) depth 10 in
         let same : T (eqb (h .decimals) (decimalPlaces is)) = carry (decimals-by true (shown f true (rw k))) (r .decimals) in
         let none = none-half f (λ e. absurd (omega (arith, k, e))) in
         let flags : T (ltb (h .flags) 4) = true-T (lt-ltb _ _ (leb-false 4 (h .flags) (not-either (leb 4 (h .flags)) (hasHalf is) none half))) in
@@ -305,6 +344,9 @@ module _ (h : Head) (es : List Entry) where
     no-number-kind : h .kind ≡ 2 → ⊥
     no-number-kind e = absurd (omega (arith, k, e))
 
+    no-fraction-kind : h .kind ≡ 6 → ⊥
+    no-fraction-kind e = absurd (omega (arith, k, e))
+
     scientific-in : Front h → T (scientificItems es) → T (scientificTold h (decimalPlaces is)) → T (rowGood row)
     unfolding scientificItems scientificTold halfFits
     scientific-in front items t =
@@ -313,15 +355,18 @@ module _ (h : Head) (es : List Entry) where
         let shift : T (eqb (h .shift) 0) = search and-left depth 8 in
         let integers : T (leb (integerPlaces is) 20) = search (and-left, and-right) depth 8 in
         let places : T (leb (decimalPlaces is) 15) = search (and-left, and-right) depth 8 in
-        let behind : T (leb (exponentPlaces is) 3) = search (and-left, and-right) depth 8 in
+        let wholes = wholes-few f no-fraction-kind in
+        let mains : T (leb (integerPlaces (mainItems is)) 20) = rw (main-places f no-fraction-kind) integers in
+        let behind : T (leb (placesBehind is) 3) = search (and-left, and-right) depth 8 in
         let percents : T (leb (count isPercent is) 5) = le→leb (count isPercent is) 5 (omega (arith, none-percent f no-number-kind)) in
         let same : T (eqb (h .decimals) (decimalPlaces is)) = search (and-left, and-right) depth 8 in
         let flags = few-flags (h .flags) (search and-right) in
-        let shorts : T (every elapsedShort is) = short f in
+        let shorts = short f in
+        let smalls = small f in
         let decimals : h .decimals ≤ 15 = omega (arith, eqb→eq (h .decimals) (decimalPlaces is) same, leb→le (decimalPlaces is) 15 places) in
         good-in f (range-in h front (omega (arith, k)) (omega (arith, eqb→eq (h .shift) 0 shift)) (omega (arith, flags .0)) decimals) (condition-in h front)
         (carry (sym (grouping-by false other)) (or-left (not (groupedAt (h .flags))) false (flags .1)))
-        (carry (sym (within-by false other)) (search (and-in, le→leb) depth 7)) (carry (sym (shift-by false other)) shift)
+        (carry (sym (within-by false other)) (search (and-in, le→leb) depth 9)) (carry (sym (shift-by false other)) shift)
         (carry (sym (decimals-by true (shown f true (rw k)))) same)
         (neither (leb 4 (h .flags)) (hasHalf is) (lt-leb 4 (h .flags) (flags .0)) (none-half f (λ e. absurd (omega (arith, k, e)))))
 
@@ -333,9 +378,10 @@ module _ (h : Head) (es : List Entry) where
         let other = other-kind f no-number-kind in
         let limits = carry (within-by false other) (r .within) in
         let shift : T (eqb (h .shift) 0) = carry (shift-by false other) (r .shift) in
-        let integers : T (leb (integerPlaces is) 20) = search and-left depth 8 in
-        let places : T (leb (decimalPlaces is) 15) = search (and-left, and-right) depth 8 in
-        let behind : T (leb (exponentPlaces is) 3) = search (and-left, and-right) depth 8 in
+        let mains : T (leb (integerPlaces (mainItems is)) 20) = search (and-left, and-right) depth 10 in
+        let integers : T (leb (integerPlaces is) 20) = rw (← main-places f no-fraction-kind) mains in
+        let places : T (leb (decimalPlaces is) 15) = search (and-left, and-right) depth 10 in
+        let behind : T (leb (placesBehind is) 3) = search (and-left, and-right) depth 10 in
         let same : T (eqb (h .decimals) (decimalPlaces is)) = carry (decimals-by true (shown f true (rw k))) (r .decimals) in
         let none = none-half f (λ e. absurd (omega (arith, k, e))) in
         let few : h .flags < 4 = leb-false 4 (h .flags) (not-either (leb 4 (h .flags)) (hasHalf is) none half) in
@@ -344,29 +390,58 @@ module _ (h : Head) (es : List Entry) where
 
   -- ---- another section
   module _ (k : h .kind ≡ 2 → ⊥) (n : h .kind ≡ 5 → ⊥) where
-    no-places-kind : (eqb (h .kind) 2 || eqb (h .kind) 5) ≡ false
-    no-places-kind = rw (ne-eqb (h .kind) 2 k, ne-eqb (h .kind) 5 n)
+    -- it has no decimal place
+    decimals-none : ItemFacts (h .kind) es → decimalsFit row ≡ eqb (h .decimals) 0
+    decimals-none f =
+        decimals-by (showsPlaces (itemsKind is)) refl ∙ rw (none-decimal f k n) (by-cases (showsPlaces (itemsKind is)) (λ e. rw e) (λ e. rw e))
 
-    other-in : Front h → ItemFacts (h .kind) es → T (otherTold h (hasHalf is)) → T (rowGood row)
+    -- the limits of its places
+    few-in : T (otherItems (h .kind) es) → ItemFacts (h .kind) es × T (leb (integerPlaces (wholeItems is)) 20) × T (leb (integerPlaces (mainItems is)) 20) × T (leb (placesBehind is) 3)
+    unfolding otherItems fractionItems
+    few-in t =
+        by-cases (eqb (h .kind) 6)
+        (λ e. let six = eqb-true (h .kind) 6 e in
+        let all : T (fractionItems es) = rw e at t in
+        (rw six (item-facts 6 es (and-left (itemsOf 6 es) _ all)), search (and-left, and-right) depth 6, search (and-left, and-right) depth 6, search (and-left, and-right) depth 6))
+        (λ e. let f = item-facts (h .kind) es (rw e at t) in
+        let no-six = eqb-false (h .kind) 6 e in
+        let none = none-placed f (shown f false (rw (ne-eqb (h .kind) 2 k, ne-eqb (h .kind) 5 n, e))) in
+        (f, wholes-few f no-six, rw (main-places f no-six, none .0) tt, none-behind f no-six n))
+
+    few-out : RowFacts row → T (otherItems (h .kind) es)
+    unfolding otherItems fractionItems
+    few-out r =
+        let held = items-out r in
+        let limits = carry (within-by false (other-kind (item-facts (h .kind) es held) k)) (r .within) in
+        let wholes : T (leb (integerPlaces (wholeItems is)) 20) = search (and-left, and-right) depth 10 in
+        let mains : T (leb (integerPlaces (mainItems is)) 20) = search (and-left, and-right) depth 10 in
+        let behind : T (leb (placesBehind is) 3) = search (and-left, and-right) depth 10 in
+        by-cases (eqb (h .kind) 6)
+        (λ e. let six : T (itemsOf 6 es) = rw (eqb-true (h .kind) 6 e) at held in rw e (search and-in depth 6))
+        (λ e. rw e held)
+
+    other-in : Front h → T (otherItems (h .kind) es) → T (otherTold h (hasHalf is)) → T (rowGood row)
     unfolding otherTold halfFits
-    other-in front f t =
+    other-in front items t =
+        let few = few-in items in
+        let f = few .0 in
+        let wholes = few .1 in
+        let mains = few .2 in
+        let behind = few .3 in
         let other = other-kind f k in
-        let bare = shown f false no-places-kind in
-        let none = none-placed f bare in
         let shift : T (eqb (h .shift) 0) = search and-left depth 6 in
         let decimals : T (eqb (h .decimals) 0) = search (and-left, and-right) depth 6 in
         let flags : h .flags ≤ 7 = search (and-left, and-right, leb→le) depth 6 in
         let plain : T (not (groupedAt (h .flags))) = search (and-left, and-right) depth 6 in
-        let integers : T (leb (integerPlaces is) 20) = le→leb (integerPlaces is) 20 (omega (arith, none .0)) in
-        let places : T (leb (decimalPlaces is) 15) = le→leb (decimalPlaces is) 15 (omega (arith, none .1)) in
-        let behind : T (leb (exponentPlaces is) 3) = none-behind f n in
+        let places : T (leb (decimalPlaces is) 15) = le→leb (decimalPlaces is) 15 (omega (arith, none-decimal f k n)) in
         let percents : T (leb (count isPercent is) 5) = le→leb (count isPercent is) 5 (omega (arith, none-percent f k)) in
-        let shorts : T (every elapsedShort is) = short f in
+        let shorts = short f in
+        let smalls = small f in
         good-in f
         (range-in h front (omega (arith, word f, kind-few (itemsKind is))) (omega (arith, eqb→eq (h .shift) 0 shift)) flags (omega (arith, eqb→eq (h .decimals) 0 decimals)))
         (condition-in h front) (carry (sym (grouping-by false other)) (or-left (not (groupedAt (h .flags))) false plain))
-        (carry (sym (within-by false other)) (search (and-in, le→leb) depth 7)) (carry (sym (shift-by false other)) shift)
-        (carry (sym (decimals-by false bare)) decimals) (search and-right)
+        (carry (sym (within-by false other)) (search (and-in, le→leb) depth 9)) (carry (sym (shift-by false other)) shift)
+        (carry (sym (decimals-none f)) decimals) (search and-right)
 
     other-out : RowFacts row → T (halfFits row) → T (otherTold h (hasHalf is))
     unfolding otherTold halfFits
@@ -374,7 +449,7 @@ module _ (h : Head) (es : List Entry) where
         let f = item-facts (h .kind) es (items-out r) in
         let other = other-kind f k in
         let shift : T (eqb (h .shift) 0) = carry (shift-by false other) (r .shift) in
-        let decimals : T (eqb (h .decimals) 0) = carry (decimals-by false (shown f false no-places-kind)) (r .decimals) in
+        let decimals : T (eqb (h .decimals) 0) = carry (decimals-none f) (r .decimals) in
         let flags : T (leb (h .flags) 7) = le→leb _ _ (head-ranges h (r .head) .flags) in
         let plain : T (not (groupedAt (h .flags))) = ungrouped (groupedAt (h .flags)) (carry (grouping-by false other) (r .grouping)) in
         search and-in depth 6
@@ -407,19 +482,19 @@ module _ (h : Head) (es : List Entry) where
       (λ t. let o = scientific-out k (row-facts row (and-left (rowFits row) (halfFits row) t)) (and-right (rowFits row) (halfFits row) t) in
       and-in (scientificItems es) told (o .0) (o .1))
 
-  row-other : (h .kind ≡ 2 → ⊥) → (h .kind ≡ 5 → ⊥) → Front h → (half : Bool) → (T (itemsOf (h .kind) es) → half ≡ hasHalf is)
-      → (otherTold h half && itemsOf (h .kind) es) ≡ rowGood row
+  row-other : (h .kind ≡ 2 → ⊥) → (h .kind ≡ 5 → ⊥) → Front h → (half : Bool) → (T (otherItems (h .kind) es) → half ≡ hasHalf is)
+      → (otherTold h half && otherItems (h .kind) es) ≡ rowGood row
   unfolding rowGood
   row-other k n front half same =
       let told : Bool → Bool = λ b. otherTold h b in
-      same-test (told half && itemsOf (h .kind) es) (rowGood row)
-      (λ t. let i = and-right (told half) (itemsOf (h .kind) es) t in
-      other-in k n front (item-facts (h .kind) es i) (carry (ap told (same i)) (and-left (told half) (itemsOf (h .kind) es) t)))
+      same-test (told half && otherItems (h .kind) es) (rowGood row)
+      (λ t. let i = and-right (told half) (otherItems (h .kind) es) t in
+      other-in k n front i (carry (ap told (same i)) (and-left (told half) (otherItems (h .kind) es) t)))
       (λ t. let r = row-facts row (and-left (rowFits row) (halfFits row) t) in
-      let i = items-out r in
-      and-in (told half) (itemsOf (h .kind) es) (carry (sym (ap told (same i))) (other-out k n r (and-right (rowFits row) (halfFits row) t))) i)
+      let i = few-out k n r in
+      and-in (told half) (otherItems (h .kind) es) (carry (sym (ap told (same i))) (other-out k n r (and-right (rowFits row) (halfFits row) t))) i)
 
-  other-answer : (h .kind ≡ 2 → ⊥) → (h .kind ≡ 5 → ⊥) → Front h → (half : Bool) → (T (itemsOf (h .kind) es) → half ≡ hasHalf is) → itemsOf (h .kind) es ≡ true
+  other-answer : (h .kind ≡ 2 → ⊥) → (h .kind ≡ 5 → ⊥) → Front h → (half : Bool) → (T (otherItems (h .kind) es) → half ≡ hasHalf is) → otherItems (h .kind) es ≡ true
       → otherTold h half ≡ rowGood row
   other-answer k n front half same held = sym (and-true (otherTold h half)) ∙ rw held at (row-other k n front half same)
 
@@ -438,28 +513,56 @@ module _ (h : Head) (es : List Entry) where
   pub dated-answer : h .kind ≡ 4 → Front h → (n : DatedRow) → DateTold es n → n .fits ≡ true
       → (r : Bool) → r ≡ otherTold h (n .halves) → r ≡ rowGood row
   dated-answer k front n t f r e =
-      let held : itemsOf (h .kind) es ≡ true = ap (λ (x : ℕ). itemsOf x es) k ∙ sym (t .fits) ∙ f in
+      let held : otherItems (h .kind) es ≡ true = unfold otherItems in (ap (λ (x : ℕ). otherItems x es) k ∙ sym (t .fits) ∙ f) in
       e ∙ other-answer (λ x. absurd (omega (arith, k, x))) (λ x. absurd (omega (arith, k, x))) front (n .halves) (λ i. t .halves f) held
 
-  pub no-scientific : h .kind ≡ 5 → Front h → (n : ScientificRow) → ScientificTold es n → n .fits ≡ false → false ≡ rowGood row
-  no-scientific k front n t e = rw (sym (t .fits) ∙ e) at (row-scientific k front)
+  -- no kind has a number above 6
+  no-kind : 6 < h .kind → itemsOf (h .kind) es ≡ false
+  unfolding itemsOf
+  no-kind m = let other = ne-eqb (h .kind) (kindWord (itemsKind is)) (λ e. absurd (omega (arith, e, kind-few (itemsKind is)))) in
+      rw other (and-false (soundEntries es))
 
-  pub scientific-answer : h .kind ≡ 5 → Front h → (n : ScientificRow) → ScientificTold es n → n .fits ≡ true
-      → (r : Bool) → r ≡ scientificTold h (n .decimals) → r ≡ rowGood row
-  scientific-answer k front n t e r told = told ∙ rw (t .decimals e) (rw (sym (t .fits) ∙ e) at (row-scientific k front))
+  cut-answer : 5 ≤ h .kind → Front h → cutTold h es ≡ rowGood row
+  unfolding cutTold otherItems
+  cut-answer m front =
+      by-cases (eqb (h .kind) 5)
+      (λ e. rw e (row-scientific (eqb-true (h .kind) 5 e) front))
+      (λ e. let n = eqb-false (h .kind) 5 e in
+      let k : h .kind ≡ 2 → ⊥ = λ x. absurd (omega (arith, m, x)) in
+      let d : h .kind ≡ 4 → ⊥ = λ x. absurd (omega (arith, m, x)) in
+      let whole = row-other k n front false (λ i. sym (none-half (few-in k n i .0) d)) in
+      rw e
+      (by-cases (eqb (h .kind) 6)
+      (λ six. rw six (and-comm (fractionItems es) (otherTold h false) ∙ (rw six at whole)))
+      (λ six. rw six
+      (sym (and-false (otherTold h false)) ∙ (rw (six, no-kind (omega (arith, m, n, eqb-false (h .kind) 6 six))) at whole)))))
 
-  pub no-bare : (b : Bool) → b ≡ itemsOf (h .kind) es → not b ≡ true → false ≡ rowGood row
-  no-bare b e n = refused (λ r c. carry (sym e ∙ not-true b n) (items-out r))
+  -- a section that is neither cut nor a number's
+  module _ (k : h .kind ≡ 2 → ⊥) (m : h .kind < 5) where
+    no-five : h .kind ≡ 5 → ⊥
+    no-five e = absurd (omega (arith, m, e))
 
-  -- only a date-time section has a half-day mark
-  pub bare-answer : (h .kind ≡ 2 → ⊥) → (h .kind ≡ 4 → ⊥) → (h .kind ≡ 5 → ⊥) → Front h → (b : Bool) → b ≡ itemsOf (h .kind) es → not b ≡ false
-      → (r : Bool) → r ≡ otherTold h false → r ≡ rowGood row
-  bare-answer k d n front b e t r told =
-      told ∙ other-answer k n front false (λ i. sym (none-half (item-facts (h .kind) es i) d)) (sym e ∙ not-false b t)
+    bare-items : itemsOf (h .kind) es ≡ otherItems (h .kind) es
+    unfolding otherItems
+    bare-items = rw (ne-eqb (h .kind) 6 (λ e. absurd (omega (arith, m, e))))
+
+    pub no-bare : (b : Bool) → b ≡ itemsOf (h .kind) es → not b ≡ true → false ≡ rowGood row
+    no-bare b e x = refused (λ r c. carry (sym (e ∙ bare-items) ∙ not-true b x) (few-out k no-five r))
+
+    -- only a date-time section has a half-day mark
+    pub bare-answer : (h .kind ≡ 4 → ⊥) → Front h → (b : Bool) → b ≡ itemsOf (h .kind) es → not b ≡ false
+        → (r : Bool) → r ≡ otherTold h false → r ≡ rowGood row
+    bare-answer d front b e t r told =
+        told ∙ other-answer k no-five front false (λ i. sym (none-half (few-in k no-five i .0) d)) (sym (e ∙ bare-items) ∙ not-false b t)
 
 -- ---- the head as it was read
 pub rowed : (h : HeadWords) (head : Head) (es : List Entry) (r : Bool) → headFrom h ≡ head → r ≡ rowGood (rowWith (headFrom h) es) → r ≡ rowGood (rowWith head es)
 rowed h head es r e g = g ∙ ap (λ (x : Head). rowGood (rowWith x es)) e
+
+pub cut-rowed : (h : HeadWords) (head : Head) (es : List Entry) (r : Bool) → headFrom h ≡ head → 5 ≤ h .kind → Front (headFrom h)
+    → r ≡ cutTold head es → r ≡ rowGood (rowWith head es)
+cut-rowed h head es r e m front told =
+    told ∙ ap (λ (x : Head). cutTold x es) (sym e) ∙ rowed h head es _ e (cut-answer (headFrom h) es m front)
 
 -- what was tested of it before the items
 pub front-of : (h : HeadWords) (head : Head) → headFrom h ≡ head → head .items ≤ 254
@@ -472,9 +575,6 @@ front-of h head e few words colour condition =
 module _ (h again : HeadWords) (head : Head) (e : headFrom h ≡ head) (f : headFrom again ≡ head) (r : Bool) where
   pub number-again : (i d p : ℕ) → r ≡ numberTold (headFrom again) i d p → r ≡ numberTold (headFrom h) i d p
   number-again i d p t = t ∙ ap (λ (x : Head). numberTold x i d p) (f ∙ sym e)
-
-  pub scientific-again : (d : ℕ) → r ≡ scientificTold (headFrom again) d → r ≡ scientificTold (headFrom h) d
-  scientific-again d t = t ∙ ap (λ (x : Head). scientificTold x d) (f ∙ sym e)
 
   pub other-again : (half : Bool) → r ≡ otherTold (headFrom again) half → r ≡ otherTold (headFrom h) half
   other-again half t = t ∙ ap (λ (x : Head). otherTold x half) (f ∙ sym e)

@@ -6,6 +6,7 @@ use mathlib.Core.Bool.{Bool, true, false, cond, not, _&&_, _||_}
 use mathlib.Core.List.{List, [], _∷_, map}
 use lib.ListN.{length, getD}
 use lib.Dec.{leb, ltb, eqb}
+use Rattle.formats.specs.Items.{decimalPlaces}
 use Rattle.formats.specs.Where.{implies}
 use Rattle.formats.specs.Minus.{exceptionA}
 use Rattle.tables.specs.Words.{Head, Entry, Row, headsIn, itemsSaid, exactWords}
@@ -13,6 +14,9 @@ use Rattle.tables.specs.Encode.{hasHalf}
 use Rattle.tables.specs.Standing.{headStands, countedKinds}
 use Rattle.tables.specs.Decode.{wholeAt, millionthsAt, itemsAt, groupedAt}
 use Rattle.tables.specs.Rules.{shiftTells, rowFits}
+use Rattle.tallies.specs.Tally.{itemsOf}
+use Rattle.tallies.specs.ScientificRows.{scientificItems}
+use Rattle.tallies.specs.FractionRows.{fractionItems}
 
 -- both or neither
 abbrev pub agree : Bool → Bool → Bool
@@ -52,10 +56,19 @@ numberTold h integers places percents =
 unfoldable pub scientificTold : Head → ℕ → Bool
 scientificTold h places = eqb (h .shift) 0 && eqb (h .decimals) places && (eqb (h .flags) 0 || eqb (h .flags) 2)
 
+-- the items of a section that is neither a number section nor scientific, and a fraction's limits
+unfoldable pub otherItems : ℕ → List Entry → Bool
+otherItems kind es = cond (eqb kind 6) (fractionItems es) (itemsOf kind es)
+
 -- another section's, which has a half-day mark or none
 unfoldable pub otherTold : Head → Bool → Bool
 otherTold h half =
     eqb (h .shift) 0 && eqb (h .decimals) 0 && leb (h .flags) 7 && not (groupedAt (h .flags)) && agree (leb 4 (h .flags)) half
+
+-- what is left to test of a section that is scientific, a fraction or of no kind
+unfoldable pub cutTold : Head → List Entry → Bool
+cutTold h es =
+    cond (eqb (h .kind) 5) (scientificItems es && scientificTold h (decimalPlaces (itemsAt es))) ((eqb (h .kind) 6 && fractionItems es) && otherTold h false)
 
 abbrev pub rowWith : Head → List Entry → Row
 rowWith h es = record { head = h; entries = es }

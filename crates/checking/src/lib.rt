@@ -1,7 +1,8 @@
 // Whether words are a table: every table rule, those for items by a walk for each sort of section.
 ghost use mathlib.Core.Path.{_≡_};
-ghost use mathlib.Core.Bool.{false};
+ghost use mathlib.Core.Bool.{false, _&&_};
 ghost use Prim.Native.Nat.{_+_, _*_, _≤_, _<_};
+ghost use lib.Dec.{eqb};
 ghost use lib.ListN.{length, getD, drop};
 ghost use Rattle.formats.specs.Minus.{exceptionA};
 ghost use Rattle.lists.specs.Lists.{every};
@@ -10,7 +11,8 @@ ghost use Rattle.tables.specs.Standing.{countedOne, countedKinds};
 ghost use Rattle.tables.specs.Decode.{thousandsAt};
 ghost use Rattle.tables.specs.Rules.{shiftTells, passes};
 ghost use Rattle.table_words.specs.Sections.{headFrom};
-ghost use Rattle.checking.specs.Checking.{agree, sized, Sized, comparedTold, conditionTold, numberTold, scientificTold, otherTold, rowWith, rowGood, comparedStands, plainFits, placeFits, kindsIn, placesFit};
+ghost use Rattle.tallies.specs.FractionRows.{fractionItems};
+ghost use Rattle.checking.specs.Checking.{agree, sized, Sized, comparedTold, conditionTold, numberTold, scientificTold, otherTold, cutTold, rowWith, rowGood, comparedStands, plainFits, placeFits, kindsIn, placesFit};
 use table_words::HeadWords;
 use table_words::head_at;
 use table_words::number;
@@ -20,6 +22,7 @@ use tables::heads;
 use tables::kinds;
 use tallies::bare_rows::bare_fits;
 use tallies::date_rows::dated_row;
+use tallies::fraction_rows::fraction_row;
 use tallies::number_rows::NumberRow;
 use tallies::number_rows::number_row;
 use tallies::scientific_rows::ScientificRow;
@@ -119,6 +122,35 @@ fn other_fits(h: HeadWords, half: bool) -> bool
         & agree(flags::TWELVE_HOUR <= h.flags, half)
 }
 
+// The items of a fraction, where that is the kind.
+fn is_fraction(items: &[u16], kind: u16) -> bool
+    ensures { λ r. ⌜ r ≡ (eqb kind 6 && fractionItems (entriesIn (now (items .entry)))) ⌝ }
+{
+    if kind == kinds::FRACTION {
+        return fraction_row(items);
+    }
+    false
+}
+
+// What is left to test of section i, which is scientific, a fraction or of no kind.
+fn cut_fits(table: &[u16], i: usize, items: &[u16]) -> bool
+    requires { ⌜ (i ≤ 3) × (13 + 12 * i ≤ length (now table)) ⌝ }
+    ensures { λ r. ⌜ r ≡ cutTold (headAt (drop (1 + 12 * i) (now (table .entry)))) (entriesIn (now (items .entry))) ⌝ }
+{
+    let h = head_at(table, i);
+    if h.kind == kinds::SCIENTIFIC {
+        let row = scientific_row(items);
+        if !row.fits {
+            return false;
+        }
+        return scientific_fits(h, row);
+    }
+    if !is_fraction(items, h.kind) {
+        return false;
+    }
+    other_fits(h, false)
+}
+
 // The rules for section i that do not speak of where it stands. A word that another word or the items tell is in its range
 // where they are. The head is read again behind the items: what is kept over them costs more than a second reading.
 fn row_fits(table: &[u16], i: usize, items: &[u16]) -> bool
@@ -146,12 +178,8 @@ fn row_fits(table: &[u16], i: usize, items: &[u16]) -> bool
         }
         return other_fits(head_at(table, i), row.halves);
     }
-    if h.kind == kinds::SCIENTIFIC {
-        let row = scientific_row(items);
-        if !row.fits {
-            return false;
-        }
-        return scientific_fits(head_at(table, i), row);
+    if kinds::SCIENTIFIC <= h.kind {
+        return cut_fits(table, i, items);
     }
     if !bare_fits(items, h.kind) {
         return false;

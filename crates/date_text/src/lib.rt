@@ -8,10 +8,10 @@ use values::Millisecond;
 use writing::put_unit;
 use writing::units;
 ghost use mathlib.Core.Path.{_≡_};
-ghost use mathlib.Core.Bool.{true, false, cond};
+ghost use mathlib.Core.Bool.{true, false, cond, _||_};
 ghost use Prim.Native.Nat.{ℕ, _-_, _/_, _<_, _^_};
 ghost use Rattle.figures.specs.Digits.{numeral};
-ghost use Rattle.formats.specs.Items.{isExponent};
+ghost use Rattle.formats.specs.Items.{isCut, isFixed};
 ghost use Rattle.formats.specs.Text.{Context, yearUnits, hourShown, partUnits, halfUnits, itemUnits};
 ghost use Rattle.lists.specs.Lists.{any};
 ghost use Rattle.calendar.specs.Clock.{afternoon};
@@ -269,7 +269,7 @@ fn numeral_of(tag: u16, n: u32, m: &[u64; 7]) -> Numeral
 // is called here alone: the compiler has it in place then, which it had not with a call for each sort of item.)
 pub fn put_moment_item(room: &mut [u16], at: usize, tag: u16, argument: u16, m: &[u64; 7]) -> usize
     requires { ⌜ (at < 2 ^ 62) × (10 < tag) ⌝ }
-    ensures { λ r. ⌜ ((c : Context) (q : ℕ) → isExponent (itemAt (entry tag argument)) ≡ false → ClockIs (now (m .entry)) c → (datedEntry (entry tag argument) ≡ true → DateIs (now (m .entry)) c)
+    ensures { λ r. ⌜ ((c : Context) (q : ℕ) → (isCut (itemAt (entry tag argument)) || isFixed (itemAt (entry tag argument))) ≡ false → ClockIs (now (m .entry)) c → (datedEntry (entry tag argument) ≡ true → DateIs (now (m .entry)) c)
         → Put (now (room .entry)) at (itemUnits c q (itemAt (entry tag argument))) r (now (room .exit))) ⌝ }
 {
     let n = argument as u32;

@@ -1,4 +1,4 @@
--- A condition that is read has a digit; so the units of a condition's token write a condition.
+-- A condition that is read has a digit, a literal a unit; so the units of a condition's token write a condition.
 -- Assumes nothing.
 use Prim.Native.Nat.{ℕ, suc, _+_, _-_, _*_}
 use native.Mathlib.Omega.{arith}
@@ -6,10 +6,11 @@ use mathlib.Core.Path.{_≡_, refl}
 use mathlib.Core.Bool.{Bool, true, not}
 use mathlib.Core.List.{List, [], _∷_}
 use mathlib.Core.Option.{Option, none, some}
-use lib.ListN.{take, drop, getD}
+use lib.ListN.{length, take, drop, getD, length-drop}
+use lib.Seq.{take-all}
 use lib.Dec.{T}
 use Rattle.lists.specs.Lists.{every, isEmpty, isSome}
-use Rattle.lists.proofs.Bools.{and-left, and-right, every-head, every-take, every-drop}
+use Rattle.lists.proofs.Bools.{and-left, and-right, and-in, every-head, every-take, every-drop}
 use Rattle.lists.proofs.Counts.{every-weaker}
 use Rattle.formats.specs.Tokens.{Token, Written, conditionInside, lex}
 use Rattle.formats.specs.Kinds.{conditionIn}
@@ -19,7 +20,9 @@ use Rattle.marks.specs.Marks.{writtenOr, writtenIn, conditionOf, markRows, mark
 use Rattle.bodies.specs.declared.sections.Heading.{Heading}
 use Rattle.bodies.specs.Sections.{HeadingOf}
 use Rattle.marks.proofs.Words.{tokens-first, tokens-drop, tokens-take}
-use Rattle.drafting.specs.Draft.{writesDigit, hasDigit}
+use Rattle.bodies.specs.Fraction.{hasUnits}
+use Rattle.bodies.proofs.Callers.{units-passed}
+use Rattle.drafting.specs.Draft.{writesDigit, isRead}
 
 -- ---- the tokens of a code
 abbrev anyUnit : ℕ → Bool
@@ -35,19 +38,30 @@ unfolding conditionDigits writtenInRange writesDigit
 written-digit none t = tt
 written-digit (some w) t = search (and-left, and-right)
 
-token-digit : (t : Token) → T (tokenPasses anyUnit t) → T (hasDigit t)
-unfolding hasDigit
-token-digit t h = written-digit (conditionIn t) (condition-in anyUnit t h)
+token-read : (t : Token) → T (tokenPasses anyUnit t) → T (isRead t)
+unfolding isRead
+token-read t h = and-in (writesDigit (conditionIn t)) (hasUnits t) (written-digit (conditionIn t) (condition-in anyUnit t h)) (units-passed anyUnit t h)
 
-pub digits-all : (code : List ℕ) → T (every hasDigit (tokensOf (placedOf (lex code))))
-digits-all code = every-weaker (tokenPasses anyUnit) hasDigit token-digit _ (tokens-pass anyUnit code (any-units code))
+pub read-all : (code : List ℕ) → T (every isRead (tokensOf (placedOf (lex code))))
+read-all code = every-weaker (tokenPasses anyUnit) isRead token-read _ (tokens-pass anyUnit code (any-units code))
 
 -- ---- a part of the tokens
-pub digits-drop : (code ws : List ℕ) (k : ℕ) → T (every hasDigit (tokensIn code ws)) → T (every hasDigit (tokensIn code (drop (3 * k) ws)))
-digits-drop code ws k t = rw (tokens-drop code ws k) (every-drop hasDigit k (tokensIn code ws) t)
+pub read-drop : (code ws : List ℕ) (k : ℕ) → T (every isRead (tokensIn code ws)) → T (every isRead (tokensIn code (drop (3 * k) ws)))
+read-drop code ws k t = rw (tokens-drop code ws k) (every-drop isRead k (tokensIn code ws) t)
 
-pub digits-take : (code ws : List ℕ) (k : ℕ) → T (every hasDigit (tokensIn code ws)) → T (every hasDigit (tokensIn code (take (3 * k) ws)))
-digits-take code ws k t = rw (tokens-take code ws k) (every-take hasDigit k (tokensIn code ws) t)
+pub read-take : (code ws : List ℕ) (k : ℕ) → T (every isRead (tokensIn code ws)) → T (every isRead (tokensIn code (take (3 * k) ws)))
+read-take code ws k t = rw (tokens-take code ws k) (every-take isRead k (tokensIn code ws) t)
+
+-- the literals of those behind a heading have units
+read-units : (t : Token) → T (isRead t) → T (hasUnits t)
+unfolding isRead
+read-units t h = and-right (writesDigit (conditionIn t)) (hasUnits t) h
+
+pub units-behind : (code ws : List ℕ) (k : ℕ) → T (every isRead (tokensIn code ws))
+    → T (every hasUnits (tokensIn code (take (length ws - 3 * k) (drop (3 * k) ws))))
+units-behind code ws k t =
+    rw (take-all (length ws - 3 * k) (drop (3 * k) ws) (rw (length-drop (3 * k) ws) (omega arith)))
+    (every-weaker isRead hasUnits read-units _ (read-drop code ws k t))
 
 -- ---- the units of a condition's token
 written-some : (o : Option Token) → T (not (isEmpty (writtenOr (writtenIn o) .whole))) → isSome o ≡ true
@@ -55,11 +69,11 @@ unfolding writtenOr writtenIn isSome isEmpty
 written-some none t = absurd t
 written-some (some x) t = refl
 
-digit-some : (us : List ℕ) → T (hasDigit (conditionOf us)) → isSome (conditionInside us) ≡ true
-unfolding hasDigit writesDigit conditionIn conditionOf
-digit-some us t = written-some (conditionInside us) t
+digit-some : (us : List ℕ) → T (isRead (conditionOf us)) → isSome (conditionInside us) ≡ true
+unfolding isRead writesDigit conditionIn conditionOf
+digit-some us t = written-some (conditionInside us) (and-left (writesDigit (conditionIn (conditionOf us))) (hasUnits (conditionOf us)) t)
 
-pub heading-digit : (code ws : List ℕ) (h : Heading) → HeadingOf ws h → T (every hasDigit (tokensIn code ws)) → h .condition ≡ true
+pub heading-digit : (code ws : List ℕ) (h : Heading) → HeadingOf ws h → T (every isRead (tokensIn code ws)) → h .condition ≡ true
     → isSome (conditionInside (take (h .argument) (drop (suc (h .start)) code))) ≡ true
 unfolding tokenAt markToken markRows conditionOf
 heading-digit code ws h head t e =
@@ -73,7 +87,7 @@ heading-digit code ws h head t e =
     let b : h .start ≡ getD ws (3 * k + 2) 0 = rw m at (r .3) in
     let us : List ℕ = drop (suc (h .start)) code in
     let first = tokens-first code ws (3 * k) (omega (arith, r .0, head .inside)) in
-    let here : T (every hasDigit (markToken (getD ws (3 * k) 0) (h .argument) us ∷ tokensIn code (drop (3 * k + 3) ws)))
-    = rw (a, b) (rw first at (digits-drop code ws k t)) in
-    let token = every-head hasDigit (markToken (getD ws (3 * k) 0) (h .argument) us) (tokensIn code (drop (3 * k + 3) ws)) here in
+    let here : T (every isRead (markToken (getD ws (3 * k) 0) (h .argument) us ∷ tokensIn code (drop (3 * k + 3) ws)))
+    = rw (a, b) (rw first at (read-drop code ws k t)) in
+    let token = every-head isRead (markToken (getD ws (3 * k) 0) (h .argument) us) (tokensIn code (drop (3 * k + 3) ws)) here in
     digit-some (take (h .argument) us) (rw form at token)

@@ -26,10 +26,10 @@ use Rattle.bodies.specs.Sections.{firstSection, laterSections, SectionEnd}
 use Rattle.marks.proofs.Words.{tokens-drop, tokens-take, tokens-length}
 use Rattle.bodies.proofs.Endings.{split-first}
 use Rattle.drafting.specs.declared.Draft.{Draft}
-use Rattle.drafting.specs.Draft.{bodyWords, draftWords, draftFrom, draftIn, DraftOf, Drafted, itemWords, AllDrafted, Lexes, hasDigit}
+use Rattle.drafting.specs.Draft.{bodyWords, draftWords, draftFrom, draftIn, DraftOf, Drafted, itemWords, AllDrafted, Lexes, isRead}
 use Rattle.drafting.proofs.Settled.{put-read}
 use Rattle.drafting.proofs.Drafting.{body-length}
-use Rattle.drafting.proofs.Digits.{digits-all, digits-drop, digits-take}
+use Rattle.drafting.proofs.Digits.{read-all, read-drop, read-take}
 
 abbrev noParts : Parts
 noParts = record { colour = 0; condition = none; body = [] }
@@ -185,10 +185,10 @@ module _ {code words old room ds : List ℕ} {n first at k : ℕ} (inv : Section
 
     -- what drafting the next section asks
     pub next-asks : ((length code ≤ 254) × (length (take (3 * size) left) ≤ 762) × (length room ≤ 508))
-        × ((at + length (bodyWords ((partsOf (tokensIn code (take (3 * size) left))) .body)) ≤ length room) × T (every hasDigit (tokensIn code (take (3 * size) left))))
+        × ((at + length (bodyWords ((partsOf (tokensIn code (take (3 * size) left))) .body)) ≤ length room) × T (every isRead (tokensIn code (take (3 * size) left))))
     next-asks = (
       (inv .small, omega (arith, length-take (3 * size) left, next-size), omega (arith, inv .rest .size, inv .wide)),
-      (rw part next-room, digits-take code left size (rw left-all (digits-drop code words first (rw (inv .lexes .same) (digits-all code))))),
+      (rw part next-room, read-take code left size (rw left-all (read-drop code words first (rw (inv .lexes .same) (read-all code))))),
     )
 
     module _ (d : Draft) (out : List ℕ) (drafted : DraftOf (partsOf (tokensIn code (take (3 * size) left))) d)

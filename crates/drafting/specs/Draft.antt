@@ -6,16 +6,16 @@ use mathlib.Core.Bool.{Bool, true, false, cond, not, _&&_, _||_}
 use mathlib.Core.List.{List, [], _∷_, _++_}
 use mathlib.Core.Option.{Option, none, some}
 use lib.ListN.{length, getD}
-use lib.Dec.{eqb}
+use lib.Dec.{T, eqb}
 use mir.Val.{boolByte}
-use Rattle.lists.specs.Lists.{isEmpty}
+use Rattle.lists.specs.Lists.{every, isEmpty}
 use Rattle.formats.specs.Tokens.{Token, Written, lex}
-use Rattle.formats.specs.Items.{kindOf, settled}
+use Rattle.formats.specs.Items.{kindOf, integerPlaces, wholeItems, mainItems, fractionFits, settled}
 use Rattle.formats.specs.Accept.{placedOf, tokensOf, partsIn}
 use Rattle.formats.specs.Kinds.{Parts, conditionIn, conditionOf, sectionOf, fits, bodyItems, lastFill}
 use Rattle.formats.specs.Limits.{writtenWithin, withinLimits, sectionWithin}
 use Rattle.tables.specs.Words.{entriesWords}
-use Rattle.tables.specs.Encode.{kindWord, operatorWord, negativeWord, wholePart, millionthsPart, bit, lowWord, highWord, shiftWord, hasHalf, decimalsWord, entriesOf}
+use Rattle.tables.specs.Encode.{kindWord, operatorWord, negativeWord, wholePart, millionthsPart, bit, lowWord, highWord, shiftWord, hasHalf, decimalsWord, runEntries, entriesOf}
 use Rattle.tables.specs.Standing.{shiftOf}
 use Rattle.marks.specs.Marks.{tokenAt, tokensIn}
 use Rattle.bodies.specs.declared.conditions.Compared.{Compared}
@@ -25,12 +25,20 @@ use Rattle.writing.specs.Put.{Put}
 use Rattle.bodies.specs.declared.sections.Heading.{Heading}
 use Rattle.bodies.specs.declared.facts.Facts.{Facts}
 use Rattle.bodies.specs.declared.commas.Commas.{Commas}
+use Rattle.numbering.specs.declared.Numbered.{Numbered}
 use Rattle.tallies.specs.declared.Tally.{Tally}
-use Rattle.tallies.specs.Tally.{kindTold, itemsFitTold, withinTold, decimalsTold}
+use Rattle.bodies.specs.Bodies.{factsOf}
+use Rattle.bodies.specs.Uses.{commasOf}
+use Rattle.bodies.specs.Fraction.{hasUnits}
+use Rattle.tallies.specs.Tally.{tallyOf, kindTold, itemsFitTold, withinTold, decimalsTold}
 
 -- the words of a body's items in the table
 abbrev pub bodyWords : List Token → List ℕ
 bodyWords ts = entriesWords (entriesOf (settled (lastFill (bodyItems ts)))) []
+
+-- these words with the powers of one run, as they are before the parts of a fraction are told apart
+abbrev pub settledWords : List Token → List ℕ
+settledWords ts = entriesWords (runEntries (settled (lastFill (bodyItems ts)))) []
 
 -- the condition of a section, if it has one, as numbers; they are only told where its digits are within the limits
 pub record ConditionAs (o : Option Written) (r : Compared) : Type 0 where
@@ -79,33 +87,53 @@ unfoldable pub draftsIn : ℕ → ℕ → List ℕ → List Draft
 draftsIn zero i ws = []
 draftsIn (suc n) i ws = draftIn ws i ∷ draftsIn n (i + 1) ws
 
--- the body of a section by its facts, its commas, the tally of its items and their count
+-- only the commas of a number divide
 abbrev pub thousandsBy : Facts → Commas → ℕ
 thousandsBy f c = cond (f .number) (c .thousands) 0
 
 -- the shift is told where the section is within the limits
-abbrev pub shiftTold : Tally → ℕ → ℕ
-shiftTold t thousands = cond (withinTold t thousands) (shiftOf (kindTold t) (t .percents) thousands) 0
+abbrev pub shiftTold : Tally → Bool → ℕ → ℕ
+shiftTold t within thousands = cond within (shiftOf (kindTold t) (t .percents) thousands) 0
 
--- a scientific section has no comma, a date any
+-- a scientific section or a fraction has no comma, a date any
 abbrev pub commasFitBy : Facts → Commas → Bool
-commasFitBy f c = cond (f .scientific) (not (f .commas)) (f .date || not (c .misplaced))
+commasFitBy f c = cond (f .scientific || f .fraction) (not (f .commas)) (f .date || not (c .misplaced))
 
-abbrev pub fitsBy : Facts → Commas → Tally → Bool
-fitsBy f c t = f .plain && commasFitBy f c && f .solidus && itemsFitTold t
-
-abbrev pub bodyBy : Facts → Commas → Tally → ℕ → Body
-bodyBy f c t items =
+-- the body of a section by its facts, its commas, the tally of its items, whether these fit and are within the limits, and their count
+abbrev pub bodyBy : Facts → Commas → Tally → Bool → Bool → ℕ → Body
+bodyBy f c t fit within items =
     record {
-      fits = fitsBy f c t;
-      within = withinTold t (thousandsBy f c);
+      fits = f .plain && commasFitBy f c && fit;
+      within = within;
       kind = kindTold t;
-      shift = shiftTold t (thousandsBy f c);
+      shift = shiftTold t within (thousandsBy f c);
       grouped = f .number && c .grouped;
       twelve = t .halves;
       decimals = decimalsTold t;
       items = items;
     }
+
+-- where neither E nor solidus is among the items, nothing else is to be told
+abbrev pub bareBody : Facts → Commas → Tally → ℕ → Body
+bareBody f c t items = bodyBy f c t (itemsFitTold t) (withinTold t (thousandsBy f c)) items
+
+-- the facts and the commas of a body, the tally of its items and their count
+pub record BodyRead (ts : List Token) (f : Facts) (c : Commas) (t : Tally) (n : ℕ) : Type 0 where
+  pub units : T (every hasUnits ts)
+  pub facts : f ≡ factsOf ts
+  pub commas : c ≡ commasOf ts
+  pub tally : t ≡ tallyOf (runEntries (settled (lastFill (bodyItems ts))))
+  pub items : n ≡ length (settled (lastFill (bodyItems ts)))
+
+-- the rules for a solidus are told by a fraction's tokens; any other kind may have none
+abbrev pub keptBy : List Token → Facts → Tally → Bool
+keptBy ts f t = cond (f .fraction) (fractionFits (bodyItems ts)) (eqb (t .solidi) 0)
+
+-- the words of a body's items are those of the table, and the places of their parts are counted
+pub record Parted (ts : List Token) (r : Numbered) (out : List ℕ) : Type 0 where
+  pub wholes : r .wholes ≡ integerPlaces (wholeItems (settled (lastFill (bodyItems ts))))
+  pub numerators : r .numerators ≡ integerPlaces (mainItems (settled (lastFill (bodyItems ts))))
+  pub words : out ≡ bodyWords ts
 
 -- what the body of a section is drafted as
 pub record BodyOf (p : Parts) (b : Body) : Type 0 where
@@ -117,6 +145,10 @@ pub record BodyOf (p : Parts) (b : Body) : Type 0 where
   pub twelve : b .twelve ≡ hasHalf ((sectionOf p) .items)
   pub decimals : b .decimals ≡ decimalsWord (sectionOf p)
   pub items : b .items ≡ length ((sectionOf p) .items)
+
+-- what the section of a body of these tokens is drafted as, whatever stands before it
+abbrev pub Drafts : List Token → Body → Type 0
+Drafts ts b = (p : Parts) → p .body ≡ ts → BodyOf p b
 
 -- what a section is drafted as; its condition is only told within the limits
 pub record DraftOf (p : Parts) (d : Draft) : Type 0 where
@@ -153,11 +185,11 @@ pub record Lexes (code tokens : List ℕ) (n : ℕ) : Type 0 where
 abbrev pub hasConditionBy : Draft → Bool
 hasConditionBy d = not (eqb (d .operator) 0)
 
--- ---- a condition token's units write a condition
+-- ---- a token of a code
 unfoldable pub writesDigit : Option Written → Bool
 writesDigit none = true
 writesDigit (some w) = not (isEmpty (w .whole))
 
--- a condition that is read has a digit
-unfoldable pub hasDigit : Token → Bool
-hasDigit t = writesDigit (conditionIn t)
+-- a condition that is read has a digit, a literal a unit
+unfoldable pub isRead : Token → Bool
+isRead t = writesDigit (conditionIn t) && hasUnits t

@@ -1,4 +1,4 @@
-// How many integer places and how many exponent places the items of a body have.
+// How many integer places the items of a body have, and how many behind its E or solidus.
 use bodies::facts::Facts;
 use marks::forms;
 ghost use mathlib.Core.Path.{_≡_};
@@ -11,18 +11,18 @@ ghost use Rattle.marks.specs.Marks.{tokensIn};
 ghost use Rattle.bodies.specs.Bodies.{factsOf};
 ghost use Rattle.drafting.specs.Places.{placesOf, partForm, datePlacesOf};
 
-// The places before the point and the E, and those behind the E.
+// The places before the point and the E or solidus, and those behind the E or solidus.
 pub struct Places {
     pub integers: u16,
     pub exponents: u16,
 }
 
-// The places among the tokens of a date that were passed, and whether an E is among these: whether the last token is s, ss or an
-// elapsed s, and how many zeros may still belong to a part of a second.
+// The places among the tokens of a date that were passed, and whether an E or solidus is among these (`cut`): whether the last token is s,
+// ss or an elapsed s, and how many zeros may still belong to a part of a second.
 pub struct Parting {
     pub behind: bool,
     pub left: u16,
-    pub exponent: bool,
+    pub cut: bool,
     pub integers: u16,
     pub exponents: u16,
 }
@@ -44,6 +44,21 @@ fn places_with(n: u16, place: bool) -> u16
     n
 }
 
+// The places with an E more, or with a place and its solidus. (Told apart from the others: few dates hold one.)
+fn part_cut(s: Parting, form: u16) -> Parting
+    requires { ⌜ (25 ≤ form) × (s .integers ≤ 762) × (s .exponents ≤ 762) ⌝ }
+    ensures { λ r. ⌜ r ≡ partForm s form ⌝ }
+{
+    let place = (forms::ZERO_OVER <= form) & (form <= forms::SPACE_OVER_FIXED);
+    Parting {
+        behind: false,
+        left: 0,
+        cut: s.cut | (form <= forms::SPACE_OVER_FIXED),
+        integers: places_with(s.integers, place & !s.cut),
+        exponents: places_with(s.exponents, place & s.cut),
+    }
+}
+
 // The places with one token more.
 fn part_token(s: Parting, form: u16) -> Parting
     requires { ⌜ (s .integers ≤ 762) × (s .exponents ≤ 762) ⌝ }
@@ -53,19 +68,21 @@ fn part_token(s: Parting, form: u16) -> Parting
         return Parting {
             behind: false,
             left: s.left - 1,
-            exponent: s.exponent,
+            cut: s.cut,
             integers: s.integers,
             exponents: s.exponents,
         };
     }
+    if forms::EXPONENT_PLUS <= form {
+        return part_cut(s, form);
+    }
     let place = (forms::ZERO_PLACE <= form) & (form <= forms::SPACE_PLACE);
-    let exponent = (forms::EXPONENT_PLUS <= form) & (form <= forms::EXPONENT_MINUS);
     Parting {
         behind: (form == forms::SECONDS) | (form == forms::ELAPSED_SECONDS),
         left: zeros_with(s.behind & (form == forms::POINT)),
-        exponent: s.exponent | exponent,
-        integers: places_with(s.integers, place & !s.exponent),
-        exponents: places_with(s.exponents, place & s.exponent),
+        cut: s.cut,
+        integers: places_with(s.integers, place & !s.cut),
+        exponents: places_with(s.exponents, place & s.cut),
     }
 }
 
@@ -77,7 +94,7 @@ fn date_places(body: &[u16]) -> Places
     let mut s = Parting {
         behind: false,
         left: 0,
-        exponent: false,
+        cut: false,
         integers: 0,
         exponents: 0,
     };

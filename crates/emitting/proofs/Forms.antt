@@ -7,7 +7,7 @@ use mathlib.Core.Path.{_≡_, refl, ap}
 use mathlib.Core.Bool.{Bool, true, false, cond}
 use mathlib.Core.List.{List, [], _∷_, map}
 use lib.ListN.{take}
-use lib.Dec.{eqb}
+use lib.Dec.{leb, eqb}
 use borrow.Author.Tests.{le-leb, lt-leb, ne-eqb}
 use Rattle.lists.specs.Lists.{count}
 use Rattle.formats.specs.Tokens.{Token}
@@ -19,7 +19,7 @@ use Rattle.marks.specs.Marks.{markRows, markToken, conditionOf}
 use Rattle.marks.proofs.ByForm.{by-form, fill-form, zero-form, point-form, seconds-form}
 use Rattle.tables.specs.Words.{entriesWords}
 use Rattle.tables.specs.Encode.{entryOf}
-use Rattle.emitting.specs.Emit.{formSeconds, formDigit, formWords, itemsWords, literalWords}
+use Rattle.emitting.specs.Emit.{formSeconds, formDigit, formWords, overWords, itemsWords, literalWords}
 use Rattle.emitting.proofs.Joined.{digitsAfter}
 
 -- the units of a literal are no place and no fill
@@ -51,7 +51,7 @@ tells f a us = record { point = point-form f a us; zero = zero-form f a us; fill
 
 -- the digit that a token leaves behind, by its items and by its form
 rows-leave : (date : Bool) (anew q a : ℕ) (us : List ℕ)
-    → map (λ (t : Token). digitsAfter anew q (tokenItems date t)) (markRows a us) ≡ numbered (λ f. formDigit anew f q) 0 27
+    → map (λ (t : Token). digitsAfter anew q (tokenItems date t)) (markRows a us) ≡ numbered (λ f. formDigit anew f q) 0 33
 unfolding markRows conditionOf formDigit tokenItems runItem digitsAfter digitAfter
 rows-leave true anew q a us = rw (literals-digit anew q (take a us))
 rows-leave false anew q a us = rw (literals-digit anew q (take a us))
@@ -59,14 +59,14 @@ rows-leave false anew q a us = rw (literals-digit anew q (take a us))
 pub behind : (date : Bool) (anew q a : ℕ) (us : List ℕ) (f : ℕ) → digitsAfter anew q (tokenItems date (markToken f a us)) ≡ formDigit anew f q
 unfolding formDigit tokenItems digitsAfter
 behind date anew q a us = by-form (λ (t : Token). digitsAfter anew q (tokenItems date t)) (λ f. formDigit anew f q) a us (rows-leave date anew q a us)
-    (λ n h. rw (lt-leb n 6 (omega arith), le-leb 4 n (omega arith), lt-leb n 26 (omega arith), le-leb 25 n (omega arith)))
+    (λ n h. rw (lt-leb n 6 (omega arith), le-leb 4 n (omega arith), lt-leb n 32 (omega arith), le-leb 25 n (omega arith)))
 
--- the words of a token by its form: those of a quoted literal are its units'; no item of a token stands behind an E
+-- the words of a token by its form: those of a quoted literal are its units'
 abbrev wordsForm : Bool → ℕ → ℕ → List ℕ → ℕ → List ℕ
-wordsForm date q a us f = cond (eqb f 0) (literalWords (take a us)) (formWords date q a f)
+wordsForm date q a us f = cond (eqb f 0) (literalWords (take a us)) (cond (leb 27 f) (overWords q a f) (formWords date q a f))
 
 rows-words : (date : Bool) (anew q a : ℕ) (us : List ℕ)
-    → map (λ (t : Token). itemsWords anew q (tokenItems date t)) (markRows a us) ≡ numbered (wordsForm date q a us) 0 27
+    → map (λ (t : Token). itemsWords anew q (tokenItems date t)) (markRows a us) ≡ numbered (wordsForm date q a us) 0 33
 unfolding markRows conditionOf itemsWords tokenItems runItem entriesWords entryOf digitAfter along
 rows-words true anew q a us = rw (literals-words anew q (take a us))
 rows-words false anew q a us = rw (literals-words anew q (take a us))
@@ -74,7 +74,7 @@ rows-words false anew q a us = rw (literals-words anew q (take a us))
 pub words-form : (date : Bool) (anew q a : ℕ) (us : List ℕ) (f : ℕ) → itemsWords anew q (tokenItems date (markToken f a us)) ≡ wordsForm date q a us f
 unfolding itemsWords tokenItems entriesWords along
 words-form date anew q a us = by-form (λ (t : Token). itemsWords anew q (tokenItems date t)) (wordsForm date q a us) a us (rows-words date anew q a us)
-    (λ f h. simp (ne-eqb f 0 (omega arith), ne-eqb f 1 (omega arith), ne-eqb f 2 (omega arith), ne-eqb f 3 (omega arith), ne-eqb f 4 (omega arith), ne-eqb f 5 (omega arith), ne-eqb f 6 (omega arith), ne-eqb f 7 (omega arith), ne-eqb f 8 (omega arith), ne-eqb f 9 (omega arith), ne-eqb f 10 (omega arith), ne-eqb f 12 (omega arith), ne-eqb f 13 (omega arith), ne-eqb f 14 (omega arith), ne-eqb f 15 (omega arith), ne-eqb f 16 (omega arith), ne-eqb f 17 (omega arith), ne-eqb f 18 (omega arith), ne-eqb f 19 (omega arith), ne-eqb f 20 (omega arith), ne-eqb f 21 (omega arith), ne-eqb f 22 (omega arith), ne-eqb f 25 (omega arith), ne-eqb f 26 (omega arith)))
+    (λ f h. simp (ne-eqb f 0 (omega arith), le-leb 27 f (omega arith), lt-leb f 29 (omega arith), lt-leb f 32 (omega arith)))
 
 -- a place's words, by its power
 pub power-words : (tag r q : ℕ) → r ≡ q + 1 → tag ∷ r ∷ [] ≡ tag ∷ suc q ∷ []

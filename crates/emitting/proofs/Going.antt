@@ -8,13 +8,13 @@ use mathlib.Core.List.{List, []}
 use lib.ListN.{length, drop}
 use Rattle.lists.specs.Lists.{count}
 use Rattle.formats.specs.Tokens.{Token}
-use Rattle.formats.specs.Items.{Item, dateKind, sameKind, integerPlaces, exponentPlaces}
+use Rattle.formats.specs.Items.{Item, dateKind, sameKind, integerPlaces, placesBehind}
 use Rattle.formats.specs.Kinds.{isFillToken, bodyKind, bodyItems, lastFill}
 use Rattle.formats.proofs.FormedItems.{places-lastFill, exponents-lastFill}
 use Rattle.marks.specs.Marks.{tokensIn}
 use Rattle.marks.proofs.Words.{tokens-end}
 use Rattle.tables.specs.Words.{entriesWords}
-use Rattle.tables.specs.Encode.{entriesOf}
+use Rattle.tables.specs.Encode.{runEntries}
 use Rattle.writing.specs.Put.{Put, Rest}
 use Rattle.writing.proofs.Laws.{rest-start, rest-put, rest-done}
 use Rattle.emitting.specs.declared.Walk.{Walk}
@@ -27,13 +27,13 @@ abbrev pub walkFrom : ℕ → ℕ → ℕ → Walk
 walkFrom at fills integers = record { at = at; behind = false; skip = 0; digit = firstOf integers; fills = fills }
 
 -- all words of a body are left at its start
-words-start : (is : List Item) (n m : ℕ) → n ≡ integerPlaces is → m ≡ exponentPlaces is
-    → itemsWords (firstOf m) (firstOf n) (lastFill is) ≡ entriesWords (entriesOf (lastFill is)) []
-unfolding itemsWords entriesOf
+words-start : (is : List Item) (n m : ℕ) → n ≡ integerPlaces is → m ≡ placesBehind is
+    → itemsWords (firstOf m) (firstOf n) (lastFill is) ≡ entriesWords (runEntries (lastFill is)) []
+unfolding itemsWords runEntries
 words-start is n m e f = rw (places-lastFill is, exponents-lastFill is, e, f)
 
 left-start : (date : Bool) (ts : List Token) (at fills integers exponents : ℕ) → date ≡ sameKind (bodyKind ts) dateKind
-    → integers ≡ integerPlaces (bodyItems ts) → exponents ≡ exponentPlaces (bodyItems ts)
+    → integers ≡ integerPlaces (bodyItems ts) → exponents ≡ placesBehind (bodyItems ts)
     → left date (firstOf exponents) (walkFrom at fills integers) ts ≡ emittedWords ts
 unfolding left
 left-start date ts at fills integers exponents e h k = rw (← (body-emitted date ts e)) (words-start (bodyItems ts) integers exponents h k)
@@ -58,7 +58,7 @@ pub going-start : (date : Bool) (code body old : List ℕ) (at fills integers ex
     → date ≡ sameKind (bodyKind (tokensIn code body)) dateKind
     → fills ≡ count isFillToken (tokensIn code body)
     → integers ≡ integerPlaces (bodyItems (tokensIn code body))
-    → exponents ≡ exponentPlaces (bodyItems (tokensIn code body))
+    → exponents ≡ placesBehind (bodyItems (tokensIn code body))
     → Going date (firstOf exponents) code body old at old (walkFrom at fills integers) 0
 going-start date code body old at fills integers exponents h d f n m = record {
   rest = rw (left-start date (tokensIn code body) at fills integers exponents d n m) (rest-start old at (emittedWords (tokensIn code body)));

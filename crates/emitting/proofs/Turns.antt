@@ -9,7 +9,7 @@ use mathlib.Core.Bool.{Bool, true, false, cond, _&&_}
 use mathlib.Core.List.{List, [], _∷_}
 use lib.ListN.{length, take, drop, getD, length-take, length-drop}
 use lib.Dec.{leb, ltb, eqb}
-use borrow.Author.Tests.{ne-eqb}
+use borrow.Author.Tests.{ne-eqb, le-leb, lt-leb}
 use Rattle.lists.specs.Lists.{count}
 use Rattle.lists.proofs.Bools.{by-cases}
 use Rattle.formats.specs.Tokens.{Token}
@@ -22,7 +22,7 @@ use Rattle.writing.specs.Put.{Put}
 use Rattle.writing.proofs.Laws.{put-none}
 use Rattle.emitting.specs.declared.Made.{Made}
 use Rattle.emitting.specs.declared.Walk.{Walk}
-use Rattle.emitting.specs.Emit.{emittedFrom, itemsWords, literalWords, formWords, madeWords, tokenWords, pieceOf, formDigit, walkAfter, walkPast, left, fillsLeft, Emitted}
+use Rattle.emitting.specs.Emit.{emittedFrom, itemsWords, literalWords, formWords, madeWords, overWords, tokenWords, pieceOf, formDigit, walkAfter, walkPast, left, fillsLeft, Emitted}
 use Rattle.emitting.proofs.Forms.{words-form}
 use Rattle.emitting.proofs.Walks.{fills-step, words-step}
 use Rattle.emitting.proofs.Buffer.{zeros-alone, literals-length}
@@ -51,14 +51,24 @@ module _ (date : Bool) (w : Walk) (n : ℕ) (code : List ℕ) (f a s : ℕ) wher
   pub piece-goes : n ≤ 0 → (eqb f 3 && ltb 1 (w .fills)) ≡ true → piece ≡ []
   piece-goes h e = let z : n ≡ 0 = omega arith in rw (z, fill-told, e)
 
-  pub piece-made : n ≤ 0 → (eqb f 3 && ltb 1 (w .fills)) ≡ false → (f ≡ 0 → ⊥)
+  pub piece-over : n ≤ 0 → (eqb f 3 && ltb 1 (w .fills)) ≡ false → 27 ≤ f → piece ≡ overWords (w .digit) a f
+  unfolding tokenAt tokenWords
+  piece-over h e g =
+      let z : n ≡ 0 = omega arith in
+      rw (z, fill-told, e) (words-form date (w .digit) (w .digit) a (drop (suc s) code) f ∙ rw (ne-eqb f 0 (λ o. omega arith), le-leb 27 f g))
+
+  pub piece-made : n ≤ 0 → (eqb f 3 && ltb 1 (w .fills)) ≡ false → (f ≡ 0 → ⊥) → f < 27
       → (m : Made) → madeWords m ≡ formWords date (w .digit) a f → piece ≡ madeWords m
   unfolding tokenAt tokenWords
-  piece-made h e g m k =
+  piece-made h e g l m k =
       let z : n ≡ 0 = omega arith in
-      rw (z, fill-told, e) (words-form date (w .digit) (w .digit) a (drop (suc s) code) f ∙ rw (ne-eqb f 0 g) (sym k))
+      rw (z, fill-told, e) (words-form date (w .digit) (w .digit) a (drop (suc s) code) f ∙ rw (ne-eqb f 0 g, lt-leb 27 f l) (sym k))
 
 -- how many words they are at most
+pub over-short : (q a f : ℕ) → length (overWords q a f) ≤ 6
+over-short q a f =
+    by-cases (leb f 29) (λ e. rw e (omega arith)) (λ e. rw e (by-cases (leb f 32) (λ g. rw g (omega arith)) (λ g. rw g (omega arith))))
+
 pub made-short : (m : Made) → length (madeWords m) ≤ 2
 made-short m = by-cases (eqb (m .0) 0) (λ e. rw e (omega arith)) (λ e. rw e (omega arith))
 
@@ -79,7 +89,7 @@ past-emitted date b (suc k) t ts h = rw sub-one
 digit-most : (anew f q : ℕ) → anew ≤ 268 → q ≤ 268 → formDigit anew f q ≤ 268
 unfolding formDigit
 digit-most anew f q g h =
-    by-cases (leb 4 f && leb f 6) (λ e. rw e (omega arith)) (λ e. rw e (by-cases (leb 25 f && leb f 26) (λ x. rw x g) (λ x. rw x h)))
+    by-cases (leb 4 f && leb f 6) (λ e. rw e (omega arith)) (λ e. rw e (by-cases (leb 25 f && leb f 32) (λ x. rw x g) (λ x. rw x h)))
 
 module _ (date : Bool) (anew : ℕ) (code body : List ℕ) (i : ℕ) (w : Walk) (inside : i + 2 < length body) where
   abbrev first : Token

@@ -58,7 +58,7 @@ token-fills date =
     by-token (λ (t : Token). count isFill (tokenItems date t) ≡ cond (isFillToken t) 1 0)
     literals-fill (λ u. refl) (λ u. refl) (λ u. refl) (λ p. refl)
     (by-cases date (λ e. rw e) (λ e. rw e)) (by-cases date (λ e. rw e) (λ e. rw e)) refl refl refl refl (λ h. refl)
-    (λ l n. by-letter (λ (k : Letter). count isFill (runItem k n ∷ []) ≡ 0) refl refl refl refl refl l) (λ e n. refl) (λ n. refl) (λ w. refl) (λ m. refl)
+    (λ l n. by-letter (λ (k : Letter). count isFill (runItem k n ∷ []) ≡ 0) refl refl refl refl refl l) (λ e n. refl) (λ n. refl) (λ w. refl) (λ m. refl) (λ p. refl) (λ p n. refl)
 
 -- the fills among the items are those among the tokens: what a part of a second takes with it are zeros
 pub fills-emitted : (date b : Bool) (k : ℕ) (ts : List Token) → k ≤ leadingZeros ts → count isFill (emittedFrom date b k ts) ≡ count isFillToken ts
@@ -110,7 +110,7 @@ module _ (f : ℕ) (date b : Bool) (anew q a : ℕ) (us : List ℕ) (ts : List T
   no-fill : eqb f 3 ≡ false → any isFill (tokenItems date t) ≡ false
   no-fill l = none-any isFill (tokenItems date t) (token-fills date t ∙ rw (tells f a us .fill, l))
 
-  -- a token's words do not depend on the digit behind an E
+  -- a token's words do not depend on the digit behind an E or solidus
   token-alone : tokenWords date q t ≡ itemsWords anew q (tokenItems date t)
   unfolding tokenWords
   token-alone = words-form date q q a us f ∙ sym (words-form date anew q a us f)

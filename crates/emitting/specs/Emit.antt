@@ -10,14 +10,14 @@ use Rattle.formats.specs.Tokens.{Token}
 use Rattle.formats.specs.Items.{Item, part, isFill}
 use Rattle.formats.specs.Kinds.{isFillToken, partZeros, isSecondsToken, tokenItems, bodyItems, lastFill}
 use Rattle.tables.specs.Words.{entriesWords}
-use Rattle.tables.specs.Encode.{entriesFrom, entriesOf}
+use Rattle.tables.specs.Encode.{entriesFrom, runEntries}
 use Rattle.writing.specs.Put.{Put}
 use Rattle.emitting.specs.declared.Made.{Made}
 use Rattle.emitting.specs.declared.Walk.{Walk}
 
 -- the words of a body's items as they stand in it, every m being a month
 abbrev pub emittedWords : List Token → List ℕ
-emittedWords ts = entriesWords (entriesOf (lastFill (bodyItems ts))) []
+emittedWords ts = entriesWords (runEntries (lastFill (bodyItems ts))) []
 
 -- the items of a body, of a date or not, in one walk; behindSeconds: the token just before is s, ss or an elapsed s;
 -- `skip` tokens belong to a part of a second
@@ -29,11 +29,11 @@ emittedFrom date behindSeconds zero (t ∷ ts) =
     let r = emittedFrom date (isSecondsToken t) n ts in
     cond (eqb n 0) (tokenItems date t ++ r) (part n ∷ r)
 
--- the words of items, where q is the power of the first one's digit and 15, and `anew` that of the digit behind an E
+-- the words of items, where q is the power of the first one's digit and 15, and `anew` that of the digit behind an E or solidus
 unfoldable pub itemsWords : ℕ → ℕ → List Item → List ℕ
 itemsWords anew q is = entriesWords (entriesFrom anew q is) []
 
--- the words of a token's items, none of which stands behind an E
+-- the words of a token's items, of which no place stands behind an E or solidus
 unfoldable pub tokenWords : Bool → ℕ → Token → List ℕ
 tokenWords date q t = itemsWords q q (tokenItems date t)
 
@@ -45,7 +45,7 @@ literalWords (u ∷ us) = 1 ∷ u ∷ literalWords us
 abbrev pub madeWords : Made → List ℕ
 madeWords m = cond (eqb (m .0) 0) [] (m .0 ∷ m .1 ∷ [])
 
--- the words of a token that is no quoted literal, by its form f and its argument a
+-- the words of a token that is no quoted literal and no place with a solidus, by its form f and its argument a
 abbrev pub formWords : Bool → ℕ → ℕ → ℕ → List ℕ
 formWords date q a f =
     cond (eqb f 1) (1 ∷ a ∷ [])
@@ -72,19 +72,24 @@ formWords date q a f =
     (cond (eqb f 25) (22 ∷ 0 ∷ [])
     (cond (eqb f 26) (23 ∷ 0 ∷ []) []))))))))))))))))))))))
 
+-- the words of a place with a solidus behind it, and with a fixed number behind that
+abbrev pub overWords : ℕ → ℕ → ℕ → List ℕ
+overWords q a f =
+    cond (leb f 29) ((f - 27 + 4) ∷ suc q ∷ 24 ∷ 0 ∷ []) (cond (leb f 32) ((f - 30 + 4) ∷ suc q ∷ 24 ∷ 0 ∷ 25 ∷ a ∷ []) [])
+
 -- the words that a token puts: a fill with another behind it puts none, `fills` being how many there are from this token on; where
 -- n is not 0, the token starts a part of a second with n zeros
 abbrev pub pieceOf : Bool → ℕ → ℕ → ℕ → Token → List ℕ
 pieceOf date q fills n t =
     cond (eqb n 0) (cond (isFillToken t && ltb 1 fills) [] (tokenWords date q t)) (17 ∷ n ∷ [])
 
--- what a token of a form leaves behind: whether it is s, ss or an elapsed s, the next digit's power and 15, which is `anew` behind an E,
+-- what a token of a form leaves behind: whether it is s, ss or an elapsed s, the next digit's power and 15, which is `anew` behind an E or solidus,
 -- and the fills that follow
 unfoldable pub formSeconds : ℕ → Bool
 formSeconds f = eqb f 19 || eqb f 22
 
 unfoldable pub formDigit : ℕ → ℕ → ℕ → ℕ
-formDigit anew f q = cond (leb 4 f && leb f 6) (q - 1) (cond (leb 25 f && leb f 26) anew q)
+formDigit anew f q = cond (leb 4 f && leb f 6) (q - 1) (cond (leb 25 f && leb f 32) anew q)
 
 unfoldable pub formFills : ℕ → ℕ → ℕ
 formFills f n = cond (eqb f 3) (n - 1) n

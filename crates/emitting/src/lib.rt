@@ -5,15 +5,15 @@ use writing::put_unit;
 ghost use mathlib.Core.Path.{_≡_};
 ghost use mathlib.Core.Bool.{false, cond, _&&_};
 ghost use mathlib.Core.List.{[], _∷_};
-ghost use Prim.Native.Nat.{_+_, _-_, _≤_, _<_, _^_, min};
+ghost use Prim.Native.Nat.{suc, _+_, _-_, _≤_, _<_, _^_, min};
 ghost use lib.ListN.{length, take, drop};
 ghost use lib.Dec.{ltb, eqb};
 ghost use Rattle.lists.specs.Lists.{count};
-ghost use Rattle.formats.specs.Items.{dateKind, sameKind, integerPlaces, exponentPlaces};
+ghost use Rattle.formats.specs.Items.{dateKind, sameKind, integerPlaces, placesBehind};
 ghost use Rattle.formats.specs.Kinds.{isFillToken, bodyKind, bodyItems, leadingZeros};
 ghost use Rattle.marks.specs.Marks.{tokenAt, tokensIn};
 ghost use Rattle.writing.specs.Put.{Put};
-ghost use Rattle.emitting.specs.Emit.{emittedWords, formWords, literalWords, madeWords, formSeconds, formDigit, formFills, pieceOf, walkAfter, walkPast, fillsLeft, Emitted};
+ghost use Rattle.emitting.specs.Emit.{emittedWords, formWords, literalWords, madeWords, overWords, formSeconds, formDigit, formFills, pieceOf, walkAfter, walkPast, fillsLeft, Emitted};
 
 // The units of a point and a comma, which are literals of a date.
 const POINT_UNIT: u16 = 46;
@@ -82,7 +82,7 @@ fn made_if(b: bool, first: Made, second: Made) -> Made
     second
 }
 
-// The item of a token that is no quoted literal and no part of a second. Of a date a point and a comma are literals, elsewhere a
+// The item of a token that is no quoted literal, no part of a second and no place with a solidus. Of a date a point and a comma are literals, elsewhere a
 // comma makes no item; every run of m is put as a month, and settled where all items stand.
 fn item_of(form: u16, argument: u16, date: bool, digit: u16) -> Made
     requires { ⌜ digit < 2 ^ 15 ⌝ }
@@ -116,6 +116,35 @@ fn item_of(form: u16, argument: u16, date: bool, digit: u16) -> Made
     }
 }
 
+// Puts the words of a place, told by its tag, and of the solidus directly behind it.
+fn put_place_over(room: &mut [u16], at: usize, tag: u16, digit: u16) -> usize
+    requires { ⌜ (at < 2 ^ 61) × (digit < 2 ^ 15) ⌝ }
+    ensures { λ r. ⌜ Put (now (room .entry)) at (tag ∷ suc digit ∷ 24 ∷ 0 ∷ []) r (now (room .exit)) ⌝ }
+{
+    let a = put_entry(room, at, tag, digit + 1);
+    put_entry(room, a, tags::SOLIDUS, 0)
+}
+
+// Puts the words of a place with a solidus directly behind it, and of the fixed number behind that, where there is one.
+fn put_over(room: &mut [u16], at: usize, form: u16, argument: u16, digit: u16) -> usize
+    requires { ⌜ (at < 2 ^ 60) × (digit < 2 ^ 15) × (27 ≤ form) ⌝ }
+    ensures { λ r. ⌜ Put (now (room .entry)) at (overWords digit argument form) r (now (room .exit)) ⌝ }
+{
+    if form <= forms::SPACE_OVER {
+        return put_place_over(room, at, form - forms::ZERO_OVER + tags::ZERO_PLACE, digit);
+    }
+    if forms::SPACE_OVER_FIXED < form {
+        return at;
+    }
+    let a = put_place_over(
+        room,
+        at,
+        form - forms::ZERO_OVER_FIXED + tags::ZERO_PLACE,
+        digit,
+    );
+    put_entry(room, a, tags::FIXED, argument)
+}
+
 // Whether a token is s, ss or an elapsed s.
 fn seconds_at(form: u16) -> bool
     ensures { λ r. ⌜ r ≡ formSeconds form ⌝ }
@@ -131,7 +160,7 @@ fn lowered(digit: u16) -> u16
     if digit == 0 { 0 } else { digit - 1 }
 }
 
-// The power of the next digit behind a token, and 15: behind an E the digits begin anew. (A `match`, which is one jump for all forms.)
+// The power of the next digit behind a token, and 15: behind an E or solidus the digits begin anew. (A `match`, which is one jump for all forms.)
 fn digit_after(form: u16, digit: u16, anew: u16) -> u16
     ensures { λ r. ⌜ r ≡ formDigit anew form digit ⌝ }
 {
@@ -141,6 +170,12 @@ fn digit_after(form: u16, digit: u16, anew: u16) -> u16
         forms::SPACE_PLACE => lowered(digit),
         forms::EXPONENT_PLUS => anew,
         forms::EXPONENT_MINUS => anew,
+        forms::ZERO_OVER => anew,
+        forms::HASH_OVER => anew,
+        forms::SPACE_OVER => anew,
+        forms::ZERO_OVER_FIXED => anew,
+        forms::HASH_OVER_FIXED => anew,
+        forms::SPACE_OVER_FIXED => anew,
         _ => digit,
     }
 }
@@ -221,11 +256,14 @@ fn put_form(
     if fill_goes(form, w.fills) {
         return w.at;
     }
+    if forms::ZERO_OVER <= form {
+        return put_over(room, w.at, form, argument, w.digit);
+    }
     put_made(room, w.at, item_of(form, argument, date, w.digit))
 }
 
 // The walk behind a token whose words end at the place `at`, where the next n tokens belong to its part of a second, and `anew` is the digit
-// behind an E.
+// behind an E or solidus.
 fn walked(w: Walk, form: u16, n: u16, at: usize, anew: u16) -> Walk
     ensures { λ r. ⌜ r ≡ walkAfter anew w form n at ⌝ }
 {
@@ -276,7 +314,7 @@ fn put_token(
 }
 
 // Puts the words of the items of a section's body at `at`, every m as a month. The body's tokens stand three words each; `date` says whether it is a
-// date's, `fills` how many fills it has, `integers` how many integer places, and `exponents` how many exponent places. Words past the room's end
+// date's, `fills` how many fills it has, `integers` how many integer places, and `exponents` how many exponent or denominator places. Words past the room's end
 // are counted, not put.
 pub fn put_items(
     code: &[u16],
@@ -292,7 +330,7 @@ pub fn put_items(
     requires { ⌜ date ≡ sameKind (bodyKind (tokensIn (now code) (now body))) dateKind ⌝ }
     requires { ⌜ fills ≡ count isFillToken (tokensIn (now code) (now body)) ⌝ }
     requires { ⌜ integers ≡ integerPlaces (bodyItems (tokensIn (now code) (now body))) ⌝ }
-    requires { ⌜ exponents ≡ exponentPlaces (bodyItems (tokensIn (now code) (now body))) ⌝ }
+    requires { ⌜ exponents ≡ placesBehind (bodyItems (tokensIn (now code) (now body))) ⌝ }
     ensures { λ r. ⌜ Put (now (room .entry)) at (emittedWords (tokensIn (now (code .entry)) (now (body .entry)))) r (now (room .exit)) ⌝ }
 {
     let anew = 14 + exponents;

@@ -93,7 +93,7 @@ pub fn power(k: u32) -> u64
 }
 
 // m / 10^k to the nearest whole number, halves up. 64 bits are less than half of 10^20.
-fn divided(m: u64, k: u32) -> u64
+pub fn divided(m: u64, k: u32) -> u64
     ensures { λ r. ⌜ r ≡ nearest m (10 ^ k) ⌝ }
 {
     if 19 < k {

@@ -210,6 +210,60 @@ pub scientifics-right : All Right scientifics
 unfolding scientifics evaluated
 scientifics-right = all-equal read (λ (c : Case). c .answer) scientifics refl
 
+-- fraction sections (R132 to R136)
+unfoldable pub fractions : List Case
+unfolding units seen
+fractions =
+    -- over a fixed number the nearest numerator, halves up, never reduced; else no denominator comes closer, and of two as near the smaller is taken
+    shows "# ?/8" (number (pos 125) 2) "1 2/8" 0
+    ∷ shows "# ?/2" (number (pos 25) 2) " 1/2" 0
+    ∷ shows "?/80" (number (pos 5) 1) "40/80" 0
+    ∷ shows "# ?/?" (number (pos 3) 1) " 2/7" 0
+    ∷ shows "# ??/??" (number (pos 3) 1) "  3/10" 0
+    ∷ shows "# ?/?" (number (pos 3875) 4) " 2/5" 0
+    ∷ shows "# ?/?" (number (pos 6125) 4) " 3/5" 0
+    -- with integer places of the part behind the point, else of the number whole; these stand before the run of places at the solidus
+    ∷ shows "# ?/?" (number (pos 125) 1) "12 1/2" 0
+    ∷ shows "?/?" (number (pos 123) 1) "86/7" 0
+    ∷ shows "#?/?" (number (pos 125) 2) "5/4" 0
+    ∷ shows "0-0 0/8" (number (pos 1235) 1) "12-3 4/8" 0
+    ∷ shows "0_x\" \"0/0" (number (pos 15) 1) "1  1/2" 0
+    ∷ shows "_x?/?" (number (pos 5) 1) " 1/2" 0
+    -- a fraction of 1 is carried where there are integer places; a numerator of nought is blank there, whatever the marks
+    ∷ shows "# ?/?" (number (pos 99) 2) "1    " 0
+    ∷ shows "?/?" (number (pos 99) 2) "1/1" 0
+    ∷ shows "0 00/00" (number (pos 3) 0) "3      " 0
+    ∷ shows "# ?/100" (number (pos 3) 0) "3      " 0
+    ∷ shows "# ?/?" (number (pos 0) 0) "    " 0
+    -- and without them it shows like an integer part
+    ∷ shows "0/0" (number (pos 0) 0) "0/1" 0
+    ∷ shows "?/?" (number (pos 0) 0) " /1" 0
+    ∷ shows "#/8" (number (pos 0) 0) "/8" 0
+    -- the numerator's digits beyond its places; the denominator's spare places, counted from the left
+    ∷ shows "??/8" (number (pos 995) 1) "796/8" 0
+    ∷ shows "0 00/00" (number (pos 5) 1) "0 01/02" 0
+    ∷ shows "?/?0?" (number (pos 5) 1) "1/02 " 0
+    ∷ shows "?/?0" (number (pos 5) 1) "1/2 " 0
+    ∷ shows "?/0?" (number (pos 5) 1) "1/02" 0
+    ∷ shows "?/#0" (number (pos 5) 1) "1/2" 0
+    -- the minus is held back where whole number and numerator are nought as shown
+    ∷ shows "# ?/?" (number (negsuc 0) 2) "    " 0
+    ∷ shows "# ?/?" (number (negsuc 98) 2) "-1    " 0
+    ∷ shows "# ?/?" (number (negsuc 4) 1) "- 1/2" 0
+    ∷ shows "?/?" (number (negsuc 0) 2) " /1" 0
+    -- any other `/` is a literal; no instant
+    ∷ shows "0/0/" (number (pos 5) 1) "1/2/" 0
+    ∷ shows "0,/0" (number (pos 12) 0) "1/2" 0
+    ∷ shows "0%/0" (number (pos 12) 0) "120%/0" 0
+    ∷ shows "0./0" (number (pos 15) 1) "1./5" 0
+    ∷ shows "0*x/0" (number (pos 12) 0) "1/2" 0
+    ∷ denies "# ?/?" (instant 5 0) answer.Sort
+    ∷ []
+
+pub fractions-right : All Right fractions
+unfolding fractions evaluated
+fractions-right = all-equal read (λ (c : Case). c .answer) fractions refl
+
 -- a code, and what the tests 1 to 6 say of it
 pub record Judged : Type 0 where
   pub code : List ℕ
@@ -237,6 +291,12 @@ judgements =
     ∷ refuses "0E\"x\"+0" answer.Token 1
     ∷ refuses "0E+0x" answer.Token 4
     ∷ refuses "[>1E+2]General" answer.Token 0
+    -- a fixed number starts with 1 to 9, directly behind a place and its `/`, which are no literals
+    ∷ refuses "0/08" answer.Token 3
+    ∷ refuses "\\0/8" answer.Token 3
+    ∷ refuses "? /8" answer.Token 3
+    ∷ refuses "0_x/8" answer.Token 4
+    ∷ refuses "0/8/8" answer.Token 4
     -- 3: before 4; a semicolon in quotes is none; a fifth semicolon
     ∷ refuses ".;;;;" answer.SectionCount 4
     ∷ refuses "0;\";\";0;0;0;0" answer.SectionCount 9
@@ -263,6 +323,19 @@ judgements =
     -- an E in a body of another kind
     ∷ refuses "d E+0" answer.Kind 0
     ∷ refuses "@E+" answer.Kind 0
+    -- fractions: a second solidus; places behind the denominator; integer places without a literal behind them, of which a fill that is not kept makes
+    -- some; a point, a comma, a percent, before 6; a solidus in a body of another kind
+    ∷ refuses "0/0/0" answer.Kind 0
+    ∷ refuses "?/1?" answer.Kind 0
+    ∷ refuses "0/0 0" answer.Kind 0
+    ∷ refuses "0_x0/0" answer.Kind 0
+    ∷ refuses "0 0*x0/0*y" answer.Kind 0
+    ∷ refuses "0.0/8" answer.Kind 0
+    ∷ refuses "0,0/0" answer.Kind 0
+    ∷ refuses "0/1000%" answer.Kind 0
+    ∷ refuses "s.0/8" answer.Kind 0
+    ∷ refuses "0E+0/8" answer.Kind 0
+    ∷ refuses "0/8@" answer.Kind 0
     -- 5: before 6; the first of two; a condition on a text and on a third section; a fourth number section and a coloured one
     ∷ refuses "[>1234567890]0" answer.Standing 0
     ∷ refuses "0;@;@;0" answer.Standing 1
@@ -273,6 +346,8 @@ judgements =
     ∷ refuses "0;;;0E+0" answer.Standing 3
     ∷ refuses "[>1]0E+0" answer.Standing 0
     ∷ refuses "0E+0000;@;0" answer.Standing 1
+    ∷ refuses "0;0;0;0/0" answer.Standing 3
+    ∷ refuses "[>1]0/8" answer.Standing 0
     -- 6: the first of two, in a later section; one more than each limit, and all limits reached
     ∷ refuses "0;[>1234567890]0;000000000000000000000" answer.Limit 1
     ∷ refuses "000000000000000000000" answer.Limit 0
@@ -282,8 +357,14 @@ judgements =
     ∷ refuses "[>1.0000000]General" answer.Limit 0
     ∷ refuses "[hhhhhhhhhh]" answer.Limit 0
     ∷ refuses "0E+0000" answer.Limit 0
+    ∷ refuses "0/1000" answer.Limit 0
+    ∷ refuses "0/10000000000000000" answer.Limit 0
+    ∷ refuses "0/0000" answer.Limit 0
+    ∷ refuses "0 000000000000000000000/8" answer.Limit 0
+    ∷ refuses "000000000000000000000 0/0" answer.Limit 0
     ∷ record { code = units "[>123456789.123456]00000000000000000000.000000000000000%%%%%,,,,,;[hhhhhhhhh]"; says = fine }
     ∷ record { code = units "00000000000000000000.000000000000000E+000"; says = fine }
+    ∷ record { code = units "00000000000000000000 00000000000000000000/999"; says = fine }
     ∷ []
 
 pub judgements-right : All (λ (j : Judged). verdict (j .code) ≡ j .says) judgements

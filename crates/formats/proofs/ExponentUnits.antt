@@ -9,9 +9,9 @@ use Rattle.lists.specs.Lists.{every, any}
 use Rattle.lists.proofs.Bools.{by-cases, cond-both, every-append}
 use Rattle.figures.proofs.Digits.{digit-small}
 use Rattle.formats.specs.Tokens.{Place, zeroPlace, hashPlace, spacePlace, isDigit}
-use Rattle.formats.specs.Items.{Item, place, exponent, isPoint, isSpace}
+use Rattle.formats.specs.Items.{Item, place, exponent, solidus, isPoint, isSpace}
 use Rattle.formats.specs.Text.{Context, insignificant, idleUnits, figureUnits, extraUnits, atFirstInteger, placeUnits, itemUnits, digitAfter, along, firstOf, itemPieces}
-use Rattle.formats.specs.Figures.{figurePieces}
+use Rattle.formats.specs.Figures.{unitsOf, figurePieces}
 use Rattle.formats.proofs.FigureUnits.{digit-test}
 use Rattle.formats.proofs.FigureItems.{item-case}
 
@@ -50,7 +50,7 @@ module _ (c : Context) (ungrouped : c .grouped ≡ false) where
 
   -- the figure pieces of items without a point and without a `?`
   pub items-digits : (q : ℕ) (is : List Item) → any isPoint is ≡ false → any isSpace is ≡ false → Digits (figurePieces is (itemPieces c q is))
-  unfolding any every figurePieces along itemUnits
+  unfolding any every unitsOf along itemUnits
   items-digits q [] = λ noPoint noSpace. tt
   items-digits q (i ∷ is) =
       item-case (λ (j : Item). any isPoint (j ∷ is) ≡ false → any isSpace (j ∷ is) ≡ false → Digits (figurePieces (j ∷ is) (itemPieces c q (j ∷ is))))
@@ -61,6 +61,7 @@ module _ (c : Context) (ungrouped : c .grouped ≡ false) where
       (items-digits (after q (place p)) is noPoint (rw e at noSpace))))
       (λ noPoint noSpace. absurd (true≢false noPoint))
       (λ m noPoint noSpace. items-digits (after q (exponent m)) is noPoint noSpace)
+      (λ noPoint noSpace. items-digits (after q solidus) is noPoint noSpace)
       (λ j notPlace notPoint notE other noPoint noSpace.
       rw (notPlace, notPoint) (items-digits (after q j) is (rw notPoint at noPoint) (rw notPlace at noSpace)))
       i

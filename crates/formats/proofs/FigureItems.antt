@@ -1,9 +1,9 @@
--- The figures of items without an E, read back, are the rounded number: of a number section, and of a scientific one's items before the E
+-- The figures of items without an E or solidus, read back, are the rounded number: of a number section, and of a scientific one's items before the E
 -- and behind it.
 -- Assumes nothing.
 use mathlib.Core.Path.{_≡_, refl, sym, ap, _∙_}
 use Prim.Native.Nat.{ℕ, zero, suc, _+_, _-_, _*_, _/_, _%_, _^_, _≤_, _<_}
-use native.Mathlib.Nat.{div-eq-of-lt}
+use native.Mathlib.Nat.{div-eq-of-lt, lt-of-lt-of-le, mul-le-mul-right, mul-mod-left}
 use native.Mathlib.Omega.{arith}
 use mathlib.Core.Bool.{Bool, true, false, cond, true≢false}
 use mathlib.Core.List.{List, [], _∷_, _++_, append-assoc}
@@ -11,53 +11,42 @@ use borrow.Author.Tests.{eqb-true, eqb-false, ltb-true, lt-ltb, lt-leb, eq-eqb, 
 use lib.Dec.{eqb, ltb}
 use Rattle.lists.specs.Lists.{any, count}
 use Rattle.lists.proofs.Bools.{by-cases}
-use Rattle.lists.proofs.Counts.{any-count, any-same}
+use Rattle.lists.proofs.Counts.{any-count, none-count, any-same}
 use Rattle.figures.proofs.Digits.{mod-next}
 use Rattle.formats.specs.Tokens.{Place, ExponentMark, isDigit}
-use Rattle.formats.specs.Items.{Item, literal, blank, fill, place, point, percent, general, at, year, month, day, hour, minute, second, part, elapsed, half, exponent, textKind, generalKind, dateKind, scientificKind, numberKind, literalKind, kindFrom, itemMakes, itemsKind, isPlace, isPoint, isExponent, beforeE, integerPlaces, decimalPlaces}
+use Rattle.formats.specs.Items.{Item, literal, blank, fill, place, point, percent, general, at, year, month, day, hour, minute, second, part, elapsed, half, exponent, solidus, fixed, numberKind, itemMakes, itemsKind, isPlace, isPoint, isCut, beforeCut, integerPlaces, decimalPlaces}
 use Rattle.formats.specs.Text.{Context, firstDigit, firstDecimal, insignificant, figureUnits, unitsBeyond, placeUnits, pointUnits, itemUnits, digitAfter, along, firstOf, itemPieces}
-use Rattle.formats.specs.Figures.{readFrom, unitsRead, Counts, figurePieces}
+use Rattle.formats.specs.Reading.{wholeContext}
+use Rattle.formats.specs.Figures.{readFrom, unitsRead, Counts, unitsOf, figurePieces}
 use Rattle.formats.proofs.FigureUnits.{digit-in, figure-aside, figure-read, extra-read, idle-nought, cut-exact}
 use Rattle.formats.proofs.Each.{by-item}
-use Rattle.formats.proofs.Cutting.{bare-before}
+use Rattle.formats.proofs.Cutting.{bare-before, no-decimals, made-some}
 
 -- the units of the figure pieces
 abbrev figuresShown : Context → ℕ → List Item → List ℕ
 figuresShown c q is = figurePieces is (itemPieces c q is)
 
--- an item is a place, the point, an E, or none of them
-pub item-case : (P : Item → Type 0) → ((p : Place) → P (place p)) → P point → ((m : ExponentMark) → P (exponent m))
-    → ((i : Item) → isPlace i ≡ false → isPoint i ≡ false → isExponent i ≡ false → itemMakes numberKind i ≡ false → P i) → (i : Item) → P i
+-- an item is a place, the point, an E, the solidus, or none of them
+pub item-case : (P : Item → Type 0) → ((p : Place) → P (place p)) → P point → ((m : ExponentMark) → P (exponent m)) → P solidus
+    → ((i : Item) → isPlace i ≡ false → isPoint i ≡ false → isCut i ≡ false → itemMakes numberKind i ≡ false → P i) → (i : Item) → P i
 unfolding itemMakes
-item-case P f g e h =
+item-case P f g e s h =
     by-item P (λ u. h (literal u) refl refl refl refl) (λ u. h (blank u) refl refl refl refl) (λ u. h (fill u) refl refl refl refl) f
     g (h percent refl refl refl refl) (h general refl refl refl refl) (h at refl refl refl refl)
     (λ n. h (year n) refl refl refl refl) (λ n. h (month n) refl refl refl refl) (λ n. h (day n) refl refl refl refl)
     (λ n. h (hour n) refl refl refl refl) (λ n. h (minute n) refl refl refl refl) (λ n. h (second n) refl refl refl refl)
     (λ n. h (part n) refl refl refl refl) (λ a n. h (elapsed a n) refl refl refl refl) (λ a. h (half a) refl refl refl refl) e
+    s (λ n. h (fixed n) refl refl refl refl)
 
 -- a number section has a place
 pub makes-place : (i : Item) → itemMakes numberKind i ≡ isPlace i
 unfolding itemMakes
 makes-place =
-    item-case (λ (i : Item). itemMakes numberKind i ≡ isPlace i) (λ p. refl) refl (λ m. refl)
+    item-case (λ (i : Item). itemMakes numberKind i ≡ isPlace i) (λ p. refl) refl (λ m. refl) refl
     (λ i notPlace notPoint notE other. rw (notPlace, other))
 
-number-last : (a b c d e : Bool)
-    → cond a textKind (cond b generalKind (cond c dateKind (cond d scientificKind (cond e numberKind literalKind)))) ≡ numberKind → e ≡ true
-number-last a b c d true h = refl
-number-last true b c d false h = cc
-number-last false true c d false h = cc
-number-last false false true d false h = cc
-number-last false false false true false h = cc
-number-last false false false false false h = cc
-
 pub number-place : (is : List Item) → itemsKind is ≡ numberKind → any isPlace is ≡ true
-unfolding itemsKind kindFrom
-number-place is e =
-    sym (any-same (itemMakes numberKind) isPlace makes-place is)
-    ∙ number-last (any (itemMakes textKind) is) (any (itemMakes generalKind) is) (any (itemMakes dateKind) is)
-    (any (itemMakes scientificKind) is) (any (itemMakes numberKind) is) e
+number-place is e = sym (any-same (itemMakes numberKind) isPlace makes-place is) ∙ made-some numberKind is refl e
 
 -- what has been read behind j decimals, where k digits of n are left: n itself where these are noughts, else the digits above them
 record Behind (n k j v w : ℕ) : Type 0 where
@@ -86,11 +75,11 @@ module _ (c : Context) where
 
   -- the r lowest digits have no place and are noughts
   abbrev Decimals : List Item → Type 0
-  Decimals is = (k j r v w : ℕ) → k + j ≡ 15 → any isPoint is ≡ false → any isExponent is ≡ false → k ≡ count isPlace is + r → c .figures % 10 ^ r ≡ 0
+  Decimals is = (k j r v w : ℕ) → k + j ≡ 15 → any isPoint is ≡ false → any isCut is ≡ false → k ≡ count isPlace is + r → c .figures % 10 ^ r ≡ 0
       → Behind (c .figures) k j v w → Counts (readFrom true v w (figuresShown c (k - 1) is)) (c .figures)
 
   decimals-place : (p : Place) (is : List Item) → Decimals is → Decimals (place p ∷ is)
-  unfolding figurePieces itemUnits digitAfter any count insignificant along
+  unfolding unitsOf itemUnits digitAfter any count insignificant along
   decimals-place p is rest zero j r v w sum noPoint bare places none seen = absurd (omega arith)
   decimals-place p is rest (suc q) j r v w sum noPoint bare places none seen =
       let n : ℕ = c .figures in
@@ -114,7 +103,7 @@ module _ (c : Context) where
       (rest q (suc j) r (n / 10 ^ q) (10 ^ suc j) sum-next noPoint bare places-next none (behind n q (suc j) sum-next))))
 
   decimals-read : (is : List Item) → Decimals is
-  unfolding readFrom figurePieces itemUnits digitAfter any count along
+  unfolding readFrom unitsOf itemUnits digitAfter any count along
   decimals-read [] = λ k j r v w sum noPoint bare places none seen.
       let f : k ≡ r = omega arith in
       seen .exact (rw f none)
@@ -123,11 +112,12 @@ module _ (c : Context) where
       (λ p. decimals-place p is (decimals-read is))
       (λ k j r v w sum noPoint bare places none seen. absurd (true≢false noPoint))
       (λ m k j r v w sum noPoint bare places none seen. absurd (true≢false bare))
+      (λ k j r v w sum noPoint bare places none seen. absurd (true≢false bare))
       (λ j notPlace notPoint notE other. rw (notPlace, notPoint, notE) (decimals-read is))
       i
 
   -- what stands behind the point
-  behind-point : (is : List Item) → count isPoint is ≡ 0 → any isExponent is ≡ false → count isPlace is ≤ 15 → c .figures % 10 ^ (15 - count isPlace is) ≡ 0
+  behind-point : (is : List Item) → count isPoint is ≡ 0 → any isCut is ≡ false → count isPlace is ≤ 15 → c .figures % 10 ^ (15 - count isPlace is) ≡ 0
       → Counts (readFrom true (c .figures / 10 ^ 15) 1 (figuresShown c 14 is)) (c .figures)
   behind-point is onePoint bare most none =
       let noPoint : any isPoint is ≡ false = by-cases (any isPoint is) (λ e. absurd (omega (arith, any-count isPoint is e))) (λ e. e) in
@@ -173,11 +163,11 @@ module _ (c : Context) where
 
     abbrev Integers : List Item → Type 0
     Integers is = (k : ℕ) → k ≡ integerPlaces is → k ≤ c .integerPlaces → (eqb (c .integerPlaces) k ≡ true → any isPlace is ≡ true)
-        → count isPoint is ≤ 1 → any isExponent is ≡ false → decimalPlaces is ≤ 15 → c .figures % 10 ^ (15 - decimalPlaces is) ≡ 0
+        → count isPoint is ≤ 1 → any isCut is ≡ false → decimalPlaces is ≤ 15 → c .figures % 10 ^ (15 - decimalPlaces is) ≡ 0
         → Counts (readFrom false (seen k) 1 (figuresShown c (14 + k) is)) (c .figures)
 
     integers-place : (p : Place) (is : List Item) → Integers is → Integers (place p ∷ is)
-    unfolding figurePieces itemUnits digitAfter any count integerPlaces decimalPlaces along
+    unfolding unitsOf itemUnits digitAfter any count integerPlaces decimalPlaces along
     integers-place p is rest zero places before some onePoint bare bound none = absurd (omega arith)
     integers-place p is rest (suc k) places before some onePoint bare bound none =
         let e : 14 + suc k ≡ 15 + k = omega arith in
@@ -187,25 +177,37 @@ module _ (c : Context) where
         (rw later at (rest k (omega arith) (omega arith) (λ z. absurd (true≢false (sym z ∙ later))) onePoint bare bound none))
 
     integers-read : (is : List Item) → Integers is
-    unfolding readFrom figurePieces itemUnits digitAfter any count integerPlaces decimalPlaces along
+    unfolding readFrom unitsOf itemUnits digitAfter any count integerPlaces decimalPlaces along
     integers-read [] = λ k places before some onePoint bare bound none.
         by-cases (eqb (c .integerPlaces) k) (λ e. absurd (true≢false (sym (some e)))) (λ e. rw (e, places) (omega arith))
     integers-read (i ∷ is) =
         item-case (λ (j : Item). Integers (j ∷ is))
         (λ p. integers-place p is (integers-read is))
         (λ k places before some onePoint bare bound none.
-        let whole : beforeE is ≡ is = bare-before is bare in
+        let whole : beforeCut is ≡ is = bare-before is bare in
         rw (places, point-read (figuresShown c 14 is)) (behind-point is (omega arith) bare (rw whole at bound) (rw whole at none)))
         (λ m k places before some onePoint bare bound none. absurd (true≢false bare))
+        (λ k places before some onePoint bare bound none. absurd (true≢false bare))
         (λ j notPlace notPoint notE other. rw (notPlace, notPoint, notE) (integers-read is))
         i
 
 -- the figure pieces of items without an E, read, are the number that they show, a count of 10^-15
 pub figures-read : (c : Context) (is : List Item) → c .figures < 10 ^ 40 → c .integerPlaces ≡ integerPlaces is
-    → integerPlaces is ≤ 20 → decimalPlaces is ≤ 15 → count isPoint is ≤ 1 → any isExponent is ≡ false → any isPlace is ≡ true
+    → integerPlaces is ≤ 20 → decimalPlaces is ≤ 15 → count isPoint is ≤ 1 → any isCut is ≡ false → any isPlace is ≡ true
     → c .figures % 10 ^ (15 - decimalPlaces is) ≡ 0 → Counts (unitsRead (figurePieces is (itemPieces c (firstOf (c .integerPlaces)) is))) (c .figures)
 unfolding unitsRead
 figures-read c is small places integers decimals onePoint bare some none =
     let k : ℕ = c .integerPlaces in
     rw (eq-eqb k k refl)
     at (integers-read c small (omega arith) is k places (omega arith) (λ e. some) onePoint bare decimals none)
+
+-- and of items that show a whole number in their places, with no point
+pub whole-read : (n places : ℕ) (below : Bool) (is : List Item) → n < 10 ^ 25 → places ≡ integerPlaces is → places ≤ 20
+    → any isPoint is ≡ false → any isCut is ≡ false → any isPlace is ≡ true
+    → Counts (unitsRead (figurePieces is (itemPieces (wholeContext n places below) (firstOf places) is))) (n * 10 ^ 15)
+unfolding wholeContext
+whole-read n places below is small e most noPoint bare some =
+    let next : n * 10 ^ 15 < suc n * 10 ^ 15 = omega arith in
+    figures-read (wholeContext n places below) is (lt-of-lt-of-le next (mul-le-mul-right (10 ^ 15) small)) e (omega arith)
+    (omega (arith, no-decimals is noPoint)) (omega (arith, none-count isPoint is noPoint)) bare some
+    (rw (no-decimals is noPoint) (mul-mod-left n (10 ^ 15)))

@@ -380,7 +380,7 @@ any-stands m (x ∷ xs) e = by-cases (eqb m x)
 is-semicolon : (t : Token) → isSemicolon t ≡ true → t ≡ semicolon
 is-semicolon =
     by-token (λ (t : Token). isSemicolon t ≡ true → t ≡ semicolon) (λ us. no) (λ u. no) (λ u. no) (λ u. no) (λ p. no) no no no no (λ e. refl) no
-    (λ h. no) (λ l n. no) (λ x n. no) (λ n. no) (λ w. no) (λ m. no)
+    (λ h. no) (λ l n. no) (λ x n. no) (λ n. no) (λ w. no) (λ m. no) (λ p. no) (λ p n. no)
 
 module _ (code : List ℕ) where
   semicolons-ascend : (k : ℕ) (l : Lexed) → LexesTo code k l → AscendFrom k (semicolons (placedOf l))

@@ -8,7 +8,7 @@ use Rattle.lists.specs.Lists.{every, count}
 use Rattle.lists.proofs.Bools.{and-left, and-right, and-in, nought-unless}
 use Rattle.formats.specs.Items.{itemInRange, numberKind, sameKind, kindOf, itemsFit}
 use Rattle.formats.specs.Kinds.{Parts, bodyKind, commaUses, isDividing, bodyItems, lastFill, sectionOf, fits}
-use Rattle.formats.specs.Limits.{elapsedShort, sectionWithin, writtenWithin, withinLimits}
+use Rattle.formats.specs.Limits.{elapsedShort, fixedSmall, sectionWithin, writtenWithin, withinLimits}
 use Rattle.formats.specs.WellFormed.{conditionInRange, partsFollow, oneFill, isSettled, dividingFits, sectionFormed, sectionFits}
 use Rattle.formats.proofs.TokenRanges.{tokenInRange, conditionDigits, partsPass, partsInRange}
 use Rattle.formats.proofs.FormedItems.{settling-settles, fills-one}
@@ -28,10 +28,14 @@ unfolding dividingFits sectionOf
 dividing-fits p =
     rw (kind-of-section p) (nought-unless (sameKind (bodyKind (p .body)) numberKind) (count isDividing (commaUses (p .body))))
 
--- the items of a section keep the limit on elapsed runs
+-- the items of a section keep the limits on elapsed runs and fixed numbers
 within-short : (p : Parts) → T (sectionWithin (sectionOf p)) → T (every elapsedShort ((sectionOf p) .items))
 unfolding sectionWithin
 within-short p t = search (and-left, and-right)
+
+within-small : (p : Parts) → T (sectionWithin (sectionOf p)) → T (every fixedSmall ((sectionOf p) .items))
+unfolding sectionWithin
+within-small p t = search (and-left, and-right)
 
 -- the rules for the items that hold of every section made of tokens
 items-follow : (p : Parts) → T (partsFollow ((sectionOf p) .items))
@@ -48,7 +52,7 @@ items-settle p = settling-settles (lastFill (bodyItems (p .body)))
 
 items-ranged : (p : Parts) → T (every tokenInRange (p .body)) → T (sectionWithin (sectionOf p)) → T (every itemInRange ((sectionOf p) .items))
 unfolding sectionOf
-items-ranged p t w = items-in-range p t (within-short p w)
+items-ranged p t w = items-in-range p t (within-short p w) (within-small p w)
 
 condition-ranged : (p : Parts) → T (conditionDigits (p .condition)) → T (writtenWithin (p .condition)) → T (conditionInRange ((sectionOf p) .condition))
 unfolding sectionOf

@@ -8,7 +8,7 @@ use mathlib.Core.List.{List, [], _∷_}
 use lib.Dec.{T, leb, eqb, le→leb, eqb-refl}
 use Rattle.lists.specs.Lists.{every, any, count}
 use Rattle.lists.proofs.Bools.{no, by-cases, cond-both, cond-case, and-left, and-right, and-in, T-true, true-T, every-head, every-tail, every-cons}
-use Rattle.formats.specs.Items.{Item, literal, blank, fill, place, point, percent, general, at, year, month, day, hour, minute, second, part, elapsed, half, itemNumber, isFill, isPlace, isPart, integerPlaces, Run, noRun, runOf, nearer, firstRun, meansMinutes, monthOrMinute, settledItem, settledFrom, settled, exponent, isExponent, exponentPlaces, fromE}
+use Rattle.formats.specs.Items.{Item, literal, blank, fill, place, point, percent, general, at, year, month, day, hour, minute, second, part, elapsed, half, itemNumber, isFill, isPlace, isPart, integerPlaces, Run, noRun, runOf, nearer, firstRun, meansMinutes, monthOrMinute, settledItem, settledFrom, settled, exponent, solidus, fixed, isCut, placesBehind, fromCut}
 use Rattle.formats.specs.Kinds.{lastFill}
 use Rattle.formats.specs.WellFormed.{oneFill, settledTest, isSettled, isSeconds, partsFrom}
 use Rattle.formats.proofs.Each.{by-item}
@@ -17,7 +17,7 @@ use Rattle.formats.proofs.Each.{by-item}
 fill-case : (P : Item → Type 0) → ((u : ℕ) → P (fill u)) → (i : Item) → isFill i ≡ true → P i
 fill-case P f =
     by-item (λ (i : Item). isFill i ≡ true → P i) (λ u. no) (λ u. no) (λ u e. f u) (λ p. no) no no no no
-    (λ n. no) (λ n. no) (λ n. no) (λ n. no) (λ n. no) (λ n. no) (λ n. no) (λ x n. no) (λ h. no) (λ m. no)
+    (λ n. no) (λ n. no) (λ n. no) (λ n. no) (λ n. no) (λ n. no) (λ n. no) (λ x n. no) (λ h. no) (λ m. no) no (λ n. no)
 
 -- what holds of every fill holds of an item that is left out
 pub dropped : (P : Item → Type 0) → ((u : ℕ) → P (fill u)) → (i : Item) (is : List Item) → (isFill i && any isFill is) ≡ true → P i
@@ -32,7 +32,7 @@ unfolding settledItem
 settled-cases P p q r =
     by-item (λ (i : Item). P i (λ e l. settledItem e l i)) (λ u. r (literal u)) (λ u. r (blank u)) (λ u. r (fill u)) (λ o. r (place o))
     (r point) (r percent) (r general) (r at) (λ n. r (year n)) p (λ n. r (day n)) (λ n. r (hour n)) q (λ n. r (second n)) (λ n. r (part n))
-    (λ x n. r (elapsed x n)) (λ h. r (half h)) (λ m. r (exponent m))
+    (λ x n. r (elapsed x n)) (λ h. r (half h)) (λ m. r (exponent m)) (r solidus) (λ n. r (fixed n))
 
 -- settling keeps whatever is the same of months and minutes
 module _ {A : Type 0} (f : Item → A) (same : (n : ℕ) → f (minute n) ≡ f (month n)) where
@@ -120,23 +120,23 @@ pub places-settled : (e : Run) (is : List Item) → integerPlaces (settledFrom e
 unfolding integerPlaces
 places-settled = runs-kept integerPlaces (λ i is js e. rw e) (λ n is. refl)
 
--- the exponent places stay too, told with the count of all places, which they are where the first item is an E
+-- the exponent places stay too, told with the count of all places, which they are where the first item is an E or solidus
 abbrev placesOf : List Item → ℕ × ℕ
-placesOf is = (exponentPlaces is, count isPlace is)
+placesOf is = (placesBehind is, count isPlace is)
 
 places-on : (i : Item) (is js : List Item) → placesOf is ≡ placesOf js → placesOf (i ∷ is) ≡ placesOf (i ∷ js)
-unfolding exponentPlaces fromE count
+unfolding placesBehind fromCut count
 places-on i is js e =
     let a = ap (λ (p : ℕ × ℕ). p .0) e in
     let b = ap (λ (p : ℕ × ℕ). p .1) e in
-    by-cases (isExponent i) (λ x. rw (x, b)) (λ x. rw (x, a, b))
+    by-cases (isCut i) (λ x. rw (x, b)) (λ x. rw (x, a, b))
 
-pub exponents-lastFill : (is : List Item) → exponentPlaces (lastFill is) ≡ exponentPlaces is
-unfolding exponentPlaces fromE count
+pub exponents-lastFill : (is : List Item) → placesBehind (lastFill is) ≡ placesBehind is
+unfolding placesBehind fromCut count
 exponents-lastFill is = ap (λ (p : ℕ × ℕ). p .0) (fills-kept placesOf places-on (λ u js. refl) is)
 
-pub exponents-settled : (e : Run) (is : List Item) → exponentPlaces (settledFrom e is) ≡ exponentPlaces is
-unfolding exponentPlaces fromE count
+pub exponents-settled : (e : Run) (is : List Item) → placesBehind (settledFrom e is) ≡ placesBehind is
+unfolding placesBehind fromCut count
 exponents-settled e is = ap (λ (p : ℕ × ℕ). p .0) (runs-kept placesOf places-on (λ n js. refl) e is)
 
 pub parts-settled : (b : Bool) (e : Run) (is : List Item) → partsFrom b (settledFrom e is) ≡ partsFrom b is

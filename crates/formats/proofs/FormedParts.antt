@@ -50,7 +50,7 @@ token-follows d t is c =
     (λ us f. literals-follow us is c f) (λ u f. f false tt) (λ u f. f false tt) (λ u f. f false tt) (λ p f. f false tt)
     (point-follows d is c) (comma-follows d is c) (λ f. f false tt) (λ f. f false tt) (λ f. f c tt) (λ f. f false tt) (λ h f. f false tt)
     (λ l n f. run-follows l n is c f) (λ e n f. f (eqb (elapsedIndex e) 2) (implies-in (eqb (elapsedIndex e) 2) (eqb (elapsedIndex e) 2) true-T))
-    (λ n f. f c tt) (λ w f. f c tt) (λ m f. f false tt) t
+    (λ n f. f c tt) (λ w f. f c tt) (λ m f. f false tt) (λ p f. f false tt) (λ p n f. f false tt) t
 
 plain-follow : (ts : List Token) (c : Bool) → T (partsFrom c (plainItems ts))
 unfolding plainItems partsFrom

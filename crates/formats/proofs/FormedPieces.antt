@@ -15,14 +15,14 @@ use Rattle.formats.proofs.Each.{by-token}
 pub point-case : (P : Token → Type 0) → P point → (t : Token) → isPoint t ≡ true → P t
 point-case P p =
     by-token (λ (t : Token). isPoint t ≡ true → P t) (λ us. no) (λ u. no) (λ u. no) (λ u. no) (λ q. no) (λ e. p) no no no no no
-    (λ h. no) (λ l n. no) (λ x n. no) (λ n. no) (λ w. no) (λ m. no)
+    (λ h. no) (λ l n. no) (λ x n. no) (λ n. no) (λ w. no) (λ m. no) (λ p. no) (λ p n. no)
 
 -- what holds of every place holds of a token that is a zero
 pub zero-case : (P : Token → Type 0) → ((q : Place) → P (place q)) → (t : Token) → isZero t ≡ true → P t
 unfolding isZero
 zero-case P p =
     by-token (λ (t : Token). isZero t ≡ true → P t) (λ us. no) (λ u. no) (λ u. no) (λ u. no) (λ q e. p q) no no no no no no
-    (λ h. no) (λ l n. no) (λ x n. no) (λ n. no) (λ w. no) (λ m. no)
+    (λ h. no) (λ l n. no) (λ x n. no) (λ n. no) (λ w. no) (λ m. no) (λ p. no) (λ p n. no)
 
 -- a part of a second takes at most three zeros, and no more than follow its point
 pub zeros-most : (b : Bool) (t : Token) (ts : List Token) → partZeros b t ts ≤ 3

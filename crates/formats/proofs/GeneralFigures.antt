@@ -62,17 +62,19 @@ unfolding readFrom pointed isDigit
 pointed-read v [] = refl
 pointed-read v (u ∷ us) = refl
 
+-- a number in digits, and what stands behind them
+pub numeral-read : (n : ℕ) (us : List ℕ) → n < 10 ^ 25 → readFrom false 0 1 (numeral 1 n ++ us) ≡ readFrom false n 1 us
+unfolding numeral
+numeral-read n us small =
+    let k : ℕ = max 1 (width n) in
+    let wide : n < 10 ^ k = lt-of-lt-of-le (width-above n small) (ten-le (width n) k (omega arith)) in
+    ap (λ (v : ℕ). readFrom false v 1 (digitUnits k n ++ us)) (sym (div-eq-of-lt {n = n} {m = 10 ^ k} wide)) ∙ integer-digits n k us
+
 pub general-read : (n : ℕ) → n < 10 ^ 40 → Counts (unitsRead (generalUnits n)) n
-unfolding unitsRead generalUnits numeral
+unfolding unitsRead generalUnits
 general-read n h =
     let m : ℕ = n / 10 ^ 15 in
-    let k : ℕ = max 1 (width m) in
     let us : List ℕ = digitUnits 15 n in
-    let rest : List ℕ = pointed (withoutEndZeros us) in
     let small : m < 10 ^ 25 = div-lt-iff-lt-mul {k = 10 ^ 15} {x = n} {y = 10 ^ 25} (ten-pos 15) .1 h in
-    let wide : m < 10 ^ k = lt-of-lt-of-le (width-above m small) (ten-le (width m) k (omega arith)) in
-    let integers : readFrom false 0 1 (digitUnits k m ++ rest) ≡ readFrom true m 1 (withoutEndZeros us) =
-    ap (λ (v : ℕ). readFrom false v 1 (digitUnits k m ++ rest)) (sym (div-eq-of-lt {n = m} {m = 10 ^ k} wide))
-    ∙ integer-digits m k rest
-    ∙ pointed-read m (withoutEndZeros us) in
-    rw integers (end-zeros us m 1 n (rw (decimal-digits n 15 1) (omega arith)))
+    rw (numeral-read m (pointed (withoutEndZeros us)) small, pointed-read m (withoutEndZeros us))
+    (end-zeros us m 1 n (rw (decimal-digits n 15 1) (omega arith)))

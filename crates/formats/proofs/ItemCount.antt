@@ -11,13 +11,13 @@ use Rattle.lists.specs.Lists.{every, any, count}
 use Rattle.lists.proofs.Bools.{by-cases, cond-both, cond-case}
 use Rattle.calendar.specs.Names.{units}
 use Rattle.formats.specs.Tokens as token
-use Rattle.formats.specs.Tokens.{Letter, Token, Step, read, broken, before, leading, startsWith, quoted, marked, generalWord, halfDayWord, runAllowed, runStep, insideOf, bracketed, First, quote, backslash, underscore, asterisk, openBracket, capitalG, capitalA, other, letter, single, FirstRow, firstRows, firstIn, bareLiterals, stepBy, stepAt, Placed, Lexed, good, bad, onto, afterStep, lexFrom, lex, exponentWord, capitalE}
+use Rattle.formats.specs.Tokens.{Letter, Token, Step, read, broken, before, leading, startsWith, quoted, marked, generalWord, halfDayWord, runAllowed, runStep, insideOf, bracketed, First, quote, backslash, underscore, asterisk, openBracket, capitalG, capitalA, other, letter, single, FirstRow, firstRows, firstIn, bareLiterals, stepBy, stepAt, Placed, Lexed, good, bad, onto, afterStep, lexFrom, lex, exponentWord, capitalE, placeUnit}
 use Rattle.formats.specs.Items.{Item, Run, noRun, runOf, nearer, settledFrom, settled, isFill, sameKind, dateKind}
 use Rattle.formats.specs.Kinds.{isSemicolon, isColour, isCondition, Parts, colourIn, afterColour, partsOf, bodyKind, Piece, isSecondsToken, partZeros, piecesFrom, tokenItems, pieceItems, plainItems, dateItems, bodyItems, lastFill, sectionOf}
 use Rattle.formats.specs.Accept.{placedOf, tokensOf, semicolons, joined, split, partsIn, sectionsIn}
 use Rattle.formats.specs.WellFormed.{itemsInAll}
 use Rattle.formats.proofs.FormedPieces.{point-case, zeros-point}
-use Rattle.formats.proofs.TokenRanges.{InStep, closed-step, inside-form, first-passes, singlePasses}
+use Rattle.formats.proofs.TokenRanges.{InStep, place-form, closed-step, inside-form, first-passes, singlePasses}
 use Rattle.formats.proofs.Each.{by-token}
 
 -- how many items a token makes of a date: elsewhere it makes no more, and it has at least as many units
@@ -92,6 +92,8 @@ by-light capitalG u us s = general-light us (u ∷ us)
 by-light capitalA u us s = half-light us (u ∷ us)
 by-light capitalE u us s = exponent-light us (u ∷ us)
 by-light (letter l) u us s = run-light l u us
+by-light (placeUnit p) u us s =
+    place-form (Light us) p us (omega arith) (λ h. omega arith) (λ v vs h none some. omega arith)
 by-light (single t) u us s = light-one us t 0 (leb→le (weight t) 1 s)
 by-light other u us s = cond-both (InStep (Light us)) (any (eqb u) bareLiterals) (omega arith) tt
 
@@ -139,6 +141,7 @@ token-items =
     (λ us. omega arith) (λ u. omega arith) (λ u. omega arith) (λ u. omega arith) (λ p. omega arith)
     (omega arith) (omega arith) (omega arith) (omega arith) (omega arith) (omega arith)
     (λ h. omega arith) (λ l n. omega arith) (λ e n. omega arith) (λ n. omega arith) (λ w. omega arith) (λ m. omega arith)
+    (λ p. omega arith) (λ p n. omega arith)
 
 plain-items : (ts : List Token) → length (plainItems ts) ≤ weights ts
 unfolding plainItems weights

@@ -16,7 +16,7 @@ use lib.Seq.{drop-drop, drop-nil}
 use Rattle.calendar.specs.Names.{units}
 use Rattle.lists.specs.Lists.{any}
 use Rattle.lists.proofs.Bools.{by-cases, cond-both, cond-case, or-false}
-use Rattle.formats.specs.Tokens.{Token, Step, read, broken, before, leading, startsWith, quoted, marked, generalWord, halfDayWord, runAllowed, runStep, numberFrom, insideOf, closed, bracketed, First, quote, backslash, underscore, asterisk, openBracket, capitalG, capitalA, letter, single, other, firstRows, firstIn, bareLiterals, stepBy, stepAt, Placed, Lexed, good, bad, onto, afterStep, lexFrom, lex, exponentWord, capitalE}
+use Rattle.formats.specs.Tokens.{Token, Step, read, broken, before, leading, startsWith, quoted, marked, generalWord, halfDayWord, runAllowed, runStep, numberFrom, insideOf, closed, bracketed, First, quote, backslash, underscore, asterisk, openBracket, capitalG, capitalA, letter, single, other, firstRows, firstIn, bareLiterals, stepBy, stepAt, Placed, Lexed, good, bad, onto, afterStep, lexFrom, lex, exponentWord, capitalE, Place, isDigit, isPlaceUnit, overStep, placeStep, placeUnit}
 use Rattle.formats.specs.Starts.{StepIs, TokenStart, begin, next}
 
 -- what is skipped is dropped
@@ -111,6 +111,16 @@ exponent-within u us = cond-case (Within (length us)) (startsWith (units "E+") (
     (λ e. cond-case (Within (length us)) (startsWith (units "E-") (u ∷ us))
     (λ f. omega (arith, word-most (units "E-") (u ∷ us) f)) (λ f. tt))
 
+place-within : (p : Place) (us : List ℕ) → Within (length us) (placeStep p us)
+unfolding placeStep overStep
+place-within p [] = omega arith
+place-within p (s ∷ []) = cond-both (Within 1) (eqb s 47) (omega arith) (omega arith)
+place-within p (s ∷ u ∷ us) =
+    let m = suc (suc (length us)) in
+    cond-both (Within m) (eqb s 47)
+    (cond-both (Within m) (isPlaceUnit u) (omega arith) (cond-both (Within m) (isDigit u) (omega (arith, leading-most isDigit us)) (omega arith)))
+    (omega arith)
+
 by-within : (f : First) (u : ℕ) (us : List ℕ) → Within (length us) (stepBy f u us)
 unfolding stepBy runStep
 by-within quote u us = quoted-within us
@@ -122,6 +132,7 @@ by-within capitalG u us = general-within u us
 by-within capitalA u us = half-within u us
 by-within capitalE u us = exponent-within u us
 by-within (letter l) u us = cond-both (Within (length us)) (runAllowed l (suc (leading (eqb u) us))) (leading-most (eqb u) us) tt
+by-within (placeUnit p) u us = place-within p us
 by-within (single t) u us = omega arith
 by-within other u us = cond-both (Within (length us)) (any (eqb u) bareLiterals) (omega arith) tt
 

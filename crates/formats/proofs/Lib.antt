@@ -18,7 +18,11 @@ pub mod FigureUnits
 pub mod Cutting
 pub mod FigureItems
 pub mod ExponentUnits
+pub mod Pieces
 pub mod Scientific
+pub mod FractionParts
+pub mod FractionPieces
+pub mod FractionFigures
 pub mod GeneralFigures
 pub mod Chosen
 pub mod Lexing

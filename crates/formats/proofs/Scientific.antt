@@ -3,19 +3,18 @@
 -- Assumes nothing.
 use mathlib.Core.Path.{_≡_, refl, sym, _∙_, subst}
 use Prim.Native.Nat.{ℕ, _+_, _*_, _^_, _≤_, _<_}
-use native.Mathlib.Nat.{mul-mod-left, lt-of-lt-of-le}
+use native.Mathlib.Nat.{lt-of-lt-of-le}
 use native.Mathlib.Omega.{arith}
 use borrow.Author.Tests.{ne-eqb}
 use mathlib.Core.Bool.{Bool, true, false, _||_}
 use mathlib.Core.List.{List, [], _∷_, _++_}
 use lib.Dec.{T, leb→le, ltb→lt}
 use lib.IntN.{natAbs}
-use lib.ListN.{length, drop}
+use lib.ListN.{length}
 use Rattle.values.specs.declared.Number.{Number}
 use Rattle.values.specs.Ranges.{numberInRange}
 use Rattle.lists.specs.Lists.{every, any, count}
 use Rattle.lists.proofs.Bools.{by-cases, and-left, and-right}
-use Rattle.lists.proofs.Counts.{none-count}
 use Rattle.figures.specs.Rounding.{Magnitude}
 use Rattle.figures.specs.Bounds.{Near}
 use Rattle.figures.proofs.Tens.{ten-pos, ten-le}
@@ -24,28 +23,17 @@ use Rattle.exponents.specs.Least.{LeastExponent}
 use Rattle.exponents.proofs.Search.{exponent-least, mantissa-digits}
 use Rattle.exponents.proofs.Mantissa.{exponent-nought, mantissa-near, mantissa-small, exponent-most}
 use Rattle.formats.specs.Tokens.{isDigit}
-use Rattle.formats.specs.Items.{Item, exponent, Section, scientificKind, kindOf, itemsFit, isPlace, isPoint, isExponent, beforeE, fromE, integerPlaces, decimalPlaces, exponentPlaces, exponentFits}
+use Rattle.formats.specs.Items.{Item, exponent, Section, scientificKind, kindOf, itemsKind, itemAllowed, itemsFit, isPlace, isPoint, isExponent, isSolidus, isCut, mainItems, beforeCut, fromCut, integerPlaces, decimalPlaces, placesBehind, exponentFits}
 use Rattle.formats.specs.Limits.{sectionWithin}
 use Rattle.formats.specs.WellFormed.{sectionFormed, sectionFits}
 use Rattle.formats.specs.Choice.{numberExact}
-use Rattle.formats.specs.Text.{itemUnits, digitAfter, along, self, firstOf, itemPieces}
-use Rattle.formats.specs.Reading.{showsGeneral, sectionExponent, sectionRounded, numberContext, exponentContext, showsNought}
-use Rattle.formats.specs.Figures.{unitsRead, Counts, figurePieces, ScientificOf}
-use Rattle.formats.proofs.Cutting.{before-bare, cut-count, integers-before, decimals-before, no-decimals, Cut, cut, ExponentRules, exponent-rules, behind-bare, behind-pointless, behind-integers, scientific-some}
-use Rattle.formats.proofs.FigureItems.{figures-read}
+use Rattle.formats.specs.Text.{itemUnits, digitAfter, along, firstOf, itemPieces}
+use Rattle.formats.specs.Reading.{showsGeneral, sectionExponent, sectionRounded, numberContext, wholeContext, exponentContext, placesNought, showsNought}
+use Rattle.formats.specs.Figures.{unitsRead, Counts, unitsOf, figurePieces, ScientificOf}
+use Rattle.formats.proofs.Cutting.{before-bare, cut-count, integers-before, decimals-before, Cut, cut, ExponentRules, exponent-rules, no-solidus, main-all, behind-bare, behind-pointless, behind-integers, scientific-some}
+use Rattle.formats.proofs.FigureItems.{figures-read, whole-read}
+use Rattle.formats.proofs.Pieces.{along-length, drop-front, units-front}
 use Rattle.formats.proofs.ExponentUnits.{items-digits}
-
--- the pieces of a list of items in front of others
-module _ (f : ℕ → Item → List ℕ) (anew : ℕ) (pieces : List (List ℕ)) where
-  figures-front : (q : ℕ) (is : List Item) → figurePieces is (along self f anew q is ++ pieces) ≡ figurePieces is (along self f anew q is)
-  unfolding along figurePieces
-  figures-front q [] = refl
-  figures-front q (i ∷ is) = rw (figures-front (digitAfter anew q i) is)
-
-  pieces-behind : (q : ℕ) (is : List Item) → drop (length is) (along self f anew q is ++ pieces) ≡ pieces
-  unfolding along
-  pieces-behind q [] = refl
-  pieces-behind q (i ∷ is) = pieces-behind (digitAfter anew q i) is
 
 -- where there is an integer place there is a place
 some-place : (is : List Item) → 1 ≤ integerPlaces is → any isPlace is ≡ true
@@ -54,7 +42,7 @@ some-place [] h = absurd (omega arith)
 some-place (i ∷ is) h =
     by-cases (isPlace i) (λ e. rw e)
     (λ e.
-    by-cases (isPoint i || isExponent i) (λ f. absurd (omega (arith, rw f at h))) (λ f. rw e (some-place is (rw (f, e) at h))))
+    by-cases (isPoint i || isCut i) (λ f. absurd (omega (arith, rw f at h))) (λ f. rw e (some-place is (rw (f, e) at h))))
 
 module _ (s : Section) (x : Number) where
   abbrev n : ℕ
@@ -69,19 +57,20 @@ module _ (s : Section) (x : Number) where
   -- the text of each item: before the E by the number, from it on by the exponent
   abbrev pub scientificPieces : List (List ℕ)
   scientificPieces =
-      itemPieces (numberContext s x) (firstOf n) (beforeE (s .items))
-      ++ itemPieces (exponentContext s x) (firstOf (exponentPlaces (s .items))) (fromE (s .items))
+      itemPieces (numberContext s x) (firstOf n) (beforeCut (s .items))
+      ++ itemPieces (exponentContext s x) (firstOf (placesBehind (s .items))) (fromCut (s .items))
 
   -- a scientific section and a number in range
   module _ (kind : kindOf s ≡ scientificKind) (formed : T (sectionFormed s)) (range : T (numberInRange x)) where
     -- the section's rules
     record Rules : Type 0 where
+      pub bare : any isSolidus (s .items) ≡ false
       pub parts : Cut (s .items)
       pub exponents : ExponentRules (s .items)
       pub onePoint : count isPoint (s .items) ≤ 1
       pub integers : n ≤ 20
       pub decimals : d ≤ 15
-      pub few : exponentPlaces (s .items) ≤ 3
+      pub few : placesBehind (s .items) ≤ 3
       pub coefficient : natAbs (x .coefficient) < 10 ^ 15
       pub scale : x .scale ≤ 15
 
@@ -90,11 +79,15 @@ module _ (s : Section) (x : Number) where
     rules =
         let some : any isExponent (s .items) ≡ true = scientific-some (s .items) kind in
         let fits : T (exponentFits (s .items)) = search (and-left, and-right) depth 16 in
+        let held : T (every (itemAllowed (itemsKind (s .items))) (s .items)) = search (and-left, and-right) depth 16 in
+        let none : any isSolidus (s .items) ≡ false = no-solidus scientificKind (s .items) refl (rw kind at held) in
+        let most : integerPlaces (mainItems (s .items)) ≤ 20 = search (and-left, and-right, leb→le) depth 16 in
         record {
-          parts = cut (s .items) some;
+          bare = none;
+          parts = cut (s .items) none some;
           exponents = exponent-rules (s .items) some fits;
           onePoint = search (and-left, and-right, leb→le) depth 16;
-          integers = search (and-left, and-right, leb→le) depth 16;
+          integers = rw (main-all (s .items) none) at most;
           decimals = search (and-left, and-right, leb→le) depth 16;
           few = search (and-left, and-right, leb→le) depth 16;
           coefficient = search (and-left, ltb→lt);
@@ -120,42 +113,39 @@ module _ (s : Section) (x : Number) where
 
     -- the figures before the E are the mantissa's
     mantissa-read :
-        Counts (unitsRead (figurePieces (beforeE (s .items)) (itemPieces (numberContext s x) (firstOf n) (beforeE (s .items))))) (mantissaOf exact n d)
+        Counts (unitsRead (figurePieces (beforeCut (s .items)) (itemPieces (numberContext s x) (firstOf n) (beforeCut (s .items))))) (mantissaOf exact n d)
     unfolding numberContext
     mantissa-read =
         let is : List Item = s .items in
         let r : Rules = rules in
-        subst (Counts (unitsRead (figurePieces (beforeE is) (itemPieces (numberContext s x) (firstOf n) (beforeE is))))) rounded-mantissa
-        (figures-read (numberContext s x) (beforeE is) (rw rounded-mantissa mantissa-fits) (sym (integers-before is)) (rw (integers-before is) (r .integers))
+        subst (Counts (unitsRead (figurePieces (beforeCut is) (itemPieces (numberContext s x) (firstOf n) (beforeCut is))))) rounded-mantissa
+        (figures-read (numberContext s x) (beforeCut is) (rw rounded-mantissa mantissa-fits) (sym (integers-before is)) (rw (integers-before is) (r .integers))
         (rw (decimals-before is) (r .decimals)) (omega (arith, r .onePoint, cut-count isPoint is)) (before-bare is)
-        (some-place (beforeE is) (rw (integers-before is) (r .exponents .integer)))
+        (some-place (beforeCut is) (rw (integers-before is) (r .exponents .integer)))
         (rw (rounded-mantissa, decimals-before is) (near .whole)))
 
-    exponent-fits : (sectionExponent s x) .size * 10 ^ 15 < 10 ^ 40
+    exponent-fits : (sectionExponent s x) .size < 10 ^ 25
     unfolding sectionExponent
     exponent-fits =
-        let small : (exponentOf exact n d) .size * 10 ^ 15 < 10 ^ 18 = omega (arith, exponent-most exact n d, rules .integers) in
-        lt-of-lt-of-le small (ten-le 18 40 (omega arith))
+        let small : (exponentOf exact n d) .size < 10 ^ 3 = omega (arith, exponent-most exact n d, rules .integers) in
+        lt-of-lt-of-le small (ten-le 3 25 (omega arith))
 
     -- those behind it are the exponent's, and digits alone
     exponent-read : (q : ℕ)
-        → Counts (unitsRead (figurePieces (fromE (s .items)) (itemPieces (exponentContext s x) q (fromE (s .items))))) ((sectionExponent s x) .size * 10 ^ 15)
-    unfolding exponentContext along digitAfter figurePieces
+        → Counts (unitsRead (figurePieces (fromCut (s .items)) (itemPieces (exponentContext s x) q (fromCut (s .items))))) ((sectionExponent s x) .size * 10 ^ 15)
+    unfolding exponentContext wholeContext along digitAfter unitsOf
     exponent-read q =
         let r : Rules = rules in
         let e : ExponentRules (s .items) = r .exponents in
         let c : Cut (s .items) = r .parts in
-        let pointless : any isPoint (c .behind) ≡ false = behind-pointless c (e .noPoint) in
-        let integers : integerPlaces (c .behind) ≡ exponentPlaces (s .items) = behind-integers c (e .one) (e .noPoint) in
+        let integers : integerPlaces (c .behind) ≡ placesBehind (s .items) = behind-integers c (r .bare) (e .one) (e .noPoint) in
         rw (c .from)
-        (figures-read (exponentContext s x) (c .behind) exponent-fits (sym integers) (omega (arith, integers, r .few))
-        (omega (arith, no-decimals (c .behind) pointless)) (omega (arith, none-count isPoint (c .behind) pointless)) (behind-bare c (e .one))
-        (some-place (c .behind) (omega (arith, integers, e .places)))
-        (rw (no-decimals (c .behind) pointless) (mul-mod-left ((sectionExponent s x) .size) (10 ^ 15))))
+        (whole-read ((sectionExponent s x) .size) (placesBehind (s .items)) ((sectionExponent s x) .below) (c .behind) exponent-fits (sym integers)
+        (omega (arith, r .few)) (behind-pointless c (e .noPoint)) (behind-bare c (r .bare) (e .one)) (some-place (c .behind) (omega (arith, integers, e .places))))
 
-    exponent-digits : (q : ℕ) → T (every isDigit (figurePieces (fromE (s .items)) (itemPieces (exponentContext s x) q (fromE (s .items)))))
-    unfolding exponentContext
-    exponent-digits q = items-digits (exponentContext s x) refl q (fromE (s .items)) (rules .exponents .noPoint) (rules .exponents .noSpace)
+    exponent-digits : (q : ℕ) → T (every isDigit (figurePieces (fromCut (s .items)) (itemPieces (exponentContext s x) q (fromCut (s .items)))))
+    unfolding exponentContext wholeContext
+    exponent-digits q = items-digits (exponentContext s x) refl q (fromCut (s .items)) (rules .exponents .noPoint) (rules .exponents .noSpace)
 
     -- "1 to n integer digits"
     digits : 0 < natAbs (x .coefficient) → (10 ^ 15 ≤ mantissaOf exact n d) × (mantissaOf exact n d < 10 ^ (15 + n))
@@ -166,7 +156,7 @@ module _ (s : Section) (x : Number) where
 
     -- "a number below 0 keeps a mantissa of at least 1": (b) holds back the minus of zero alone
     pub scientific-minus : 0 < natAbs (x .coefficient) → showsNought s x ≡ false
-    unfolding showsNought showsGeneral
+    unfolding showsNought placesNought showsGeneral
     scientific-minus pos = rw (kind, ne-eqb (sectionRounded s x) 0 (λ z. omega (arith, rounded-mantissa, digits pos .0)))
 
     -- "the least multiple of n"
@@ -182,10 +172,11 @@ module _ (s : Section) (x : Number) where
     unfolding numberExact sectionExponent mantissaOf mantissaAt
     scientific-of added unsigned =
         let is : List Item = s .items in
-        let ps : List (List ℕ) = itemPieces (exponentContext s x) (firstOf (exponentPlaces is)) (fromE is) in
-        let anew : ℕ = firstOf ((numberContext s x) .integerPlaces) in
-        let front = figures-front (itemUnits (numberContext s x)) anew ps (firstOf n) (beforeE is) in
-        let behind = pieces-behind (itemUnits (numberContext s x)) anew ps (firstOf n) (beforeE is) in
+        let ps : List (List ℕ) = itemPieces (exponentContext s x) (firstOf (placesBehind is)) (fromCut is) in
+        let qs : List (List ℕ) = itemPieces (numberContext s x) (firstOf n) (beforeCut is) in
+        let all : length qs ≡ length (beforeCut is) = along-length (itemUnits (numberContext s x)) _ (firstOf n) (beforeCut is) in
+        let front = units-front (λ (i : Item). isPlace i || isPoint i) (beforeCut is) qs ps all in
+        let behind = drop-front (length (beforeCut is)) qs ps all in
         record {
           exponent = sectionExponent s x;
           least = least;
@@ -199,6 +190,6 @@ module _ (s : Section) (x : Number) where
           };
           digits = digits;
           sign = refl;
-          shown = rw behind (exponent-read (firstOf (exponentPlaces is)));
-          plain = rw behind (exponent-digits (firstOf (exponentPlaces is)));
+          shown = rw behind (exponent-read (firstOf (placesBehind is)));
+          plain = rw behind (exponent-digits (firstOf (placesBehind is)));
         }

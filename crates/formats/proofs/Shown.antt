@@ -4,7 +4,7 @@ use mathlib.Core.Path.{_≡_, refl, sym, ap, subst, _∙_}
 use Prim.Native.Nat.{ℕ, _+_, _*_, _^_, _≤_, _<_}
 use native.Mathlib.Omega.{arith}
 use mathlib.Core.Bool.{Bool, true, false, cond, not, _&&_, or-true, true≢false}
-use mathlib.Core.List.{List, [], _∷_, _++_, append-assoc, flatten}
+use mathlib.Core.List.{List, [], _∷_}
 use borrow.Author.Tests.{eq-eqb}
 use lib.ListN.{length}
 use lib.Dec.{T, leb, eqb, leb→le, ltb→lt}
@@ -15,26 +15,32 @@ use Rattle.values.specs.declared.Value.the-variants as value
 use Rattle.values.specs.declared.Ask.{Ask}
 use Rattle.values.specs.Ranges.{numberInRange}
 use Rattle.lists.specs.Lists.{every, any, count, isEmpty}
-use Rattle.lists.proofs.Bools.{no, by-cases, cond-both, cond-case, and-left, and-right, every-head, every-tail, true-T, not-false}
+use Rattle.lists.proofs.Bools.{no, by-cases, cond-both, cond-case, and-left, and-right, every-head, every-tail, true-T, not-false, or-false}
+use Rattle.lists.proofs.Counts.{any-either}
 use Rattle.figures.specs.Rounding.{Magnitude, scaled, rounded}
 use Rattle.figures.specs.Powers.{powered}
 use Rattle.figures.specs.General.{generalDecimals, generalRounded, generalTooWide, generalUnits}
 use Rattle.figures.proofs.Tens.{ten-pos}
 use Rattle.figures.proofs.Rounding.{half-unit, scaled-powered, scaled-small, rounded-small}
 use Rattle.calendar.specs.Names.{units}
-use Rattle.formats.specs.Items.{Item, isUnit, at, Section, Kind, showsPlaces, textKind, generalKind, dateKind, scientificKind, numberKind, literalKind, sameKind, kindOf, itemAllowed, isPoint, isPercent, isExponent, itemsFit, beforeE, fromE, integerPlaces, decimalPlaces, exponentPlaces}
+use Rattle.fractions.specs.declared.Mixed.{Mixed}
+use Rattle.formats.specs.Items.{Item, isUnit, at, Section, Kind, showsPlaces, textKind, generalKind, dateKind, scientificKind, fractionKind, numberKind, sameKind, kindOf, itemAllowed, isPoint, isPercent, isExponent, isSolidus, isCut, itemsFit, mainItems, beforeCut, fromCut, integerPlaces, decimalPlaces, placesBehind}
 use Rattle.formats.specs.Limits.{sectionWithin}
 use Rattle.formats.specs.WellFormed.{sectionFormed, wellFormed, sectionFits}
 use Rattle.formats.specs.Choice.{Exact, numberExact, zeroExact, lessThan, counted, Reason, Choice, nothing, chosen, choose}
 use Rattle.formats.specs.Minus.{Sign, minus, notNegative, noItem, forNegatives, nought, isOwn, firstHasCondition, exceptionA, signFor, signUnits}
 use Rattle.formats.specs.Text.{Context, placeUnits, pointUnits, itemUnits, digitAfter, along, firstOf, itemPieces, itemsUnits, sectionUnits}
 use Rattle.formats.specs.Accept.{sectionsIn, Accepted, sections, refusal, accept}
-use Rattle.formats.specs.Reading.{Look, Reading, refused, shown, lookOf, within, takesNumber, showsGeneral, sectionExponent, sectionRounded, standingRounded, numberContext, exponentContext, sectionText, showsNought, numberSign, numberUnits, readNumber, readValue, reading, readAccepted, codeReading}
-use Rattle.formats.specs.Figures.{unitsRead, Counts, FiguresOf, GeneralFigures, PieceOf, ofLiteral, ofBlank, ofFill, ofPercent, ofPlace, ofPoint, ofGeneral, ofAt, ofExponent, PiecesOf, empty, more, figurePieces, NumberShown}
+use Rattle.formats.specs.Reading.{Look, Reading, refused, shown, lookOf, within, takesNumber, showsGeneral, sectionExponent, sectionRounded, standingRounded, sectionFraction, numberContext, wholeContext, exponentContext, sectionText, placesNought, showsNought, numberSign, numberUnits, readNumber, readValue, reading, readAccepted, codeReading}
+use Rattle.formats.specs.Figures.{unitsRead, Counts, FiguresOf, GeneralFigures, PieceOf, ofLiteral, ofBlank, ofFill, ofPercent, ofPlace, ofPoint, ofGeneral, ofAt, ofExponent, ofSolidus, ofFixed, PiecesOf, empty, more, figurePieces, NumberShown}
 use Rattle.formats.proofs.FigureUnits.{place-plain, beyond-plain}
 use Rattle.formats.proofs.FigureItems.{number-place, figures-read}
-use Rattle.formats.proofs.Cutting.{cut-joins, before-bare, every-before, every-from, held-bare}
+use Rattle.formats.proofs.Cutting.{cut-joins, before-bare, every-before, every-from, main-all, no-solidus, held-bare}
+use Rattle.formats.proofs.Pieces.{flatten-joins, pieces-join}
 use Rattle.formats.proofs.Scientific.{scientificPieces, scientific-of}
+use Rattle.formats.proofs.FractionParts.{FractionItems, fraction-items}
+use Rattle.formats.proofs.FractionPieces.{fractionPieces, fraction-text, fraction-each}
+use Rattle.formats.proofs.FractionFigures.{fraction-of}
 use Rattle.formats.proofs.GeneralFigures.{general-read}
 use Rattle.formats.proofs.Chosen.{chosen-passes}
 use Rattle.formats.proofs.Accepted.{accepted-sections, accepted-formed}
@@ -57,7 +63,7 @@ record Rules (s : Section) : Type 0 where
   formed : T (sectionFormed s)
   allowed : T (every (itemAllowed (kindOf s)) (s .items))
   onePoint : count isPoint (s .items) ≤ 1
-  integers : integerPlaces (s .items) ≤ 20
+  integers : integerPlaces (mainItems (s .items)) ≤ 20
   decimals : decimalPlaces (s .items) ≤ 15
   percents : count isPercent (s .items) ≤ 5
 
@@ -105,35 +111,24 @@ standing-fits x range =
 
 general-shown : (k : Kind) → T (sameKind generalKind k) → showsGeneral k ≡ true
 unfolding showsGeneral
-general-shown = by-kind (λ k. T (sameKind generalKind k) → showsGeneral k ≡ true) absurd (λ t. refl) absurd absurd absurd absurd
+general-shown = by-kind (λ k. T (sameKind generalKind k) → showsGeneral k ≡ true) absurd (λ t. refl) absurd absurd absurd absurd absurd
 
 text-shows : (k : Kind) → T (sameKind textKind k) → showsGeneral k ≡ true
 unfolding showsGeneral
-text-shows = by-kind (λ k. T (sameKind textKind k) → showsGeneral k ≡ true) (λ t. refl) absurd absurd absurd absurd absurd
+text-shows = by-kind (λ k. T (sameKind textKind k) → showsGeneral k ≡ true) (λ t. refl) absurd absurd absurd absurd absurd absurd
 
 no-date : (k : Kind) → takesNumber k ≡ true → T (sameKind dateKind k) → ⊥
 unfolding takesNumber
-no-date textKind e t = t
-no-date generalKind e t = t
-no-date dateKind e t = true≢false (sym e)
-no-date numberKind e t = t
-no-date literalKind e t = t
-no-date scientificKind e t = t
+no-date =
+    by-kind (λ (k : Kind). takesNumber k ≡ true → T (sameKind dateKind k) → ⊥) (λ e t. t) (λ e t. t) (λ e t. true≢false (sym e)) (λ e t. t) (λ e t. t)
+    (λ e t. t) (λ e t. t)
 
--- the one kind that has scientific's number
+-- the one kind that has scientific's number, and the one that has a fraction's
 same-scientific : (k : Kind) → sameKind k scientificKind ≡ true → k ≡ scientificKind
-same-scientific = by-kind (λ (k : Kind). sameKind k scientificKind ≡ true → k ≡ scientificKind) no no no no no (λ e. refl)
+same-scientific = by-kind (λ (k : Kind). sameKind k scientificKind ≡ true → k ≡ scientificKind) no no no no no (λ e. refl) no
 
--- pieces in front of others
-flatten-joins : (ps qs : List (List ℕ)) → flatten (ps ++ qs) ≡ flatten ps ++ flatten qs
-unfolding flatten
-flatten-joins [] qs = refl
-flatten-joins (us ∷ ps) qs = rw (flatten-joins ps qs) (sym (append-assoc us (flatten ps) (flatten qs)))
-
-pieces-join : (x : Number) (added below : Bool) {is js : List Item} {ps qs : List (List ℕ)}
-    → PiecesOf x added below is ps → PiecesOf x added below js qs → PiecesOf x added below (is ++ js) (ps ++ qs)
-pieces-join x added below empty later = later
-pieces-join x added below (more i us is ps one rest) later = more i us _ _ one (pieces-join x added below rest later)
+same-fraction : (k : Kind) → sameKind k fractionKind ≡ true → k ≡ fractionKind
+same-fraction = by-kind (λ (k : Kind). sameKind k fractionKind ≡ true → k ≡ fractionKind) no no no no no no (λ e. refl)
 
 -- a number that went to section i and is taken by it
 module _ (ss : List Section) (i : ℕ) (s : Section) (why : Reason) (x : Number)
@@ -145,9 +140,14 @@ module _ (ss : List Section) (i : ℕ) (s : Section) (why : Reason) (x : Number)
   unfolding numberSign
   unsigned e = rw e (nought-unsigned (numberExact x) s (exceptionA (counted ss) i (isOwn why) (firstHasCondition ss)))
 
-  unsigned-places : showsPlaces (kindOf s) ≡ true → sectionRounded s x ≡ 0 → added ≡ false
+  unsigned-places : showsPlaces (kindOf s) ≡ true → placesNought s x ≡ true → added ≡ false
   unfolding showsNought
-  unsigned-places shows z = unsigned (rw (shows, eq-eqb (sectionRounded s x) 0 z))
+  unsigned-places shows z = unsigned (rw (shows, z))
+
+  -- where one rounded number is shown
+  unsigned-rounded : showsPlaces (kindOf s) ≡ true → sameKind (kindOf s) fractionKind ≡ false → sectionRounded s x ≡ 0 → added ≡ false
+  unfolding placesNought
+  unsigned-rounded shows other z = unsigned-places shows (rw (other, eq-eqb (sectionRounded s x) 0 z))
 
   abbrev numberPieces : List (List ℕ)
   numberPieces = itemPieces (numberContext s x) (firstOf (integerPlaces (s .items))) (s .items)
@@ -164,12 +164,13 @@ module _ (ss : List Section) (i : ℕ) (s : Section) (why : Reason) (x : Number)
       let pos : 0 < exact .below = scaled-pos m (x .scale) p (s .thousands) in
       let small : m < 10 ^ 15 = search (and-left, ltb→lt) in
       let e : sectionRounded s x ≡ rounded exact d = rounded-scaled s x kind in
-      let bare : any isExponent (s .items) ≡ false = held-bare (kindOf s) (s .items) (rw kind refl) (r .allowed) in
+      let bare : any isCut (s .items) ≡ false = held-bare (kindOf s) (s .items) (rw kind refl) (rw kind refl) (r .allowed) in
+      let integers : integerPlaces (s .items) ≤ 20 = rw (main-all (s .items) (no-solidus (kindOf s) (s .items) (rw kind refl) (r .allowed))) at (r .integers) in
       figures-of exact d added (figurePieces (s .items) numberPieces) pos (r .decimals)
       (subst (Counts (unitsRead (figurePieces (s .items) numberPieces))) e
       (figures-read (numberContext s x) (s .items) (rw e (scaled-small m (x .scale) p (s .thousands) d small (r .percents) (r .decimals))) refl
-      (r .integers) (r .decimals) (r .onePoint) bare (number-place (s .items) kind) (rw e (half-unit exact d pos (r .decimals) .whole))))
-      (λ z. unsigned-places (rw kind refl) (e ∙ z))
+      integers (r .decimals) (r .onePoint) bare (number-place (s .items) kind) (rw e (half-unit exact d pos (r .decimals) .whole))))
+      (λ z. unsigned-rounded (rw kind refl) (rw kind refl) (e ∙ z))
 
   general-figures : showsGeneral (kindOf s) ≡ true → GeneralFigures x added (generalUnits (standingRounded x))
   unfolding standingRounded generalRounded numberExact
@@ -198,7 +199,7 @@ module _ (ss : List Section) (i : ℕ) (s : Section) (why : Reason) (x : Number)
         (λ e a. let shows = general-shown (kindOf s) a in rw (standing shows) (ofGeneral _ (general-figures shows)))
         (λ e a. let shows = text-shows (kindOf s) a in rw (standing shows) (ofAt _ (general-figures shows)))
         (λ n e. dated) (λ n e. dated) (λ n e. dated) (λ n e. dated) (λ n e. dated) (λ n e. dated) (λ n e. dated) (λ a n e. dated) (λ h e. dated)
-        (λ m e a. rw (e refl) (ofExponent m))
+        (λ m e a. rw (e refl) (ofExponent m)) (λ e a. ofSolidus false) (λ n e a. ofFixed false n)
 
     each-piece : (q : ℕ) (is : List Item) → (any isExponent is ≡ true → c .below ≡ below) → T (every (itemAllowed (kindOf s)) is)
         → PiecesOf x added below is (itemPieces c q is)
@@ -210,11 +211,11 @@ module _ (ss : List Section) (i : ℕ) (s : Section) (why : Reason) (x : Number)
         (piece q j (λ e. sign (rw e)) (every-head (itemAllowed (kindOf s)) j is t))
         (each-piece next is (λ e. sign (rw e (cond-both (λ (b : Bool). b ≡ true) (isExponent j) refl refl))) (every-tail (itemAllowed (kindOf s)) j is t))
 
-  -- a section that is not scientific
-  plain-shown : sameKind (kindOf s) scientificKind ≡ false → choose ss (numberExact x) ≡ chosen i s why
+  -- a section that is neither scientific nor a fraction
+  plain-shown : sameKind (kindOf s) scientificKind ≡ false → sameKind (kindOf s) fractionKind ≡ false → choose ss (numberExact x) ≡ chosen i s why
       → NumberShown ss x (lookOf (numberUnits ss i s why x) (s .colour) i)
   unfolding numberUnits sectionText sectionUnits itemsUnits numberContext
-  plain-shown other e =
+  plain-shown other another e =
       record {
         taker = s;
         why = why;
@@ -223,33 +224,34 @@ module _ (ss : List Section) (i : ℕ) (s : Section) (why : Reason) (x : Number)
         pieces = numberPieces;
         goes = e;
         coloured = refl;
-        text = rw (sign-units (numberSign ss i s why x), other);
+        text = rw (sign-units (numberSign ss i s why x), other, another);
         each = each-piece (numberContext s x) false (λ h. refl) (firstOf (integerPlaces (s .items))) (s .items) (λ h. refl) (r .allowed);
         figures = section-figures;
         scientific = λ k. absurd (true≢false (rw k at other));
+        fraction = λ k. absurd (true≢false (rw k at another));
       }
 
   -- the pieces before the E are the mantissa's, those from it on the exponent's
   scientific-pieces : kindOf s ≡ scientificKind → PiecesOf x added ((sectionExponent s x) .below) (s .items) (scientificPieces s x)
-  unfolding showsGeneral exponentContext numberContext
+  unfolding showsGeneral exponentContext wholeContext numberContext
   scientific-pieces kind =
       let is : List Item = s .items in
       let below : Bool = (sectionExponent s x) .below in
       let allowed : Item → Bool = itemAllowed (kindOf s) in
       subst (λ (js : List Item). PiecesOf x added below js (scientificPieces s x)) (cut-joins is)
       (pieces-join x added below
-      (each-piece (numberContext s x) below (λ h. refl) (firstOf (integerPlaces is)) (beforeE is)
-      (λ e. absurd (true≢false (sym e ∙ before-bare is))) (every-before allowed is (r .allowed)))
-      (each-piece (exponentContext s x) below (λ h. absurd (true≢false (sym (rw kind at h)))) (firstOf (exponentPlaces is)) (fromE is)
+      (each-piece (numberContext s x) below (λ h. refl) (firstOf (integerPlaces is)) (beforeCut is)
+      (λ e. absurd (true≢false (sym e ∙ or-false _ _ (sym (any-either isExponent isSolidus (beforeCut is)) ∙ before-bare is) .0))) (every-before allowed is (r .allowed)))
+      (each-piece (exponentContext s x) below (λ h. absurd (true≢false (sym (rw kind at h)))) (firstOf (placesBehind is)) (fromCut is)
       (λ e. refl) (every-from allowed is (r .allowed))))
 
   scientific-shown : sameKind (kindOf s) scientificKind ≡ true → choose ss (numberExact x) ≡ chosen i s why
       → NumberShown ss x (lookOf (numberUnits ss i s why x) (s .colour) i)
-  unfolding numberUnits sectionText sectionUnits itemsUnits numberContext exponentContext
+  unfolding numberUnits sectionText sectionUnits itemsUnits numberContext exponentContext wholeContext
   scientific-shown same e =
       let kind : kindOf s ≡ scientificKind = same-scientific (kindOf s) same in
-      let mantissas = itemPieces (numberContext s x) (firstOf (integerPlaces (s .items))) (beforeE (s .items)) in
-      let exponents = itemPieces (exponentContext s x) (firstOf (exponentPlaces (s .items))) (fromE (s .items)) in
+      let mantissas = itemPieces (numberContext s x) (firstOf (integerPlaces (s .items))) (beforeCut (s .items)) in
+      let exponents = itemPieces (exponentContext s x) (firstOf (placesBehind (s .items))) (fromCut (s .items)) in
       record {
         taker = s;
         why = why;
@@ -261,11 +263,39 @@ module _ (ss : List Section) (i : ℕ) (s : Section) (why : Reason) (x : Number)
         text = rw (sign-units (numberSign ss i s why x), same, flatten-joins mantissas exponents);
         each = scientific-pieces kind;
         figures = λ k. absurd (true≢false (sym (rw k at same)));
-        scientific = λ k. scientific-of s x kind (r .formed) range added (unsigned-places (rw kind refl));
+        scientific = λ k. scientific-of s x kind (r .formed) range added (unsigned-rounded (rw kind refl) (rw kind refl));
+        fraction = λ k. absurd (true≢false (sym (rw k at same)));
+      }
+
+  fraction-shown : sameKind (kindOf s) scientificKind ≡ false → sameKind (kindOf s) fractionKind ≡ true → choose ss (numberExact x) ≡ chosen i s why
+      → NumberShown ss x (lookOf (numberUnits ss i s why x) (s .colour) i)
+  unfolding numberUnits sectionText showsGeneral wholeContext placesNought
+  fraction-shown other same e =
+      let kind : kindOf s ≡ fractionKind = same-fraction (kindOf s) same in
+      let rules : FractionItems (s .items) = fraction-items s kind (r .formed) in
+      let f : Mixed = sectionFraction s x in
+      record {
+        taker = s;
+        why = why;
+        minus = added;
+        below = false;
+        pieces = fractionPieces f (s .items);
+        goes = e;
+        coloured = refl;
+        text = rw (sign-units (numberSign ss i s why x), other, same, fraction-text f (s .items) rules);
+        each = fraction-each f (s .items) rules x added false
+            (λ n js t.
+            each-piece (wholeContext n (integerPlaces js) false) false (λ h. absurd (true≢false (sym (rw kind at h)))) (firstOf (integerPlaces js)) js (λ h. refl)
+            (rw (sym kind) at t));
+        figures = λ k. absurd (true≢false (sym (rw k at same)));
+        scientific = λ k. absurd (true≢false (rw k at other));
+        fraction = λ k. fraction-of s x rules range added (λ w a. unsigned-places (rw kind refl) (rw (same, eq-eqb (f .whole) 0 w, eq-eqb (f .above) 0 a)));
       }
 
   text-shown : choose ss (numberExact x) ≡ chosen i s why → NumberShown ss x (lookOf (numberUnits ss i s why x) (s .colour) i)
-  text-shown e = by-cases (sameKind (kindOf s) scientificKind) (λ h. scientific-shown h e) (λ h. plain-shown h e)
+  text-shown e =
+      by-cases (sameKind (kindOf s) scientificKind) (λ h. scientific-shown h e)
+      (λ h. by-cases (sameKind (kindOf s) fractionKind) (λ k. fraction-shown h k e) (λ k. plain-shown h k e))
 
 -- of a reading that shows a text
 abbrev WhereShown : (Look → Type 0) → Reading → Type 0

@@ -1,22 +1,23 @@
 -- What the tokens of a code hold: units of the code, runs, colours and digits in their ranges, and no semicolon in a section.
 -- Assumes nothing.
-use Prim.Native.Nat.{ℕ, zero, suc, _+_, _-_, _≤_, _<_}
+use Prim.Native.Nat.{ℕ, zero, suc, _+_, _-_, _*_, _≤_, _<_, min}
 use Prim.Native.String.{String}
 use native.Mathlib.Omega.{arith}
-use mathlib.Core.Path.{_≡_}
+use mathlib.Core.Path.{_≡_, refl, ap}
 use mathlib.Core.Bool.{Bool, true, false, not, _&&_, _||_, true≢false}
 use mathlib.Core.List.{List, [], _∷_, map}
 use mathlib.Core.Option.{Option, none, some}
 use lib.ListN.{length, take, drop}
 use lib.Dec.{T, leb, ltb, eqb, leb→le, le→leb, lt→ltb}
 use Rattle.lists.specs.Lists.{every, any, isEmpty}
-use Rattle.lists.proofs.Bools.{and-left, and-right, and-in, true-T, by-cases, cond-both, cond-case, every-head, every-tail, every-cons, every-append, every-take}
+use Rattle.lists.proofs.Bools.{and-left, and-right, and-in, or-false, true-T, by-cases, cond-both, cond-case, every-head, every-tail, every-cons, every-append, every-take}
 use Rattle.lists.proofs.Counts.{every-map, every-weaker}
 use Rattle.calendar.specs.Names.{units}
-use Rattle.formats.specs.Tokens.{Letter, Elapsed, hours, minutes, seconds, Comparison, equal, less, greater, atMost, atLeast, unequal, Written, Token, literal, bare, blank, fill, place, point, comma, percent, at, semicolon, general, half, run, elapsed, colour, condition, Step, read, broken, before, leading, startsWith, same, quoted, marked, generalWord, halfDayWord, runAllowed, runStep, isDigit, digitOf, numberFrom, colourNames, namedFrom, noLeadingZero, colourDigits, numbered, elapsedInside, decimalsOf, wholeOf, signedOf, conditionInside, firstForm, insideOf, closed, bracketed, First, quote, backslash, underscore, asterisk, openBracket, capitalG, capitalA, other, letter, single, FirstRow, firstRows, firstIn, bareLiterals, stepBy, stepAt, Placed, Lexed, good, bad, onto, afterStep, lexFrom, lex, exponent, exponentWord, capitalE}
+use Rattle.formats.specs.Tokens.{Place, Letter, Elapsed, hours, minutes, seconds, Comparison, equal, less, greater, atMost, atLeast, unequal, Written, Token, literal, bare, blank, fill, place, point, comma, percent, at, semicolon, general, half, run, elapsed, colour, condition, Step, read, broken, before, leading, startsWith, same, quoted, marked, generalWord, halfDayWord, runAllowed, runStep, isDigit, digitOf, numberFrom, colourNames, namedFrom, noLeadingZero, colourDigits, numbered, elapsedInside, decimalsOf, wholeOf, signedOf, conditionInside, firstForm, insideOf, closed, bracketed, First, quote, backslash, underscore, asterisk, openBracket, capitalG, capitalA, other, letter, single, FirstRow, firstRows, firstIn, bareLiterals, stepBy, stepAt, Placed, Lexed, good, bad, onto, afterStep, lexFrom, lex, exponent, exponentWord, capitalE, over, overFixed, fixedNumber, isPlaceUnit, overStep, placeStep, placeUnit}
 use Rattle.formats.specs.Items.{Item, isUnit, part, dateKind, sameKind, Run, noRun, runOf, nearer, firstRun, settledItem, settledFrom, settled}
 use Rattle.formats.specs.Kinds.{isSemicolon, isColour, isCondition, Parts, colourIn, conditionIn, afterColour, partsOf, bodyKind, isSecondsToken, partZeros, piecesFrom, tokenItems, pieceItems, plainItems, dateItems, bodyItems, lastFill, sectionOf}
 use Rattle.formats.specs.Accept.{placedOf, tokensOf, joined, split, partsIn}
+use Rattle.formats.proofs.Lexing.{number-grows}
 use Rattle.formats.proofs.FormedItems.{every-lastFill}
 use Rattle.formats.proofs.FormedPieces.{zeros-most}
 use Rattle.formats.proofs.Each.{by-token}
@@ -28,9 +29,9 @@ belowTen d = ltb d 10
 unfoldable pub writtenInRange : Written → Bool
 writtenInRange w = every belowTen (w .whole) && every belowTen (w .decimals) && not (isEmpty (w .whole))
 
--- the units of a token pass a test, and its runs, colours and digits are in range
+-- the units of a token pass a test, a literal has one, and its runs, colours and digits are in range
 unfoldable pub tokenPasses : (ℕ → Bool) → Token → Bool
-tokenPasses f (literal us) = every f us
+tokenPasses f (literal us) = every f us && not (isEmpty us)
 tokenPasses f (bare u) = f u
 tokenPasses f (blank u) = f u
 tokenPasses f (fill u) = f u
@@ -47,6 +48,8 @@ tokenPasses f (elapsed e n) = leb 1 n
 tokenPasses f (colour n) = leb n 56
 tokenPasses f (condition w) = writtenInRange w
 tokenPasses f (exponent m) = true
+tokenPasses f (over p) = true
+tokenPasses f (overFixed p n) = leb 1 n && leb n 1000
 
 abbrev pub tokenInRange : Token → Bool
 tokenInRange = tokenPasses isUnit
@@ -73,6 +76,11 @@ length-least : (us : List ℕ) → T (not (isEmpty us)) → T (leb 1 (length us)
 unfolding isEmpty
 length-least [] t = absurd t
 length-least (u ∷ us) t = le→leb 1 (suc (length us)) (omega arith)
+
+quoted-some : (us : List ℕ) → eqb (before 34 us) 0 ≡ false → T (not (isEmpty (take (before 34 us) us)))
+unfolding before isEmpty
+quoted-some [] e = absurd (true≢false e)
+quoted-some (u ∷ us) e = by-cases (eqb u 34) (λ t. absurd (true≢false (rw t at e))) (λ t. rw t tt)
 
 -- a property of the token that a form gives, where it gives one
 abbrev pub InForm : (Token → Type 0) → Option Token → Type 0
@@ -190,7 +198,39 @@ singlePasses f capitalA = true
 singlePasses f capitalE = true
 singlePasses f other = true
 singlePasses f (letter l) = true
+singlePasses f (placeUnit p) = true
 singlePasses f (single t) = f t
+
+-- what a place is read as, with what is directly behind it
+over-form : (P : Token → ℕ → Type 0) (p : Place) (us : List ℕ) → P (place p) 0 → (1 ≤ length us → P (over p) 1)
+    → ((u : ℕ) (vs : List ℕ) → us ≡ u ∷ vs → isPlaceUnit u ≡ false → isDigit u ≡ true → P (overFixed p (fixedNumber (u ∷ take (leading isDigit vs) vs))) (2 + leading isDigit vs))
+    → InStep P (overStep p us)
+unfolding overStep
+over-form P p [] a b c = a
+over-form P p (u ∷ us) a b c =
+    cond-case (InStep P) (isPlaceUnit u) (λ e. b (omega arith))
+    (λ e. cond-case (InStep P) (isDigit u) (λ d. c u us refl e d) (λ d. a))
+
+pub place-form : (P : Token → ℕ → Type 0) (p : Place) (us : List ℕ) → P (place p) 0 → (2 ≤ length us → P (over p) 1)
+    → ((u : ℕ) (vs : List ℕ) → length us ≡ 2 + length vs → isPlaceUnit u ≡ false → isDigit u ≡ true
+    → P (overFixed p (fixedNumber (u ∷ take (leading isDigit vs) vs))) (2 + leading isDigit vs))
+    → InStep P (placeStep p us)
+unfolding placeStep
+place-form P p [] a b c = a
+place-form P p (s ∷ us) a b c =
+    cond-both (InStep P) (eqb s 47)
+    (over-form P p us a (λ h. b (omega arith)) (λ u vs e. c u vs (omega (arith, ap (λ (xs : List ℕ). length xs) e)))) a
+
+-- a fixed number is from 1 to 1,000
+pub fixed-ranged : (u : ℕ) (us : List ℕ) → isPlaceUnit u ≡ false → isDigit u ≡ true → T (leb 1 (fixedNumber (u ∷ us)) && leb (fixedNumber (u ∷ us)) 1000)
+unfolding fixedNumber numberFrom isPlaceUnit isDigit digitOf any units
+fixed-ranged u us noPlace isOne =
+    let n = numberFrom 0 (map digitOf (u ∷ us)) in
+    let digit : T (leb 48 u && leb u 57) = true-T isOne in
+    let least = leb→le 48 u (and-left (leb 48 u) (leb u 57) digit) in
+    let other : u ≡ 48 → ⊥ = λ e. true≢false (rw e at noPlace) in
+    let more : 10 * 0 + (u - 48) ≤ n = number-grows (10 * 0 + (u - 48)) (map digitOf us) in
+    and-in (leb 1 (min 1000 n)) (leb (min 1000 n) 1000) (le→leb 1 (min 1000 n) (omega arith)) (le→leb (min 1000 n) 1000 (omega arith))
 
 -- the sections' tokens: a test that each token but the semicolons passes is passed by every token of a section
 joined-passes : (f : Token → Bool) (t : Token) (r : List (List Token)) → T (f t) → T (every (every f) r) → T (every (every f) (joined t r))
@@ -239,7 +279,8 @@ module _ (test : ℕ → Bool) where
   quoted-ranged : (us : List ℕ) → T (every test us) → InStep Ranged (quoted us)
   unfolding quoted tokenPasses
   quoted-ranged us t =
-      cond-both (InStep Ranged) (eqb (before 34 us) 0 || eqb (before 34 us) (length us)) tt (every-take test (before 34 us) us t)
+      cond-case (InStep Ranged) (eqb (before 34 us) 0 || eqb (before 34 us) (length us)) (λ e. tt)
+      (λ e. and-in (every test (take (before 34 us) us)) _ (every-take test (before 34 us) us t) (quoted-some us (or-false _ _ e .0)))
 
   marked-ranged : (g : ℕ → Token) (us : List ℕ) → ((u : ℕ) → T (test u) → T (passes (g u))) → T (every test us) → InStep Ranged (marked g us)
   unfolding marked
@@ -272,9 +313,9 @@ module _ (test : ℕ → Bool) where
       (inside-form (λ (t : Token). T (passes t)) (λ n h. le→leb n 56 h) (λ e n h. h) (λ w h. h) (take (before 93 us) us)))
 
   by-ranged : (x : First) (u : ℕ) (us : List ℕ) → T (singlePasses passes x) → T (test u) → T (every test us) → InStep Ranged (stepBy x u us)
-  unfolding stepBy singlePasses tokenPasses every
+  unfolding stepBy singlePasses tokenPasses every isEmpty
   by-ranged quote u us s t ts = quoted-ranged us ts
-  by-ranged backslash u us s t ts = marked-ranged (λ (v : ℕ). literal (v ∷ [])) us (λ v h. every-cons test v [] h tt) ts
+  by-ranged backslash u us s t ts = marked-ranged (λ (v : ℕ). literal (v ∷ [])) us (λ v h. and-in (every test (v ∷ [])) true (every-cons test v [] h tt) tt) ts
   by-ranged underscore u us s t ts = marked-ranged blank us (λ v h. h) ts
   by-ranged asterisk u us s t ts = marked-ranged fill us (λ v h. h) ts
   by-ranged openBracket u us s t ts = bracketed-ranged us
@@ -282,6 +323,8 @@ module _ (test : ℕ → Bool) where
   by-ranged capitalA u us s t ts = half-ranged (u ∷ us)
   by-ranged capitalE u us s t ts = exponent-ranged (u ∷ us)
   by-ranged (letter l) u us s t ts = run-ranged l u us
+  by-ranged (placeUnit p) u us s t ts =
+      place-form Ranged p us tt (λ h. tt) (λ v vs h none some. fixed-ranged v (take (leading isDigit vs) vs) none some)
   by-ranged (single t) u us s p ts = s
   by-ranged other u us s t ts = cond-both (InStep Ranged) (any (eqb u) bareLiterals) t tt
 
@@ -330,14 +373,14 @@ module _ (test : ℕ → Bool) where
   colour-in =
       by-token (λ (t : Token). T (passes t) → T (leb (colourIn t) 56))
       (λ us h. tt) (λ u h. tt) (λ u h. tt) (λ u h. tt) (λ p h. tt) (λ h. tt) (λ h. tt) (λ h. tt) (λ h. tt) (λ h. tt) (λ h. tt)
-      (λ x h. tt) (λ l n h. tt) (λ e n h. tt) (λ n h. h) (λ w h. tt) (λ m h. tt)
+      (λ x h. tt) (λ l n h. tt) (λ e n h. tt) (λ n h. h) (λ w h. tt) (λ m h. tt) (λ p h. tt) (λ p n h. tt)
 
   pub condition-in : (t : Token) → T (passes t) → T (conditionDigits (conditionIn t))
   unfolding conditionIn conditionDigits tokenPasses
   condition-in =
       by-token (λ (t : Token). T (passes t) → T (conditionDigits (conditionIn t)))
       (λ us h. tt) (λ u h. tt) (λ u h. tt) (λ u h. tt) (λ p h. tt) (λ h. tt) (λ h. tt) (λ h. tt) (λ h. tt) (λ h. tt) (λ h. tt)
-      (λ x h. tt) (λ l n h. tt) (λ e n h. tt) (λ n h. tt) (λ w h. h) (λ m h. tt)
+      (λ x h. tt) (λ l n h. tt) (λ e n h. tt) (λ n h. tt) (λ w h. h) (λ m h. tt) (λ p h. tt) (λ p n h. tt)
 
   made-in-range : (c : ℕ) (w : Option Written) (ts : List Token)
       → T (leb c 56) → T (conditionDigits w) → T (every inSection ts) → T (partsPass test (record { colour = c; condition = w; body = ts }))

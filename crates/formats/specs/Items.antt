@@ -1,12 +1,13 @@
--- A section as it is understood (R30 to R33, R41, R42, R45): what a code's section and a table's section both stand for.
+-- A section as it is understood (R30 to R33, R41, R42, R45, R127, R129, R132, R134): what a code's section and a table's section both stand for.
 -- Assumes nothing.
 use Prim.Native.Nat.{ℕ, suc, _+_}
 use mathlib.Core.Bool.{Bool, true, false, cond, not, _&&_, _||_}
-use mathlib.Core.List.{List, [], _∷_}
+use mathlib.Core.List.{List, [], _∷_, _++_}
 use mathlib.Core.Option.{Option, none, some}
+use lib.ListN.{drop}
 use lib.Dec.{leb, ltb, eqb}
 use Rattle.values.specs.Ranges.{between}
-use Rattle.lists.specs.Lists.{every, any, count}
+use Rattle.lists.specs.Lists.{every, any, count, isEmpty}
 use Rattle.formats.specs.Tokens.{Place, placeIndex, Elapsed, hours, minutes, seconds, elapsedIndex, HalfDay, halfIndex, ExponentMark, exponentIndex, Comparison, letterY, letterM, letterD, letterH, letterS, runAllowed}
 
 -- a date or time item has the length of its run
@@ -18,6 +19,8 @@ pub data Item : Type 0 where
   elapsed : Elapsed → ℕ → Item
   half : HalfDay → Item
   exponent : ExponentMark → Item
+  solidus : Item
+  fixed : ℕ → Item
 
 -- compared with a value: a number of millionths with its sign, which is false at zero
 pub record Condition : Type 0 where
@@ -34,7 +37,7 @@ pub record Section : Type 0 where
   pub items : List Item
 
 pub data Kind : Type 0 where
-  textKind generalKind dateKind scientificKind numberKind literalKind : Kind
+  textKind generalKind dateKind scientificKind fractionKind numberKind literalKind : Kind
 
 -- what is to be known of a kind
 pub record KindRow : Type 0 where
@@ -44,7 +47,7 @@ pub record KindRow : Type 0 where
   pub takesInstant : Bool
   -- General is what it shows of a number
   pub showsGeneral : Bool
-  -- its places show the digits of a rounded number
+  -- its places show the digits of a rounded number, or of a fraction's numbers
   pub showsPlaces : Bool
 
 -- a row with its fields in their order
@@ -52,9 +55,9 @@ abbrev kind : ℕ → Bool → Bool → Bool → Bool → KindRow
 kind n takesN takesI asGeneral byPlaces =
     record { number = n; takesNumber = takesN; takesInstant = takesI; showsGeneral = asGeneral; showsPlaces = byPlaces }
 
--- the kinds: "0 literal, 1 General, 2 number, 3 text, 4 date-time", "kind 5" scientific. "Number sections and General refuse instants; date-time refuses
--- numbers (11). Literal sections take both." "scientific sections (instants are 11)". A text section is chosen only where N = 0: "a number appears as General wherever `@` stands;
--- an instant is 11". (R59, R62, R90, R131)
+-- the kinds: "0 literal, 1 General, 2 number, 3 text, 4 date-time", "kind 5" scientific, "kind 6" fraction. "Number sections and General refuse instants; date-time refuses
+-- numbers (11). Literal sections take both." "scientific sections (instants are 11)", "fraction sections (instants are 11)". A text section is chosen only where N = 0: "a number appears as General wherever `@` stands;
+-- an instant is 11". (R59, R62, R90, R131, R136)
 abbrev pub kindRow : Kind → KindRow
 kindRow literalKind = kind 0 true true false false
 kindRow generalKind = kind 1 true false true false
@@ -62,6 +65,7 @@ kindRow numberKind = kind 2 true false false true
 kindRow textKind = kind 3 true false true false
 kindRow dateKind = kind 4 false true false false
 kindRow scientificKind = kind 5 true false false true
+kindRow fractionKind = kind 6 true false false true
 
 abbrev pub showsPlaces : Kind → Bool
 showsPlaces k = kindRow k .showsPlaces
@@ -121,15 +125,20 @@ noArgument a = eqb a 0
 abbrev anyKind : Kind → Bool
 anyKind k = true
 
+-- the kinds with a point
+abbrev hasPoint : Kind → Bool
+hasPoint k = sameKind numberKind k || sameKind scientificKind k
+
 -- the items: "1 literal, 2 blank, 3 fill (each with its unit); 4, 5, 6 places `0 # ?`; 7 point, 8 percent, 9 General, 10 at; 11 year,
 -- 12 month, 13 day, 14 hour, 15 minute, 16 second, 17 part of a second, 18 to 20 elapsed h, m, s (run length); 21 half-day (1 A/P,
--- 2 AM/PM)", "22 (E+, 0) and 23 (E-, 0)". A body holds its kind's items, "with literals, blanks and fills anywhere". (R31, R94, R97, R131)
+-- 2 AM/PM)", "22 (E+, 0) and 23 (E-, 0)", "24 (solidus, 0) and 25 (fixed denominator, the number)". A body holds its kind's items, "with literals,
+-- blanks and fills anywhere". (R31, R94, R97, R131, R136)
 abbrev pub itemRow : Item → ItemRow
 itemRow (literal u) = row 1 0 u isUnit none anyKind noRun
 itemRow (blank u) = row 2 0 u isUnit none anyKind noRun
 itemRow (fill u) = row 3 0 u isUnit none anyKind noRun
 itemRow (place p) = row 4 (placeIndex p) 0 noArgument (some numberKind) showsPlaces noRun
-itemRow point = row 7 0 0 noArgument none showsPlaces noRun
+itemRow point = row 7 0 0 noArgument none hasPoint noRun
 itemRow percent = row 8 0 0 noArgument none (sameKind numberKind) noRun
 itemRow general = row 9 0 0 noArgument (some generalKind) (sameKind generalKind) noRun
 itemRow at = row 10 0 0 noArgument (some textKind) (sameKind textKind) noRun
@@ -143,9 +152,14 @@ itemRow (part n) = row 17 0 n (between 1 3) none (sameKind dateKind) noRun
 itemRow (elapsed e n) = row 18 (elapsedIndex e) n (between 1 9) (some dateKind) (sameKind dateKind) (runOfElapsed e)
 itemRow (half h) = row 21 0 (suc (halfIndex h)) (between 1 2) none (sameKind dateKind) noRun
 itemRow (exponent m) = row 22 (exponentIndex m) 0 noArgument (some scientificKind) (sameKind scientificKind) noRun
+itemRow solidus = row 24 0 0 noArgument (some fractionKind) (sameKind fractionKind) noRun
+itemRow (fixed n) = row 25 0 n (between 1 999) (some fractionKind) (sameKind fractionKind) noRun
 
 abbrev pub itemNumber : Item → ℕ
 itemNumber i = itemRow i .number
+
+abbrev pub isLiteral : Item → Bool
+isLiteral i = eqb (itemNumber i) 1
 
 abbrev pub isFill : Item → Bool
 isFill i = eqb (itemNumber i) 3
@@ -190,6 +204,16 @@ isHalf i = eqb (itemNumber i) 21
 abbrev pub isExponent : Item → Bool
 isExponent i = eqb (itemNumber i) 22
 
+abbrev pub isSolidus : Item → Bool
+isSolidus i = eqb (itemNumber i) 24
+
+abbrev pub isFixed : Item → Bool
+isFixed i = eqb (itemNumber i) 25
+
+-- a section is cut at its E or at its solidus: the places behind it show a number of their own
+abbrev pub isCut : Item → Bool
+isCut i = isExponent i || isSolidus i
+
 -- an elapsed item that counts this unit
 abbrev pub isElapsedOf : Elapsed → Item → Bool
 isElapsedOf e i = isElapsed i && eqb (itemRow i .variant) (elapsedIndex e)
@@ -211,14 +235,15 @@ itemMakes k i = isKind k (itemRow i .makes)
 
 -- the kind of a body, by whether a part of it makes it of a kind: "with an `@` [..] text; with `General`, General; with a date
 -- token, date-time; [..] with a place, number; with literals [..] only or empty, literal"; with an E it is scientific, unless `@`, General
--- or a date token is in it (R30, R127)
+-- or a date token is in it; with a solidus a fraction, unless one of these or an E is in it (R30, R127, R132)
 unfoldable pub kindFrom : (Kind → Bool) → Kind
 kindFrom made =
     cond (made textKind) textKind
     (cond (made generalKind) generalKind
     (cond (made dateKind) dateKind
     (cond (made scientificKind) scientificKind
-    (cond (made numberKind) numberKind literalKind))))
+    (cond (made fractionKind) fractionKind
+    (cond (made numberKind) numberKind literalKind)))))
 
 unfoldable pub itemsKind : List Item → Kind
 itemsKind is = kindFrom (λ (k : Kind). any (itemMakes k) is)
@@ -238,28 +263,28 @@ isPlain variant i = eqb (itemNumber i) (14 + variant)
 unfoldable pub noPlain : List Item → Item → Bool
 noPlain is i = not (isElapsed i && any (isPlain (itemRow i .variant)) is)
 
--- the items before the E, all where there is none; and those from the E on (R127)
-unfoldable pub beforeE : List Item → List Item
-beforeE [] = []
-beforeE (i ∷ is) = let r = beforeE is in cond (isExponent i) [] (i ∷ r)
+-- the items before the E or solidus, all where there is none; and those from it on (R127, R132)
+unfoldable pub beforeCut : List Item → List Item
+beforeCut [] = []
+beforeCut (i ∷ is) = let r = beforeCut is in cond (isCut i) [] (i ∷ r)
 
-unfoldable pub fromE : List Item → List Item
-fromE [] = []
-fromE (i ∷ is) = let r = fromE is in cond (isExponent i) (i ∷ is) r
+unfoldable pub fromCut : List Item → List Item
+fromCut [] = []
+fromCut (i ∷ is) = let r = fromCut is in cond (isCut i) (i ∷ is) r
 
--- the integer places stand before the point, the decimal places behind it, both before the E (R33, R127)
+-- the integer places stand before the point, the decimal places behind it, both before the E or solidus (R33, R127)
 unfoldable pub integerPlaces : List Item → ℕ
 integerPlaces [] = 0
-integerPlaces (i ∷ is) = let r = integerPlaces is in cond (isPoint i || isExponent i) 0 (cond (isPlace i) (suc r) r)
+integerPlaces (i ∷ is) = let r = integerPlaces is in cond (isPoint i || isCut i) 0 (cond (isPlace i) (suc r) r)
 
 unfoldable pub decimalPlaces : List Item → ℕ
 decimalPlaces [] = 0
 decimalPlaces (i ∷ is) =
-    let r = decimalPlaces is in cond (isPoint i) (count isPlace (beforeE is)) (cond (isExponent i) 0 r)
+    let r = decimalPlaces is in cond (isPoint i) (count isPlace (beforeCut is)) (cond (isCut i) 0 r)
 
--- "all places behind the E are exponent places" (R127)
-unfoldable pub exponentPlaces : List Item → ℕ
-exponentPlaces is = count isPlace (fromE is)
+-- "all places behind the E are exponent places"; those behind a solidus are the denominator's (R127, R132)
+unfoldable pub placesBehind : List Item → ℕ
+placesBehind is = count isPlace (fromCut is)
 
 -- "one `E+` or `E-` somewhere after an integer place, with 1 to 3 exponent places `0` or `#` behind it"; "a second E, a point or `?` behind
 -- the E, [..] no exponent place or no integer place in such a section is 4" (R127, R129)
@@ -268,12 +293,64 @@ exponentFits is =
     not (any isExponent is)
     || (leb (count isExponent is) 1
     && leb 1 (integerPlaces is)
-    && leb 1 (exponentPlaces is)
-    && not (any isPoint (fromE is))
-    && not (any isSpace (fromE is)))
+    && leb 1 (placesBehind is)
+    && not (any isPoint (fromCut is))
+    && not (any isSpace (fromCut is)))
+
+-- ---- fractions (R132): "optional integer places followed by at least one literal, then an unbroken run of places, `/` directly after it, then
+-- directly another such run or a fixed whole number"
+-- the longest run of places at the end of items, and the items before it
+unfoldable pub endPlaces : List Item → List Item
+endPlaces [] = []
+endPlaces (i ∷ is) = let r = endPlaces is in cond (every isPlace (i ∷ is)) (i ∷ is) r
+
+unfoldable pub beforeEnd : List Item → List Item
+beforeEnd [] = []
+beforeEnd (i ∷ is) = let r = beforeEnd is in cond (every isPlace (i ∷ is)) [] (i ∷ r)
+
+-- the longest run of places at the start of items, and the items behind it
+unfoldable pub startPlaces : List Item → List Item
+startPlaces [] = []
+startPlaces (i ∷ is) = let r = startPlaces is in cond (isPlace i) (i ∷ r) []
+
+unfoldable pub behindStart : List Item → List Item
+behindStart [] = []
+behindStart (i ∷ is) = let r = behindStart is in cond (isPlace i) r (i ∷ is)
+
+-- the numerator's places, and what stands before them: the items of the integer part
+unfoldable pub numeratorItems : List Item → List Item
+numeratorItems is = endPlaces (beforeCut is)
+
+unfoldable pub wholeItems : List Item → List Item
+wholeItems is = cond (any isSolidus is) (beforeEnd (beforeCut is)) []
+
+-- the items without those of the integer part of a fraction: of any other section all of them
+unfoldable pub mainItems : List Item → List Item
+mainItems is = cond (any isSolidus is) (numeratorItems is ++ fromCut is) is
+
+-- "integer places followed by at least one literal": a literal stands behind the last place
+unfoldable pub literalFollows : List Item → Bool
+literalFollows [] = true
+literalFollows (i ∷ is) = let r = literalFollows is in cond (isPlace i && not (any isPlace is)) (any isLiteral is) r
+
+-- what stands behind the solidus: directly a fixed number or a run of places, and neither of them again
+unfoldable pub denominatorFits : List Item → Bool
+denominatorFits [] = false
+denominatorFits (i ∷ is) =
+    cond (isFixed i) (not (any isPlace is)) (isPlace i && not (any isPlace (behindStart is)))
+    && not (any isFixed is)
+
+unfoldable pub fractionFits : List Item → Bool
+fractionFits is =
+    not (any isSolidus is || any isFixed is)
+    || (eqb (count isSolidus is) 1
+    && not (isEmpty (numeratorItems is))
+    && literalFollows (wholeItems is)
+    && not (any isFixed (beforeCut is))
+    && denominatorFits (drop 1 (fromCut is)))
 
 -- the rules for items: what their kind may hold; "General (once"; "at most one point"; "At most one elapsed token, and not
--- beside its plain equivalent"; those for an E (R31 to R33, R41, R127, R129)
+-- beside its plain equivalent"; those for an E and for a solidus (R31 to R33, R41, R127, R129, R132, R134)
 unfoldable pub itemsFit : List Item → Bool
 itemsFit is =
     every (itemAllowed (itemsKind is)) is
@@ -282,6 +359,7 @@ itemsFit is =
     && leb (count isElapsed is) 1
     && every (noPlain is) is
     && exponentFits is
+    && fractionFits is
 
 -- the first of two that is a run
 unfoldable pub nearer : Run → Run → Run

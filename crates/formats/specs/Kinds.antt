@@ -1,4 +1,4 @@
--- "Kinds of section" (R29 to R45): a section's tokens as a section, and whether they fit a kind.
+-- "Kinds of section" (R29 to R45, R132, R134): a section's tokens as a section, and whether they fit a kind.
 -- Assumes nothing.
 use Prim.Native.Nat.{ℕ, zero, suc, _+_, _-_, _*_, _^_, min}
 use mathlib.Core.Bool.{Bool, true, false, cond, not, _&&_, _||_}
@@ -10,7 +10,7 @@ use Rattle.lists.specs.Lists.{every, any, count}
 use Rattle.formats.specs.Tokens as token
 use Rattle.formats.specs.Tokens.{Token, placeIndex, halfIndex, exponentIndex, Letter, letterY, letterM, letterD, letterH, letterS, letterIndex, elapsedIndex, Written, numberFrom}
 use Rattle.formats.specs.Items as item
-use Rattle.formats.specs.Items.{Item, Condition, Section, Kind, generalKind, numberKind, textKind, dateKind, scientificKind, sameKind, isKind, kindFrom, isFill, itemsFit, settled}
+use Rattle.formats.specs.Items.{Item, Condition, Section, Kind, generalKind, numberKind, textKind, dateKind, scientificKind, fractionKind, sameKind, isKind, kindFrom, isFill, fractionFits, itemsFit, settled}
 
 -- what is to be known of a token beside the items that it makes
 pub record TokenRow : Type 0 where
@@ -48,6 +48,8 @@ tokenRow (token.elapsed e n) = row 20 (elapsedIndex e) n (some dateKind)
 tokenRow (token.colour n) = row 23 0 n none
 tokenRow (token.condition w) = record { form = 24; variant = 0; argument = 0; makes = none; written = some w }
 tokenRow (token.exponent m) = row 25 (exponentIndex m) 0 (some scientificKind)
+tokenRow (token.over p) = row 27 (placeIndex p) 0 (some fractionKind)
+tokenRow (token.overFixed p n) = row 30 (placeIndex p) n (some fractionKind)
 
 abbrev pub formOf : Token → ℕ
 formOf t = tokenRow t .form
@@ -75,6 +77,10 @@ isCondition t = eqb (formOf t) 24
 
 abbrev pub isExponent : Token → Bool
 isExponent t = eqb (formOf t) 25
+
+-- a place with a solidus directly behind it
+abbrev pub isOver : Token → Bool
+isOver t = eqb (formOf t) 27 || eqb (formOf t) 30
 
 -- "At most one colour, then at most one condition, then the body." (R29)
 pub record Parts : Type 0 where
@@ -129,10 +135,11 @@ unfoldable pub integerPlaceIn : List Token → Bool
 integerPlaceIn [] = false
 integerPlaceIn (t ∷ ts) = let r = integerPlaceIn ts in cond (isPoint t) false (cond (isPlace t) true r)
 
--- and how many integer places do: before their first point and before an E
+-- and how many integer places do: before their first point, and before an E or solidus
 unfoldable pub integerPlaceTokens : List Token → ℕ
 integerPlaceTokens [] = 0
-integerPlaceTokens (t ∷ ts) = let r = integerPlaceTokens ts in cond (isPoint t || isExponent t) 0 (cond (isPlace t) (suc r) r)
+integerPlaceTokens (t ∷ ts) =
+    let r = integerPlaceTokens ts in cond (isPoint t || isExponent t) 0 (cond (isOver t) 1 (cond (isPlace t) (suc r) r))
 
 -- the use of a comma, by the tokens of its body before it and behind it: between integer places it groups; between the last integer
 -- place and the point or end it divides; after the last place of all it divides
@@ -151,29 +158,11 @@ usesFrom before (t ∷ ts) = let r = usesFrom (before ++ (t ∷ [])) ts in cond 
 unfoldable pub commaUses : List Token → List CommaUse
 commaUses ts = usesFrom [] ts
 
--- "Date-time: comma is a literal." A scientific section has none. (R36, R40, R129)
+-- "Date-time: comma is a literal." A scientific or fraction section has none. (R36, R40, R129, R134)
 unfoldable pub commasFit : List Token → Bool
 commasFit ts =
-    cond (sameKind (bodyKind ts) scientificKind) (not (any isComma ts))
+    cond (sameKind (bodyKind ts) scientificKind || sameKind (bodyKind ts) fractionKind) (not (any isComma ts))
     (sameKind (bodyKind ts) dateKind || not (any isMisplaced (commaUses ts)))
-
--- "A `/` directly between two places is 4; any other is a literal." (R38)
-unfoldable pub isSolidus : Token → Bool
-isSolidus t = eqb (formOf t) 1 && eqb (tokenRow t .argument) 47
-
-unfoldable pub startsWithPlace : List Token → Bool
-startsWithPlace [] = false
-startsWithPlace (t ∷ ts) = isPlace t
-
--- no solidus directly between two places; behindPlace: the token just before is a place
-unfoldable pub solidusFrom : Bool → List Token → Bool
-solidusFrom behindPlace [] = true
-solidusFrom behindPlace (t ∷ ts) =
-    let r = solidusFrom (isPlace t) ts in
-    cond (behindPlace && isSolidus t && startsWithPlace ts) false r
-
-unfoldable pub solidusFits : List Token → Bool
-solidusFits ts = solidusFrom false ts
 
 -- "A point right after s, ss or an elapsed s, followed by one to three zeros, is a part of a second and shows its point. Other
 -- points are literals; other places are 4." (R39, R40) A piece is a token, or such a point with its zeros.
@@ -235,6 +224,8 @@ tokenItems ofDate (token.elapsed e n) = item.elapsed e n ∷ []
 tokenItems ofDate (token.colour n) = []
 tokenItems ofDate (token.condition w) = []
 tokenItems ofDate (token.exponent m) = item.exponent m ∷ []
+tokenItems ofDate (token.over p) = item.place p ∷ item.solidus ∷ []
+tokenItems ofDate (token.overFixed p n) = item.place p ∷ item.solidus ∷ item.fixed n ∷ []
 
 unfoldable pub pieceItems : Piece → List Item
 pieceItems (whole t) = tokenItems true t
@@ -286,10 +277,10 @@ sectionOf p =
 unfoldable pub noBracket : Token → Bool
 noBracket t = not (isColour t) && not (isCondition t)
 
--- the section fits its kind, else 4: the rules for tokens, and those for items
+-- the section fits its kind, else 4: the rules for tokens, and those for items. A fill that is not kept still breaks a run of places. (R134)
 unfoldable pub fits : Parts → Bool
 fits p =
     every noBracket (p .body)
     && commasFit (p .body)
-    && solidusFits (p .body)
+    && fractionFits (bodyItems (p .body))
     && itemsFit ((sectionOf p) .items)

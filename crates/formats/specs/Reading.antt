@@ -1,11 +1,11 @@
--- The reading (R108, R109); what is left of choice and minus (R59, R61, R62, R65, R66); which figures are shown (R67, R68, R78, R79, R126, R128).
+-- The reading (R108, R109); what is left of choice and minus (R59, R61, R62, R65, R66); which figures are shown (R67, R68, R78, R79, R126, R128, R133, R135).
 -- "A reading of an accepted code, or of a table that passes, takes a value and the text room's length. It gives the first of
 -- showing's refusals after 8 that applies, or 0 with text, colour and section."
 -- Assumes nothing.
-use Prim.Native.Nat.{ℕ, _*_, _^_}
+use Prim.Native.Nat.{ℕ, _-_, _*_, _^_}
 use mathlib.Core.Bool.{Bool, false, cond, not, _&&_, _||_}
-use mathlib.Core.List.{List, [], _++_}
-use lib.ListN.{length}
+use mathlib.Core.List.{List, [], _∷_, _++_, map, flatten}
+use lib.ListN.{length, take, drop, replicate}
 use lib.Dec.{leb, eqb}
 use lib.IntN.{natAbs}
 use Rattle.answers.specs.declared.Answer.{Answer}
@@ -18,12 +18,17 @@ use Rattle.values.specs.declared.Value.the-variants as value
 use Rattle.values.specs.declared.Ask.{Ask}
 use Rattle.values.specs.Ranges.{inRange}
 use Rattle.lists.specs.Lists.{any, count}
-use Rattle.figures.specs.Rounding.{scaled, rounded}
+use Rattle.figures.specs.Digits.{width}
+use Rattle.figures.specs.Rounding.{Magnitude, scaled, rounded}
 use Rattle.figures.specs.General.{generalRounded, generalTooWide, generalUnits}
 use Rattle.exponents.specs.Exponent.{Exponent, exponentOf, mantissaOf}
+use Rattle.fractions.specs.declared.Fraction.{Fraction}
+use Rattle.fractions.specs.declared.Mixed.{Mixed}
+use Rattle.fractions.specs.Fractions.{over, nearestFraction, fractionOf}
 use Rattle.calendar.specs.Date.{dateOf}
 use Rattle.calendar.specs.Clock.{clockOf, sinceDayZero}
-use Rattle.formats.specs.Items.{Section, Kind, kindRow, showsPlaces, scientificKind, sameKind, kindOf, isPercent, isHalf, beforeE, fromE, integerPlaces, decimalPlaces, exponentPlaces}
+use Rattle.formats.specs.Tokens.{hashPlace}
+use Rattle.formats.specs.Items.{Item, itemRow, blank, place, Section, Kind, kindRow, showsPlaces, scientificKind, fractionKind, sameKind, kindOf, isPlace, isSpace, isPercent, isHalf, isSolidus, isFixed, beforeCut, fromCut, integerPlaces, decimalPlaces, placesBehind, startPlaces, behindStart, numeratorItems, wholeItems, mainItems}
 use Rattle.formats.specs.Choice.{numberExact, instantExact, Choice, nothing, chosen, Reason, choose, counted, TextChoice, itself, textIn, chooseText}
 use Rattle.formats.specs.Minus.{Sign, isOwn, firstHasCondition, exceptionA, signFor, signUnits}
 use Rattle.formats.specs.Text.{Context, sectionUnits}
@@ -68,6 +73,25 @@ sectionRounded s x =
     (mantissaOf ((numberExact x) .size) (integerPlaces (s .items)) (decimalPlaces (s .items)))
     (rounded (scaled (natAbs (x .coefficient)) (x .scale) (count isPercent (s .items)) (s .thousands)) (decimalPlaces (s .items)))
 
+-- ---- fractions
+-- the fixed number among items
+unfoldable pub fixedIn : List Item → ℕ
+fixedIn [] = 0
+fixedIn (i ∷ is) = let r = fixedIn is in cond (isFixed i) (itemRow i .argument) r
+
+-- "With q places below the denominator is any number from 1 to 10^q - 1, and the shown fraction is a nearest one; of equally near ones the
+-- smaller denominator. With a fixed number, the nearest numerator, halves away from zero." (R133)
+unfoldable pub fractionFor : List Item → Magnitude → Fraction
+fractionFor is x = cond (any isFixed is) (over (fixedIn is) x) (nearestFraction (placesBehind is) x)
+
+-- there are integer places
+unfoldable pub isParted : List Item → Bool
+isParted is = any isPlace (wholeItems is)
+
+-- "If the fraction rounds to 1 it is carried into the integer part, where there is one." (R133)
+unfoldable pub sectionFraction : Section → Number → Mixed
+sectionFraction s x = fractionOf (isParted (s .items)) (fractionFor (s .items)) ((numberExact x) .size)
+
 -- the rounded number of General
 unfoldable pub standingRounded : Number → ℕ
 standingRounded x = generalRounded ((numberExact x) .size)
@@ -87,20 +111,24 @@ numberContext s x =
       below = false;
     }
 
--- what the items from the E on show of it: "The exponent is shown like an integer part" (R128)
-unfoldable pub exponentContext : Section → Number → Context
-exponentContext s x =
+-- what items with so many places show of a whole number, and of the sign of an exponent
+unfoldable pub wholeContext : ℕ → ℕ → Bool → Context
+wholeContext n places below =
     record {
-      figures = (sectionExponent s x) .size * 10 ^ 15;
+      figures = n * 10 ^ 15;
       grouped = false;
-      integerPlaces = exponentPlaces (s .items);
+      integerPlaces = places;
       standing = [];
       date = dateOf 0;
       clock = clockOf 0;
       twelve = false;
       elapsed = 0;
-      below = (sectionExponent s x) .below;
+      below = below;
     }
+
+-- what the items from the E on show of it: "The exponent is shown like an integer part" (R128)
+unfoldable pub exponentContext : Section → Number → Context
+exponentContext s x = wholeContext ((sectionExponent s x) .size) (placesBehind (s .items)) ((sectionExponent s x) .below)
 
 -- what they show of an instant
 unfoldable pub instantContext : Section → Day → Millisecond → Context
@@ -132,17 +160,55 @@ textContext text =
       below = false;
     }
 
+-- the text of items that show the whole number n in their places
+abbrev pub wholeText : ℕ → List Item → List ℕ
+wholeText n is = sectionUnits (wholeContext n (integerPlaces is) false) is
+
+-- "The denominator's spare places, counted from the left, give a 0 in front for `0`, a space behind for `?`, nothing for `#`." (R135)
+-- its spare places, with d the denominator
+unfoldable pub sparePlaces : ℕ → List Item → List Item
+sparePlaces d places = take (length places - width d) places
+
+-- `?` shows nothing in front
+unfoldable pub spaceless : Item → Item
+spaceless i = cond (isSpace i) (place hashPlace) i
+
+unfoldable pub denominatorUnits : ℕ → List Item → List ℕ
+denominatorUnits d places = wholeText d (map spaceless places) ++ replicate (count isSpace (sparePlaces d places)) 32
+
+-- from the solidus on: itself, the denominator in its places, and what stands behind them, with the fixed number
+unfoldable pub belowUnits : ℕ → List Item → List ℕ
+belowUnits d is = wholeText 0 (take 1 is) ++ denominatorUnits d (startPlaces (drop 1 is)) ++ wholeText 0 (behindStart (drop 1 is))
+
+-- "A numerator of zero beside integer places shows a space for each place of the fraction, digit of a fixed number and solidus." (R135)
+unfoldable pub blanked : Item → List Item
+blanked i = cond (isPlace i || isSolidus i) (blank 32 ∷ []) (cond (isFixed i) (replicate (width (itemRow i .argument)) (blank 32)) (i ∷ []))
+
+-- "The numerator is shown like an integer part." (R135)
+unfoldable pub fractionUnits : Mixed → List Item → List ℕ
+fractionUnits f is =
+    wholeText (f .whole) (wholeItems is)
+    ++ cond (isParted is && eqb (f .above) 0) (wholeText 0 (flatten (map blanked (mainItems is))))
+    (wholeText (f .above) (numeratorItems is) ++ belowUnits (f .below) (fromCut is))
+
 -- a section's text of a number, without the added minus
 unfoldable pub sectionText : Section → Number → List ℕ
 sectionText s x =
     cond (sameKind (kindOf s) scientificKind)
-    (sectionUnits (numberContext s x) (beforeE (s .items)) ++ sectionUnits (exponentContext s x) (fromE (s .items)))
-    (sectionUnits (numberContext s x) (s .items))
+    (sectionUnits (numberContext s x) (beforeCut (s .items)) ++ sectionUnits (exponentContext s x) (fromCut (s .items)))
+    (cond (sameKind (kindOf s) fractionKind) (fractionUnits (sectionFraction s x) (s .items))
+    (sectionUnits (numberContext s x) (s .items)))
+
+-- what the places show is nought: "Here (b) reads: integer part and numerator are both zero." (R135)
+unfoldable pub placesNought : Section → Number → Bool
+placesNought s x =
+    cond (sameKind (kindOf s) fractionKind) (eqb ((sectionFraction s x) .whole) 0 && eqb ((sectionFraction s x) .above) 0)
+    (eqb (sectionRounded s x) 0)
 
 -- "it shows places or General and these round to zero" (R65)
 unfoldable pub showsNought : Section → Number → Bool
 showsNought s x =
-    showsPlaces (kindOf s) && eqb (sectionRounded s x) 0
+    showsPlaces (kindOf s) && placesNought s x
     || showsGeneral (kindOf s) && eqb (standingRounded x) 0
 
 -- the added minus of a number that went to section i for this reason

@@ -1,4 +1,4 @@
--- "Figures" (R69 to R74) and "Days" (R85 to R88): the text of each item, and of a section.
+-- "Figures" (R69 to R74, R135) and "Days" (R85 to R88): the text of each item, and of a section.
 -- Assumes nothing.
 use Prim.Native.Nat.{ℕ, zero, suc, _+_, _-_, _/_, _%_, _^_}
 use mathlib.Core.Bool.{Bool, true, false, cond, _&&_}
@@ -9,7 +9,7 @@ use Rattle.calendar.specs.Date.{Date}
 use Rattle.calendar.specs.Clock.{Clock, twelveHour, afternoon, elapsedHours, elapsedMinutes, elapsedSeconds}
 use Rattle.calendar.specs.Names.{units, monthName, weekdayName, shortName, firstLetter}
 use Rattle.formats.specs.Tokens.{Place, zeroPlace, hashPlace, spacePlace, Elapsed, hours, minutes, seconds, HalfDay, short, long, ExponentMark, ePlus, eMinus}
-use Rattle.formats.specs.Items.{Item, literal, blank, fill, place, point, percent, general, at, year, month, day, hour, minute, second, part, elapsed, half, exponent, isPlace, isExponent}
+use Rattle.formats.specs.Items.{Item, literal, blank, fill, place, point, percent, general, at, year, month, day, hour, minute, second, part, elapsed, half, exponent, solidus, fixed, isPlace, isCut}
 
 -- all that the items of a section show
 pub record Context : Type 0 where
@@ -140,10 +140,12 @@ itemUnits c q (part n) = partUnits n (c .clock .thousandth)
 itemUnits c q (elapsed e n) = numeral n (elapsedCount e (c .elapsed))
 itemUnits c q (half h) = halfUnits h (afternoon (c .clock .hour))
 itemUnits c q (exponent m) = exponentUnits m (c .below)
+itemUnits c q solidus = units "/"
+itemUnits c q (fixed n) = numeral 1 n
 
--- the digit after an item: each place has the next lower power, and behind an E the digit is `anew`
+-- the digit after an item: each place has the next lower power, and behind an E or solidus the digit is `anew`
 unfoldable pub digitAfter : ℕ → ℕ → Item → ℕ
-digitAfter anew q i = cond (isExponent i) anew (cond (isPlace i) (q - 1) q)
+digitAfter anew q i = cond (isCut i) anew (cond (isPlace i) (q - 1) q)
 
 -- one pass over a section's items, or over what stands for them, that tells each its digit: a text, a table's words and the rules for
 -- them are made of it

@@ -1,6 +1,6 @@
--- "Tokens" (R14 to R27, R127): the tokens of a code, read from its units.
+-- "Tokens" (R14 to R27, R127, R132): the tokens of a code, read from its units.
 -- Assumes nothing.
-use Prim.Native.Nat.{ℕ, zero, suc, _+_, _-_, _*_}
+use Prim.Native.Nat.{ℕ, zero, suc, _+_, _-_, _*_, min}
 use Prim.Native.Char.{Char, code}
 use Prim.Native.String.{String}
 use mathlib.Core.Bool.{Bool, true, false, cond, not, _&&_, _||_}
@@ -83,6 +83,9 @@ pub data Token : Type 0 where
   colour : ℕ → Token
   condition : Written → Token
   exponent : ExponentMark → Token
+  -- a place with the solidus of a fraction, or with the solidus and the fixed number, directly behind it (R132)
+  over : Place → Token
+  overFixed : Place → ℕ → Token
 
 -- a token and how many units follow its first one, or a unit that starts no token or a broken one
 pub data Step : Type 0 where
@@ -156,6 +159,28 @@ digitOf u = u - 48
 unfoldable pub numberFrom : ℕ → List ℕ → ℕ
 numberFrom v [] = v
 numberFrom v (d ∷ ds) = numberFrom (10 * v + d) ds
+
+-- "`/` directly after it, then directly another such run": the solidus of a fraction stands directly between two places (R132)
+unfoldable pub isPlaceUnit : ℕ → Bool
+isPlaceUnit u = any (eqb u) (units "0#?")
+
+-- "A digit run that begins with 1 to 9 becomes a token directly after a `/` that directly follows a place": all digits that follow. A
+-- number above 999 is told as 1,000, which is refused by 6 as any such number is. (R132)
+unfoldable pub fixedNumber : List ℕ → ℕ
+fixedNumber us = min 1000 (numberFrom 0 (map digitOf us))
+
+-- what stands behind a place and a `/`: the paper's place, solidus and digit run are one token here, since each makes the others
+unfoldable pub overStep : Place → List ℕ → Step
+overStep p [] = read (place p) 0
+overStep p (u ∷ us) =
+    let n = leading isDigit us in
+    cond (isPlaceUnit u) (read (over p) 1)
+    (cond (isDigit u) (read (overFixed p (fixedNumber (u ∷ take n us))) (2 + n)) (read (place p) 0))
+
+-- a place, with what is directly behind it (R132)
+unfoldable pub placeStep : Place → List ℕ → Step
+placeStep p [] = read (place p) 0
+placeStep p (u ∷ us) = let r = overStep p us in cond (eqb u 47) r (read (place p) 0)
 
 -- "Named colours are 1 Black, 2 White, .." (R25)
 unfoldable pub colourNames : List String
@@ -233,6 +258,7 @@ bracketed us = let n = before 93 us in cond (eqb n (length us)) broken (closed n
 pub data First : Type 0 where
   quote backslash underscore asterisk openBracket capitalG capitalA capitalE other : First
   letter : Letter → First
+  placeUnit : Place → First
   single : Token → First
 
 pub record FirstRow : Type 0 where
@@ -248,7 +274,7 @@ firstRows =
     row "\"" quote ∷ row "\\" backslash ∷ row "_" underscore ∷ row "*" asterisk ∷ row "[" openBracket
     ∷ row "G" capitalG ∷ row "A" capitalA ∷ row "E" capitalE
     ∷ row "y" (letter letterY) ∷ row "m" (letter letterM) ∷ row "d" (letter letterD) ∷ row "h" (letter letterH) ∷ row "s" (letter letterS)
-    ∷ row "0" (single (place zeroPlace)) ∷ row "#" (single (place hashPlace)) ∷ row "?" (single (place spacePlace))
+    ∷ row "0" (placeUnit zeroPlace) ∷ row "#" (placeUnit hashPlace) ∷ row "?" (placeUnit spacePlace)
     ∷ row "." (single point) ∷ row "," (single comma) ∷ row "%" (single percent) ∷ row "@" (single at) ∷ row ";" (single semicolon) ∷ []
 
 unfoldable pub firstIn : List FirstRow → ℕ → First
@@ -269,6 +295,7 @@ stepBy capitalG u us = generalWord (u ∷ us)
 stepBy capitalA u us = halfDayWord (u ∷ us)
 stepBy capitalE u us = exponentWord (u ∷ us)
 stepBy (letter l) u us = runStep l u us
+stepBy (placeUnit p) u us = placeStep p us
 stepBy (single t) u us = read t 0
 stepBy other u us = cond (any (eqb u) bareLiterals) (read (bare u) 0) broken
 

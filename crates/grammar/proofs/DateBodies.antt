@@ -3,7 +3,7 @@
 use Prim.Native.Nat.{ℕ, suc, _≤_}
 use native.Mathlib.Omega.{arith}
 use mathlib.Core.Path.{_≡_, refl, sym, ap, _∙_}
-use mathlib.Core.Bool.{Bool, true, false, not, _&&_, and-false}
+use mathlib.Core.Bool.{Bool, true, false, not, _&&_}
 use mathlib.Core.List.{List, [], _∷_, _++_}
 use mathlib.Core.Option.{Option}
 use borrow.Author.Tests.{not-true}
@@ -12,13 +12,14 @@ use Rattle.lists.proofs.Bools.{no, and-parts, by-cases}
 use Rattle.formats.specs.Tokens.{Token, fill, run, elapsed, letterY, letterM, letterD, letterH, letterS, Elapsed, hours, minutes, seconds}
 use Rattle.formats.specs.Items as item
 use Rattle.formats.specs.Items.{Item, Kind, textKind, generalKind, dateKind, itemAllowed, isFill, isElapsed, Run, noRun, runOf, nearer, firstRun, settledItem, settledFrom, settled}
-use Rattle.formats.specs.Kinds.{isPlace, isPoint, noBracket, tokenMakes, bodyKind, isSolidus, startsWithPlace, solidusFrom, solidusFits, commasFit, isSecondsToken, runItem, tokenItems, piecesFrom, dateItems, bodyItems, lastFill}
+use Rattle.formats.specs.Kinds.{noBracket, tokenMakes, bodyKind, commasFit, isSecondsToken, runItem, tokenItems, piecesFrom, dateItems, bodyItems, lastFill}
+use Rattle.formats.proofs.Cutting.{no-decimals}
 use Rattle.formats.proofs.FormedItems.{dropped, fills-kept}
 use Rattle.grammar.specs.Bodies.{Behind, behindOther, NFAbsTimeToken, NFPartAbsHour, NFPartAbsSecond, NFPartAbsMinute, NFDateTimeToken, NFPartYear, NFPartMonth, NFPartMonth-long, NFPartDay, NFPartHour, NFPartMinute, NFPartMinute-seconds, NFPartSecond, absolute, NFPartSubSecond, tenths, hundredths, thousandths, Between, DateTimeRest, rest-end, rest-token, rest-sub-second, rest-between, DateTimeFrom, from-token, from-between, isAbsolute, NFDateTime}
-use Rattle.grammar.proofs.Tests.{every-in, every-all, every-none}
+use Rattle.grammar.proofs.Tests.{every-in, every-all, every-none, absent}
 use Rattle.grammar.proofs.Quiet.{passed-over}
-use Rattle.grammar.proofs.Kept.{sorts, count-kept, allowed-kept, foreign, no-integers, no-decimals, no-exponents}
-use Rattle.grammar.proofs.Facts.{kept, Fitting}
+use Rattle.grammar.proofs.Kept.{sorts, count-kept, allowed-kept, foreign, no-integers, no-exponents}
+use Rattle.grammar.proofs.Facts.{kept, Fitting, bare, no-exponent-places}
 use Rattle.grammar.proofs.Plain.{inBody, has, kind-date, kind-has}
 use Rattle.grammar.proofs.PlainBodies.{body-tokens, body-brackets, NoSemicolon}
 use Rattle.grammar.proofs.DateItems.{dateItem, date-allowed, date-short, dates-apart, Counting, counting}
@@ -47,19 +48,15 @@ from-has (from-between {ts = ts} x d) = between-has ts x ∙ from-has d
 
 -- ---- the tokens of a date
 
--- each token is of a date's body, and no solidus stands before a place
-rest-facts : {abs : Option Elapsed} {b : Behind} {ts : List Token} → DateTimeRest abs b ts → (every dateToken ts ≡ true) × ((d : Bool) → solidusFrom d ts ≡ true)
-unfolding every tokenMakes noBracket solidusFrom isSolidus startsWithPlace
-rest-facts rest-end = (refl, (λ d. refl))
-rest-facts (rest-token {t = t} {ts = ts} x r) =
-    let (e, f) = rest-facts r in
-    (every-in dateToken t ts ((dating-facts (dating x)) .2) e, (λ d. rw (rest-start r, and-false (d && isSolidus t)) (f (isPlace t))))
-rest-facts (rest-sub-second tenths r) = let (e, f) = rest-facts r in (e, (λ d. rw (and-false d) (f true)))
-rest-facts (rest-sub-second hundredths r) = let (e, f) = rest-facts r in (e, (λ d. rw (and-false d) (f true)))
-rest-facts (rest-sub-second thousandths r) = let (e, f) = rest-facts r in (e, (λ d. rw (and-false d) (f true)))
-rest-facts (rest-between {t = t} {ts = ts} x r) =
-    let (e, f) = rest-facts r in
-    (every-in dateToken t ts ((between-facts x) .2) e, (λ d. rw (rest-start r, and-false (d && isSolidus t)) (f (isPlace t))))
+-- each token is of a date's body
+rest-facts : {abs : Option Elapsed} {b : Behind} {ts : List Token} → DateTimeRest abs b ts → every dateToken ts ≡ true
+unfolding every tokenMakes noBracket
+rest-facts rest-end = refl
+rest-facts (rest-token {t = t} {ts = ts} x r) = every-in dateToken t ts ((dating-facts (dating x)) .2) (rest-facts r)
+rest-facts (rest-sub-second tenths r) = rest-facts r
+rest-facts (rest-sub-second hundredths r) = rest-facts r
+rest-facts (rest-sub-second thousandths r) = rest-facts r
+rest-facts (rest-between {t = t} {ts = ts} x r) = every-in dateToken t ts ((between-facts x) .2) (rest-facts r)
 
 tokens-body : (ts : List Token) → every dateToken ts ≡ true → every inBody ts ≡ true
 tokens-body ts e = every-all dateToken inBody (λ t d. (and-parts (inBody t) _ d) .0) ts e
@@ -153,7 +150,7 @@ dated-fill abs r (i ∷ is) =
 -- ---- NFDateTime
 
 pub date-tokens : (ts : List Token) → NFDateTime ts → every inBody ts ≡ true
-date-tokens ts d = tokens-body ts ((rest-facts (to-rest (d .tokens))) .0)
+date-tokens ts d = tokens-body ts (rest-facts (to-rest (d .tokens)))
 
 date-body : (ts : List Token) → bodyKind ts ≡ dateKind → bodyItems ts ≡ dateItems (piecesFrom false 0 ts)
 unfolding bodyItems
@@ -179,10 +176,10 @@ derive-date ts s h f =
     date-of ts s h f (counting (kept ts) a (f .short) (f .elapseds) (f .apart))
 
 pub date-fits : (ts : List Token) → NFDateTime ts → (bodyKind ts ≡ dateKind) × Fitting ts
-unfolding commasFit solidusFits settled sorts
+unfolding commasFit settled sorts
 date-fits ts d =
     let rest = to-rest (d .tokens) in
-    let tokens = (rest-facts rest) .0 in
+    let tokens = rest-facts rest in
     let h = kind-date ts (tokens-none textKind (λ t e. (token-other t e) .0) ts tokens) (tokens-none generalKind (λ t e. (token-other t e) .1) ts tokens) (from-has (d .tokens)) in
     let items = date-body ts h in
     let dated : every (dateItem (d .abs)) (kept ts) ≡ true = rw items (dated-fill (d .abs) noRun (dateItems (piecesFrom false 0 ts)) ∙ rest-dated (d .abs) rest noRun refl) in
@@ -192,24 +189,26 @@ date-fits ts d =
     let points : count item.isPoint (bodyItems ts) ≡ 0 = foreign dateKind 7 refl (bodyItems ts) a in
     let percents : count item.isPercent (bodyItems ts) ≡ 0 = foreign dateKind 8 refl (bodyItems ts) a in
     let generals : count item.isGeneral (bodyItems ts) ≡ 0 = foreign dateKind 9 refl (bodyItems ts) a in
-    let (exponent, exponents) = no-exponents (bodyItems ts) (foreign dateKind 22 refl (bodyItems ts) a) in
+    let unbroken = bare dateKind refl (bodyItems ts) a in
     let once : count isElapsed (bodyItems ts) ≤ 1 = rw (items, rest-elapsed rest) (d .absolute-once) in (
       h,
       record {
         brackets = body-brackets ts (tokens-body ts tokens);
         commas = rw h;
-        solidus = (rest-facts rest) .1 false;
+        fraction = unbroken .fraction;
         allowed = rw h a;
         generals = omega arith;
         points = omega arith;
         elapseds = rw (count-kept 18 refl refl (bodyItems ts)) once;
         apart = dates-apart (d .abs) (kept ts) dated;
-        exponent = exponent;
-        wholes = omega (arith, no-integers (bodyItems ts) places);
-        decimals = omega (arith, no-decimals (bodyItems ts) points);
-        exponents = omega arith;
+        exponent = no-exponents (bodyItems ts) (foreign dateKind 22 refl (bodyItems ts) a);
+        integers = omega (arith, unbroken .integers);
+        wholes = omega (arith, unbroken .wholes, no-integers (bodyItems ts) places);
+        decimals = omega (arith, no-decimals (bodyItems ts) (absent item.isPoint (bodyItems ts) points));
+        exponents = omega (arith, no-exponent-places dateKind refl refl (bodyItems ts) a);
         percents = omega arith;
         divisions = rw h (omega arith);
         short = date-short (d .abs) (kept ts) dated;
+        small = unbroken .small;
       },
     )

@@ -14,7 +14,7 @@ use Rattle.formats.specs.Tokens.{Elapsed, hours, minutes, seconds, elapsedIndex
 use Rattle.formats.specs.Items.{Item, itemRow, itemNumber, elapsed, dateKind, itemAllowed, isHour, isMinute, isSecond, isElapsed, isPlain, noPlain}
 use Rattle.formats.specs.Limits.{elapsedShort}
 use Rattle.formats.proofs.Each.{by-item, by-elapsed}
-use Rattle.grammar.proofs.Tests.{both, every-parts, every-in, every-with, every-all, every-none, none-every}
+use Rattle.grammar.proofs.Tests.{both, every-parts, every-in, every-with, every-all, every-none, unless, none-every}
 
 abbrev byIndex : ℕ → Elapsed
 byIndex zero = hours
@@ -71,24 +71,15 @@ data Sorted : Item → Type 0 where
 sorted : (i : Item) → Sorted i
 sorted =
     by-item Sorted (λ u. calm refl) (λ u. calm refl) (λ u. calm refl) (λ p. calm refl) (calm refl) (calm refl) (calm refl) (calm refl)
-    (λ n. calm refl) (λ n. calm refl) (λ n. calm refl) (λ n. calm refl) (λ n. calm refl) (λ n. calm refl) (λ n. calm refl) timed (λ h. calm refl) (λ m. calm refl)
-
--- a test that only an elapsed item may fail
-unless-elapsed : (f : Item → Bool) → ((i : Item) → isElapsed i ≡ false → f i ≡ true) → (is : List Item) → count isElapsed is ≡ 0 → every f is ≡ true
-unfolding every count
-unless-elapsed f g [] e = refl
-unless-elapsed f g (i ∷ is) e =
-    by-cases (isElapsed i)
-    (λ h. let z : suc (count isElapsed is) ≡ 0 = rw h at e in absurd (omega arith))
-    (λ h. rw (g i h) (unless-elapsed f g is (rw h at e)))
+    (λ n. calm refl) (λ n. calm refl) (λ n. calm refl) (λ n. calm refl) (λ n. calm refl) (λ n. calm refl) (λ n. calm refl) timed (λ h. calm refl) (λ m. calm refl) (calm refl) (λ n. calm refl)
 
 pub short-none : (is : List Item) → count isElapsed is ≡ 0 → every elapsedShort is ≡ true
 unfolding elapsedShort
-short-none is e = unless-elapsed elapsedShort (λ i h. rw h) is e
+short-none is e = unless isElapsed elapsedShort (λ i h. rw h) is e
 
 pub plain-none : (is : List Item) → count isElapsed is ≡ 0 → every (noPlain is) is ≡ true
 unfolding noPlain
-plain-none is e = unless-elapsed (noPlain is) (λ i h. rw h) is e
+plain-none is e = unless isElapsed (noPlain is) (λ i h. rw h) is e
 
 -- ---- what the items of a date satisfy
 
@@ -142,7 +133,7 @@ unfolding count noPlain elapsedShort dateItem
 found-here is js (timed x n) c s p f =
     found-one x
     (every-in (countsIn (some x)) (elapsed x n) js (both (counts (some x) x) (leb n 9) (some-counts x) s)
-    (unless-elapsed (countsIn (some x)) (counts-unless (some x)) js (omega arith)))
+    (unless isElapsed (countsIn (some x)) (counts-unless (some x)) js (omega arith)))
     (not-true (any (isPlain (elapsedIndex x)) is) p)
 found-here is js {i} (calm o) c t p f = past (f (rw o at c))
   where

@@ -3,7 +3,7 @@
 use Prim.Native.Nat.{ℕ, zero, suc, _≤_, min}
 use native.Mathlib.Omega.{arith}
 use mathlib.Core.Path.{_≡_, refl, sym, ap, subst, _∙_}
-use mathlib.Core.Bool.{Bool, true, false, cond, not, _&&_, _||_, true≢false, and-false, or-true}
+use mathlib.Core.Bool.{Bool, true, false, cond, not, _&&_, _||_, and-false, or-true}
 use mathlib.Core.List.{List, [], _∷_, _++_}
 use mathlib.Core.Logic.{_≢_}
 use mathlib.Core.Option.{Option, some}
@@ -13,10 +13,10 @@ use lib.Dec.{leb, eqb}
 use borrow.Author.Tests.{eqb-true, eqb-false, leb-true, leb-false, le-leb, lt-leb}
 use Rattle.lists.specs.Lists.{every}
 use Rattle.lists.proofs.Bools.{no, and-parts, by-cases}
-use Rattle.formats.specs.Tokens.{Token, literal, bare, blank, fill, place, point, comma, percent, at, semicolon, general, half, run, elapsed, colour, condition, exponent, HalfDay, Place, zeroPlace, hashPlace, spacePlace, Letter, letterY, letterM, letterD, letterH, letterS, Elapsed, hours, minutes, seconds, elapsedIndex}
+use Rattle.formats.specs.Tokens.{Token, literal, bare, blank, fill, place, point, comma, percent, at, semicolon, general, half, run, elapsed, colour, condition, exponent, over, overFixed, HalfDay, Place, zeroPlace, hashPlace, spacePlace, Letter, letterY, letterM, letterD, letterH, letterS, Elapsed, hours, minutes, seconds, elapsedIndex}
 use Rattle.formats.specs.Items as item
 use Rattle.formats.specs.Items.{Item, textKind, generalKind, dateKind, Run, hourRun, secondRun, otherRun, isHourRun, isSecondRun, runOf, runOfElapsed, nearer, firstRun, meansMinutes, monthOrMinute, settledItem, settledFrom}
-use Rattle.formats.specs.Kinds.{formOf, isPoint, isPlace, startsWithPlace, noBracket, tokenMakes, whole, isSecondsToken, isZero, leadingZeros, partZeros, piecesFrom, runItem, tokenItems, pieceItems, dateItems}
+use Rattle.formats.specs.Kinds.{formOf, isPoint, isPlace, noBracket, tokenMakes, whole, isSecondsToken, isZero, leadingZeros, partZeros, piecesFrom, runItem, tokenItems, pieceItems, dateItems}
 use Rattle.formats.proofs.FormedPieces.{zero-case, zeros-follow, zeros-point}
 use Rattle.formats.proofs.Each.{by-token, by-letter, by-elapsed}
 use Rattle.grammar.specs.Bodies.{free-string, free-repeat, free-space, free-bare, Behind, behindSeconds, behindHours, behindOther, past, NFAbsTimeToken, NFPartAbsHour, NFPartAbsSecond, NFPartAbsMinute, NFDateTimeToken, NFPartYear, NFPartMonth, NFPartMonth-long, NFPartDay, NFPartHour, NFPartMinute, NFPartMinute-seconds, NFPartSecond, absolute, NFPartSubSecond, tenths, hundredths, thousandths, Between, between-free, between-AMPM, between-comma, between-point, DateTimeRest, rest-end, rest-token, rest-sub-second, rest-between, isAbsolute, beforeSeconds}
@@ -97,7 +97,7 @@ seconds-front t is =
     (λ u. refl) (λ u. refl) (λ u. refl) (λ p. refl) refl refl refl refl refl refl (λ h. refl)
     (λ l n. by-letter (λ (k : Letter). isSecondRun (firstRun (runItem k n ∷ is)) ≡ isSecondsToken (run k n)) refl refl refl refl refl l)
     (λ x n. by-elapsed (λ (d : Elapsed). isSecondRun (firstRun (item.elapsed d n ∷ is)) ≡ isSecondsToken (elapsed d n)) refl refl refl x)
-    (λ n. refl) (λ w. refl) (λ m. refl) t
+    (λ n. refl) (λ w. refl) (λ m. refl) (λ p. refl) (λ p n. refl) t
 
 seconds-next : (b : Bool) (skip : ℕ) (ts : List Token) → skip ≤ leadingZeros ts → isSecondRun (firstRun (dateItems (piecesFrom b skip ts))) ≡ beforeSeconds ts
 unfolding piecesFrom dateItems pieceItems leadingZeros beforeSeconds firstRun runOf nearer
@@ -275,6 +275,8 @@ module _ (abs : Option Elapsed) where
   token-from (colour n) ts b r h i e f = no i
   token-from (condition w) ts b r h i e f = no i
   token-from (exponent m) ts b r h i e f = no (rw (whole-items (direct b) (exponent m) ts refl) at e)
+  token-from (over q) ts b r h i e f = no (rw (whole-items (direct b) (over q) ts refl) at e)
+  token-from (overFixed q n) ts b r h i e f = no (rw (whole-items (direct b) (overFixed q n) ts refl) at e)
 
   pub rest-of : (ts : List Token) → every inBody ts ≡ true → From ts
   unfolding piecesFrom
@@ -311,23 +313,15 @@ unfolding tokenMakes noBracket
 dating-facts (dating-run l n) = (refl, refl, refl)
 dating-facts (dating-elapsed x n) = (refl, refl, refl)
 
--- what DateTimeRest derives does not start with a place
-pub rest-start : {abs : Option Elapsed} {b : Behind} {ts : List Token} → DateTimeRest abs b ts → startsWithPlace ts ≡ false
-unfolding startsWithPlace
+-- what DateTimeRest derives does not start with a zero
+pub rest-start : {abs : Option Elapsed} {b : Behind} {ts : List Token} → DateTimeRest abs b ts → leadingZeros ts ≡ 0
+unfolding leadingZeros isZero
 rest-start rest-end = refl
-rest-start (rest-token x d) = (dating-facts (dating x)) .0
+rest-start (rest-token x d) = rw ((dating-facts (dating x)) .0)
 rest-start (rest-sub-second tenths d) = refl
 rest-start (rest-sub-second hundredths d) = refl
 rest-start (rest-sub-second thousandths d) = refl
-rest-start (rest-between x d) = (between-facts x) .0
-
-no-zeros : (ts : List Token) → startsWithPlace ts ≡ false → leadingZeros ts ≡ 0
-unfolding startsWithPlace leadingZeros
-no-zeros [] e = refl
-no-zeros (t ∷ ts) e =
-    by-cases (isZero t)
-    (λ h. absurd (true≢false (rw (zero-token t h) at e)))
-    (λ h. rw h)
+rest-start (rest-between x d) = rw ((between-facts x) .0)
 
 module _ (abs : Option Elapsed) where
   counted-not : (x : Elapsed) → abs ≢ some x → not (counts abs x) ≡ true
@@ -386,7 +380,7 @@ module _ (abs : Option Elapsed) where
       rw (whole-items abs (direct b) (run letterS n) ts refl, counted-not seconds k) (f secondRun refl)
   token-dated {b} r ts h (absolute e x) f = absolute-dated (direct b) r ts e x f
 
-  pub between-items : {t : Token} (b : Behind) (ts : List Token) → startsWithPlace ts ≡ false → Between t
+  pub between-items : {t : Token} (b : Behind) (ts : List Token) → leadingZeros ts ≡ 0 → Between t
       → dateItems (piecesFrom (direct b) 0 (t ∷ ts)) ≡ tokenItems true t ++ dateItems (piecesFrom false 0 ts)
   unfolding isSecondsToken
   between-items b ts s (between-free (free-string us)) = whole-items abs (direct b) (literal us) ts refl
@@ -395,15 +389,15 @@ module _ (abs : Option Elapsed) where
   between-items b ts s (between-free (free-bare u)) = whole-items abs (direct b) (bare u) ts refl
   between-items b ts s (between-AMPM h) = whole-items abs (direct b) (half h) ts refl
   between-items b ts s between-comma = whole-items abs (direct b) comma ts refl
-  between-items b ts s between-point = plain-point (direct b) ts (λ t. no-zeros ts s)
+  between-items b ts s between-point = plain-point (direct b) ts (λ t. s)
 
   -- the items of a part of a second
-  pub sub-items : {ts us : List Token} → startsWithPlace us ≡ false → NFPartSubSecond ts us
+  pub sub-items : {ts us : List Token} → leadingZeros us ≡ 0 → NFPartSubSecond ts us
       → (n : ℕ) × (dateItems (piecesFrom true 0 ts) ≡ item.part n ∷ dateItems (piecesFrom false 0 us))
   unfolding piecesFrom partZeros leadingZeros isZero dateItems pieceItems isSecondsToken
-  sub-items s (tenths {ts = us}) = (1, rw (no-zeros us s))
-  sub-items s (hundredths {ts = us}) = (2, rw (no-zeros us s))
-  sub-items s (thousandths {ts = us}) = (3, rw (no-zeros us s))
+  sub-items s tenths = (1, rw s)
+  sub-items s hundredths = (2, rw s)
+  sub-items s thousandths = (3, rw s)
 
   dated-part : (r : Run) (n : ℕ) (is : List Item) → Dated abs r is → Dated abs r (item.part n ∷ is)
   unfolding every settledFrom settledItem dateItem runOf nearer

@@ -23,18 +23,18 @@ use Rattle.grammar.specs.Units.{Spelled, done, token}
 use Rattle.grammar.specs.Codes as codes
 use Rattle.grammar.specs.Codes.{all-condition, all-one, all-two, all-three, all-four, Derives}
 use Rattle.grammar.proofs.Tests.{every-in}
-use Rattle.grammar.proofs.Fronts.{colourShown, spells-front}
+use Rattle.grammar.proofs.Fronts.{isShown, spells-front}
 use Rattle.grammar.proofs.Lexed.{Gives, lex-spelled, spelled-lex}
 use Rattle.grammar.proofs.PlainBodies.{NoSemicolon}
 use Rattle.grammar.proofs.Sections.{Passes, passed, any-of, fourth-of, one-of, any-passes, fourth-passes, condition-passes}
 use Rattle.grammar.proofs.Split.{behind, join, join-split, split-each, split-plain, split-one, split-before}
 
--- ---- a colour that units spell is above 0
+-- ---- a colour that units spell is above 0, and a literal has a unit
 
-spelled-shown : {us : List ℕ} {ts : List Token} → Spelled us ts → every colourShown ts ≡ true
+spelled-shown : {us : List ℕ} {ts : List Token} → Spelled us ts → every isShown ts ≡ true
 unfolding every
 spelled-shown done = refl
-spelled-shown (token {t = t} {ts = ts} s d) = every-in colourShown t ts ((spells-front s) .shown) (spelled-shown d)
+spelled-shown (token {t = t} {ts = ts} s d) = every-in isShown t ts ((spells-front s) .shown) (spelled-shown d)
 
 -- ---- the tests of each section
 
@@ -143,7 +143,7 @@ all-parted (all-four s t u v a b c d e) =
 -- ---- from the tests to All
 
 abbrev AllShown : List (List Token) → Type 0
-AllShown ss = All (λ (s : List Token). every colourShown s ≡ true) ss
+AllShown ss = All (λ (s : List Token). every isShown s ≡ true) ss
 
 derive-all : (ts : List Token) (ss : List (List Token)) → join ss ≡ ts → AllShown ss → PassAll (length ss) 0 ss → 1 ≤ length ss → length ss ≤ 4 → codes.All ts
 unfolding join behind
@@ -193,7 +193,7 @@ accepted-derives code e =
       most = most;
       tokens = ts;
       spelled = s;
-      derived = derive-all ts (split ts) (join-split ts) (split-each colourShown ts (spelled-shown s))
+      derived = derive-all ts (split ts) (join-split ts) (split-each isShown ts (spelled-shown s))
           (pass-all (length (split ts)) 0 (split ts) (split-plain ts) (all-fine-none code f)) (omega arith) (omega arith);
     }
 

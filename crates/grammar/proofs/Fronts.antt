@@ -3,7 +3,7 @@
 use Prim.Native.Nat.{ℕ, zero, suc, _+_, _-_, _*_, _≤_}
 use native.Mathlib.Omega.{arith}
 use mathlib.Core.Path.{_≡_, refl, sym, ap, _∙_}
-use mathlib.Core.Bool.{Bool, true, false, cond, not, and-false, true≢false}
+use mathlib.Core.Bool.{Bool, true, false, cond, not, _&&_, and-false, true≢false}
 use mathlib.Core.List.{List, [], _∷_, _++_, map, append-nil}
 use mathlib.Core.Logic.{_≢_}
 use mathlib.Core.Option.{none, some}
@@ -11,30 +11,30 @@ use Prim.Native.String.{String}
 use lib.ListN.{length, take, drop, replicate, length-append, length-replicate}
 use lib.Seq.{take-at, drop-at, drop-append-add, take-length, drop-length}
 use lib.Dec.{T, leb, eqb}
-use borrow.Author.Tests.{ne-eqb, eq-eqb, eqb-true, le-leb, not-true}
+use borrow.Author.Tests.{ne-eqb, eq-eqb, eqb-true, eqb-false, leb-true, le-leb, not-true}
 use Rattle.lists.specs.Lists.{every, any, isEmpty, All}
-use Rattle.lists.proofs.Bools.{by-cases, cond-left, cond-right, not-so}
+use Rattle.lists.proofs.Bools.{no, and-parts, by-cases, cond-both, cond-left, cond-right, not-so}
 use Rattle.calendar.specs.Names.{units}
-use Rattle.formats.specs.Tokens.{Token, literal, bare, run, elapsed, colour, condition, Letter, letterY, letterM, letterD, letterH, letterS, Elapsed, hours, minutes, seconds, Comparison, equal, less, greater, atMost, atLeast, unequal, Step, read, broken, before, leading, startsWith, same, quoted, marked, generalWord, halfDayWord, exponentWord, runAllowed, runStep, isDigit, digitOf, numberFrom, colourNames, namedFrom, noLeadingZero, colourDigits, numbered, elapsedInside, decimalsOf, wholeOf, signedOf, conditionInside, firstForm, insideOf, closed, bracketed, FirstRow, letter, other, firstRows, firstIn, bareLiterals, stepBy, stepAt}
-use Rattle.formats.specs.Kinds.{isColour, colourIn}
+use Rattle.formats.specs.Tokens.{Token, literal, bare, place, overFixed, run, elapsed, colour, condition, Place, zeroPlace, hashPlace, spacePlace, Letter, letterY, letterM, letterD, letterH, letterS, Elapsed, hours, minutes, seconds, Comparison, equal, less, greater, atMost, atLeast, unequal, Step, read, broken, before, leading, startsWith, same, quoted, marked, generalWord, halfDayWord, exponentWord, runAllowed, runStep, isDigit, digitOf, numberFrom, isPlaceUnit, fixedNumber, overStep, placeStep, colourNames, namedFrom, noLeadingZero, colourDigits, numbered, elapsedInside, decimalsOf, wholeOf, signedOf, conditionInside, firstForm, insideOf, closed, bracketed, FirstRow, letter, placeUnit, other, firstRows, firstIn, bareLiterals, stepBy, stepAt}
+use Rattle.formats.specs.Kinds.{formOf, isColour, colourIn, tokenItems}
 use Rattle.grammar.proofs.Tests.{every-parts}
-use Rattle.grammar.specs.Units.{Ended, WholeRun, Bracketed, ASCII-DIGIT, NFPartCompOper, oper-less, oper-at-most, oper-unequal, oper-equal, oper-greater, oper-at-least, NFPartIntNum, int-num, NFPartCondNum, cond-num-whole, cond-num-point, cond-num-minus, NFPart1To56, one-digit, two-digits, fifty, fifties, INTL-COLOR, black, blue, cyan, green, magenta, red, white, yellow, bareUnits, BareLiteral, sign-plus, sign-minus, Spells, NFPartYear-2, NFPartYear-4, NFPartMonth, NFPartDay, NFPartHour, NFPartAbsHour, NFPartMinute, NFPartAbsMinute, NFPartSecond, NFPartAbsSecond, NFPartCond, NFPartColor-name, NFPartColor-number, NFPartExponential, NFPartNumToken1-number-sign, NFPartNumToken1-question-mark, NFPartNumToken1-zero, ASCII-PERCENT-SIGN, ASCII-COMMERCIAL-AT, ASCII-SEMICOLON, LITERAL-CHAR, LITERAL-CHAR-REPEAT, LITERAL-STRING, LITERAL-CHAR-SPACE, INTL-CHAR-DECIMAL-SEP, INTL-CHAR-NUMGRP-SEP, bare-literal, INTL-NUMFMT-GENERAL, INTL-AMPM-long, INTL-AMPM-short}
+use Rattle.grammar.specs.Units.{Ended, WholeRun, Bracketed, ASCII-DIGIT, NFPartCompOper, oper-less, oper-at-most, oper-unequal, oper-equal, oper-greater, oper-at-least, NFPartIntNum, int-num, NFPartCondNum, cond-num-whole, cond-num-point, cond-num-minus, NFPart1To56, one-digit, two-digits, fifty, fifties, INTL-COLOR, black, blue, cyan, green, magenta, red, white, yellow, bareUnits, BareLiteral, sign-plus, sign-minus, NFPartNumber1To9, NFPartNumToken1, number-sign, question-mark, digit-zero, place-below, digit-below, NoSolidus, NoDigit, Spells, NFPartYear-2, NFPartYear-4, NFPartMonth, NFPartDay, NFPartHour, NFPartAbsHour, NFPartMinute, NFPartAbsMinute, NFPartSecond, NFPartAbsSecond, NFPartCond, NFPartColor-name, NFPartColor-number, NFPartExponential, NFPartNumToken1-alone, ASCII-SOLIDUS-place, ASCII-SOLIDUS-number, ASCII-PERCENT-SIGN, ASCII-COMMERCIAL-AT, ASCII-SEMICOLON, LITERAL-CHAR, LITERAL-CHAR-REPEAT, LITERAL-STRING, LITERAL-CHAR-SPACE, INTL-CHAR-DECIMAL-SEP, INTL-CHAR-NUMGRP-SEP, bare-literal, INTL-NUMFMT-GENERAL, INTL-AMPM-long, INTL-AMPM-short}
 
 -- the step from the first of the units
 abbrev pub stepOf : List ℕ → Step
 stepOf [] = broken
 stepOf (u ∷ us) = stepAt u us
 
--- a colour is above 0: one that is 0 would stand for none
-abbrev pub colourShown : Token → Bool
-colourShown t = cond (isColour t) (leb 1 (colourIn t)) true
+-- a colour is above 0, since one that is 0 would stand for none, and a literal has a unit
+abbrev pub isShown : Token → Bool
+isShown t = cond (isColour t) (leb 1 (colourIn t)) (not (eqb (formOf t) 0 && isEmpty (tokenItems false t)))
 
 -- lexing reads t at the front of us and leaves vs
 pub record Front (t : Token) (us vs : List ℕ) : Type 0 where
   pub more : ℕ
   pub step : stepOf us ≡ read t more
   pub left : drop (suc more) us ≡ vs
-  pub shown : colourShown t ≡ true
+  pub shown : isShown t ≡ true
 
 abbrev pub letterUnit : Letter → ℕ
 letterUnit letterY = 121
@@ -100,7 +100,7 @@ run-front l (suc m) us vs h a r =
 
 -- ---- brackets
 
-bracket-front : (t : Token) (ws us vs : List ℕ) → All (λ (w : ℕ). w ≢ 93) ws → insideOf ws ≡ some t → colourShown t ≡ true → Bracketed ws us vs → Front t us vs
+bracket-front : (t : Token) (ws us vs : List ℕ) → All (λ (w : ℕ). w ≢ 93) ws → insideOf ws ≡ some t → isShown t ≡ true → Bracketed ws us vs → Front t us vs
 unfolding stepAt stepBy firstIn firstRows bracketed closed
 bracket-front t ws us vs a i s e =
     record {
@@ -154,7 +154,11 @@ open-same u (suc n) h = (h, open-same u n h)
 
 -- ---- digits
 
-digit-true : (u : ℕ) → ASCII-DIGIT u → isDigit u ≡ true
+pub digit-fact : (u : ℕ) → isDigit u ≡ true → ASCII-DIGIT u
+unfolding isDigit
+digit-fact u e = let (a, b) = and-parts (leb 48 u) (leb u 57) e in (leb-true 48 u a, leb-true u 57 b)
+
+pub digit-true : (u : ℕ) → ASCII-DIGIT u → isDigit u ≡ true
 unfolding isDigit
 digit-true u d = rw (le-leb 48 u (d .0), le-leb u 57 (d .1))
 
@@ -320,7 +324,7 @@ elapsed-front x zero us vs l b = absurd (omega arith)
 elapsed-front x (suc m) us vs l b = bracket-front (elapsed x (suc m)) (replicate (suc m) (elapsedUnit x)) us vs (elapsed-open x (suc m)) (elapsed-inside x m) refl b
 
 string-front : (u : ℕ) (ws us vs : List ℕ) → All (λ (w : ℕ). w ≢ 34) (u ∷ ws) → us ≡ 34 ∷ ((u ∷ ws) ++ 34 ∷ vs) → Front (literal (u ∷ ws)) us vs
-unfolding stepAt stepBy firstIn firstRows quoted
+unfolding stepAt stepBy firstIn firstRows quoted isEmpty tokenItems
 string-front u ws us vs a e =
     record {
       more = suc (suc (length ws));
@@ -349,8 +353,74 @@ bare-step : {u : ℕ} (us : List ℕ) → BareLiteral u → stepAt u us ≡ read
 unfolding stepAt stepBy firstRows any every bareLiterals units
 bare-step {u} us m = rw (no-row bareUnits u m firstRows refl, m)
 
+-- ---- places, and what is directly behind them
+
+place-first : {p : Place} {u : ℕ} → NFPartNumToken1 p u → firstIn firstRows u ≡ placeUnit p
+unfolding firstIn firstRows
+place-first number-sign = refl
+place-first question-mark = refl
+place-first digit-zero = refl
+
+pub place-unit : {p : Place} {u : ℕ} → NFPartNumToken1 p u → isPlaceUnit u ≡ true
+unfolding isPlaceUnit any units
+place-unit number-sign = refl
+place-unit question-mark = refl
+place-unit digit-zero = refl
+
+-- the units of places
+pub unit-place : (u : ℕ) → isPlaceUnit u ≡ true → (p : Place) × NFPartNumToken1 p u
+unfolding isPlaceUnit any units
+unit-place u e =
+    by-cases (eqb u 48) (λ a. (zeroPlace, rw (eqb-true u 48 a) digit-zero)) (λ a.
+    by-cases (eqb u 35) (λ b. (hashPlace, rw (eqb-true u 35 b) number-sign)) (λ b.
+    by-cases (eqb u 63) (λ c. (spacePlace, rw (eqb-true u 63 c) question-mark)) (λ c. no (rw (a, b, c) at e))))
+
+-- a digit that is no place
+pub later-digit : (u : ℕ) → isPlaceUnit u ≡ false → isDigit u ≡ true → NFPartNumber1To9 u
+unfolding isPlaceUnit any units
+later-digit u e d =
+    let (a, b) = digit-fact u d in
+    by-cases (eqb u 48) (λ z. absurd (true≢false (rw z at e)))
+    (λ z. let other = eqb-false u 48 z in (omega arith, b))
+
+alone-step : (p : Place) (us : List ℕ) → NoSolidus us → placeStep p us ≡ read (place p) 0
+unfolding placeStep overStep
+alone-step p [] n = refl
+alone-step p (u ∷ []) n = cond-both (λ (s : Step). s ≡ read (place p) 0) (eqb u 47) refl refl
+alone-step p (u ∷ v ∷ vs) n =
+    by-cases (eqb u 47)
+    (λ e.
+    by-cases (isPlaceUnit v) (λ k. absurd (n (eqb-true u 47 e) (place-below ((unit-place v k) .1)))) (λ k.
+    by-cases (isDigit v) (λ d. absurd (n (eqb-true u 47 e) (digit-below (later-digit v k d)))) (λ d. rw (e, k, d))))
+    (λ e. rw e)
+
+no-digits : (us : List ℕ) → NoDigit us → leading isDigit us ≡ 0
+unfolding leading
+no-digits [] n = refl
+no-digits (v ∷ vs) n = by-cases (isDigit v) (λ e. absurd (n (digit-fact v e))) (λ e. rw e)
+
+-- a digit from 1 on is no place
+no-unit : (v : ℕ) → NFPartNumber1To9 v → isPlaceUnit v ≡ false
+unfolding isPlaceUnit any units
+no-unit v d =
+    let a = d .0 in let b = d .1 in
+    rw (ne-eqb v 48 (λ e. omega arith), ne-eqb v 35 (λ e. omega arith), ne-eqb v 63 (λ e. omega arith))
+
+fixed-front : {p : Place} {u : ℕ} (v : ℕ) (ws us vs : List ℕ) → NFPartNumToken1 p u → NFPartNumber1To9 v → All ASCII-DIGIT (v ∷ ws) → NoDigit vs
+    → us ≡ u ∷ 47 ∷ ((v ∷ ws) ++ vs) → Front (overFixed p (fixedNumber (v ∷ ws))) us vs
+unfolding stepAt stepBy placeStep overStep
+fixed-front v ws us vs k d a n e =
+    let l : leading isDigit (ws ++ vs) ≡ length ws = leading-all isDigit ws vs (digits-true ws (a .1)) (no-digits vs n) in
+    let two : 2 + length ws ≡ suc (suc (length ws)) = omega arith in
+    record {
+      more = suc (suc (length ws));
+      step = rw (e, place-first k, no-unit v d, digit-true v (a .0), l, take-at ws vs (length ws) refl, two);
+      left = rw e (drop-at ws vs (length ws) refl);
+      shown = refl;
+    }
+
 pub spells-front : {t : Token} {us vs : List ℕ} → Spells t us vs → Front t us vs
-unfolding stepAt stepBy firstIn firstRows marked generalWord halfDayWord exponentWord startsWith units runAllowed every colourIn
+unfolding stepAt stepBy firstIn firstRows marked generalWord halfDayWord exponentWord startsWith units runAllowed every colourIn placeStep overStep isEmpty tokenItems
 spells-front {us = us} {vs = vs} (NFPartYear-2 r) = run-front letterY _ us vs (omega arith) refl r
 spells-front {us = us} {vs = vs} (NFPartYear-4 r) = run-front letterY _ us vs (omega arith) refl r
 spells-front {us = us} {vs = vs} (NFPartMonth {n = n} h k r) = run-front letterM n us vs h (rw (le-leb 1 n h, le-leb n 5 k)) r
@@ -370,9 +440,9 @@ spells-front {us = us} {vs = vs} (NFPartColor-number {n = n} {ws = ws} d b) =
     (open-append (units "Color") ws (open-from (units "Color") tt) (number-open n ws d)) (number-inside n ws d) (number-shown n ws d) b
 spells-front (NFPartExponential sign-plus e) = record { more = 1; step = rw e; left = rw e; shown = refl }
 spells-front (NFPartExponential sign-minus e) = record { more = 1; step = rw e; left = rw e; shown = refl }
-spells-front NFPartNumToken1-number-sign = record { more = 0; step = refl; left = refl; shown = refl }
-spells-front NFPartNumToken1-question-mark = record { more = 0; step = refl; left = refl; shown = refl }
-spells-front NFPartNumToken1-zero = record { more = 0; step = refl; left = refl; shown = refl }
+spells-front {vs = vs} (NFPartNumToken1-alone {p = p} k n) = record { more = 0; step = rw (place-first k) (alone-step p vs n); left = refl; shown = refl }
+spells-front (ASCII-SOLIDUS-place k q) = record { more = 1; step = rw (place-first k, place-unit q); left = refl; shown = refl }
+spells-front {us = us} {vs = vs} (ASCII-SOLIDUS-number k d (int-num v ws a) n e) = fixed-front v ws us vs k d a n e
 spells-front ASCII-PERCENT-SIGN = record { more = 0; step = refl; left = refl; shown = refl }
 spells-front ASCII-COMMERCIAL-AT = record { more = 0; step = refl; left = refl; shown = refl }
 spells-front ASCII-SEMICOLON = record { more = 0; step = refl; left = refl; shown = refl }

@@ -7,11 +7,13 @@ pub mod Kept
 pub mod Facts
 pub mod Plain
 pub mod PlainBodies
-pub mod Solidus
+pub mod Fractions
 pub mod Numbers
 pub mod NumberBodies
 pub mod Scientific
 pub mod ScientificBodies
+pub mod FractionTokens
+pub mod FractionBodies
 pub mod DateItems
 pub mod Dates
 pub mod DateBodies

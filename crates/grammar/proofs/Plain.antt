@@ -7,9 +7,9 @@ use mathlib.Core.List.{List, [], _∷_, map}
 use Rattle.lists.specs.Lists.{every, any}
 use Rattle.lists.proofs.Bools.{no, and-parts, by-cases}
 use Rattle.lists.proofs.Counts.{every-both}
-use Rattle.formats.specs.Tokens.{Token, literal, bare, blank, fill, place, point, comma, percent, at, semicolon, general, half, run, elapsed, colour, condition, exponent, Place, Letter, ExponentMark}
+use Rattle.formats.specs.Tokens.{Token, literal, bare, blank, fill, place, point, comma, percent, at, semicolon, general, half, run, elapsed, colour, condition, exponent, over, overFixed, Place, Letter, ExponentMark}
 use Rattle.formats.specs.Items as item
-use Rattle.formats.specs.Items.{Kind, textKind, generalKind, dateKind, scientificKind, numberKind, literalKind, sameKind, showsPlaces, itemAllowed, kindFrom}
+use Rattle.formats.specs.Items.{Kind, textKind, generalKind, dateKind, scientificKind, fractionKind, numberKind, literalKind, sameKind, showsPlaces, itemAllowed, kindFrom}
 use Rattle.formats.specs.Kinds.{isSemicolon, noBracket, tokenMakes, bodyKind, tokenItems, runItem, plainItems}
 use Rattle.formats.proofs.Each.{by-letter, by-kind}
 use Rattle.grammar.specs.Bodies.{Free, free-string, free-repeat, free-space, free-bare}
@@ -31,6 +31,9 @@ pub data View : Kind → Token → Type 0 where
   v-scaled-place : {q : Place} → View scientificKind (place q)
   v-scaled-point : View scientificKind point
   v-exponent : {m : ExponentMark} → View scientificKind (exponent m)
+  v-part-place : {q : Place} → View fractionKind (place q)
+  v-over : {q : Place} → View fractionKind (over q)
+  v-over-fixed : {q : Place} {n : ℕ} → View fractionKind (overFixed q n)
 
 -- the same of each token of a body
 pub data Views (k : Kind) : List Token → Type 0 where
@@ -50,19 +53,21 @@ view k (literal us) d b a = v-free (free-string us)
 view k (bare u) d b a = v-free (free-bare u)
 view k (blank u) d b a = v-free (free-space u)
 view k (fill u) d b a = v-free (free-repeat u)
-view k (place q) d b a = by-kind (λ (j : Kind). allowed j (place q) ≡ true → View j (place q)) no no no (λ e. v-place) no (λ e. v-scaled-place) k a
-view k point d b a = by-kind (λ (j : Kind). allowed j point ≡ true → View j point) no no no (λ e. v-point) no (λ e. v-scaled-point) k a
+view k (place q) d b a = by-kind (λ (j : Kind). allowed j (place q) ≡ true → View j (place q)) no no no (λ e. v-place) no (λ e. v-scaled-place) (λ e. v-part-place) k a
+view k point d b a = by-kind (λ (j : Kind). allowed j point ≡ true → View j point) no no no (λ e. v-point) no (λ e. v-scaled-point) no k a
 view k comma d b a = v-comma
-view k percent d b a = by-kind (λ (j : Kind). allowed j percent ≡ true → View j percent) no no no (λ e. v-percent) no no k a
-view k at d b a = by-kind (λ (j : Kind). allowed j at ≡ true → View j at) (λ e. v-at) no no no no no k a
+view k percent d b a = by-kind (λ (j : Kind). allowed j percent ≡ true → View j percent) no no no (λ e. v-percent) no no no k a
+view k at d b a = by-kind (λ (j : Kind). allowed j at ≡ true → View j at) (λ e. v-at) no no no no no no k a
 view k semicolon d b a = no b
-view k general d b a = by-kind (λ (j : Kind). allowed j general ≡ true → View j general) no (λ e. v-general) no no no no k a
+view k general d b a = by-kind (λ (j : Kind). allowed j general ≡ true → View j general) no (λ e. v-general) no no no no no k a
 view k (half h) d b a = no (rw d at a)
 view k (run l n) d b a = no (rw (run-allowed k l n, d) at a)
 view k (elapsed e n) d b a = no (rw d at a)
 view k (colour n) d b a = no b
 view k (condition w) d b a = no b
-view k (exponent m) d b a = by-kind (λ (j : Kind). allowed j (exponent m) ≡ true → View j (exponent m)) no no no no no (λ e. v-exponent) k a
+view k (exponent m) d b a = by-kind (λ (j : Kind). allowed j (exponent m) ≡ true → View j (exponent m)) no no no no no (λ e. v-exponent) no k a
+view k (over q) d b a = by-kind (λ (j : Kind). allowed j (over q) ≡ true → View j (over q)) no no no no no no (λ e. v-over) k a
+view k (overFixed q n) d b a = by-kind (λ (j : Kind). allowed j (overFixed q n) ≡ true → View j (overFixed q n)) no no no no no no (λ e. v-over-fixed) k a
 
 pub all-views : (k : Kind) → sameKind dateKind k ≡ false → (ts : List Token) → every inBody ts ≡ true → every (itemAllowed k) (plainItems ts) ≡ true → Views k ts
 unfolding plainItems
@@ -93,6 +98,9 @@ view-allowed k t v-general = (refl, refl)
 view-allowed k t v-scaled-place = (refl, refl)
 view-allowed k t v-scaled-point = (refl, refl)
 view-allowed k t v-exponent = (refl, refl)
+view-allowed k t v-part-place = (refl, refl)
+view-allowed k t v-over = (refl, refl)
+view-allowed k t v-over-fixed = (refl, refl)
 
 pub views-body : {k : Kind} {ts : List Token} → Views k ts → every inBody ts ≡ true
 unfolding every
@@ -119,7 +127,7 @@ free-has k ts (free-repeat u) = refl
 free-has k ts (free-space u) = refl
 free-has k ts (free-bare u) = refl
 
--- no token of a body makes another kind, but for the places of a scientific one
+-- no token of a body makes another kind, but for the places of a scientific one or a fraction
 pub views-has : {k : Kind} {ts : List Token} → Views k ts → (j : Kind) → sameKind j k ≡ false → (showsPlaces k && sameKind j numberKind) ≡ false → has j ts ≡ false
 unfolding any tokenMakes
 views-has v-end j f g = refl
@@ -133,6 +141,9 @@ views-has (v-next v-general vs) j f g = rw f (views-has vs j f g)
 views-has (v-next v-scaled-place vs) j f g = rw g (views-has vs j f g)
 views-has (v-next v-scaled-point vs) j f g = views-has vs j f g
 views-has (v-next v-exponent vs) j f g = rw f (views-has vs j f g)
+views-has (v-next v-part-place vs) j f g = rw g (views-has vs j f g)
+views-has (v-next v-over vs) j f g = rw f (views-has vs j f g)
+views-has (v-next v-over-fixed vs) j f g = rw f (views-has vs j f g)
 
 pub kind-text : (ts : List Token) → has textKind ts ≡ true → bodyKind ts ≡ textKind
 unfolding bodyKind kindFrom
@@ -150,15 +161,20 @@ pub kind-scientific : (ts : List Token) → has textKind ts ≡ false → has ge
 unfolding bodyKind kindFrom
 kind-scientific ts a b c d = rw (a, b, c, d)
 
-pub kind-number : (ts : List Token) → has textKind ts ≡ false → has generalKind ts ≡ false → has dateKind ts ≡ false → has scientificKind ts ≡ false
-    → has numberKind ts ≡ true → bodyKind ts ≡ numberKind
+pub kind-fraction : (ts : List Token) → has textKind ts ≡ false → has generalKind ts ≡ false → has dateKind ts ≡ false → has scientificKind ts ≡ false
+    → has fractionKind ts ≡ true → bodyKind ts ≡ fractionKind
 unfolding bodyKind kindFrom
-kind-number ts a b c d e = rw (a, b, c, d, e)
+kind-fraction ts a b c d e = rw (a, b, c, d, e)
+
+pub kind-number : (ts : List Token) → has textKind ts ≡ false → has generalKind ts ≡ false → has dateKind ts ≡ false → has scientificKind ts ≡ false
+    → has fractionKind ts ≡ false → has numberKind ts ≡ true → bodyKind ts ≡ numberKind
+unfolding bodyKind kindFrom
+kind-number ts a b c d e f = rw (a, b, c, d, e, f)
 
 pub kind-literal : (ts : List Token) → has textKind ts ≡ false → has generalKind ts ≡ false → has dateKind ts ≡ false → has scientificKind ts ≡ false
-    → has numberKind ts ≡ false → bodyKind ts ≡ literalKind
+    → has fractionKind ts ≡ false → has numberKind ts ≡ false → bodyKind ts ≡ literalKind
 unfolding bodyKind kindFrom
-kind-literal ts a b c d e = rw (a, b, c, d, e)
+kind-literal ts a b c d e f = rw (a, b, c, d, e, f)
 
 -- a body of a kind other than literal has a token that makes it so
 pub kind-has : (k : Kind) → sameKind k literalKind ≡ false → (ts : List Token) → bodyKind ts ≡ k → has k ts ≡ true
@@ -168,9 +184,10 @@ kind-has k e ts h =
     by-cases (has generalKind ts) (λ b. found generalKind (rw (a, b) at h) b) (λ b.
     by-cases (has dateKind ts) (λ c. found dateKind (rw (a, b, c) at h) c) (λ c.
     by-cases (has scientificKind ts) (λ d. found scientificKind (rw (a, b, c, d) at h) d) (λ d.
-    by-cases (has numberKind ts) (λ n. found numberKind (rw (a, b, c, d, n) at h) n) (λ n.
-    let last : literalKind ≡ k = rw (a, b, c, d, n) at h in
-    absurd (true≢false (rw (← last) at e)))))))
+    by-cases (has fractionKind ts) (λ f. found fractionKind (rw (a, b, c, d, f) at h) f) (λ f.
+    by-cases (has numberKind ts) (λ n. found numberKind (rw (a, b, c, d, f, n) at h) n) (λ n.
+    let last : literalKind ≡ k = rw (a, b, c, d, f, n) at h in
+    absurd (true≢false (rw (← last) at e))))))))
   where
     found : (j : Kind) → j ≡ k → has j ts ≡ true → has k ts ≡ true
     found j f g = rw f at g

@@ -3,7 +3,7 @@
 use Prim.Native.Nat.{ℕ, suc, _≤_}
 use native.Mathlib.Omega.{arith}
 use mathlib.Core.Path.{_≡_, refl, ap, _∙_}
-use mathlib.Core.Bool.{Bool, true, false, not, true≢false}
+use mathlib.Core.Bool.{Bool, true, false, not, _||_, true≢false}
 use mathlib.Core.List.{List, [], _++_}
 use borrow.Author.Tests.{not-true}
 use lib.Dec.{eqb}
@@ -11,16 +11,17 @@ use Rattle.lists.specs.Lists.{every, any, count}
 use Rattle.lists.proofs.Bools.{no, and-parts}
 use Rattle.formats.specs.Tokens.{Token}
 use Rattle.formats.specs.Items as item
-use Rattle.formats.specs.Items.{Item, Kind, textKind, generalKind, dateKind, scientificKind, numberKind, literalKind, sameKind, showsPlaces, isGeneral, isPlace, isPercent, isPoint, isElapsed, itemNumber}
-use Rattle.formats.specs.Kinds.{isSemicolon, noBracket, bodyKind, tokenMakes, isMisplaced, commasFit, solidusFrom, solidusFits, tokenItems, plainItems, bodyItems}
+use Rattle.formats.specs.Items.{Item, Kind, textKind, generalKind, dateKind, scientificKind, fractionKind, numberKind, literalKind, sameKind, isGeneral, isPlace, isPercent, isPoint, isElapsed, itemNumber}
+use Rattle.formats.specs.Kinds.{isSemicolon, noBracket, bodyKind, tokenMakes, isMisplaced, commasFit, tokenItems, plainItems, bodyItems}
+use Rattle.formats.proofs.Cutting.{no-decimals}
 use Rattle.formats.proofs.CommaUses.{commaUse, commaUsesFrom, comma-uses}
 use Rattle.grammar.specs.Bodies.{Free, Literals, literals-end, literals-free, NFGeneral, general-word, general-free, TextRest, text-end, text-more, text-literal, NFText, text-at, text-free}
-use Rattle.grammar.proofs.Tests.{both, every-with, every-all}
-use Rattle.grammar.proofs.Quiet.{free-quiet, free-kept, quiet-commas, quiet-solidus}
-use Rattle.grammar.proofs.Kept.{sorts, count-kept, foreign, no-integers, no-decimals, no-exponents}
+use Rattle.grammar.proofs.Tests.{both, every-with, every-all, absent}
+use Rattle.grammar.proofs.Quiet.{free-quiet, free-kept, quiet-commas}
+use Rattle.grammar.proofs.Kept.{sorts, count-kept, foreign, no-integers, no-exponents}
 use Rattle.grammar.proofs.DateItems.{short-none, plain-none}
-use Rattle.grammar.proofs.Facts.{kept, Fitting}
-use Rattle.grammar.proofs.Plain.{inBody, v-free, v-comma, v-place, v-point, v-percent, v-at, v-general, v-scaled-place, v-scaled-point, v-exponent, Views, v-end, v-next, all-views, views-body, views-allowed, has, free-has, views-has, kind-text, kind-general, kind-literal, kind-has}
+use Rattle.grammar.proofs.Facts.{kept, Fitting, bare, no-exponent-places}
+use Rattle.grammar.proofs.Plain.{inBody, v-free, v-comma, v-at, v-general, Views, v-end, v-next, all-views, views-body, views-allowed, has, free-has, views-has, kind-text, kind-general, kind-literal, kind-has}
 
 -- ---- literals
 
@@ -60,7 +61,7 @@ pub record PlainFacts (k : Kind) (ts : List Token) : Type 0 where
   pub views : Views k ts
   pub placed : any isMisplaced (commaUsesFrom false false ts) ≡ false
 
-pub plain-facts : (ts : List Token) (k : Kind) → bodyKind ts ≡ k → sameKind dateKind k ≡ false → sameKind k dateKind ≡ false → sameKind k scientificKind ≡ false
+pub plain-facts : (ts : List Token) (k : Kind) → bodyKind ts ≡ k → sameKind dateKind k ≡ false → sameKind k dateKind ≡ false → (sameKind k scientificKind || sameKind k fractionKind) ≡ false
     → NoSemicolon ts → Fitting ts → PlainFacts k ts
 unfolding commasFit
 plain-facts ts k h d d′ e s f =
@@ -69,49 +70,37 @@ plain-facts ts k h d d′ e s f =
       placed = not-true (any isMisplaced (commaUsesFrom false false ts)) (rw (h, e, d′, comma-uses ts) at (f .commas));
     }
 
--- no place, so no solidus between two
-bare-solidus : {k : Kind} {ts : List Token} → Views k ts → showsPlaces k ≡ false → solidusFrom false ts ≡ true
-unfolding solidusFrom
-bare-solidus v-end n = refl
-bare-solidus (v-next {ts = ts} (v-free g) vs) n = quiet-solidus ts (free-quiet g) ∙ bare-solidus vs n
-bare-solidus (v-next v-comma vs) n = bare-solidus vs n
-bare-solidus (v-next v-place vs) n = absurd (true≢false n)
-bare-solidus (v-next v-point vs) n = bare-solidus vs n
-bare-solidus (v-next v-percent vs) n = bare-solidus vs n
-bare-solidus (v-next v-at vs) n = bare-solidus vs n
-bare-solidus (v-next v-general vs) n = bare-solidus vs n
-bare-solidus (v-next v-scaled-place vs) n = absurd (true≢false n)
-bare-solidus (v-next v-scaled-point vs) n = bare-solidus vs n
-bare-solidus (v-next v-exponent vs) n = bare-solidus vs n
-
 -- a body of literals, and of `@` or General, fits where it has no comma and General at most once
-quiet-fitting : (ts : List Token) (k : Kind) → bodyKind ts ≡ k → sameKind k dateKind ≡ false → sameKind k scientificKind ≡ false → sameKind k numberKind ≡ false
+quiet-fitting : (ts : List Token) (k : Kind) → bodyKind ts ≡ k → sameKind k dateKind ≡ false → sameKind k scientificKind ≡ false → sameKind k fractionKind ≡ false
+    → sameKind fractionKind k ≡ false → sameKind k numberKind ≡ false
     → sorts k 4 ≡ false → sorts k 7 ≡ false → sorts k 8 ≡ false → sorts k 18 ≡ false → sorts k 22 ≡ false
     → Views k ts → commaUsesFrom false false ts ≡ [] → count isGeneral (plainItems ts) ≤ 1 → Fitting ts
-unfolding commasFit solidusFits any sorts
-quiet-fitting ts k h d e n s₄ s₇ s₈ s₁₈ s₂₂ vs c g =
+unfolding commasFit any sorts
+quiet-fitting ts k h d e r r′ n s₄ s₇ s₈ s₁₈ s₂₂ vs c g =
     let a : every (item.itemAllowed k) (bodyItems ts) ≡ true = rw (plain-body ts k h d) (views-allowed vs) in
     let places : count isPlace (bodyItems ts) ≡ 0 = foreign k 4 s₄ (bodyItems ts) a in
     let points : count isPoint (bodyItems ts) ≡ 0 = foreign k 7 s₇ (bodyItems ts) a in
     let percents : count isPercent (bodyItems ts) ≡ 0 = foreign k 8 s₈ (bodyItems ts) a in
     let elapseds : count isElapsed (kept ts) ≡ 0 = count-kept 18 refl refl (bodyItems ts) ∙ foreign k 18 s₁₈ (bodyItems ts) a in
-    let (exponent, exponents) = no-exponents (bodyItems ts) (foreign k 22 s₂₂ (bodyItems ts) a) in
+    let unbroken = bare k r′ (bodyItems ts) a in
     record {
       brackets = body-brackets ts (views-body vs);
-      commas = rw (h, e, d, comma-uses ts, c);
-      solidus = bare-solidus vs s₄;
+      commas = rw (h, e, r, d, comma-uses ts, c);
+      fraction = unbroken .fraction;
       allowed = rw h a;
       generals = rw (plain-body ts k h d) g;
       points = omega arith;
       elapseds = omega arith;
       apart = plain-none (kept ts) elapseds;
-      exponent = exponent;
-      wholes = omega (arith, no-integers (bodyItems ts) places);
-      decimals = omega (arith, no-decimals (bodyItems ts) points);
-      exponents = omega arith;
+      exponent = no-exponents (bodyItems ts) (foreign k 22 s₂₂ (bodyItems ts) a);
+      integers = omega (arith, unbroken .integers);
+      wholes = omega (arith, unbroken .wholes, no-integers (bodyItems ts) places);
+      decimals = omega (arith, no-decimals (bodyItems ts) (absent isPoint (bodyItems ts) points));
+      exponents = omega (arith, no-exponent-places k e r (bodyItems ts) a);
       percents = omega arith;
       divisions = rw (h, n) (omega arith);
       short = short-none (kept ts) elapseds;
+      small = unbroken .small;
     }
 
 -- ---- Literals
@@ -138,8 +127,8 @@ unfolding sorts
 literals-fit ts d =
     let (v, c, n) = literals-facts {k = literalKind} d in
     let none : (j : Kind) → sameKind j literalKind ≡ false → has j ts ≡ false = λ j e. views-has v j e refl in
-    let h = kind-literal ts (none textKind refl) (none generalKind refl) (none dateKind refl) (none scientificKind refl) (none numberKind refl) in
-    (h, quiet-fitting ts literalKind h refl refl refl refl refl refl refl refl v c (omega arith))
+    let h = kind-literal ts (none textKind refl) (none generalKind refl) (none dateKind refl) (none scientificKind refl) (none fractionKind refl) (none numberKind refl) in
+    (h, quiet-fitting ts literalKind h refl refl refl refl refl refl refl refl refl refl v c (omega arith))
 
 -- ---- NFGeneral
 
@@ -179,7 +168,7 @@ unfolding sorts
 general-fits ts d =
     let (v, c, g, n) = general-facts d in
     let h = kind-general ts (views-has v textKind refl refl) g in
-    (h, quiet-fitting ts generalKind h refl refl refl refl refl refl refl refl v c (omega arith))
+    (h, quiet-fitting ts generalKind h refl refl refl refl refl refl refl refl refl refl v c (omega arith))
 
 -- ---- NFText
 
@@ -222,4 +211,4 @@ text-fits ts d =
     let (v, c, t) = text-facts d in
     let h = kind-text ts t in
     let n = foreign textKind 9 refl (plainItems ts) (views-allowed v) in
-    (h, quiet-fitting ts textKind h refl refl refl refl refl refl refl refl v c (omega arith))
+    (h, quiet-fitting ts textKind h refl refl refl refl refl refl refl refl refl refl v c (omega arith))

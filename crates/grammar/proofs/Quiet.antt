@@ -9,7 +9,7 @@ use Rattle.lists.proofs.Bools.{no}
 use Rattle.formats.specs.Tokens.{Token, percent, semicolon, colour, condition, Written}
 use Rattle.formats.specs.Items as item
 use Rattle.formats.specs.Items.{Item}
-use Rattle.formats.specs.Kinds.{isPlace, isPoint, isComma, isSemicolon, isColour, isCondition, colourIn, integerPlaceIn, solidusFrom, tokenItems}
+use Rattle.formats.specs.Kinds.{isPlace, isPoint, isComma, isSemicolon, isColour, isCondition, colourIn, integerPlaceIn, tokenItems}
 use Rattle.formats.proofs.CommaUses.{commaUsesFrom}
 use Rattle.formats.proofs.Each.{by-token}
 use Rattle.grammar.specs.Bodies.{Free, free-string, free-repeat, free-space, free-bare, wholePlaces, decimalPlaces, isPercent}
@@ -72,10 +72,6 @@ module _ {t : Token} (ts : List Token) (q : Quiet t) where
   unfolding decimalPlaces
   quiet-decimals = rw (q .no-point)
 
-  pub quiet-solidus : solidusFrom false (t ∷ ts) ≡ solidusFrom false ts
-  unfolding solidusFrom
-  quiet-solidus = rw (q .no-place)
-
 -- a semicolon, a colour or a condition by its test
 pub known : (t : Token) → (isSemicolon t ≡ true → t ≡ semicolon) × (isColour t ≡ true → t ≡ colour (colourIn t)) × (isCondition t ≡ true → (w : Written) × (t ≡ condition w))
 unfolding colourIn
@@ -83,4 +79,4 @@ known =
     by-token (λ (t : Token). (isSemicolon t ≡ true → t ≡ semicolon) × (isColour t ≡ true → t ≡ colour (colourIn t)) × (isCondition t ≡ true → (w : Written) × (t ≡ condition w)))
     (λ us. (no, no, no)) (λ u. (no, no, no)) (λ u. (no, no, no)) (λ u. (no, no, no)) (λ p. (no, no, no)) (no, no, no) (no, no, no) (no, no, no) (no, no, no)
     ((λ e. refl), no, no) (no, no, no) (λ h. (no, no, no)) (λ l n. (no, no, no)) (λ x n. (no, no, no))
-    (λ n. (no, (λ e. refl), no)) (λ w. (no, no, (λ e. (w, refl)))) (λ m. (no, no, no))
+    (λ n. (no, (λ e. refl), no)) (λ w. (no, no, (λ e. (w, refl)))) (λ m. (no, no, no)) (λ p. (no, no, no)) (λ p n. (no, no, no))

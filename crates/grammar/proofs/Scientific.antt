@@ -9,7 +9,7 @@ use Rattle.lists.specs.Lists.{any, count}
 use Rattle.lists.proofs.Counts.{none-count}
 use Rattle.formats.specs.Tokens.{Token, zeroPlace, hashPlace, spacePlace}
 use Rattle.formats.specs.Items as item
-use Rattle.formats.specs.Items.{Item, scientificKind, isPlace, isPoint, isSpace, isExponent, beforeE, fromE, integerPlaces, decimalPlaces}
+use Rattle.formats.specs.Items.{Item, scientificKind, isPlace, isPoint, isSpace, isExponent, beforeCut, fromCut, integerPlaces, decimalPlaces}
 use Rattle.formats.specs.Kinds.{isComma, tokenMakes, tokenItems, plainItems}
 use Rattle.grammar.specs.Bodies.{Free, Side, beforePoint, behindPoint, behindE, NFPartScientific, scientific-free, integer-place, decimal-place, exponent-zero, exponent-number-sign, scientific-point, integers-E, decimals-E, scientific-end}
 use Rattle.grammar.proofs.Quiet.{free-quiet, free-kept}
@@ -24,13 +24,13 @@ integersAt behindE is = 0
 
 abbrev decimalsAt : Side → List Item → ℕ
 decimalsAt beforePoint is = decimalPlaces is
-decimalsAt behindPoint is = count isPlace (beforeE is)
+decimalsAt behindPoint is = count isPlace (beforeCut is)
 decimalsAt behindE is = 0
 
 -- the items of the exponent
 abbrev exponentAt : Side → List Item → List Item
-exponentAt beforePoint is = fromE is
-exponentAt behindPoint is = fromE is
+exponentAt beforePoint is = fromCut is
+exponentAt behindPoint is = fromCut is
 exponentAt behindE is = is
 
 pub record Sums : Type 0 where
@@ -76,7 +76,7 @@ by-side P a b c behindE = c
 
 -- literals, blanks and fills count for nothing
 free-sums : {t : Token} (s : Side) (is : List Item) → Free t → sums s (tokenItems false t ++ is) ≡ sums s is
-unfolding count any integerPlaces decimalPlaces beforeE fromE
+unfolding count any integerPlaces decimalPlaces beforeCut fromCut
 free-sums s is g =
     free-kept (sums s) false
     (λ u js. by-side (λ (r : Side). sums r (item.literal u ∷ js) ≡ sums r js) refl refl refl s)
@@ -105,7 +105,7 @@ at-mark : (is : List Item) → suc (count isExponent is) ≡ 1 → any isPoint i
 at-mark is m a b = (omega (arith, none-count isPoint is a), omega arith, a, b)
 
 pub scientific-of : {ts : List Token} → Views scientificKind ts → any isComma ts ≡ false → (s : Side) → Held s (sums s (plainItems ts)) → Derived s (sums s (plainItems ts)) ts
-unfolding count any integerPlaces decimalPlaces beforeE fromE plainItems tokenItems
+unfolding count any integerPlaces decimalPlaces beforeCut fromCut plainItems tokenItems
 scientific-of v-end c beforePoint (p, m, a, b) = absurd (omega arith)
 scientific-of v-end c behindPoint (p, m, a, b) = absurd (omega arith)
 scientific-of v-end c behindE h = scientific-end
@@ -143,7 +143,7 @@ unfolding any
 in-front v c h p q x r = record { views = v-next v (r .views); no-commas = rw c (r .no-commas); held = h; integers = p; decimals = q; exponents = x }
 
 pub scientific-summed : {s : Side} {i d x : ℕ} {ts : List Token} → NFPartScientific s i d x ts → Summed s i d x ts
-unfolding count any integerPlaces decimalPlaces beforeE fromE plainItems tokenItems
+unfolding count any integerPlaces decimalPlaces beforeCut fromCut plainItems tokenItems
 scientific-summed {s} (scientific-free {ts = ts} g d) =
     let r = scientific-summed d in
     let e = free-sums s (plainItems ts) g in

@@ -12,24 +12,26 @@ use borrow.Author.Tests.{leb-true, le-leb, eqb-true, not-true}
 use Rattle.lists.specs.Lists.{every, isSome}
 use Rattle.lists.proofs.Bools.{no, and-parts, by-cases, and-left, and-right, T-true, true-T}
 use Rattle.formats.specs.Tokens.{Token, at, colour, condition, Written}
-use Rattle.formats.specs.Items.{Kind, textKind, generalKind, dateKind, scientificKind, numberKind, literalKind, sameKind}
+use Rattle.formats.specs.Items.{Kind, textKind, generalKind, dateKind, scientificKind, fractionKind, numberKind, literalKind, sameKind}
 use Rattle.formats.specs.Kinds.{isColour, isCondition, noBracket, Parts, colourIn, conditionIn, afterColour, partsOf, bodyKind, conditionOf, sectionOf, fits}
 use Rattle.formats.specs.Where.{implies, standsAt}
 use Rattle.formats.specs.Limits.{sectionWithin, writtenWithin, withinLimits}
 use Rattle.formats.proofs.Formed.{kind-of-section}
-use Rattle.grammar.specs.Bodies.{Literals, NFGeneral, NFNumber, NFScientific, NFDateTime, NFText}
+use Rattle.grammar.specs.Bodies.{Literals, NFGeneral, NFNumber, NFScientific, NFFraction, NFDateTime, NFText}
 use Rattle.grammar.specs.Codes as codes
-use Rattle.grammar.specs.Codes.{OptColor, no-color, color, NFPartCond, OptCond, no-cond, some-cond, NFAnyBy, any-number, any-scientific, any-text, any-date, any-general, any-literal, NFAnyNoCond, Fourth, fourth-text, fourth-general, fourth-literal}
+use Rattle.grammar.specs.Codes.{OptColor, no-color, color, NFPartCond, OptCond, no-cond, some-cond, NFAnyBy, any-number, any-scientific, any-fraction, any-text, any-date, any-general, any-literal, NFAnyNoCond, Fourth, fourth-text, fourth-general, fourth-literal}
 use Rattle.grammar.proofs.Tests.{every-parts}
 use Rattle.grammar.proofs.Quiet.{known}
-use Rattle.grammar.proofs.Fronts.{colourShown}
+use Rattle.grammar.proofs.Fronts.{isShown}
 use Rattle.grammar.proofs.Facts.{Fitting, fitting, fits-fitting, within-fitting}
 use Rattle.grammar.proofs.Plain.{views-body}
-use Rattle.grammar.proofs.PlainBodies.{body-plain, NoSemicolon, literals-facts, general-facts, text-facts, derive-literals, literals-fit, derive-general, general-fits, derive-text, text-fits}
+use Rattle.grammar.proofs.PlainBodies.{body-plain, plainToken, NoSemicolon, literals-facts, general-facts, text-facts, derive-literals, literals-fit, derive-general, general-fits, derive-text, text-fits}
 use Rattle.grammar.proofs.Numbers.{num-counted}
 use Rattle.grammar.proofs.NumberBodies.{derive-number, number-fits}
 use Rattle.grammar.proofs.Scientific.{scientific-summed}
 use Rattle.grammar.proofs.ScientificBodies.{derive-scientific, scientific-fits}
+use Rattle.grammar.proofs.FractionTokens.{fraction-told}
+use Rattle.grammar.proofs.FractionBodies.{derive-fraction, fraction-fits}
 use Rattle.grammar.proofs.DateBodies.{date-tokens, derive-date, date-fits}
 
 -- ---- bodies
@@ -40,22 +42,25 @@ Body textKind ts = NFText ts
 Body generalKind ts = NFGeneral ts
 Body dateKind ts = NFDateTime ts
 Body scientificKind ts = NFScientific ts
+Body fractionKind ts = NFFraction ts
 Body numberKind ts = NFNumber ts
 Body literalKind ts = Literals ts
 
-derive-body : (k : Kind) (ts : List Token) → NoSemicolon ts → bodyKind ts ≡ k → Fitting ts → Body k ts
-derive-body textKind = derive-text
-derive-body generalKind = derive-general
-derive-body dateKind = derive-date
-derive-body scientificKind = derive-scientific
-derive-body numberKind = derive-number
-derive-body literalKind = derive-literals
+derive-body : (k : Kind) (ts : List Token) → NoSemicolon ts → every isShown ts ≡ true → bodyKind ts ≡ k → Fitting ts → Body k ts
+derive-body textKind ts s w = derive-text ts s
+derive-body generalKind ts s w = derive-general ts s
+derive-body dateKind ts s w = derive-date ts s
+derive-body scientificKind ts s w = derive-scientific ts s
+derive-body fractionKind ts s w = derive-fraction ts s w
+derive-body numberKind ts s w = derive-number ts s
+derive-body literalKind ts s w = derive-literals ts s
 
 body-fits : (k : Kind) (ts : List Token) → Body k ts → (bodyKind ts ≡ k) × Fitting ts
 body-fits textKind = text-fits
 body-fits generalKind = general-fits
 body-fits dateKind = date-fits
 body-fits scientificKind = scientific-fits
+body-fits fractionKind = fraction-fits
 body-fits numberKind = number-fits
 body-fits literalKind = literals-fit
 
@@ -83,23 +88,23 @@ after-headed {s} c (t ∷ ts) h =
     subst (λ (x : Token). Colored c s (x ∷ ts) → Headed s (afterColour c (x ∷ ts))) (sym is) (λ g. headed g conditioned) h)
     (λ e. rw e (headed h unconditioned))
 
-parts-headed : (s : List Token) → every colourShown s ≡ true → Headed s (partsOf s)
+parts-headed : (s : List Token) → every isShown s ≡ true → Headed s (partsOf s)
 unfolding partsOf colourIn every
 parts-headed [] e = after-headed 0 [] uncolored
 parts-headed (t ∷ ts) e =
     by-cases (isColour t)
-    (λ h. subst (λ (x : Token). every colourShown (x ∷ ts) ≡ true → Headed (x ∷ ts) (partsOf (x ∷ ts))) (sym ((known t) .1 h)) (from-colour (colourIn t)) e)
+    (λ h. subst (λ (x : Token). every isShown (x ∷ ts) ≡ true → Headed (x ∷ ts) (partsOf (x ∷ ts))) (sym ((known t) .1 h)) (from-colour (colourIn t)) e)
     (λ h. rw h (after-headed 0 (t ∷ ts) uncolored))
   where
-    from-colour : (n : ℕ) → every colourShown (colour n ∷ ts) ≡ true → Headed (colour n ∷ ts) (partsOf (colour n ∷ ts))
-    from-colour n e = after-headed n ts (colored (leb-true 1 n ((every-parts colourShown (colour n) ts e) .0)))
+    from-colour : (n : ℕ) → every isShown (colour n ∷ ts) ≡ true → Headed (colour n ∷ ts) (partsOf (colour n ∷ ts))
+    from-colour n e = after-headed n ts (colored (leb-true 1 n ((every-parts isShown (colour n) ts e) .0)))
 
-headed-plain : {s : List Token} {c : ℕ} {o : Option Written} {us vs : List Token} → Colored c s us → Conditioned o us vs → NoSemicolon s → NoSemicolon vs
-unfolding every
-headed-plain uncolored unconditioned n = n
-headed-plain uncolored conditioned n = n
-headed-plain (colored h) unconditioned n = n
-headed-plain (colored h) conditioned n = n
+-- what every token of a section passes, every token of its body does
+headed-every : (f : Token → Bool) {c : ℕ} {o : Option Written} {s us vs : List Token} → Colored c s us → Conditioned o us vs → every f s ≡ true → every f vs ≡ true
+headed-every f uncolored unconditioned e = e
+headed-every f {vs = vs} uncolored (conditioned {w = w}) e = (every-parts f (condition w) vs e) .1
+headed-every f {vs = vs} (colored {n = n} h) unconditioned e = (every-parts f (colour n) vs e) .1
+headed-every f {us = us} {vs = vs} (colored {n = n} h) (conditioned {w = w}) e = (every-parts f (condition w) vs ((every-parts f (colour n) us e) .1)) .1
 
 opt-color : {c : ℕ} {s us : List Token} → Colored c s us → OptColor s us
 opt-color uncolored = no-color
@@ -144,7 +149,7 @@ pub data Derived (n i : ℕ) (s : List Token) : Type 0 where
   derived : {c : ℕ} {o : Option Written} {us vs : List Token} (k : Kind) → Colored c s us → Conditioned o us vs → Body k vs → writtenWithin o ≡ true
       → standsBy n i c (isSome o) k ≡ true → Derived n i s
 
-pub passed : {n i : ℕ} {s : List Token} → every colourShown s ≡ true → Passes n i s → Derived n i s
+pub passed : {n i : ℕ} {s : List Token} → every isShown s ≡ true → Passes n i s → Derived n i s
 unfolding withinLimits
 passed {n} {i} {s} shown p = from (parts-headed s shown)
   where
@@ -152,7 +157,7 @@ passed {n} {i} {s} shown p = from (parts-headed s shown)
     from (headed c d) =
         let q = partsOf s in
         let (w, l) = and-parts (writtenWithin (q .condition)) (sectionWithin (sectionOf q)) (p .within) in
-        derived (bodyKind (q .body)) c d (derive-body (bodyKind (q .body)) (q .body) (headed-plain c d (p .plain)) refl (fitting q (p .fitted) l)) w
+        derived (bodyKind (q .body)) c d (derive-body (bodyKind (q .body)) (q .body) (headed-every plainToken c d (p .plain)) (headed-every isShown c d shown) refl (fitting q (p .fitted) l)) w
         (sym (stands-by n i q) ∙ p .stands)
 
 -- "only the first two" have a condition; "A text section has no condition."
@@ -190,6 +195,7 @@ pub any-of : (n i : ℕ) {s : List Token} → Derived n i s → NFAnyBy (eqb (su
 unfolding isSome
 any-of n i (derived {c = h} numberKind c d b w e) = any-number (opt-color c) (opt-cond n i h numberKind d w e) b
 any-of n i (derived {c = h} scientificKind c d b w e) = any-scientific (opt-color c) (opt-cond n i h scientificKind d w e) b
+any-of n i (derived {c = h} fractionKind c d b w e) = any-fraction (opt-color c) (opt-cond n i h fractionKind d w e) b
 any-of n i (derived {c = h} textKind c unconditioned b w e) = any-text (text-last n i h false e) (opt-color c) b
 any-of n i (derived {c = h} textKind c conditioned b w e) = text-uncond n i h e
 any-of n i (derived {c = h} dateKind c d b w e) = any-date (opt-color c) (opt-cond n i h dateKind d w e) b
@@ -200,6 +206,7 @@ any-of n i (derived {c = h} literalKind c d b w e) = any-literal (opt-color c) (
 uncond-of : {s us : List Token} (k : Kind) → OptColor s us → Body k us → NFAnyNoCond s
 uncond-of numberKind c b = any-number c no-cond b
 uncond-of scientificKind c b = any-scientific c no-cond b
+uncond-of fractionKind c b = any-fraction c no-cond b
 uncond-of textKind c b = any-text refl c b
 uncond-of dateKind c b = any-date c no-cond b
 uncond-of generalKind c b = any-general c no-cond b
@@ -211,6 +218,7 @@ fourth-of (derived {c = n} {o = o} k (colored h) d b w e) = coloured-fourth n (i
 fourth-of (derived k uncolored conditioned b w e) = no (early-condition 4 3 0 k e)
 fourth-of (derived numberKind uncolored unconditioned b w e) = no e
 fourth-of (derived scientificKind uncolored unconditioned b w e) = no e
+fourth-of (derived fractionKind uncolored unconditioned b w e) = no e
 fourth-of (derived textKind uncolored unconditioned b w e) = fourth-text b
 fourth-of (derived dateKind uncolored unconditioned b w e) = no e
 fourth-of (derived generalKind uncolored unconditioned b w e) = fourth-general b
@@ -221,6 +229,7 @@ unfolding isSome standsBy
 one-of (derived k c unconditioned b w e) = codes.all-one (uncond-of k (opt-color c) b)
 one-of (derived numberKind c conditioned b w e) = no e
 one-of (derived scientificKind c conditioned b w e) = no e
+one-of (derived fractionKind c conditioned b w e) = no e
 one-of (derived textKind c conditioned b w e) = no e
 one-of (derived dateKind c conditioned b w e) = no e
 one-of (derived generalKind c conditioned b w e) = codes.all-condition (opt-color c) (part-cond conditioned w) b
@@ -233,6 +242,7 @@ body-tokens textKind ts d = body-plain ts (views-body ((text-facts d) .0))
 body-tokens generalKind ts d = body-plain ts (views-body ((general-facts d) .0))
 body-tokens dateKind ts d = body-plain ts (date-tokens ts d)
 body-tokens scientificKind ts d = body-plain ts (views-body ((scientific-summed (d .num)) .views))
+body-tokens fractionKind ts d = body-plain ts (views-body ((fraction-told (d .num)) .0 .0))
 body-tokens numberKind ts d = body-plain ts (views-body ((num-counted (d .num)) .views))
 body-tokens literalKind ts d = body-plain ts (views-body ((literals-facts {k = literalKind} d) .0))
 
@@ -329,6 +339,7 @@ module _ (n i : ℕ) (text cond : Bool) (p : placed n i text cond ≡ true) wher
   unfolding isSome
   any-passes (any-number c d b) = maybe-passes numberKind refl c d b
   any-passes (any-scientific c d b) = maybe-passes scientificKind refl c d b
+  any-passes (any-fraction c d b) = maybe-passes fractionKind refl c d b
   any-passes (any-text {us = us} t c b) = let u = uncond c (((body-fits textKind us b) .1) .brackets) in passes n i textKind (u .parted) b (texted t (u .shade))
   any-passes (any-date c d b) = maybe-passes dateKind refl c d b
   any-passes (any-general c d b) = maybe-passes generalKind refl c d b

@@ -3,7 +3,7 @@
 use Prim.Native.Nat.{ℕ, suc, _+_, _-_, _*_, _≤_, _<_}
 use native.Mathlib.Omega.{arith}
 use mathlib.Core.Path.{_≡_, refl, sym, ap, subst, _∙_}
-use mathlib.Core.Bool.{Bool, true, false, not, _&&_, _||_}
+use mathlib.Core.Bool.{Bool, true, false, not, _&&_, _||_, true≢false}
 use mathlib.Core.List.{List, [], _∷_, _++_, map, append-nil}
 use mathlib.Core.Logic.{_≢_}
 use mathlib.Core.Option.{Option, none, some}
@@ -16,9 +16,9 @@ use Rattle.lists.specs.Lists.{every, any, isEmpty, All}
 use Rattle.lists.proofs.Bools.{no, and-parts, by-cases, cond-case, or-false}
 use Rattle.calendar.specs.Names.{units}
 use Rattle.formats.proofs.Lexing.{number-grows, before-most, leading-most}
-use Rattle.grammar.proofs.Fronts.{letterUnit, conditionToken}
-use Rattle.formats.specs.Tokens.{Token, literal, blank, fill, run, elapsed, colour, Letter, letterY, letterM, letterD, letterH, letterS, Elapsed, hours, minutes, seconds, Comparison, equal, less, greater, atMost, atLeast, unequal, Step, read, broken, before, leading, startsWith, same, quoted, marked, generalWord, halfDayWord, exponentWord, runAllowed, runStep, isDigit, digitOf, numberFrom, colourNames, namedFrom, noLeadingZero, colourDigits, numbered, elapsedInside, decimalsOf, wholeOf, signedOf, conditionInside, firstForm, insideOf, closed, bracketed, First, FirstRow, other, firstRows, firstIn, bareLiterals, stepBy, stepAt}
-use Rattle.grammar.specs.Units.{Ended, WholeRun, Bracketed, ASCII-DIGIT, NFPartCompOper, oper-less, oper-at-most, oper-unequal, oper-equal, oper-greater, oper-at-least, NFPartIntNum, int-num, NFPartCondNum, cond-num-whole, cond-num-point, cond-num-minus, NFPartNumber1To6, NFPartNumber1To9, NFPart1To56, one-digit, two-digits, fifty, fifties, INTL-COLOR, black, blue, cyan, green, magenta, red, white, yellow, sign-plus, sign-minus, Spells, NFPartYear-2, NFPartYear-4, NFPartMonth, NFPartDay, NFPartHour, NFPartAbsHour, NFPartAbsMinute, NFPartSecond, NFPartAbsSecond, NFPartCond, NFPartColor-name, NFPartColor-number, NFPartExponential, NFPartNumToken1-number-sign, NFPartNumToken1-question-mark, NFPartNumToken1-zero, ASCII-PERCENT-SIGN, ASCII-COMMERCIAL-AT, ASCII-SEMICOLON, LITERAL-CHAR, LITERAL-CHAR-REPEAT, LITERAL-STRING, LITERAL-CHAR-SPACE, INTL-CHAR-DECIMAL-SEP, INTL-CHAR-NUMGRP-SEP, bare-literal, INTL-NUMFMT-GENERAL, INTL-AMPM-long, INTL-AMPM-short}
+use Rattle.grammar.proofs.Fronts.{letterUnit, conditionToken, digit-fact, digit-true, place-unit, unit-place, later-digit}
+use Rattle.formats.specs.Tokens.{Token, literal, blank, fill, run, elapsed, colour, place, Place, Letter, letterY, letterM, letterD, letterH, letterS, Elapsed, hours, minutes, seconds, Comparison, equal, less, greater, atMost, atLeast, unequal, Step, read, broken, before, leading, startsWith, same, quoted, marked, generalWord, halfDayWord, exponentWord, runAllowed, runStep, isDigit, digitOf, numberFrom, isPlaceUnit, overStep, placeStep, colourNames, namedFrom, noLeadingZero, colourDigits, numbered, elapsedInside, decimalsOf, wholeOf, signedOf, conditionInside, firstForm, insideOf, closed, bracketed, First, FirstRow, other, firstRows, firstIn, bareLiterals, stepBy, stepAt}
+use Rattle.grammar.specs.Units.{Ended, WholeRun, Bracketed, ASCII-DIGIT, NFPartCompOper, oper-less, oper-at-most, oper-unequal, oper-equal, oper-greater, oper-at-least, NFPartIntNum, int-num, NFPartCondNum, cond-num-whole, cond-num-point, cond-num-minus, NFPartNumber1To6, NFPartNumber1To9, NFPart1To56, one-digit, two-digits, fifty, fifties, INTL-COLOR, black, blue, cyan, green, magenta, red, white, yellow, sign-plus, sign-minus, NFPartNumToken1, number-sign, question-mark, digit-zero, Below, place-below, digit-below, NoDigit, Spells, NFPartYear-2, NFPartYear-4, NFPartMonth, NFPartDay, NFPartHour, NFPartAbsHour, NFPartAbsMinute, NFPartSecond, NFPartAbsSecond, NFPartCond, NFPartColor-name, NFPartColor-number, NFPartExponential, NFPartNumToken1-alone, ASCII-SOLIDUS-place, ASCII-SOLIDUS-number, ASCII-PERCENT-SIGN, ASCII-COMMERCIAL-AT, ASCII-SEMICOLON, LITERAL-CHAR, LITERAL-CHAR-REPEAT, LITERAL-STRING, LITERAL-CHAR-SPACE, INTL-CHAR-DECIMAL-SEP, INTL-CHAR-NUMGRP-SEP, bare-literal, INTL-NUMFMT-GENERAL, INTL-AMPM-long, INTL-AMPM-short}
 
 -- ---- facts from tests
 
@@ -161,10 +161,6 @@ named-inside ws =
     cond-case (Inside ws) (same (units "Yellow") ws) (name-inside 6 "Yellow" ws yellow) (λ e.
     cond-case (Inside ws) (same (units "Magenta") ws) (name-inside 7 "Magenta" ws magenta) (λ e.
     cond-case (Inside ws) (same (units "Cyan") ws) (name-inside 8 "Cyan" ws cyan) (λ e. tt))))))))
-
-digit-fact : (u : ℕ) → isDigit u ≡ true → ASCII-DIGIT u
-unfolding isDigit
-digit-fact u e = let (a, b) = and-parts (leb 48 u) (leb u 57) e in (leb-true 48 u a, leb-true u 57 b)
 
 digit-facts : (ws : List ℕ) → every isDigit ws ≡ true → All ASCII-DIGIT ws
 unfolding every
@@ -337,6 +333,42 @@ bracketed-good us =
     cond-case (Good 91 us) (eqb n (length us)) (λ e. tt)
     (λ e. closed-good (take n us) us n (insideOf (take n us)) (before-stands 93 us (eqb-false n (length us) e)) (inside-good (take n us)))
 
+-- ---- places, and what is directly behind them
+
+-- a solidus with this behind it is not a fraction's
+not-below : (v : ℕ) → isPlaceUnit v ≡ false → isDigit v ≡ false → Below v → ⊥
+not-below v e d (place-below k) = true≢false (sym (place-unit k) ∙ e)
+not-below v e d (digit-below k) = true≢false (sym (digit-true v (omega (arith, k .0), k .1)) ∙ d)
+
+leading-done : (us : List ℕ) → NoDigit (drop (leading isDigit us) us)
+unfolding leading
+leading-done [] = tt
+leading-done (u ∷ us) = by-cases (isDigit u) (λ h. rw h (leading-done us)) (λ h. rw h (λ d. true≢false (sym (digit-true u d) ∙ h)))
+
+over-good : {p : Place} {u : ℕ} → NFPartNumToken1 p u → (us : List ℕ) → Good u (47 ∷ us) (overStep p us)
+unfolding overStep
+over-good k [] = NFPartNumToken1-alone k tt
+over-good {p} {u} k (v ∷ vs) =
+    let n = leading isDigit vs in
+    cond-case (Good u (47 ∷ v ∷ vs)) (isPlaceUnit v) (λ e. ASCII-SOLIDUS-place k ((unit-place v e) .1)) (λ e.
+    cond-case (Good u (47 ∷ v ∷ vs)) (isDigit v)
+    (λ d.
+    let two : 2 + n ≡ suc (suc n) = omega arith in
+    rw two
+    (ASCII-SOLIDUS-number k (later-digit v e d) (int-num v (take n vs) (digit-fact v d, leading-digits vs)) (leading-done vs)
+    (ap (λ (ws : List ℕ). u ∷ 47 ∷ v ∷ ws) (sym (take-append-drop n vs)))))
+    (λ d. NFPartNumToken1-alone {us = 47 ∷ v ∷ vs} k (λ s. not-below v e d)))
+
+other-good : {p : Place} {u : ℕ} → NFPartNumToken1 p u → (w : ℕ) (us : List ℕ) → eqb w 47 ≡ false → Spells (place p) (u ∷ w ∷ us) (w ∷ us)
+other-good k w [] e = NFPartNumToken1-alone k tt
+other-good k w (v ∷ vs) e = NFPartNumToken1-alone {us = w ∷ v ∷ vs} k (λ s. absurd (eqb-false w 47 e s))
+
+place-good : {p : Place} {u : ℕ} → NFPartNumToken1 p u → (us : List ℕ) → Good u us (placeStep p us)
+unfolding placeStep
+place-good k [] = NFPartNumToken1-alone k tt
+place-good {p} {u} k (w ∷ us) =
+    cond-case (Good u (w ∷ us)) (eqb w 47) (λ e. rw (eqb-true w 47 e) (over-good k us)) (other-good k w us)
+
 -- ---- the table of first units
 
 first-case : (P : ℕ → First → Type 0) (rs : List FirstRow) (u : ℕ) → All (λ (r : FirstRow). P (r .unit) (r .first)) rs → P u other → P u (firstIn rs u)
@@ -369,7 +401,7 @@ signs-good = ((λ us. INTL-CHAR-NUMGRP-SEP), ((λ us. ASCII-PERCENT-SIGN), ((λ 
 places-good : All RowGood (drop 13 firstRows)
 unfolding firstRows stepBy
 places-good =
-    ((λ us. NFPartNumToken1-zero), ((λ us. NFPartNumToken1-number-sign), ((λ us. NFPartNumToken1-question-mark), ((λ us. INTL-CHAR-DECIMAL-SEP), signs-good))))
+    (place-good digit-zero, (place-good number-sign, (place-good question-mark, ((λ us. INTL-CHAR-DECIMAL-SEP), signs-good))))
 
 words-good : All RowGood (drop 4 firstRows)
 unfolding firstRows stepBy

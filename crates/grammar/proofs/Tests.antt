@@ -1,10 +1,13 @@
 -- Tests and their facts: a conjunction that holds holds in each part, and the other way round.
 -- Assumes nothing.
+use Prim.Native.Nat.{suc}
+use native.Mathlib.Omega.{arith}
 use mathlib.Core.Path.{_≡_, refl}
 use mathlib.Core.Bool.{Bool, true, false, cond, not, _&&_, true≢false}
 use mathlib.Core.List.{List, [], _∷_}
-use Rattle.lists.specs.Lists.{every, any}
+use Rattle.lists.specs.Lists.{every, any, count}
 use Rattle.lists.proofs.Bools.{no, by-cases}
+use Rattle.lists.proofs.Counts.{any-count}
 
 pub both : (a b : Bool) → a ≡ true → b ≡ true → (a && b) ≡ true
 both true b e f = f
@@ -39,6 +42,18 @@ module _ {A : Type 0} (f : A → Bool) where
   unfolding every any
   every-none g k [] e = refl
   every-none g k (x ∷ xs) e = by-cases (f x) (λ h. rw (k x h) (every-none g k xs (rw h at e))) (λ h. no (rw h at e))
+
+  -- a test that only what is not there may fail
+  pub unless : (g : A → Bool) → ((x : A) → f x ≡ false → g x ≡ true) → (xs : List A) → count f xs ≡ 0 → every g xs ≡ true
+  unfolding every count
+  unless g k [] e = refl
+  unless g k (x ∷ xs) e =
+      by-cases (f x)
+      (λ h. let z : suc (count f xs) ≡ 0 = rw h at e in absurd (omega arith))
+      (λ h. rw (k x h) (unless g k xs (rw h at e)))
+
+  pub absent : (xs : List A) → count f xs ≡ 0 → any f xs ≡ false
+  absent xs e = by-cases (any f xs) (λ h. absurd (omega (arith, any-count f xs h))) (λ h. h)
 
   pub none-every : (xs : List A) → any f xs ≡ false → every (λ (x : A). not (f x)) xs ≡ true
   unfolding every any

@@ -1,21 +1,20 @@
--- The published grammar (R116). Level 2, tokens to bodies (R31 to R42, R51, R53, R125, R127, R129, R130): the rules NFGeneral, NFNumber,
--- NFDateTime and NFText of 004, over the tokens that `Units` spells.
+-- The published grammar (R116). Level 2, tokens to bodies (R31 to R42, R51, R53, R125, R127, R129, R130, R132, R134): the rules NFGeneral,
+-- NFNumber, NFFraction, NFDateTime and NFText of 004, over the tokens that `Units` spells.
 -- Assumes nothing.
 use Prim.Native.Nat.{ℕ, suc, _≤_}
-use Prim.Native.Char.{code}
 use mathlib.Core.Bool.{Bool, true, false, cond, _||_}
-use mathlib.Core.List.{List, [], _∷_, _++_}
+use mathlib.Core.List.{List, [], _∷_}
 use mathlib.Core.Logic.{_≢_}
 use mathlib.Core.Option.{Option, some}
 use mathlib.Core.Path.{_≡_}
 use lib.Dec.{eqb}
 use Rattle.lists.specs.Lists.{count}
-use Rattle.formats.specs.Tokens.{Token, literal, bare, blank, fill, place, point, comma, percent, at, general, half, run, elapsed, exponent, Place, zeroPlace, hashPlace, HalfDay, ExponentMark, letterY, letterM, letterD, letterH, letterS, Elapsed, hours, minutes, seconds}
+use Rattle.formats.specs.Tokens.{Token, literal, bare, blank, fill, place, point, comma, percent, at, general, half, run, elapsed, exponent, over, overFixed, Place, zeroPlace, hashPlace, HalfDay, ExponentMark, letterY, letterM, letterD, letterH, letterS, Elapsed, hours, minutes, seconds}
 use Rattle.formats.specs.Kinds.{formOf, isPlace, isPoint, isSecondsToken}
 
 -- A constructor is a production. The comment above it says "004" where the production is from there, "narrowed" where 01 cuts it,
 -- and "added" where it is 01's own, with 01's sentence. It holds for the constructors below it, up to the next comment. For scientific
--- numbers the sentences are those of 02, P1.
+-- numbers the sentences are those of 02, P1, for fractions those of 02, P4.
 
 -- ---- what may stand anywhere
 
@@ -108,17 +107,12 @@ unfoldable pub decimalPlaces : List Token → ℕ
 decimalPlaces [] = 0
 decimalPlaces (t ∷ ts) = let r = decimalPlaces ts in cond (isPoint t) (count isPlace ts) r
 
--- added, "A `/` directly between two places is 4"
-abbrev pub NoFraction : List Token → Type 0
-NoFraction ts = (before behind : List Token) (p q : Place) → ts ≢ before ++ place p ∷ bare (code "/") ∷ place q ∷ behind
-
 -- NFNumber = NFPartNum [NFPartExponential NFPartNum] *INTL-CHAR-NUMGRP-SEP *INTL-AMPM
 -- without its [NFPartExponential NFPartNum], which is 01's number section
 pub record NFNumber (ts : List Token) : Type 0 where
   -- 004, narrowed, "Not now: [..] a half-day mark outside a date section"; the commas at its end are NFPartNum's
   pub divisions : ℕ
   pub num : NFPartNum leading divisions ts
-  pub no-fraction : NoFraction ts
   -- added, "Limits (6): 20 integer places, 15 decimal places, 5 percents, 5 dividing commas"
   pub wholes-most : wholePlaces ts ≤ 20
   pub decimals-most : decimalPlaces ts ≤ 15
@@ -156,7 +150,6 @@ pub record NFScientific (ts : List Token) : Type 0 where
   pub decimals : ℕ
   pub exponents : ℕ
   pub num : NFPartScientific beforePoint integers decimals exponents ts
-  pub no-fraction : NoFraction ts
   -- added, "no exponent place or no integer place in such a section is 4"
   pub integers-least : 1 ≤ integers
   pub exponents-least : 1 ≤ exponents
@@ -164,6 +157,52 @@ pub record NFScientific (ts : List Token) : Type 0 where
   pub integers-most : integers ≤ 20
   pub decimals-most : decimals ≤ 15
   pub exponents-most : exponents ≤ 3
+
+-- ---- NFFraction
+
+-- NFFraction = NFPartFraction ASCII-SOLIDUS NFPartFraction [NFPartNum] *INTL-AMPM
+-- 004, narrowed, "optional integer places followed by at least one literal, then an unbroken run of places, `/` directly after it, then
+-- directly another such run or a fixed whole number 1 to 999", "point, comma or percent in such a section is 4"
+
+-- "literal": not a blank, not a fill
+pub data Literal : Token → Type 0 where
+  literal-string : (u : ℕ) (us : List ℕ) → Literal (literal (u ∷ us))
+  literal-bare : (u : ℕ) → Literal (bare u)
+
+-- behind the solidus: an unbroken run of so many places, and no place behind it
+pub data Denominator : ℕ → List Token → Type 0 where
+  below-place : {d : ℕ} {q : Place} {ts : List Token} → Denominator d ts → Denominator (suc d) (place q ∷ ts)
+  below-end : {ts : List Token} → Literals ts → Denominator 0 ts
+
+-- an unbroken run of so many places, whose last one has the solidus directly behind it
+pub data Numerator : ℕ → List Token → Type 0 where
+  above-place : {n : ℕ} {q : Place} {ts : List Token} → Numerator n ts → Numerator (suc n) (place q ∷ ts)
+  -- added, "more than [..] 3 places below or a fixed number above 999 is 6"
+  above-places : {d : ℕ} {q : Place} {ts : List Token} → 1 ≤ d → d ≤ 3 → Denominator d ts → Numerator 1 (over q ∷ ts)
+  above-number : {n : ℕ} {q : Place} {ts : List Token} → n ≤ 999 → Literals ts → Numerator 1 (overFixed q n ∷ ts)
+
+-- Where before the numerator the tokens left stand: behind an integer place, with no literal since; or elsewhere.
+pub data Gap : Type 0 where
+  joined apart : Gap
+
+-- the numbers are those of the integer places and of the numerator's
+pub data NFPartFraction : Gap → ℕ → ℕ → List Token → Type 0 where
+  -- 004, as everywhere
+  fraction-free : {g : Gap} {i n : ℕ} {t : Token} {ts : List Token} → Free t → NFPartFraction g i n ts → NFPartFraction g i n (t ∷ ts)
+  -- 004: NFPartNumToken1
+  fraction-place : {g : Gap} {i n : ℕ} {q : Place} {ts : List Token} → NFPartFraction joined i n ts → NFPartFraction g (suc i) n (place q ∷ ts)
+  -- added, "integer places followed by at least one literal"
+  fraction-literal : {i n : ℕ} {t : Token} {ts : List Token} → Literal t → NFPartFraction apart i n ts → NFPartFraction joined i n (t ∷ ts)
+  -- 004: the numerator, narrowed, not directly behind an integer place
+  fraction-numerator : {n : ℕ} {ts : List Token} → Numerator n ts → NFPartFraction apart 0 n ts
+
+pub record NFFraction (ts : List Token) : Type 0 where
+  pub integers : ℕ
+  pub numerators : ℕ
+  pub num : NFPartFraction apart integers numerators ts
+  -- added, the limit of a number, and "more than 20 numerator places [..] is 6"
+  pub integers-most : integers ≤ 20
+  pub numerators-most : numerators ≤ 20
 
 -- ---- NFDateTime
 

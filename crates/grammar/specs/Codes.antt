@@ -8,7 +8,7 @@ use mathlib.Core.Path.{_≡_}
 use lib.ListN.{length}
 use Rattle.formats.specs.Tokens.{Token, semicolon, colour, condition, Written}
 use Rattle.grammar.specs.Units.{Spelled}
-use Rattle.grammar.specs.Bodies.{Literals, NFGeneral, NFNumber, NFScientific, NFDateTime, NFText}
+use Rattle.grammar.specs.Bodies.{Literals, NFGeneral, NFNumber, NFScientific, NFFraction, NFDateTime, NFText}
 
 -- A constructor is a production; comments as in `Bodies`. A rule with two lists takes the front of the first and leaves the second.
 
@@ -31,11 +31,12 @@ pub data OptCond (cond : Bool) : List Token → List Token → Type 0 where
 -- ---- sections
 
 -- The four rules are 004's, which differ in whether they have NFText, `text`, and [NFPartCond], `cond`; NFText never has a condition. In
--- each, NFNumber is two, without an exponent and with one, NFFraction is cut ("Not now: [..] fractions"), and [NFDateTime] [NFGeneral]
--- [NFDateTime] is narrowed ("Not now: [..] date tokens beside General") to NFDateTime, NFGeneral or neither of them.
+-- each, NFNumber is two, without an exponent and with one, and [NFDateTime] [NFGeneral] [NFDateTime] is narrowed ("Not now: [..] date
+-- tokens beside General") to NFDateTime, NFGeneral or neither of them.
 pub data NFAnyBy (text cond : Bool) : List Token → Type 0 where
   any-number : {ts us vs : List Token} → OptColor ts us → OptCond cond us vs → NFNumber vs → NFAnyBy text cond ts
   any-scientific : {ts us vs : List Token} → OptColor ts us → OptCond cond us vs → NFScientific vs → NFAnyBy text cond ts
+  any-fraction : {ts us vs : List Token} → OptColor ts us → OptCond cond us vs → NFFraction vs → NFAnyBy text cond ts
   any-text : {ts us : List Token} → text ≡ true → OptColor ts us → NFText us → NFAnyBy text cond ts
   any-date : {ts us vs : List Token} → OptColor ts us → OptCond cond us vs → NFDateTime vs → NFAnyBy text cond ts
   any-general : {ts us vs : List Token} → OptColor ts us → OptCond cond us vs → NFGeneral vs → NFAnyBy text cond ts

@@ -1,5 +1,5 @@
--- The published grammar (R116). Level 1, units to tokens (R14 to R27, R127): the lexical rules of 004, from NFPartExponential to INTL-AMPM, and
--- how a code's units spell its tokens.
+-- The published grammar (R116). Level 1, units to tokens (R14 to R27, R127, R132): the lexical rules of 004, from NFPartExponential to
+-- INTL-AMPM, and how a code's units spell its tokens.
 -- Assumes nothing.
 use Prim.Native.Nat.{ℕ, _+_, _*_, _≤_}
 use Prim.Native.Char.{code}
@@ -11,7 +11,7 @@ use lib.ListN.{replicate}
 use lib.Dec.{eqb}
 use Rattle.lists.specs.Lists.{any, All}
 use Rattle.calendar.specs.Names.{units}
-use Rattle.formats.specs.Tokens.{Token, literal, bare, blank, fill, place, point, comma, percent, at, semicolon, general, half, run, elapsed, colour, condition, exponent, zeroPlace, hashPlace, spacePlace, letterY, letterM, letterD, letterH, letterS, hours, minutes, seconds, short, long, ExponentMark, ePlus, eMinus, Comparison, equal, less, greater, atMost, atLeast, unequal, digitOf}
+use Rattle.formats.specs.Tokens.{Token, literal, bare, blank, fill, place, point, comma, percent, at, semicolon, general, half, run, elapsed, colour, condition, exponent, over, overFixed, Place, zeroPlace, hashPlace, spacePlace, letterY, letterM, letterD, letterH, letterS, hours, minutes, seconds, short, long, ExponentMark, ePlus, eMinus, Comparison, equal, less, greater, atMost, atLeast, unequal, digitOf, fixedNumber}
 
 -- A constructor is a production. The comment above it says "004" where the production is from there, "narrowed" where 01 cuts it,
 -- and "added" where it is 01's own, with 01's sentence. It holds for the constructors below it, up to the next comment. A token takes
@@ -33,31 +33,15 @@ pub record WholeRun (u n : ℕ) (us vs : List ℕ) : Type 0 where
 abbrev pub Bracketed : List ℕ → List ℕ → List ℕ → Type 0
 Bracketed ws us vs = us ≡ code "[" ∷ (ws ++ code "]" ∷ vs)
 
--- ---- rules inside brackets
+-- ---- digits
 
 -- 004: ASCII-DIGIT
 abbrev pub ASCII-DIGIT : ℕ → Type 0
 ASCII-DIGIT u = (code "0" ≤ u) × (u ≤ code "9")
 
--- 004: NFPartCompOper
-pub data NFPartCompOper : Comparison → List ℕ → Type 0 where
-  oper-less : NFPartCompOper less (code "<" ∷ [])
-  oper-at-most : NFPartCompOper atMost (code "<" ∷ code "=" ∷ [])
-  oper-unequal : NFPartCompOper unequal (code "<" ∷ code ">" ∷ [])
-  oper-equal : NFPartCompOper equal (code "=" ∷ [])
-  oper-greater : NFPartCompOper greater (code ">" ∷ [])
-  oper-at-least : NFPartCompOper atLeast (code ">" ∷ code "=" ∷ [])
-
 -- 004: NFPartIntNum = 1*ASCII-DIGIT
 pub data NFPartIntNum : List ℕ → Type 0 where
   int-num : (u : ℕ) (us : List ℕ) → All ASCII-DIGIT (u ∷ us) → NFPartIntNum (u ∷ us)
-
--- NFPartCondNum = [ASCII-HYPHEN-MINUS] NFPartIntNum [INTL-CHAR-DECIMAL-SEP NFPartIntNum] [NFPartExponential NFPartIntNum]
--- 004, narrowed, "Not now: [..] exponents in conditions": whether it is negative, its digits before and after the point, its units
-pub data NFPartCondNum : Bool → List ℕ → List ℕ → List ℕ → Type 0 where
-  cond-num-whole : {ws : List ℕ} → NFPartIntNum ws → NFPartCondNum false ws [] ws
-  cond-num-point : {ws ds : List ℕ} (us : List ℕ) → NFPartIntNum ws → NFPartIntNum ds → us ≡ ws ++ code "." ∷ ds → NFPartCondNum false ws ds us
-  cond-num-minus : {ws ds us : List ℕ} → NFPartCondNum false ws ds us → NFPartCondNum true ws ds (code "-" ∷ us)
 
 -- 004: NFPartNumber1To4, NFPartNumber1To6, NFPartNumber1To9
 abbrev pub NFPartNumber1To4 : ℕ → Type 0
@@ -68,6 +52,24 @@ NFPartNumber1To6 u = (code "1" ≤ u) × (u ≤ code "6")
 
 abbrev pub NFPartNumber1To9 : ℕ → Type 0
 NFPartNumber1To9 u = (code "1" ≤ u) × (u ≤ code "9")
+
+-- ---- rules inside brackets
+
+-- 004: NFPartCompOper
+pub data NFPartCompOper : Comparison → List ℕ → Type 0 where
+  oper-less : NFPartCompOper less (code "<" ∷ [])
+  oper-at-most : NFPartCompOper atMost (code "<" ∷ code "=" ∷ [])
+  oper-unequal : NFPartCompOper unequal (code "<" ∷ code ">" ∷ [])
+  oper-equal : NFPartCompOper equal (code "=" ∷ [])
+  oper-greater : NFPartCompOper greater (code ">" ∷ [])
+  oper-at-least : NFPartCompOper atLeast (code ">" ∷ code "=" ∷ [])
+
+-- NFPartCondNum = [ASCII-HYPHEN-MINUS] NFPartIntNum [INTL-CHAR-DECIMAL-SEP NFPartIntNum] [NFPartExponential NFPartIntNum]
+-- 004, narrowed, "Not now: [..] exponents in conditions": whether it is negative, its digits before and after the point, its units
+pub data NFPartCondNum : Bool → List ℕ → List ℕ → List ℕ → Type 0 where
+  cond-num-whole : {ws : List ℕ} → NFPartIntNum ws → NFPartCondNum false ws [] ws
+  cond-num-point : {ws ds : List ℕ} (us : List ℕ) → NFPartIntNum ws → NFPartIntNum ds → us ≡ ws ++ code "." ∷ ds → NFPartCondNum false ws ds us
+  cond-num-minus : {ws ds us : List ℕ} → NFPartCondNum false ws ds us → NFPartCondNum true ws ds (code "-" ∷ us)
 
 -- 004: NFPart1To56, a number and its units
 pub data NFPart1To56 : ℕ → List ℕ → Type 0 where
@@ -101,6 +103,28 @@ pub data NFPartSign : ExponentMark → ℕ → Type 0 where
   sign-plus : NFPartSign ePlus (code "+")
   sign-minus : NFPartSign eMinus (code "-")
 
+-- 004: NFPartNumToken1 = ASCII-NUMBER-SIGN / ASCII-QUESTION-MARK / ASCII-DIGIT-ZERO, a place and its unit
+pub data NFPartNumToken1 : Place → ℕ → Type 0 where
+  number-sign : NFPartNumToken1 hashPlace (code "#")
+  question-mark : NFPartNumToken1 spacePlace (code "?")
+  digit-zero : NFPartNumToken1 zeroPlace (code "0")
+
+-- what stands directly behind the solidus of a fraction: a place, or the first digit of a fixed number
+pub data Below : ℕ → Type 0 where
+  place-below : {p : Place} {u : ℕ} → NFPartNumToken1 p u → Below u
+  digit-below : {u : ℕ} → NFPartNumber1To9 u → Below u
+
+-- what is left of the units does not begin with such a solidus
+abbrev pub NoSolidus : List ℕ → Type 0
+NoSolidus [] = Unit {0}
+NoSolidus (u ∷ []) = Unit {0}
+NoSolidus (u ∷ v ∷ vs) = u ≡ code "/" → Below v → ⊥
+
+-- and does not go on with a digit
+abbrev pub NoDigit : List ℕ → Type 0
+NoDigit [] = Unit {0}
+NoDigit (v ∷ vs) = ASCII-DIGIT v → ⊥
+
 -- a token, the units that begin with it, the units that are left
 pub data Spells : Token → List ℕ → List ℕ → Type 0 where
   -- 004: NFPartYear = 2(ASCII-SMALL-LETTER-Y) / 4(ASCII-SMALL-LETTER-Y), narrowed to whole runs
@@ -131,10 +155,17 @@ pub data Spells : Token → List ℕ → List ℕ → Type 0 where
   NFPartColor-number : {n : ℕ} {ws us vs : List ℕ} → NFPart1To56 n ws → Bracketed (units "Color" ++ ws) us vs → Spells (colour n) us vs
   -- 004: NFPartExponential = ASCII-CAPITAL-LETTER-E NFPartSign
   NFPartExponential : {m : ExponentMark} {u : ℕ} {us vs : List ℕ} → NFPartSign m u → us ≡ code "E" ∷ u ∷ vs → Spells (exponent m) us vs
-  -- 004: NFPartNumToken1, and ASCII-PERCENT-SIGN, ASCII-COMMERCIAL-AT and ASCII-SEMICOLON, which stand for themselves
-  NFPartNumToken1-number-sign : {us : List ℕ} → Spells (place hashPlace) (code "#" ∷ us) us
-  NFPartNumToken1-question-mark : {us : List ℕ} → Spells (place spacePlace) (code "?" ∷ us) us
-  NFPartNumToken1-zero : {us : List ℕ} → Spells (place zeroPlace) (code "0" ∷ us) us
+  -- 004: NFPartNumToken1, where no solidus of a fraction stands directly behind it
+  NFPartNumToken1-alone : {p : Place} {u : ℕ} {us : List ℕ} → NFPartNumToken1 p u → NoSolidus us → Spells (place p) (u ∷ us) us
+  -- 004: the ASCII-SOLIDUS of NFFraction, with the place before it. Narrowed, "an unbroken run of places, `/` directly after it, then directly
+  -- another such run or a fixed whole number"
+  ASCII-SOLIDUS-place : {p q : Place} {u v : ℕ} {us : List ℕ} → NFPartNumToken1 p u → NFPartNumToken1 q v
+      → Spells (over p) (u ∷ code "/" ∷ v ∷ us) (v ∷ us)
+  -- 004: the same with the NFPartIntNum of the NFPartFraction behind it. Narrowed, "A digit run that begins with 1 to 9 becomes a token
+  -- directly after a `/` that directly follows a place", the whole run
+  ASCII-SOLIDUS-number : {p : Place} {u v : ℕ} {ws us vs : List ℕ} → NFPartNumToken1 p u → NFPartNumber1To9 v → NFPartIntNum (v ∷ ws) → NoDigit vs
+      → us ≡ u ∷ code "/" ∷ ((v ∷ ws) ++ vs) → Spells (overFixed p (fixedNumber (v ∷ ws))) us vs
+  -- 004: ASCII-PERCENT-SIGN, ASCII-COMMERCIAL-AT and ASCII-SEMICOLON, which stand for themselves
   ASCII-PERCENT-SIGN : {us : List ℕ} → Spells percent (code "%" ∷ us) us
   ASCII-COMMERCIAL-AT : {us : List ℕ} → Spells at (code "@" ∷ us) us
   ASCII-SEMICOLON : {us : List ℕ} → Spells semicolon (code ";" ∷ us) us

@@ -27,7 +27,7 @@ use Rattle.marks.specs.Marks.{writtenOr, writtenIn, conditionOf, markToken, mar
 use Rattle.lexing.specs.Marks.{stepBehind, insideMeant, plainInside}
 use Rattle.lexing.specs.Brackets.{colourMeant, isRunOf, isWide, isNarrow, isPointed}
 use Rattle.formats.proofs.Lexing.{number-grows, leading-most, word-most}
-use Rattle.lexing.proofs.Scanning.{before-leading, every-leading}
+use Rattle.lexing.proofs.Scanning.{before-leading, every-leading, digit-unit}
 
 -- ---- named colours
 module _ (us : List ℕ) (k : ℕ) where
@@ -46,11 +46,8 @@ module _ (us : List ℕ) (k : ℕ) where
 
 -- ---- colours by number
 pub digit-bounds : (us : List ℕ) (i : ℕ) → T (every isDigit us) → i < length us → (48 ≤ getD us i 0) × (getD us i 0 ≤ 57)
-unfolding isDigit
 digit-bounds [] i t h = absurd (omega arith)
-digit-bounds (u ∷ us) zero t h =
-    let d : T (leb 48 u && leb u 57) = every-head isDigit u us t in
-    (leb→le 48 u (and-left (leb 48 u) (leb u 57) d), leb→le u 57 (and-right (leb 48 u) (leb u 57) d))
+digit-bounds (u ∷ us) zero t h = digit-unit u (every-head isDigit u us t)
 digit-bounds (u ∷ us) (suc i) t h = digit-bounds us i (every-tail isDigit u us t) (omega arith)
 
 pub number-one : (us : List ℕ) → length us ≡ 1 → getD us 0 0 - 48 ≡ numberFrom 0 (map digitOf us)

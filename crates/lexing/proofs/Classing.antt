@@ -13,12 +13,12 @@ use Rattle.lists.specs.Lists.{every, any}
 use Rattle.lists.proofs.Apart.{Apart, known, none-of}
 use Rattle.lists.proofs.Bools.{by-cases, every-head, every-tail}
 use Rattle.calendar.specs.Names.{units}
-use Rattle.formats.specs.Tokens.{Step, broken, marked, exponentWord, runStep, bracketed, FirstRow, firstRows, firstIn, bareLiterals, stepBy, stepAt}
+use Rattle.formats.specs.Tokens.{Step, broken, marked, exponentWord, placeStep, runStep, bracketed, FirstRow, firstRows, firstIn, bareLiterals, stepBy, stepAt}
 use Rattle.lexing.specs.declared.Step.{Step as FoundStep}
 use Rattle.lexing.specs.declared.Step.the-variants.{Read, Broken}
 use Rattle.marks.specs.Marks.{markToken, markRows}
 use Rattle.lexing.specs.Marks.{stepBehind, stepMeant}
-use Rattle.lexing.specs.Classes.{letterAt, classNumbers, bareClass, classIn, classOf, classStep}
+use Rattle.lexing.specs.Classes.{letterAt, placeAt, classNumbers, bareClass, classIn, classOf, classStep}
 
 -- ---- the classes by ranges
 module _ (k u : ℕ) (us : List ℕ) where
@@ -26,9 +26,13 @@ module _ (k u : ℕ) (us : List ℕ) where
   unfolding classStep
   class-marked a b h = rw (ne-eqb k 0 a, ne-eqb k 1 b, le-leb k 3 (omega arith))
 
-  pub class-single : 4 ≤ k → k < 12 → stepBehind us (Read (record { form = k; argument = 0 }) 0) ≡ classStep k u us
+  pub class-place : 4 ≤ k → k < 7 → placeStep (placeAt k) us ≡ classStep k u us
+  unfolding classStep
+  class-place l h = rw (ne-eqb k 0 (omega arith), ne-eqb k 1 (omega arith), lt-leb k 3 (omega arith), le-leb k 6 (omega arith))
+
+  pub class-single : 7 ≤ k → k < 12 → stepBehind us (Read (record { form = k; argument = 0 }) 0) ≡ classStep k u us
   unfolding classStep stepBehind
-  class-single l h = rw (ne-eqb k 0 (omega arith), ne-eqb k 1 (omega arith), lt-leb k 3 (omega arith), le-leb k 11 (omega arith))
+  class-single l h = rw (ne-eqb k 0 (omega arith), ne-eqb k 1 (omega arith), lt-leb k 3 (omega arith), lt-leb k 6 (omega arith), le-leb k 11 (omega arith))
 
   module _ (l : 12 ≤ k) (a : k ≡ 12 → ⊥) (b : k ≡ 13 → ⊥) (c : k ≡ 14 → ⊥) where
     pub letter-low : 15 ≤ k
@@ -38,7 +42,7 @@ module _ (k u : ℕ) (us : List ℕ) where
     unfolding classStep
     behind-words =
         let h = letter-low in
-        rw (ne-eqb k 0 (omega arith), ne-eqb k 1 (omega arith), lt-leb k 3 (omega arith), lt-leb k 11 (omega arith), ne-eqb k 12 a, ne-eqb k 13 b, ne-eqb k 14 c)
+        rw (ne-eqb k 0 (omega arith), ne-eqb k 1 (omega arith), lt-leb k 3 (omega arith), lt-leb k 6 (omega arith), lt-leb k 11 (omega arith), ne-eqb k 12 a, ne-eqb k 13 b, ne-eqb k 14 c)
 
     pub class-letter : k < 20 → runStep (letterAt k) u us ≡ classStep k u us
     class-letter h = sym (behind-words ∙ rw (le-leb k 19 (omega arith)))
@@ -66,7 +70,7 @@ class-rows (r ∷ rs) (k ∷ ks) u us t =
     (λ e. rw e (class-rows rs ks u us (t .1)))
 
 rows-fit : (us : List ℕ) → Rows firstRows classNumbers us
-unfolding firstRows classNumbers stepBy classStep letterAt markToken markRows
+unfolding firstRows classNumbers stepBy classStep letterAt placeAt markToken markRows
 rows-fit us =
     (refl, (refl, (refl, (refl, (refl, (refl, (refl, (refl, (refl, (refl, (refl, (refl, (refl, (refl, (refl, (refl, (refl, (refl, (refl, (refl, (refl, tt)))))))))))))))))))))
 

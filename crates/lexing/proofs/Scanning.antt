@@ -7,12 +7,12 @@ use mathlib.Core.List.{List, [], _∷_}
 use native.Mathlib.Omega.{arith}
 use native.Mathlib.Numerals.{add-one}
 use borrow.Author.Tests.{eq-eqb, ne-eqb}
-use lib.Dec.{eqb, eqb·suc-suc}
+use lib.Dec.{T, leb, eqb, leb→le, eqb·suc-suc}
 use lib.ListN.{length, take, drop, getD, drop-of-length-le, length-drop}
 use lib.Seq.{drop-cons, take-all}
 use Rattle.lists.specs.Lists.{every}
-use Rattle.lists.proofs.Bools.{by-cases}
-use Rattle.formats.specs.Tokens.{before, leading, startsWith}
+use Rattle.lists.proofs.Bools.{by-cases, and-left, and-right}
+use Rattle.formats.specs.Tokens.{before, leading, startsWith, isDigit}
 use Rattle.lexing.specs.declared.scan.Set.the-variants.{But}
 use Rattle.lexing.specs.Scan.{member}
 
@@ -42,6 +42,10 @@ unfolding every leading
 every-leading f [] = refl
 every-leading f (v ∷ vs) =
     by-cases (f v) (λ e. rw e (every-leading f vs ∙ sym (eqb·suc-suc (leading f vs) (length vs)))) (λ e. rw e (sym (ne-eqb 0 (suc (length vs)) (omega arith))))
+
+pub digit-unit : (u : ℕ) → T (isDigit u) → (48 ≤ u) × (u ≤ 57)
+unfolding isDigit
+digit-unit u d = (leb→le 48 u (and-left (leb 48 u) (leb u 57) d), leb→le u 57 (and-right (leb 48 u) (leb u 57) d))
 
 -- ---- words
 module _ (ws us : List ℕ) (i : ℕ) where

@@ -7,12 +7,16 @@ use mathlib.Core.List.{List, [], _∷_}
 use lib.ListN.{getD}
 use lib.Dec.{leb, eqb}
 use Rattle.lists.specs.Lists.{any}
-use Rattle.formats.specs.Tokens.{Letter, letterY, letterM, letterD, letterH, letterS, literal, bare, Step, read, broken, quoted, marked, generalWord, halfDayWord, exponentWord, runStep, bracketed, FirstRow, firstRows, bareLiterals}
+use Rattle.formats.specs.Tokens.{Place, zeroPlace, hashPlace, spacePlace, Letter, letterY, letterM, letterD, letterH, letterS, literal, bare, Step, read, broken, quoted, marked, generalWord, halfDayWord, exponentWord, placeStep, runStep, bracketed, FirstRow, firstRows, bareLiterals}
 use Rattle.marks.specs.Marks.{markToken}
 
 -- the letter of a run's form
 unfoldable pub letterAt : ℕ → Letter
 letterAt form = getD (letterY ∷ letterM ∷ letterD ∷ letterH ∷ []) (form - 15) letterS
+
+-- the place of a place's form
+unfoldable pub placeAt : ℕ → Place
+placeAt form = getD (zeroPlace ∷ hashPlace ∷ []) (form - 4) spacePlace
 
 -- the class of each row of `firstRows`, in its order
 unfoldable pub classNumbers : List ℕ
@@ -37,10 +41,11 @@ classStep k u us =
     cond (eqb k 0) (quoted us)
     (cond (eqb k 1) (read (bare u) 0)
     (cond (leb k 3) (marked (λ (v : ℕ). markToken k v us) us)
+    (cond (leb k 6) (placeStep (placeAt k) us)
     (cond (leb k 11) (read (markToken k 0 us) 0)
     (cond (eqb k 12) (generalWord (code "G" ∷ us))
     (cond (eqb k 13) (halfDayWord (code "A" ∷ us))
     (cond (eqb k 14) (marked (λ (v : ℕ). literal (v ∷ [])) us)
     (cond (leb k 19) (runStep (letterAt k) u us)
     (cond (eqb k 20) (bracketed us)
-    (cond (eqb k 22) (exponentWord (code "E" ∷ us)) broken)))))))))
+    (cond (eqb k 22) (exponentWord (code "E" ∷ us)) broken))))))))))

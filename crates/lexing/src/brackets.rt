@@ -5,20 +5,21 @@ use super::scan::Set;
 use super::scan::is_word;
 use super::scan::scan;
 use super::scan::starts_with;
+use super::scan::starts_with_any;
 use marks::forms::COLOUR;
 use marks::forms::CONDITION;
 use marks::forms::ELAPSED_HOURS;
 use marks::forms::ELAPSED_MINUTES;
 use marks::forms::ELAPSED_SECONDS;
 ghost use mathlib.Core.Path.{_≡_};
-ghost use mathlib.Core.Bool.{false, _||_};
+ghost use mathlib.Core.Bool.{false};
 ghost use mathlib.Core.List.{map};
 ghost use Prim.Native.Nat.{_-_, _≤_, _<_};
 ghost use lib.Dec.{T};
 ghost use lib.ListN.{length, take, getD};
 ghost use Rattle.calendar.specs.Names.{units};
 ghost use Rattle.lists.specs.Lists.{every, isSome};
-ghost use Rattle.formats.specs.Tokens.{equal, startsWith, same, isDigit, digitOf, numberFrom, colourNames, namedFrom, colourDigits, numbered, wholeOf, signedOf, conditionInside, insideOf, bracketed};
+ghost use Rattle.formats.specs.Tokens.{equal, same, isDigit, digitOf, numberFrom, colourNames, namedFrom, colourDigits, numbered, wholeOf, signedOf, conditionInside, insideOf, bracketed};
 ghost use Rattle.lexing.specs.Marks.{stepBehind, insideMeant, plainInside};
 ghost use Rattle.lexing.specs.Brackets.{colourMeant, isRunOf, isPointed};
 
@@ -133,13 +134,6 @@ fn is_run(inside: &[u16], u: u16) -> bool
         return false;
     }
     scan(inside, Set::Only(u)) == inside.len()
-}
-
-// One of the words stands at the start.
-fn starts_with_any(us: &[u16], a: &[u8], b: &[u8], c: &[u8]) -> bool
-    ensures { λ r. ⌜ r ≡ (startsWith (now (a .entry)) (now (us .entry)) || startsWith (now (b .entry)) (now (us .entry)) || startsWith (now (c .entry)) (now (us .entry))) ⌝ }
-{
-    starts_with(us, a) | starts_with(us, b) | starts_with(us, c)
 }
 
 // A point and digits.

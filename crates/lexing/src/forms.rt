@@ -4,6 +4,7 @@ use super::Step;
 use super::scan::Set;
 use super::scan::scan;
 use super::scan::starts_with;
+use super::scan::starts_with_any;
 use marks::forms::DAYS;
 use marks::forms::EXPONENT_MINUS;
 use marks::forms::EXPONENT_PLUS;
@@ -14,16 +15,35 @@ use marks::forms::LONG_HALF;
 use marks::forms::MONTHS;
 use marks::forms::SHORT_HALF;
 use marks::forms::YEARS;
+use marks::forms::ZERO_OVER;
+use marks::forms::ZERO_OVER_FIXED;
+use marks::forms::ZERO_PLACE;
+use values::integers::is_between;
+use values::integers::least;
 ghost use mathlib.Core.Path.{_≡_};
-ghost use mathlib.Core.List.{[], _∷_};
+ghost use mathlib.Core.List.{List, [], _∷_};
 ghost use Prim.Native.Nat.{ℕ, _+_, _≤_};
-ghost use lib.ListN.{length};
-ghost use Rattle.formats.specs.Tokens.{literal, quoted, marked, generalWord, halfDayWord, exponentWord, runAllowed, runStep};
+ghost use lib.ListN.{length, take};
+ghost use Rattle.formats.specs.Tokens.{literal, quoted, marked, generalWord, halfDayWord, exponentWord, runAllowed, runStep, leading, isDigit, fixedNumber, overStep, placeStep};
 ghost use Rattle.marks.specs.Marks.{markToken};
 ghost use Rattle.lexing.specs.Marks.{stepBehind};
-ghost use Rattle.lexing.specs.Classes.{letterAt};
+ghost use Rattle.lexing.specs.Classes.{letterAt, placeAt};
 
 const QUOTE: u16 = b'"' as u16;
+
+const SOLIDUS: u16 = b'/' as u16;
+
+const ZERO: u16 = b'0' as u16;
+
+const NINE: u16 = b'9' as u16;
+
+// From the form of a place to those of the same place over another one and over a fixed number.
+const TO_OVER: u16 = ZERO_OVER - ZERO_PLACE;
+
+const TO_OVER_FIXED: u16 = ZERO_OVER_FIXED - ZERO_PLACE;
+
+// A fixed number above 999 is told as this.
+const TOO_MUCH: usize = 1000;
 
 // Behind a quote: units up to the next one, and one at least.
 pub fn quoted_literal(us: &[u16]) -> Step
@@ -170,4 +190,62 @@ pub fn letter_run(us: &[u16], form: u16, u: u16) -> Step
         );
     }
     Step::Broken
+}
+
+// The number that the digits at the start write.
+fn fixed_number(us: &[u16]) -> u16
+    ensures { λ r. ⌜ r ≡ fixedNumber (take (leading isDigit (now (us .entry))) (now (us .entry))) ⌝ }
+{
+    let mut v: usize = 0;
+    let mut i: usize = 0;
+    while i < us.len() {
+        if is_between(ZERO, NINE, us[i]) {
+            v = least(TOO_MUCH, 10 * v + (us[i] - ZERO) as usize);
+            i += 1;
+        } else {
+            return v as u16;
+        }
+    }
+    v as u16
+}
+
+// Behind a place and a solidus: another place, a fixed number, or what makes a literal of the solidus.
+fn over_token(us: &[u16], form: u16) -> Step
+    requires { ⌜ (length (now us) ≤ 254) × (4 ≤ form) × (form ≤ 6) ⌝ }
+    ensures { λ r. ⌜ ((vs : List ℕ) → stepBehind vs r ≡ overStep (placeAt form) (now (us .entry))) ⌝ }
+{
+    if starts_with_any(us, b"0", b"#", b"?") {
+        return Step::Read(
+            Mark {
+                form: form + TO_OVER,
+                argument: 0,
+            },
+            1,
+        );
+    }
+    let digits = scan(us, Set::Digits);
+    if digits == 0 {
+        return Step::Read(Mark { form, argument: 0 }, 0);
+    }
+    Step::Read(
+        Mark {
+            form: form + TO_OVER_FIXED,
+            argument: fixed_number(us),
+        },
+        digits + 1,
+    )
+}
+
+// A place: with a solidus behind it perhaps more than a place.
+pub fn place_token(us: &[u16], form: u16) -> Step
+    requires { ⌜ (length (now us) ≤ 254) × (4 ≤ form) × (form ≤ 6) ⌝ }
+    ensures { λ r. ⌜ stepBehind (now (us .entry)) r ≡ placeStep (placeAt form) (now (us .entry)) ⌝ }
+{
+    if us.len() == 0 {
+        return Step::Read(Mark { form, argument: 0 }, 0);
+    }
+    if us[0] == SOLIDUS {
+        return over_token(&us[1..], form);
+    }
+    Step::Read(Mark { form, argument: 0 }, 0)
 }

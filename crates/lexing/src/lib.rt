@@ -19,12 +19,15 @@ use forms::general_word;
 use forms::half_day_word;
 use forms::letter_run;
 use forms::marked_unit;
+use forms::place_token;
 use forms::quoted_literal;
 use marks::forms::BARE;
 use marks::forms::BLANK;
 use marks::forms::FILL;
+use marks::forms::POINT;
 use marks::forms::SECONDS;
 use marks::forms::SEMICOLON;
+use marks::forms::SPACE_PLACE;
 use marks::forms::YEARS;
 use marks::forms::ZERO_PLACE;
 ghost use mathlib.Core.Path.{_≡_};
@@ -61,7 +64,8 @@ fn step_of(u: u16, us: &[u16]) -> Step
             0,
         ),
         BLANK..=FILL => marked_unit(us, class),
-        ZERO_PLACE..=SEMICOLON => Step::Read(
+        ZERO_PLACE..=SPACE_PLACE => place_token(us, class),
+        POINT..=SEMICOLON => Step::Read(
             Mark {
                 form: class,
                 argument: 0,

@@ -1,5 +1,6 @@
 // Scans of units: how many at the start are of a set, and whether a word stands there.
 ghost use mathlib.Core.Path.{_≡_};
+ghost use mathlib.Core.Bool.{_||_};
 ghost use Prim.Native.Nat.{_≤_};
 ghost use lib.ListN.{length};
 ghost use Rattle.formats.specs.Tokens.{leading, startsWith, same};
@@ -62,6 +63,13 @@ pub fn starts_with(us: &[u16], word: &[u8]) -> bool
         i += 1;
     }
     true
+}
+
+// One of the words stands at the start.
+pub fn starts_with_any(us: &[u16], a: &[u8], b: &[u8], c: &[u8]) -> bool
+    ensures { λ r. ⌜ r ≡ (startsWith (now (a .entry)) (now (us .entry)) || startsWith (now (b .entry)) (now (us .entry)) || startsWith (now (c .entry)) (now (us .entry))) ⌝ }
+{
+    starts_with(us, a) | starts_with(us, b) | starts_with(us, c)
 }
 
 // The units are the word.

@@ -9,15 +9,15 @@ use borrow.Author.Tests.{ne-eqb, le-leb, lt-leb}
 use lib.Dec.{leb, eqb}
 use Rattle.formats.proofs.ByNumber.{numbered, by-number}
 use Rattle.formats.specs.Tokens.{Token, literal}
-use Rattle.formats.specs.Kinds.{isPlace, isPoint, isSemicolon, isColour, isCondition, isExponent, isFillToken, colourIn, isSecondsToken, isZero}
+use Rattle.formats.specs.Kinds.{isPlace, isPoint, isSemicolon, isColour, isCondition, isExponent, isOver, isFillToken, colourIn, isSecondsToken, isZero}
 use Rattle.marks.specs.Marks.{markRows, markToken, conditionOf}
 
 -- what g says of a token is what h says of its form and argument: a computed test of the forms, and one of the literal without units
 module _ {B : Type 0} (g : Token → B) (h : ℕ → B) (a : ℕ) (us : List ℕ) where
-  pub by-form : map g (markRows a us) ≡ numbered h 0 27 → ((f : ℕ) → 27 ≤ f → g (literal []) ≡ h f)
+  pub by-form : map g (markRows a us) ≡ numbered h 0 33 → ((f : ℕ) → 33 ≤ f → g (literal []) ≡ h f)
       → (f : ℕ) → g (markToken f a us) ≡ h f
   unfolding markToken
-  by-form = by-number g h (markRows a us) 27 (literal [])
+  by-form = by-number g h (markRows a us) 33 (literal [])
 
 module _ (f a : ℕ) (us : List ℕ) where
   pub fill-form : isFillToken (markToken f a us) ≡ eqb f 3
@@ -55,6 +55,10 @@ module _ (f a : ℕ) (us : List ℕ) where
   pub exponent-form : isExponent (markToken f a us) ≡ (leb 25 f && leb f 26)
   unfolding markRows conditionOf
   exponent-form = by-form isExponent (λ (n : ℕ). leb 25 n && leb n 26) a us refl (λ n h. sym (simp (le-leb 25 n (omega arith), lt-leb n 26 (omega arith)))) f
+
+  pub over-form : isOver (markToken f a us) ≡ (leb 27 f && leb f 32)
+  unfolding markRows conditionOf
+  over-form = by-form isOver (λ (n : ℕ). leb 27 n && leb n 32) a us refl (λ n h. sym (simp (le-leb 27 n (omega arith), lt-leb n 32 (omega arith)))) f
 
   pub colour-argument : f ≡ 23 → colourIn (markToken f a us) ≡ a
   unfolding markToken markRows colourIn

@@ -5,7 +5,7 @@ use mathlib.Core.Bool.{false}
 use mathlib.Core.List.{List, [], _∷_}
 use mathlib.Core.Option.{Option, none, some}
 use lib.ListN.{take, drop, getD}
-use Rattle.formats.specs.Tokens.{zeroPlace, hashPlace, spacePlace, letterY, letterM, letterD, letterH, letterS, hours, minutes, seconds, short, long, ePlus, eMinus, equal, Written, Token, literal, bare, blank, fill, place, point, comma, percent, at, semicolon, general, half, run, elapsed, colour, condition, exponent, conditionInside, Placed}
+use Rattle.formats.specs.Tokens.{zeroPlace, hashPlace, spacePlace, letterY, letterM, letterD, letterH, letterS, hours, minutes, seconds, short, long, ePlus, eMinus, equal, Written, Token, literal, bare, blank, fill, place, point, comma, percent, at, semicolon, general, half, run, elapsed, colour, condition, exponent, over, overFixed, conditionInside, Placed}
 use Rattle.formats.specs.Kinds.{conditionIn}
 use Rattle.formats.specs.Accept.{tokensOf}
 
@@ -30,7 +30,8 @@ markRows a us =
     ∷ general ∷ half short ∷ half long
     ∷ run letterY a ∷ run letterM a ∷ run letterD a ∷ run letterH a ∷ run letterS a
     ∷ elapsed hours a ∷ elapsed minutes a ∷ elapsed seconds a ∷ colour a ∷ conditionOf (take a us)
-    ∷ exponent ePlus ∷ exponent eMinus ∷ []
+    ∷ exponent ePlus ∷ exponent eMinus
+    ∷ over zeroPlace ∷ over hashPlace ∷ over spacePlace ∷ overFixed zeroPlace a ∷ overFixed hashPlace a ∷ overFixed spacePlace a ∷ []
 
 -- the token of a form: its row, and a literal without units for a number that is no form
 unfoldable pub markToken : ℕ → ℕ → List ℕ → Token

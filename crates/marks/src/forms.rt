@@ -52,3 +52,16 @@ pub const CONDITION: u16 = 24;
 pub const EXPONENT_PLUS: u16 = 25;
 
 pub const EXPONENT_MINUS: u16 = 26;
+
+// A place with a solidus directly behind it, and one with a solidus and a fixed number, which is the argument.
+pub const ZERO_OVER: u16 = 27;
+
+pub const HASH_OVER: u16 = 28;
+
+pub const SPACE_OVER: u16 = 29;
+
+pub const ZERO_OVER_FIXED: u16 = 30;
+
+pub const HASH_OVER_FIXED: u16 = 31;
+
+pub const SPACE_OVER_FIXED: u16 = 32;

@@ -7,24 +7,25 @@ use native.Mathlib.Nat.{mod-eq-of-lt}
 use mathlib.Core.Path.{_≡_, refl, ap₂}
 use mathlib.Core.Bool.{Bool, true, false, cond, not, _&&_, _||_}
 use mathlib.Core.List.{List, [], _∷_, _++_, map, flatten}
-use lib.ListN.{length, getD, take}
+use lib.ListN.{length, getD, take, drop, replicate}
 use lib.Dec.{T, leb, ltb, eqb, leb→le, le→leb}
-use Rattle.lists.specs.Lists.{every, isEmpty}
+use Rattle.lists.specs.Lists.{every, count, isEmpty}
 use Rattle.lists.proofs.Bools.{and-left, and-right, true-T, cond-both, cond-case, every-head, every-tail, every-cons, every-append, every-take, every-drop}
 use Rattle.lists.proofs.Counts.{every-map, every-weaker}
 use Rattle.lists.proofs.Tables.{each-passes}
 use Rattle.figures.specs.Digits.{digit, digitUnit, digitUnits, width, numeral}
 use Rattle.figures.specs.General.{generalTooWide, withoutEndZeros, pointed, generalUnits}
 use Rattle.calendar.specs.Names.{units, monthNames, weekdayNames, monthName, weekdayName, shortName, firstLetter}
-use Rattle.formats.specs.Tokens.{before, startsWith, Token, Place, HalfDay, Letter, ExponentMark}
-use Rattle.formats.specs.Items.{Item, itemRow, literal, blank, fill, place, point, percent, general, at, year, month, day, hour, minute, second, part, elapsed, half, Section, kindOf, exponent, beforeE, fromE, sameKind, scientificKind}
+use Rattle.formats.specs.Tokens.{before, startsWith, Token, Place, hashPlace, HalfDay, Letter, ExponentMark}
+use Rattle.formats.specs.Items.{Item, itemRow, literal, blank, fill, place, point, percent, general, at, year, month, day, hour, minute, second, part, elapsed, half, exponent, solidus, fixed, Section, kindOf, sameKind, scientificKind, fractionKind, isPlace, isSpace, isSolidus, isFixed, beforeCut, fromCut, integerPlaces, startPlaces, behindStart, numeratorItems, wholeItems, mainItems}
 use Rattle.formats.specs.Kinds.{Parts, sectionOf, tokenItems, runItem}
 use Rattle.formats.specs.Accept.{partsIn, sectionsIn, Verdict, fine, refused as wrong, verdict, acceptedBy, accept}
 use Rattle.formats.specs.Where.{isText}
 use Rattle.formats.specs.Choice.{numberExact, instantExact, Choice, nothing, chosen, choose, TextChoice, itself, textIn, fourthFrom, textFrom, chooseText}
-use Rattle.formats.specs.Reading.{Look, Reading, refused, within, takesNumber, takesInstant, showsGeneral, standingRounded, numberContext, instantContext, textContext, numberUnits, readNumber, readInstant, readText, readValue, reading, readAccepted, codeReading, sectionText, exponentContext}
+use Rattle.formats.specs.Reading.{Look, Reading, refused, within, takesNumber, takesInstant, showsGeneral, standingRounded, numberContext, instantContext, textContext, numberUnits, readNumber, readInstant, readText, readValue, reading, readAccepted, codeReading, sectionText, sectionFraction, wholeContext, exponentContext, wholeText, isParted, sparePlaces, spaceless, denominatorUnits, belowUnits, blanked, fractionUnits}
 use Rattle.answers.specs.declared.Answer.{Answer}
 use Rattle.answers.specs.declared.Answer.the-variants as answer
+use Rattle.fractions.specs.declared.Mixed.{Mixed}
 use Rattle.values.specs.declared.Number.{Number}
 use Rattle.values.specs.declared.Day.{Day}
 use Rattle.values.specs.declared.Millisecond.{Millisecond}
@@ -52,7 +53,8 @@ use Rattle.formats.specs.Minus.{Sign, minus, notNegative, noItem, forNegatives,
 use Rattle.formats.specs.Text.{Context, insignificant, idleUnits, endsGroup, withSeparator, figureUnits, extraUnits, placeUnits, pointUnits, yearUnits, namedUnits, partUnits, halfUnits, itemUnits, digitAfter, itemsUnits, sectionUnits, along, exponentUnits, firstOf}
 use Rattle.formats.proofs.TokenRanges.{tokenPasses, partsPass, parts-pass, items-pass}
 use Rattle.formats.proofs.FormedItems.{settled-kept}
-use Rattle.formats.proofs.Cutting.{cut-every}
+use Rattle.formats.proofs.Cutting.{every-before, every-from, whole-joins}
+use Rattle.formats.proofs.FractionParts.{place-case, every-parts, numerator-places, start-joins}
 
 abbrev pub Ascii : List ℕ → Type 0
 Ascii us = T (every isAscii us)
@@ -178,6 +180,8 @@ item-ascii c s q (part n) t = digits-ascii n _
 item-ascii c s q (elapsed e n) t = numeral-ascii n _
 item-ascii c s q (half h) t = half-ascii h _
 item-ascii c s q (exponent m) t = exponent-ascii m (c .below)
+item-ascii c s q solidus t = tt
+item-ascii c s q (fixed n) t = numeral-ascii 1 n
 
 items-ascii : (c : Context) → Ascii (c .standing) → (q : ℕ) (is : List Item) → T (every literalAscii is) → Ascii (itemsUnits c q is)
 unfolding itemsUnits every along flatten
@@ -204,10 +208,11 @@ token-ascii : (d : Bool) (t : Token) → T (tokenPasses isAscii t) → T (every 
 unfolding every literalAscii tokenItems tokenPasses isAscii
 token-ascii d =
     by-token (λ (t : Token). T (tokenPasses isAscii t) → T (every literalAscii (tokenItems d t)))
-    (λ us h. rw (every-map literalAscii literal us) h) (λ u h. every-cons literalAscii (literal u) [] h tt) (λ u h. tt) (λ u h. tt) (λ p h. tt)
+    (λ us h. rw (every-map literalAscii literal us) (and-left (every isAscii us) (not (isEmpty us)) h))
+    (λ u h. every-cons literalAscii (literal u) [] h tt) (λ u h. tt) (λ u h. tt) (λ p h. tt)
     (λ h. cond-both (λ (i : Item). T (every literalAscii (i ∷ []))) d {x = literal 46} {y = point} tt tt)
     (λ h. cond-both (λ (is : List Item). T (every literalAscii is)) d {x = literal 44 ∷ []} {y = []} tt tt)
-    (λ h. tt) (λ h. tt) (λ h. tt) (λ h. tt) (λ x h. tt) (λ l n h. run-ascii l n) (λ e n h. tt) (λ n h. tt) (λ w h. tt) (λ m h. tt)
+    (λ h. tt) (λ h. tt) (λ h. tt) (λ h. tt) (λ x h. tt) (λ l n h. run-ascii l n) (λ e n h. tt) (λ n h. tt) (λ w h. tt) (λ m h. tt) (λ p h. tt) (λ p n h. tt)
 
 abbrev sectionAscii : Section → Bool
 sectionAscii s = every literalAscii (s .items)
@@ -251,17 +256,62 @@ shown-ascii : (c : Context) (is : List Item) → Ascii (c .standing) → T (ever
 unfolding sectionUnits
 shown-ascii c is t h = items-ascii c t (firstOf (c .integerPlaces)) is h
 
+-- ---- a fraction: each of its parts shows a whole number
+whole-ascii : (n : ℕ) (is : List Item) → T (every literalAscii is) → Ascii (wholeText n is)
+unfolding wholeContext every
+whole-ascii n is t = shown-ascii (wholeContext n (integerPlaces is) false) is tt t
+
+every-copies : {A : Type 0} (f : A → Bool) (x : A) → T (f x) → (n : ℕ) → T (every f (replicate n x))
+unfolding every
+every-copies f x t zero = tt
+every-copies f x t (suc n) = every-cons f x (replicate n x) t (every-copies f x t n)
+
+spaceless-ascii : (i : Item) → T (literalAscii i) → T (literalAscii (spaceless i))
+unfolding literalAscii spaceless
+spaceless-ascii i t = cond-both (λ (j : Item). T (literalAscii j)) (isSpace i) {x = place hashPlace} tt t
+
+denominator-ascii : (d : ℕ) (is : List Item) → T (every literalAscii is) → Ascii (denominatorUnits d is)
+unfolding denominatorUnits isAscii
+denominator-ascii d is t =
+    every-append isAscii (wholeText d (map spaceless is)) _
+    (whole-ascii d (map spaceless is) (rw (every-map literalAscii spaceless is) (every-weaker literalAscii _ spaceless-ascii is t)))
+    (every-copies isAscii 32 tt (count isSpace (sparePlaces d is)))
+
+below-ascii : (d : ℕ) (is : List Item) → T (every literalAscii is) → Ascii (belowUnits d is)
+unfolding belowUnits
+below-ascii d is t =
+    let js : List Item = drop 1 is in
+    let (places, behind) = every-parts literalAscii (startPlaces js) (behindStart js) (start-joins js) (every-drop literalAscii 1 is t) in
+    search (every-append isAscii, whole-ascii, denominator-ascii, every-take literalAscii)
+
+blanked-ascii : (is : List Item) → T (every literalAscii is) → T (every literalAscii (flatten (map blanked is)))
+unfolding flatten blanked literalAscii every
+blanked-ascii [] t = tt
+blanked-ascii (i ∷ is) t =
+    let P : List Item → Type 0 = λ (js : List Item). T (every literalAscii js) in
+    every-append literalAscii (blanked i) (flatten (map blanked is))
+    (cond-both P (isPlace i || isSolidus i) tt
+    (cond-both P (isFixed i) (every-copies literalAscii (blank 32) tt (width (itemRow i .argument))) (every-cons literalAscii i [] (every-head literalAscii i is t) tt)))
+    (blanked-ascii is (every-tail literalAscii i is t))
+
+fraction-ascii : (f : Mixed) (is : List Item) → T (every literalAscii is) → Ascii (fractionUnits f is)
+unfolding fractionUnits literalAscii
+fraction-ascii f is t =
+    let (integers, main) = every-parts literalAscii (wholeItems is) (mainItems is) (whole-joins is) t in
+    let above = every-weaker isPlace literalAscii (place-case (λ (i : Item). T (literalAscii i)) (λ p. tt)) (numeratorItems is) (numerator-places is) in
+    every-append isAscii (wholeText (f .whole) (wholeItems is)) _ (whole-ascii (f .whole) (wholeItems is) integers)
+    (cond-both Ascii (isParted is && eqb (f .above) 0) (whole-ascii 0 _ (blanked-ascii (mainItems is) main))
+    (search (every-append isAscii, whole-ascii, below-ascii, every-from literalAscii)))
+
 number-ascii : (s : Section) (x : Number) → T (sectionAscii s) → Ascii (sectionText s x)
-unfolding sectionText numberContext exponentContext every
+unfolding sectionText numberContext exponentContext wholeContext every
 number-ascii s x t =
     let is : List Item = s .items in
-    let c : T (every literalAscii (beforeE is) && every literalAscii (fromE is)) = rw (cut-every literalAscii is) at t in
     let standing : Ascii (generalUnits (standingRounded x)) = general-ascii (standingRounded x) in
     cond-both Ascii (sameKind (kindOf s) scientificKind)
-    (every-append isAscii (sectionUnits (numberContext s x) (beforeE is)) (sectionUnits (exponentContext s x) (fromE is))
-    (shown-ascii (numberContext s x) (beforeE is) standing (and-left (every literalAscii (beforeE is)) (every literalAscii (fromE is)) c))
-    (shown-ascii (exponentContext s x) (fromE is) tt (and-right (every literalAscii (beforeE is)) (every literalAscii (fromE is)) c)))
-    (shown-ascii (numberContext s x) is standing t)
+    (every-append isAscii (sectionUnits (numberContext s x) (beforeCut is)) _ (shown-ascii (numberContext s x) (beforeCut is) standing (every-before literalAscii is t))
+    (shown-ascii (exponentContext s x) (fromCut is) tt (every-from literalAscii is t)))
+    (cond-both Ascii (sameKind (kindOf s) fractionKind) (fraction-ascii (sectionFraction s x) is t) (shown-ascii (numberContext s x) is standing t))
 
 -- the section that takes a text
 abbrev TextPasses : TextChoice → Type 0

@@ -3,15 +3,15 @@
 use Prim.Native.Nat.{ℕ, suc, _-_, _≤_, _<_}
 use native.Mathlib.Omega.{arith}
 use mathlib.Core.Path.{_≡_, refl, sym}
-use mathlib.Core.Bool.{Bool, true, false, true≢false}
+use mathlib.Core.Bool.{Bool, true, false, true≢false, _||_}
 use mathlib.Core.List.{List}
 use lib.Dec.{T, leb, eqb, eqb→eq}
 use borrow.Author.Tests.{le-leb, leb-false}
 use Rattle.lists.proofs.Bools.{no, by-cases}
 use Rattle.values.specs.Ranges.{between}
-use Rattle.formats.specs.Items.{Item, Kind, dateKind, scientificKind, sameKind, showsPlaces, itemAllowed, isExponent}
+use Rattle.formats.specs.Items.{Item, point, Kind, dateKind, scientificKind, fractionKind, sameKind, showsPlaces, itemAllowed, isCut, isFixed}
 use Rattle.formats.specs.Text.{Context, itemUnits, placeUnits, exponentUnits}
-use Rattle.formats.proofs.Cutting.{exponent-case}
+use Rattle.formats.proofs.Each.{by-item, by-kind}
 use Rattle.tables.specs.Words.{Entry}
 use Rattle.tables.specs.Encode.{entry}
 use Rattle.tables.specs.Decode.{itemAt}
@@ -70,16 +70,24 @@ module _ (tag a : ℕ) (b : (4 ≤ tag) × (tag ≤ 6)) where
   place-put {c = c} k q i f put =
       let e : a - 1 ≡ q = omega (arith, place-power k q f) in rw (place-units c q) (rw e at (put c (i .numeric (place-held k q f))))
 
+-- a section that holds a point shows places
+pub point-held : (k : Kind) → T (itemAllowed k point) → T (showsPlaces k)
+unfolding itemAllowed
+point-held = by-kind (λ (k : Kind). T (itemAllowed k point) → T (showsPlaces k)) absurd absurd absurd (λ t. tt) absurd (λ t. tt) absurd
+
 -- an item that is put where the date is known if the item shows it, is put where it is known if some item does
 pub dated-put : {m old out : List ℕ} {at r : ℕ} {dated : Bool} (e : Entry) → (datedEntry e ≡ true → dated ≡ true)
     → ItemPut (DatedIs m (datedEntry e)) e old at r out → ItemPut (DatedIs m dated) e old at r out
 dated-put e h p c k q i f = p c k q (i .0, record { clock = i .1 .clock; date = λ t. i .1 .date (h t) }) f
 
--- a date-time section holds no E
-pub dated-bare : (k : Kind) (q : ℕ) (e : Entry) → k ≡ dateKind → EntryFits k q e → isExponent (itemAt e) ≡ false
+-- a date-time section holds no E, no solidus and no fixed number
+pub dated-bare : (k : Kind) (q : ℕ) (e : Entry) → k ≡ dateKind → EntryFits k q e → (isCut (itemAt e) || isFixed (itemAt e)) ≡ false
 unfolding itemAllowed
 dated-bare k q e d f =
-    exponent-case (λ (i : Item). T (itemAllowed dateKind i) → isExponent i ≡ false) (λ m. absurd) (λ i b t. b) (itemAt e) (rw d at (f .allowed))
+    by-item (λ (i : Item). T (itemAllowed dateKind i) → (isCut i || isFixed i) ≡ false)
+    (λ u t. refl) (λ u t. refl) (λ u t. refl) (λ p t. refl) (λ t. refl) (λ t. refl) (λ t. refl) (λ t. refl)
+    (λ n t. refl) (λ n t. refl) (λ n t. refl) (λ n t. refl) (λ n t. refl) (λ n t. refl) (λ n t. refl) (λ e n t. refl) (λ h t. refl)
+    (λ m. absurd) absurd (λ n. absurd) (itemAt e) (rw d at (f .allowed))
 
 -- of the tags from a fill's up to that of `@` a date-time section holds the fill's
 pub dated-fill : (k : Kind) (q tag a : ℕ) → k ≡ dateKind → 3 ≤ tag → tag ≤ 10 → EntryFits k q (entry tag a) → tag ≡ 3
@@ -88,32 +96,34 @@ dated-fill k q tag a e least most f =
     span-at (λ (t : ℕ). T (itemAllowed dateKind (itemAt (entry t a))) → t ≡ 3) 3 8 tag
     ((λ h. refl), (absurd, (absurd, (absurd, (absurd, (absurd, (absurd, (absurd, tt)))))))) least (omega arith) (rw e at (f .allowed))
 
--- a tag that is none of the first ten, no place's and none that the arms of a `match` have beside them, is one of a date-time section or an E's
+-- a tag that is none of the first ten, no place's and none that the arms of a `match` have beside them, is one of a date-time section, an E's, or
+-- a fraction's
 pub late-other : (k : Kind) (q tag a : ℕ) → T (entryInRange (entry tag a)) → between 4 6 tag ≡ false
     → (((Apart tag 1 3 × (¬ (tag ≡ 7))) × (¬ (tag ≡ 8))) × (¬ (tag ≡ 9))) × (¬ (tag ≡ 10)) → EntryFits k q (entry tag a)
-    → sameKind dateKind k ≡ false → sameKind scientificKind k ≡ false → ⊥
+    → sameKind dateKind k ≡ false → sameKind scientificKind k ≡ false → sameKind fractionKind k ≡ false → ⊥
 unfolding itemAt itemAllowed
-late-other k q tag a t e o f undated unscientific =
+late-other k q tag a t e o f undated unscientific unfractional =
     let known = tag-known (entry tag a) t in
     let low = past tag 1 3 (known .0) (o .0 .0 .0 .0) in
     let high : 6 < tag = by-cases (leb tag 6) (λ h. no (sym (rw (le-leb 4 tag low, h) at e))) (λ h. leb-false tag 6 h) in
     let late = past-ten tag high (o .0 .0 .0 .1) (o .0 .0 .1) (o .0 .1) (o .1) in
     let d : T (sameKind dateKind k) → ⊥ = λ h. rw undated at h in
     let x : T (sameKind scientificKind k) → ⊥ = λ h. rw unscientific at h in
-    span-at (λ (t : ℕ). T (itemAllowed k (itemAt (entry t a))) → ⊥) 11 13 tag
-    (d, (d, (d, (d, (d, (d, (d, (d, (d, (d, (d, (x, (x, tt))))))))))))) late (omega (arith, known .1)) (f .allowed)
+    let y : T (sameKind fractionKind k) → ⊥ = λ h. rw unfractional at h in
+    span-at (λ (t : ℕ). T (itemAllowed k (itemAt (entry t a))) → ⊥) 11 15 tag
+    (d, (d, (d, (d, (d, (d, (d, (d, (d, (d, (d, (x, (x, (y, (y, tt))))))))))))))) late (omega (arith, known .1)) (f .allowed)
   where
     past-ten : (n : ℕ) → 6 < n → ¬ (n ≡ 7) → ¬ (n ≡ 8) → ¬ (n ≡ 9) → ¬ (n ≡ 10) → 11 ≤ n
     past-ten n h a b c d = omega arith
 
 -- ---- from the E on
--- an E by its tag
-pub mark-units : (tag a : ℕ) (c : Context) (q : ℕ) → 22 ≤ tag → T (entryInRange (entry tag a))
+-- an E by its tag: a scientific section holds no solidus and no fixed number
+pub mark-units : (tag a : ℕ) (c : Context) (k : Kind) (q : ℕ) → k ≡ scientificKind → 22 ≤ tag → T (entryInRange (entry tag a)) → EntryFits k q (entry tag a)
     → itemUnits c q (itemAt (entry tag a)) ≡ exponentUnits (markOfTag tag) (c .below)
-unfolding itemUnits itemAt markOfTag
-mark-units tag a c q least t =
-    span-at (λ (n : ℕ). itemUnits c q (itemAt (entry n a)) ≡ exponentUnits (markOfTag n) (c .below)) 22 2 tag
-    (refl, (refl, tt)) least (omega (arith, tag-known (entry tag a) t))
+unfolding itemUnits itemAt itemAllowed markOfTag
+mark-units tag a c k q e least t f =
+    span-at (λ (n : ℕ). T (itemAllowed scientificKind (itemAt (entry n a))) → itemUnits c q (itemAt (entry n a)) ≡ exponentUnits (markOfTag n) (c .below)) 22 4 tag
+    ((λ h. refl), ((λ h. refl), (absurd, (absurd, tt)))) least (omega (arith, tag-known (entry tag a) t)) (rw e at (f .allowed))
 
 -- a scientific section holds the fill alone of the items that the arms of the `match` leave
 pub power-fill : (k : Kind) (q tag a : ℕ) → k ≡ scientificKind → T (entryInRange (entry tag a)) → between 4 6 tag ≡ false → tag < 22

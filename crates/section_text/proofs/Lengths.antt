@@ -155,8 +155,10 @@ module _ (c : Context) (k : Kind) (n : ℕ) (h : 82 ≤ n) (g : T (itemAllowed k
       (λ e m r f. omega (arith, run-short m 9 (elapsedCount e (c .elapsed)) (omega arith) r))
       (λ d r f. omega (arith, half-length d (afternoon (c .clock .hour))))
       (λ m r f. omega (arith, exponent-length m (c .below)))
+      (λ r f. omega arith)
+      (λ m r f. omega (arith, numeral-short 1 m (omega arith)))
 
-  items-short : (q : ℕ) (is : List Item) → T (every itemInRange is) → T (every (itemAllowed k) is) → length (itemsUnits c q is) ≤ n * length is
+  pub items-short : (q : ℕ) (is : List Item) → T (every itemInRange is) → T (every (itemAllowed k) is) → length (itemsUnits c q is) ≤ n * length is
   unfolding itemsUnits along flatten
   items-short q [] r f = omega arith
   items-short q (i ∷ is) r f =
@@ -164,7 +166,7 @@ module _ (c : Context) (k : Kind) (n : ℕ) (h : 82 ≤ n) (g : T (itemAllowed k
       let later = items-short (digitAfter (firstOf (c .integerPlaces)) q i) is (every-tail itemInRange i is r) (every-tail (itemAllowed k) i is f) in
       rw (mul-suc n (length is), length-append (itemUnits c q i) (itemsUnits c (digitAfter (firstOf (c .integerPlaces)) q i) is)) (omega (arith, here, later))
 
-  words-short : (q : ℕ) (words : List ℕ) → EntriesFit k c q (entriesIn words) → length (itemsUnits c q (itemsAt (entriesIn words))) ≤ n * (length words / 2)
+  pub words-short : (q : ℕ) (words : List ℕ) → EntriesFit k c q (entriesIn words) → length (itemsUnits c q (itemsAt (entriesIn words))) ≤ n * (length words / 2)
   unfolding entriesIn itemsAt
   words-short q words f =
       rw (length-map (entriesIn words) itemAt, entriesAt-length (length words / 2) words) at

@@ -4,5 +4,12 @@ pub mod Walking
 pub mod Fitting
 pub mod Exponents
 pub mod Cuts
-pub mod Scientific
 pub mod Bodies
+pub mod Scientific
+pub mod Segments
+pub mod FixedNumbers
+pub mod Loose
+pub mod Denominators
+pub mod Spaces
+pub mod Fractions
+pub mod Parts

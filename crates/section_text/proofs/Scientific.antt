@@ -3,52 +3,53 @@
 use Prim.Native.Nat.{ℕ, _+_, _-_, _*_, _^_, _≤_, _<_}
 use native.Mathlib.Omega.{arith}
 use mathlib.Core.Path.{_≡_, refl, sym, ap, _∙_}
-use mathlib.Core.Bool.{Bool, true, false, true≢false, _&&_}
+use mathlib.Core.Bool.{Bool, false, true≢false, not, _&&_, _||_}
 use mathlib.Core.List.{List, [], _∷_, _++_}
 use lib.Dec.{T}
 use lib.ListN.{length, take, drop, length-take, length-drop, length-append}
-use lib.Seq.{take-all}
 use Rattle.answers.specs.declared.Shown.{Shown}
 use Rattle.lists.specs.Lists.{any, every, count}
-use Rattle.lists.proofs.Bools.{no, by-cases, and-left, and-right, every-head, every-tail, every-cons, carry}
+use Rattle.lists.proofs.Bools.{no, by-cases, T-true, and-left, and-right, every-head, every-tail, every-cons, carry}
 use Rattle.lists.proofs.Counts.{every-both}
 use Rattle.calendar.specs.Date.{dateOf}
 use Rattle.calendar.specs.Clock.{clockOf}
-use Rattle.formats.specs.Items.{Item, Section, numberKind, scientificKind, kindOf, itemAllowed, isPlace, isExponent, beforeE, fromE, integerPlaces, exponentPlaces}
+use Rattle.formats.specs.Items.{Item, exponent, Section, numberKind, scientificKind, fractionKind, kindOf, itemAllowed, isPlace, isSolidus, isFixed, isCut, beforeCut, fromCut, integerPlaces, placesBehind}
 use Rattle.formats.specs.Text.{Context, itemsUnits, sectionUnits, firstOf}
 use Rattle.formats.specs.Reading.{lookOf, within}
 use Rattle.formats.proofs.Each.{by-item}
-use Rattle.formats.proofs.Cutting.{before-bare, every-before, every-from, Cut, cut, scientific-some}
+use Rattle.formats.proofs.Cutting.{before-bare, every-before, every-from, Cut, cut, scientific-some, no-solidus}
 use Rattle.tables.specs.Words.{entriesIn}
 use Rattle.tables.specs.Decode.{itemsAt}
 use Rattle.tables.specs.Rules.{entryInRange, powersFrom}
 use Rattle.table_words.specs.Sections.{ItemsOf}
 use Rattle.section_text.specs.declared.Subject.{Subject}
 use Rattle.section_text.specs.declared.Power.{Power}
+use Rattle.table_words.specs.Runs.{CutAt}
 use Rattle.section_text.specs.Walk.{EntriesFit, Known}
-use Rattle.section_text.specs.Power.{CutAt, ScientificReady, OfScientific}
+use Rattle.section_text.specs.Power.{ScientificReady, OfScientific}
 use Rattle.section_text.specs.Show.{signText, scientificReading, Shows}
 use Rattle.section_text.proofs.Lengths.{subject-short, power-short}
 use Rattle.section_text.proofs.Fitting.{sign-short}
+use Rattle.table_words.proofs.Cuts.{rest-all}
 use Rattle.section_text.proofs.Cuts.{powers-anew, powers-front, powers-behind}
+use Rattle.section_text.proofs.Bodies.{items-powers}
 
--- what a scientific section holds beside the E a number section may hold
-plain-held : (i : Item) → isExponent i ≡ false → T (itemAllowed scientificKind i) → T (itemAllowed numberKind i)
+-- what a scientific section holds beside the E, or a fraction beside the solidus and the fixed number, a number section may hold
+plain-held : (i : Item) → isCut i ≡ false → T (itemAllowed scientificKind i || (itemAllowed fractionKind i && not (isFixed i))) → T (itemAllowed numberKind i)
 unfolding itemAllowed
 plain-held =
-    by-item (λ (i : Item). isExponent i ≡ false → T (itemAllowed scientificKind i) → T (itemAllowed numberKind i))
+    by-item (λ (i : Item). isCut i ≡ false → T (itemAllowed scientificKind i || (itemAllowed fractionKind i && not (isFixed i))) → T (itemAllowed numberKind i))
     (λ u e t. tt) (λ u e t. tt) (λ u e t. tt) (λ p e t. tt) (λ e t. tt) (λ e t. tt) (λ e. absurd) (λ e. absurd)
     (λ n e. absurd) (λ n e. absurd) (λ n e. absurd) (λ n e. absurd) (λ n e. absurd) (λ n e. absurd) (λ n e. absurd) (λ d n e. absurd) (λ h e. absurd)
-    (λ m e t. absurd (true≢false e))
+    (λ m e t. absurd (true≢false e)) (λ e t. absurd (true≢false e)) (λ n e. absurd)
 
-plain-allowed : (is : List Item) → any isExponent is ≡ false → T (every (itemAllowed scientificKind) is) → T (every (itemAllowed numberKind) is)
+pub plain-allowed : (f : Item → Bool) → ((i : Item) → T (f i) → T (itemAllowed scientificKind i || (itemAllowed fractionKind i && not (isFixed i))))
+    → (is : List Item) → any isCut is ≡ false → T (every f is) → T (every (itemAllowed numberKind) is)
 unfolding any every
-plain-allowed [] bare t = tt
-plain-allowed (i ∷ is) bare t =
-    by-cases (isExponent i) (λ e. absurd (true≢false (rw e at bare)))
-    (λ e.
-    every-cons (itemAllowed numberKind) i is (plain-held i e (every-head (itemAllowed scientificKind) i is t))
-    (plain-allowed is (rw e at bare) (every-tail (itemAllowed scientificKind) i is t)))
+plain-allowed f h [] bare t = tt
+plain-allowed f h (i ∷ is) bare t =
+    by-cases (isCut i) (λ e. absurd (true≢false (rw e at bare)))
+    (λ e. every-cons (itemAllowed numberKind) i is (plain-held i e (h i (every-head f i is t))) (plain-allowed f h is (rw e at bare) (every-tail f i is t)))
 
 -- a room that surely takes the text of the two parts
 pub scientific-short : {digits : List ℕ} {s : Subject} {p : Power} (minus : Bool) (before from : List ℕ) (size : ℕ) → s .lent ≡ false
@@ -74,7 +75,8 @@ powerContext size below places = record {
   below = below;
 }
 
-module _ {z : Section} {words : List ℕ} {start : ℕ} (o : ItemsOf z words) (k : kindOf z ≡ scientificKind) (x : CutAt words start) where
+module _ {z : Section} {words : List ℕ} {start : ℕ} (o : ItemsOf z words) (k : kindOf z ≡ scientificKind)
+    (x : CutAt words start (beforeCut (itemsAt (entriesIn words))) (fromCut (itemsAt (entriesIn words)))) where
   -- the two parts as the code takes them
   abbrev before : List ℕ
   before = take start words
@@ -83,13 +85,13 @@ module _ {z : Section} {words : List ℕ} {start : ℕ} (o : ItemsOf z words) (k
   from = take (length words - start) (drop start words)
 
   whole : from ≡ drop start words
-  whole = take-all (length words - start) (drop start words) (omega (arith, length-drop start words))
+  whole = rest-all start words
 
-  before-items : itemsAt (entriesIn before) ≡ beforeE (z .items)
-  before-items = x .before ∙ ap beforeE (sym (o .items))
+  before-items : itemsAt (entriesIn before) ≡ beforeCut (z .items)
+  before-items = x .before ∙ ap beforeCut (sym (o .items))
 
-  from-items : itemsAt (entriesIn from) ≡ fromE (z .items)
-  from-items = ap (λ (ws : List ℕ). itemsAt (entriesIn ws)) whole ∙ x .from ∙ ap fromE (sym (o .items))
+  from-items : itemsAt (entriesIn from) ≡ fromCut (z .items)
+  from-items = ap (λ (ws : List ℕ). itemsAt (entriesIn ws)) whole ∙ x .from ∙ ap fromCut (sym (o .items))
 
   joined : entriesIn words ≡ entriesIn before ++ entriesIn from
   joined = x .joins ∙ ap (λ (ws : List ℕ). entriesIn before ++ entriesIn ws) (sym whole)
@@ -100,40 +102,43 @@ module _ {z : Section} {words : List ℕ} {start : ℕ} (o : ItemsOf z words) (k
   held : T (every (itemAllowed scientificKind) (z .items))
   held = rw (← o .items, k) at (o .allowed)
 
-  powers : T (powersFrom (firstOf (exponentPlaces (z .items))) (firstOf (integerPlaces (z .items))) (entriesIn before ++ entriesIn from))
-  powers = carry (ap (powersFrom (firstOf (exponentPlaces (z .items))) (firstOf (integerPlaces (z .items)))) joined) (o .powers)
+  no-slash : any isSolidus (z .items) ≡ false
+  no-slash = no-solidus scientificKind (z .items) refl held
+
+  powers : T (powersFrom (firstOf (placesBehind (z .items))) (firstOf (integerPlaces (z .items))) (entriesIn before ++ entriesIn from))
+  powers = carry (ap (powersFrom (firstOf (placesBehind (z .items))) (firstOf (integerPlaces (z .items)))) joined) (items-powers o (rw (← o .items) no-slash))
 
   -- before the E, whatever the context
   pub mantissa-fit : (m : Context) → EntriesFit numberKind m (firstOf (integerPlaces (z .items))) (entriesIn before)
   mantissa-fit m =
-      let bare : any isExponent (itemsAt (entriesIn before)) ≡ false = ap (any isExponent) before-items ∙ before-bare (z .items) in
+      let bare : any isCut (itemsAt (entriesIn before)) ≡ false = ap (any isCut) before-items ∙ before-bare (z .items) in
       record {
         inRange = and-left (every entryInRange (entriesIn before)) (every entryInRange (entriesIn from)) in-range;
-        allowed = rw before-items (plain-allowed (beforeE (z .items)) (before-bare (z .items)) (every-before (itemAllowed scientificKind) (z .items) held));
+        allowed = rw before-items (plain-allowed (itemAllowed scientificKind) (λ i t. rw (T-true (itemAllowed scientificKind i) t) tt) (beforeCut (z .items)) (before-bare (z .items)) (every-before (itemAllowed scientificKind) (z .items) held));
         powers = carry (powers-anew _ (firstOf (m .integerPlaces)) _ (entriesIn before) bare) (powers-front _ _ (entriesIn before) (entriesIn from) powers);
       }
 
   -- from the E on, in a context with the exponent's places
-  pub power-fit : (c : Context) → c .integerPlaces ≡ exponentPlaces (z .items) → EntriesFit scientificKind c (firstOf (exponentPlaces (z .items))) (entriesIn from)
+  pub power-fit : (c : Context) → c .integerPlaces ≡ placesBehind (z .items) → EntriesFit scientificKind c (firstOf (placesBehind (z .items))) (entriesIn from)
   unfolding kindOf
   power-fit c places =
-      let at : Cut (z .items) = cut (z .items) (scientific-some (z .items) k) in
+      let at : Cut (z .items) = cut (z .items) no-slash (scientific-some (z .items) k) in
       record {
         inRange = and-right (every entryInRange (entriesIn before)) (every entryInRange (entriesIn from)) in-range;
         allowed = rw from-items (every-from (itemAllowed scientificKind) (z .items) held);
-        powers = rw places (powers-behind _ _ _ (entriesIn before) (entriesIn from) (at .mark) (at .behind) (from-items ∙ at .from) powers);
+        powers = rw places (powers-behind _ _ _ (entriesIn before) (entriesIn from) (exponent (at .mark)) (at .behind) refl (from-items ∙ at .from) powers);
       }
 
   -- the places that the code counts
-  pub power-places : {n : ℕ} → n ≡ count isPlace (itemsAt (entriesIn from)) → n ≡ exponentPlaces (z .items)
-  unfolding exponentPlaces
+  pub power-places : {n : ℕ} → n ≡ count isPlace (itemsAt (entriesIn from)) → n ≡ placesBehind (z .items)
+  unfolding placesBehind
   power-places c = c ∙ ap (count isPlace) from-items
 
   pub scientific-ready : {digits : List ℕ} {s : Subject} {size : ℕ} {below : Bool} {n : ℕ} → s .figures .used ≤ 40 → s .lent ≡ false → size < 100
-      → Known numberKind digits s [] → 1 ≤ exponentPlaces (z .items) → exponentPlaces (z .items) ≤ 254 → n ≡ count isPlace (itemsAt (entriesIn from))
+      → Known numberKind digits s [] → 1 ≤ placesBehind (z .items) → placesBehind (z .items) ≤ 254 → n ≡ count isPlace (itemsAt (entriesIn from))
       → ScientificReady digits s (record { size = size; below = below; places = n }) before from
   scientific-ready {size = size} {below} {n} used unlent small known least most c =
-      let places : n ≡ exponentPlaces (z .items) = power-places c in
+      let places : n ≡ placesBehind (z .items) = power-places c in
       record {
         used = used;
         unlent = unlent;
@@ -149,7 +154,7 @@ module _ {z : Section} {words : List ℕ} {start : ℕ} (o : ItemsOf z words) (k
         power = record {
           context = powerContext size below n;
           kind = scientificKind;
-          power = firstOf (exponentPlaces (z .items));
+          power = firstOf (placesBehind (z .items));
           subject = (refl, record { figures = refl; ungrouped = refl; sign = refl }, refl);
           fit = power-fit (powerContext size below n) places;
         };
@@ -157,14 +162,14 @@ module _ {z : Section} {words : List ℕ} {start : ℕ} (o : ItemsOf z words) (k
 
   -- what is shown of the words is what is shown of the section
   pub scientific-shows : {old out : List ℕ} {r : Shown} {colour : ℕ} (i : ℕ) (minus : Bool) (m c : Context)
-      → colour ≡ z .colour → m .integerPlaces ≡ integerPlaces (z .items) → c .integerPlaces ≡ exponentPlaces (z .items)
+      → colour ≡ z .colour → m .integerPlaces ≡ integerPlaces (z .items) → c .integerPlaces ≡ placesBehind (z .items)
       → Shows (within (length old) (lookOf (signText minus ++ (itemsUnits m (firstOf (integerPlaces (z .items))) (itemsAt (entriesIn before))
-      ++ itemsUnits c (firstOf (exponentPlaces (z .items))) (itemsAt (entriesIn from)))) colour i)) old r out
+      ++ itemsUnits c (firstOf (placesBehind (z .items))) (itemsAt (entriesIn from)))) colour i)) old r out
       → Shows (scientificReading (length old) z i minus m c) old r out
   unfolding scientificReading sectionUnits
   scientific-shows {old} {out} {r} {colour} i minus m c ec em ee h =
-      let front : sectionUnits m (beforeE (z .items)) ≡ itemsUnits m (firstOf (integerPlaces (z .items))) (itemsAt (entriesIn before)) =
-      ap (λ (n : ℕ). itemsUnits m (firstOf n) (beforeE (z .items))) em ∙ ap (itemsUnits m (firstOf (integerPlaces (z .items)))) (sym before-items) in
-      let back : sectionUnits c (fromE (z .items)) ≡ itemsUnits c (firstOf (exponentPlaces (z .items))) (itemsAt (entriesIn from)) =
-      ap (λ (n : ℕ). itemsUnits c (firstOf n) (fromE (z .items))) ee ∙ ap (itemsUnits c (firstOf (exponentPlaces (z .items)))) (sym from-items) in
+      let front : sectionUnits m (beforeCut (z .items)) ≡ itemsUnits m (firstOf (integerPlaces (z .items))) (itemsAt (entriesIn before)) =
+      ap (λ (n : ℕ). itemsUnits m (firstOf n) (beforeCut (z .items))) em ∙ ap (itemsUnits m (firstOf (integerPlaces (z .items)))) (sym before-items) in
+      let back : sectionUnits c (fromCut (z .items)) ≡ itemsUnits c (firstOf (placesBehind (z .items))) (itemsAt (entriesIn from)) =
+      ap (λ (n : ℕ). itemsUnits c (firstOf n) (fromCut (z .items))) ee ∙ ap (itemsUnits c (firstOf (placesBehind (z .items)))) (sym from-items) in
       rw (front, back, ← ec) h

@@ -2,3 +2,4 @@ pub mod Subject
 pub mod Walk
 pub mod Power
 pub mod Show
+pub mod Fraction

@@ -5,12 +5,10 @@ use mathlib.Core.Path.{_≡_}
 use mathlib.Core.Bool.{Bool, false, cond}
 use mathlib.Core.List.{List, [], _++_}
 use lib.Dec.{eqb}
-use lib.ListN.{length, take, drop}
+use lib.ListN.{length}
 use Rattle.formats.specs.Tokens.{ExponentMark, ePlus, eMinus}
-use Rattle.formats.specs.Items.{Kind, scientificKind, beforeE, fromE}
+use Rattle.formats.specs.Items.{Kind, scientificKind}
 use Rattle.formats.specs.Text.{Context}
-use Rattle.tables.specs.Words.{entriesIn}
-use Rattle.tables.specs.Decode.{itemsAt}
 use Rattle.section_text.specs.declared.Power.{Power}
 use Rattle.section_text.specs.declared.Subject.{Subject}
 use Rattle.section_text.specs.Subject.{SubjectIs}
@@ -37,13 +35,6 @@ leftAt size argument = cond (eqb argument 16) size (cond (eqb argument 17) (size
 -- "22 (E+, 0) and 23 (E-, 0)"
 unfoldable pub markOfTag : ℕ → ExponentMark
 markOfTag t = cond (eqb t 22) ePlus eMinus
-
--- item words are cut where those of the first E begin
-pub record CutAt (words : List ℕ) (start : ℕ) : Type 0 where
-  pub inside : start ≤ length words
-  pub joins : entriesIn words ≡ entriesIn (take start words) ++ entriesIn (drop start words)
-  pub from : itemsAt (entriesIn (drop start words)) ≡ fromE (itemsAt (entriesIn words))
-  pub before : itemsAt (entriesIn (take start words)) ≡ beforeE (itemsAt (entriesIn words))
 
 -- what is asked of a scientific section's item words, before the E and from it on, to show them
 pub record ScientificReady (digits : List ℕ) (s : Subject) (p : Power) (before from : List ℕ) : Type 0 where

@@ -6,9 +6,10 @@ use mathlib.Core.List.{List, [], _∷_, _++_}
 use Prim.Native.Nat.{ℕ}
 use Rattle.answers.specs.declared.Shown.{Shown}
 use Rattle.lists.specs.Lists.{overlay}
-use Rattle.formats.specs.Items.{Section, beforeE, fromE}
+use Rattle.fractions.specs.declared.Mixed.{Mixed}
+use Rattle.formats.specs.Items.{Section, beforeCut, fromCut}
 use Rattle.formats.specs.Text.{Context, sectionUnits}
-use Rattle.formats.specs.Reading.{Reading, lookOf, within}
+use Rattle.formats.specs.Reading.{Reading, lookOf, within, fractionUnits}
 use Rattle.tables.specs.Calls.{shownAs, textAs}
 
 -- a minus in front, or none
@@ -22,7 +23,11 @@ sectionReading size s i minus c = within size (lookOf (signText minus ++ section
 -- the same of a scientific section, whose items before the E show one context, and those from the E on another
 unfoldable pub scientificReading : ℕ → Section → ℕ → Bool → Context → Context → Reading
 scientificReading size s i minus m e =
-    within size (lookOf (signText minus ++ (sectionUnits m (beforeE (s .items)) ++ sectionUnits e (fromE (s .items)))) (s .colour) i)
+    within size (lookOf (signText minus ++ (sectionUnits m (beforeCut (s .items)) ++ sectionUnits e (fromCut (s .items)))) (s .colour) i)
+
+-- and of a fraction section, which shows this fraction
+unfoldable pub fractionReading : ℕ → Section → ℕ → Bool → Mixed → Reading
+fractionReading size s i minus f = within size (lookOf (signText minus ++ fractionUnits f (s .items)) (s .colour) i)
 
 pub record Shows (reading : Reading) (old : List ℕ) (r : Shown) (out : List ℕ) : Type 0 where
   pub result : r ≡ shownAs reading

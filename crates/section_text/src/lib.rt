@@ -1,26 +1,30 @@
 // The text of a section's items, shown whole in a lent room or not at all.
+pub mod mixed;
+
 ghost use mathlib.Core.Path.{_≡_};
-ghost use mathlib.Core.Bool.{true, false, cond, _&&_};
+ghost use mathlib.Core.Bool.{Bool, true, false, cond, _&&_};
 ghost use mathlib.Core.List.{List, [], _∷_, _++_};
 ghost use Prim.Native.Nat.{ℕ, suc, _+_, _-_, _*_, _/_, _%_, _≤_, _<_, _^_};
 ghost use lib.Dec.{T, leb, ltb, eqb};
 ghost use lib.ListN.{length, getD};
+ghost use Rattle.values.specs.Ranges.{between};
 ghost use Rattle.lists.specs.Lists.{any, count};
 ghost use Rattle.figures.specs.Digits.{digitUnit};
-ghost use Rattle.formats.specs.Items.{numberKind, dateKind, scientificKind, kindOf, isPlace, integerPlaces, exponentPlaces};
+ghost use Rattle.formats.specs.Items.{Item, numberKind, dateKind, scientificKind, kindOf, beforeCut, fromCut, integerPlaces, placesBehind};
 ghost use Rattle.formats.specs.Reading.{lookOf, within};
 ghost use Rattle.formats.specs.Text.{Context, idleUnits, placeUnits, exponentUnits};
 ghost use Rattle.tables.specs.Words.{entriesIn};
 ghost use Rattle.tables.specs.Encode.{entry, entriesOf};
-ghost use Rattle.tables.specs.Decode.{itemsAt};
+ghost use Rattle.tables.specs.Decode.{itemAt};
 ghost use Rattle.tables.specs.Rules.{entryInRange, passes};
 ghost use Rattle.table_words.specs.Sections.{sectionIn};
 ghost use Rattle.writing.specs.Put.{Put};
 ghost use Rattle.figure_text.specs.Shown.{placeOfTag};
 ghost use Rattle.date_text.specs.Moment.{datedEntry};
 ghost use Rattle.section_text.specs.Subject.{StandsFor, SubjectIs};
+ghost use Rattle.table_words.specs.Runs.{itemsIn, CutAt};
 ghost use Rattle.section_text.specs.Walk.{MomentIs, DatedIs, Ready, ItemPut, OfText, Known, DatedKnown};
-ghost use Rattle.section_text.specs.Power.{ExponentIs, PowerIs, SmallPower, leftAt, markOfTag, CutAt, ScientificReady, OfScientific};
+ghost use Rattle.section_text.specs.Power.{ExponentIs, PowerIs, SmallPower, leftAt, markOfTag, ScientificReady, OfScientific};
 ghost use Rattle.section_text.specs.Show.{signText, sectionReading, scientificReading, Shows};
 use answers::Answer;
 use answers::Shown;
@@ -99,7 +103,7 @@ fn put_item(
 }
 
 // Puts the text of a segment, whose words these are: a part of a section's items with digits and places of its own.
-// (A section has one segment: all of its items, in a scientific section those before the E.)
+// (A section has one segment: all of its items, in a scientific section those before the E; a fraction has one for each of its numbers.)
 fn put_segment(
     room: &mut [u16],
     at: usize,
@@ -108,7 +112,7 @@ fn put_segment(
     s: Subject,
     text: &[u16],
 ) -> usize
-    requires { ⌜ (at ≤ 1) × (s .figures .used ≤ 40) × (s .lent ≡ true → length (now text) ≤ 1024) × (length (now items) ≤ 508)
+    requires { ⌜ (at ≤ 2 ^ 40) × (s .figures .used ≤ 40) × (s .lent ≡ true → length (now text) ≤ 1024) × (length (now items) ≤ 508)
         × Ready (λ k. SubjectIs k (now digits) s (now text)) (now items) ⌝ }
     ensures within { λ r. ⌜ r ≤ at + 260096 ⌝ }
     ensures put { λ r. ⌜ OfText (λ k. SubjectIs k (now (digits .entry)) s (now (text .entry))) (now (items .entry))
@@ -284,16 +288,16 @@ fn show_dated_items(
     refused_shown(Answer::TextRoom)
 }
 
-// Where the words of the first E begin among item words; behind all items where there is none.
-fn exponent_start(items: &[u16]) -> usize
-    ensures { λ r. ⌜ CutAt (now (items .entry)) r ⌝ }
+// Where the words of the first E or solidus begin among item words; behind all items where there is none.
+pub fn cut_start(items: &[u16]) -> usize
+    ensures { λ r. ⌜ CutAt (now (items .entry)) r (beforeCut (itemsIn (now (items .entry)))) (fromCut (itemsIn (now (items .entry)))) ⌝ }
 {
     let n = items.len() / 2;
     let mut k: usize = 0;
     while k < n {
         let i = 2 * k;
         let tag = items[i];
-        if (tags::EXPONENT_PLUS <= tag) & (tag <= tags::EXPONENT_MINUS) {
+        if (tags::EXPONENT_PLUS <= tag) & (tag <= tags::SOLIDUS) {
             return i;
         }
         k += 1;
@@ -301,20 +305,20 @@ fn exponent_start(items: &[u16]) -> usize
     2 * n
 }
 
-// How many places there are among item words.
-fn count_places(items: &[u16]) -> usize
-    ensures { λ r. ⌜ r ≡ count isPlace (itemsAt (entriesIn (now (items .entry)))) ⌝ }
+// How many items there are among item words with a tag from `low` to `high`.
+pub fn count_between(items: &[u16], low: u16, high: u16) -> usize
+    ensures { λ r. ⌜ ((f : Item → Bool) → ((t a : ℕ) → f (itemAt (entry t a)) ≡ between low high t) → r ≡ count f (itemsIn (now (items .entry)))) ⌝ }
 {
     let n = items.len() / 2;
     let mut k: usize = 0;
-    let mut places: usize = 0;
+    let mut met: usize = 0;
     while k < n {
         let tag = items[2 * k];
-        let is_place = (tags::ZERO_PLACE <= tag) & (tag <= tags::SPACE_PLACE);
-        places += is_place as usize;
+        let is_met = (low <= tag) & (tag <= high);
+        met += is_met as usize;
         k += 1;
     }
-    places
+    met
 }
 
 // What is left of an exponent from the digit of a place, told by its argument, up.
@@ -496,17 +500,17 @@ pub fn show_scientific_section(
         × (s .figures .used ≤ 40) × (s .lent ≡ false) × (exponent < 100) × Known numberKind (now digits) s [] ⌝ }
     ensures { λ r. ⌜ ((m e : Context) → SubjectIs numberKind (now (digits .entry)) s [] m
         → m .integerPlaces ≡ integerPlaces (sectionIn (now (table .entry)) i .items)
-        → ExponentIs exponent below e → e .integerPlaces ≡ exponentPlaces (sectionIn (now (table .entry)) i .items)
+        → ExponentIs exponent below e → e .integerPlaces ≡ placesBehind (sectionIn (now (table .entry)) i .items)
         → Shows (scientificReading (length (now (room .entry))) (sectionIn (now (table .entry)) i) i minus m e) (now (room .entry)) r (now (room .exit))) ⌝ }
 {
     let h = head_of(table, i as usize);
     let items = items_of(table, i as usize);
-    let start = exponent_start(items);
+    let start = cut_start(items);
     let from = &items[start..];
     let p = Power {
         size: exponent,
         below,
-        places: count_places(from),
+        places: count_between(from, tags::ZERO_PLACE, tags::SPACE_PLACE),
     };
     show_scientific_items(
         room,

@@ -11,11 +11,11 @@ use lib.Dec.{T, leb, eqb}
 use borrow.Author.Tests.{eqb-true, lt-leb, ne-eqb}
 use Rattle.lists.specs.Lists.{every}
 use Rattle.lists.proofs.Bools.{and-parts, by-cases, every-head, every-tail}
-use Rattle.formats.specs.Items.{Item, integerPlaces, exponentPlaces, Run, noRun, isHourRun, runOf, nearer, firstRun, settledItem, settledFrom, settled}
+use Rattle.formats.specs.Items.{Item, integerPlaces, placesBehind, Run, noRun, isHourRun, runOf, nearer, firstRun, settledItem, settledFrom, settled}
 use Rattle.formats.specs.Text.{digitAfter, along, firstOf}
 use Rattle.formats.proofs.FormedItems.{settled-kept, places-settled, exponents-settled}
 use Rattle.tables.specs.Words.{entriesWords}
-use Rattle.tables.specs.Encode.{tagOf, entryOf, entriesFrom, entriesOf}
+use Rattle.tables.specs.Encode.{tagOf, entryOf, entriesFrom, runEntries}
 use Rattle.settling.specs.Settle.{isNoMinute, secondsIn, hoursAfter, settledAt}
 use Rattle.settling.proofs.Tags.{tag-tells, seconds-first, tag-settled}
 
@@ -41,7 +41,7 @@ wordsFrom anew q is = entriesWords (entriesFrom anew q is) []
 
 -- the digit behind an E
 abbrev anewIn : List Item → ℕ
-anewIn is = firstOf (exponentPlaces is)
+anewIn is = firstOf (placesBehind is)
 
 -- the words behind those that are settled are those of the items that are left
 pub record Going (is : List Item) (room : List ℕ) (hours : Bool) (i : ℕ) : Type 0 where
@@ -53,10 +53,10 @@ pub record Going (is : List Item) (room : List ℕ) (hours : Bool) (i : ℕ) : T
   pub size : length done ≡ i
   pub months : T (every isNoMinute left)
   pub rest : room ≡ done ++ wordsFrom (anewIn is) digit left
-  pub whole : entriesWords (entriesOf (settled is)) [] ≡ done ++ wordsFrom (anewIn is) digit (settledFrom earlier left)
+  pub whole : entriesWords (runEntries (settled is)) [] ≡ done ++ wordsFrom (anewIn is) digit (settledFrom earlier left)
 
-pub going-start : (is : List Item) (room : List ℕ) → T (every isNoMinute is) → room ≡ entriesWords (entriesOf is) [] → Going is room false 0
-unfolding entriesOf settled
+pub going-start : (is : List Item) (room : List ℕ) → T (every isNoMinute is) → room ≡ entriesWords (runEntries is) [] → Going is room false 0
+unfolding runEntries settled
 going-start is room m e = record {
   earlier = noRun;
   done = [];
@@ -82,7 +82,7 @@ entry-tag q i = refl
 
 -- an item is settled, and those behind it are left
 step-cons : (is : List Item) (e : Run) (done : List ℕ) (j : Item) (js : List Item) (q : ℕ) → T (every isNoMinute (j ∷ js))
-    → entriesWords (entriesOf (settled is)) [] ≡ done ++ wordsFrom (anewIn is) q (settledFrom e (j ∷ js))
+    → entriesWords (runEntries (settled is)) [] ≡ done ++ wordsFrom (anewIn is) q (settledFrom e (j ∷ js))
     → Going is (settledAt (done ++ wordsFrom (anewIn is) q (j ∷ js)) (length done) (isHourRun e))
     (hoursAfter (getD (done ++ wordsFrom (anewIn is) q (j ∷ js)) (length done) 0) (isHourRun e)) (length done + 2)
 unfolding entriesWords settledFrom digitAfter along
@@ -112,16 +112,16 @@ unfolding entriesWords along
 going-step {is} {room} {hours} {i} out r g h a b = from (g .left) (g .months) (g .rest) (g .whole)
   where
     from : (js : List Item) → T (every isNoMinute js) → room ≡ g .done ++ wordsFrom (anewIn is) (g .digit) js
-        → entriesWords (entriesOf (settled is)) [] ≡ g .done ++ wordsFrom (anewIn is) (g .digit) (settledFrom (g .earlier) js) → Going is out r (i + 2)
+        → entriesWords (runEntries (settled is)) [] ≡ g .done ++ wordsFrom (anewIn is) (g .digit) (settledFrom (g .earlier) js) → Going is out r (i + 2)
     from [] m e w = absurd (omega (arith, ap length e, length-append (g .done) [], g .size))
     from (j ∷ js) m e w = rw (b, a, e, ← (g .size), ← (g .hourly)) (step-cons is (g .earlier) (g .done) j js (g .digit) m w)
 
 -- nothing is left at the end
-pub going-end : {is : List Item} {room : List ℕ} {hours : Bool} {i : ℕ} → Going is room hours i → length room ≤ i + 1 → room ≡ entriesWords (entriesOf (settled is)) []
+pub going-end : {is : List Item} {room : List ℕ} {hours : Bool} {i : ℕ} → Going is room hours i → length room ≤ i + 1 → room ≡ entriesWords (runEntries (settled is)) []
 unfolding entriesWords settledFrom along
 going-end {is} {room} {i = i} g h = from (g .left) (g .rest) (g .whole)
   where
     from : (js : List Item) → room ≡ g .done ++ wordsFrom (anewIn is) (g .digit) js
-        → entriesWords (entriesOf (settled is)) [] ≡ g .done ++ wordsFrom (anewIn is) (g .digit) (settledFrom (g .earlier) js) → room ≡ entriesWords (entriesOf (settled is)) []
+        → entriesWords (runEntries (settled is)) [] ≡ g .done ++ wordsFrom (anewIn is) (g .digit) (settledFrom (g .earlier) js) → room ≡ entriesWords (runEntries (settled is)) []
     from [] e w = e ∙ sym w
     from (j ∷ js) e w = absurd (omega (arith, ap length e, length-append (g .done) (wordsFrom (anewIn is) (g .digit) (j ∷ js)), g .size))

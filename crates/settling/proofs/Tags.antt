@@ -32,7 +32,7 @@ tag-tells =
     (λ r. (refl, refl)) (λ r. (refl, refl)) (λ r. (refl, refl)) (λ r. (refl, refl)) (λ n r. (refl, refl)) (λ n r. (refl, refl)) (λ n r. (refl, refl))
     (λ n r. (refl, refl)) (λ n r. (refl, refl)) (λ n r. (refl, refl)) (λ n r. (refl, refl))
     (λ e n. by-elapsed (λ (d : Elapsed). Tells (elapsed d n)) (λ r. (refl, refl)) (λ r. (refl, refl)) (λ r. (refl, refl)) e) (λ h r. (refl, refl))
-    (by-exponent (λ m. Tells (exponent m)) (λ r. (refl, refl)) (λ r. (refl, refl)))
+    (by-exponent (λ m. Tells (exponent m)) (λ r. (refl, refl)) (λ r. (refl, refl))) (λ r. (refl, refl)) (λ n r. (refl, refl))
 
 -- the nearest run of items is seconds
 pub seconds-first : (anew q : ℕ) (is : List Item) → secondsIn (entriesWords (entriesFrom anew q is) []) ≡ isSecondRun (firstRun is)
@@ -55,7 +55,7 @@ tag-settled q e l =
     (λ n t. by-cases (leb n 2) (λ s. rw s (by-cases (isHourRun e || isSecondRun l) (λ h. rw h) (λ h. rw h))) (λ s. rw s (by-cases (isHourRun e || isSecondRun l) (λ h. rw h) (λ h. rw h))))
     (λ n t. refl) (λ n t. refl) (λ n t. absurd t) (λ n t. refl) (λ n t. refl)
     (λ x n. by-elapsed (λ (d : Elapsed). Settles q e l (elapsed d n)) (λ t. refl) (λ t. refl) (λ t. refl) x) (λ h t. refl)
-    (by-exponent (λ m. Settles q e l (exponent m)) (λ t. refl) (λ t. refl))
+    (by-exponent (λ m. Settles q e l (exponent m)) (λ t. refl) (λ t. refl)) (λ t. refl) (λ n t. refl)
 
 -- the nearest run among item words: at the first of them, where it is a run or not, and past the last
 module _ (ws : List ℕ) (i : ℕ) where

@@ -10,7 +10,7 @@ ghost use lib.Dec.{T};
 ghost use Rattle.lists.specs.Lists.{every};
 ghost use Rattle.formats.specs.Items.{Item, settled};
 ghost use Rattle.tables.specs.Words.{entriesWords};
-ghost use Rattle.tables.specs.Encode.{entriesOf};
+ghost use Rattle.tables.specs.Encode.{runEntries};
 ghost use Rattle.settling.specs.Settle.{isNoMinute, isRunTag, secondsIn, hoursAfter, settledAt};
 
 // A date or time run, or an elapsed item.
@@ -84,8 +84,8 @@ fn settle_item(words: &mut [u16], i: usize, hours: bool) -> bool
 // Settles the runs of m among the words of a section's items, each of which is written as a month.
 pub fn settle(words: &mut [u16])
     requires { ⌜ length (now words) ≤ 508 ⌝ }
-    ensures { λ _. ⌜ ((is : List Item) → T (every isNoMinute is) → now (words .entry) ≡ entriesWords (entriesOf is) []
-        → now (words .exit) ≡ entriesWords (entriesOf (settled is)) []) ⌝ }
+    ensures { λ _. ⌜ ((is : List Item) → T (every isNoMinute is) → now (words .entry) ≡ entriesWords (runEntries is) []
+        → now (words .exit) ≡ entriesWords (runEntries (settled is)) []) ⌝ }
 {
     let mut hours = false;
     let mut i: usize = 0;

@@ -22,7 +22,7 @@ use Rattle.figures.specs.Sign.{signedOf}
 use Rattle.figures.proofs.Rounding.{rounded-small}
 use Rattle.figures.proofs.General.{decimals-most}
 use Rattle.figures.proofs.Places.{used-test}
-use Rattle.formats.specs.Items.{Kind, textKind, generalKind, dateKind, numberKind, scientificKind, literalKind, kindOf, Section}
+use Rattle.formats.specs.Items.{Kind, textKind, generalKind, dateKind, numberKind, scientificKind, fractionKind, literalKind, kindOf, Section}
 use Rattle.formats.specs.Choice.{numberExact, Reason, chosen}
 use Rattle.formats.specs.Text.{Context}
 use Rattle.formats.specs.Reading.{refused, numberContext, takesNumber, showsGeneral, standingRounded, showsNought, readNumber}
@@ -60,12 +60,13 @@ generalContext n = record {
 -- a section that shows General takes numbers, and shows nothing else of them
 general-kind : (k : Kind) → T (showsGeneral k) → (takesNumber k ≡ true) × Unfigured k
 unfolding showsGeneral takesNumber
-general-kind textKind t = (refl, (refl, refl, refl))
-general-kind generalKind t = (refl, (refl, refl, refl))
+general-kind textKind t = (refl, (refl, refl, refl, refl))
+general-kind generalKind t = (refl, (refl, refl, refl, refl))
 general-kind literalKind t = absurd t
 general-kind numberKind t = absurd t
 general-kind dateKind t = absurd t
 general-kind scientificKind t = absurd t
+general-kind fractionKind t = absurd t
 
 powered-none : (m s : ℕ) → powered m 0 s ≡ record { above = m; below = 10 ^ s }
 unfolding powered

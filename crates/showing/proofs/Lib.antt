@@ -6,6 +6,7 @@ pub mod Numbers
 pub mod Generals
 pub mod Sections
 pub mod Mantissas
+pub mod Fractions
 pub mod Instants
 pub mod Texts
 pub mod Values

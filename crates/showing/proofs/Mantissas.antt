@@ -19,8 +19,7 @@ use Rattle.exponents.proofs.Mantissa.{mantissa-small}
 use Rattle.exponents.proofs.Small.{exponent-small}
 use Rattle.formats.specs.Items.{Section, numberKind, scientificKind, kindOf, integerPlaces, decimalPlaces}
 use Rattle.formats.specs.WellFormed.{groupingFits}
-use Rattle.formats.specs.Choice.{numberExact}
-use Rattle.formats.specs.Reading.{sectionExponent, sectionRounded, numberContext, exponentContext}
+use Rattle.formats.specs.Reading.{sectionExponent, sectionRounded, numberContext, wholeContext, exponentContext}
 use Rattle.formats.proofs.Cutting.{scientific-some}
 use Rattle.tables.specs.Words.{Head}
 use Rattle.tables.specs.Encode.{decimalsWord, headOf}
@@ -35,7 +34,9 @@ use Rattle.section_text.specs.Power.{ExponentIs}
 use Rattle.section_text.specs.Show.{scientificReading}
 use Rattle.showing.specs.Minus.{minusIn}
 use Rattle.showing.specs.Plan.{scientificOf}
+use Rattle.showing.proofs.Places.{integers-most}
 use Rattle.showing.proofs.Subjects.{number-subject}
+use Rattle.showing.proofs.Numbers.{exact}
 use Rattle.showing.proofs.Generals.{figures-nought}
 
 -- what a scientific section's places and decimals say
@@ -61,7 +62,7 @@ scientific-words ws i {h} t l k eh ei =
     let decimals : h .decimals ≡ decimalPlaces (s .items) = ap (λ (x : Head). x .decimals) eh ∙ rw k in
     record {
       least = omega (arith, ei, section-exponent ws i t l (scientific-some (s .items) k) .integer);
-      most = omega (arith, ei, w .integers-most);
+      most = omega (arith, ei, integers-most ws i t l (rw k));
       decimalsMost = omega (arith, decimals, w .decimals-most);
       places = ei;
       decimals-are = decimals;
@@ -70,13 +71,9 @@ scientific-words ws i {h} t l k eh ei =
 
 module _ {integers decimals : ℕ} {s : Section} (w : ScientificWords integers decimals s) (k : kindOf s ≡ scientificKind) (v : Signed) (x : Number)
     (ev : v ≡ signedOf x) (hm : v .magnitude < 10 ^ 15) (hs : v .scale ≤ 15) where
-  exact : decimal (v .magnitude) (v .scale) ≡ numberExact x .size
-  unfolding numberExact signedOf
-  exact = ap (λ (u : Signed). decimal (u .magnitude) (u .scale)) ev
-
   mantissa-is : mantissaOf (decimal (v .magnitude) (v .scale)) integers decimals ≡ sectionRounded s x
   unfolding sectionRounded
-  mantissa-is = rw (k, exact, w .places, w .decimals-are)
+  mantissa-is = rw (k, exact v x ev, w .places, w .decimals-are)
 
   module _ {digits : List ℕ} {f : Figures} (ed : digits ≡ figures (mantissaOf (decimal (v .magnitude) (v .scale)) integers decimals))
       (ef : f ≡ figuresWith digits integers false) where
@@ -98,11 +95,11 @@ module _ {integers decimals : ℕ} {s : Section} (w : ScientificWords integers d
 
   exponent-is : exponentOf (decimal (v .magnitude) (v .scale)) integers decimals ≡ sectionExponent s x
   unfolding sectionExponent
-  exponent-is = rw (exact, w .places, w .decimals-are)
+  exponent-is = rw (exact v x ev, w .places, w .decimals-are)
 
   pub exponent-shows : {size : ℕ} {below : Bool} → size ≡ exponentOf (decimal (v .magnitude) (v .scale)) integers decimals .size
       → below ≡ exponentOf (decimal (v .magnitude) (v .scale)) integers decimals .below → ExponentIs size below (exponentContext s x)
-  unfolding exponentContext
+  unfolding exponentContext wholeContext
   exponent-shows es eb = record { figures = rw (es, exponent-is); ungrouped = refl; sign = rw (eb, exponent-is) }
 
 -- an exponent has two digits at most

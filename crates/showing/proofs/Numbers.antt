@@ -10,11 +10,12 @@ use Rattle.values.specs.declared.Number.{Number}
 use Rattle.figures.specs.declared.Signed.{Signed}
 use Rattle.figures.specs.Sign.{signedOf}
 use Rattle.figures.specs.General.{generalTooWide}
-use Rattle.formats.specs.Items.{Section, scientificKind, literalKind, sameKind, kindOf}
+use Rattle.exponents.specs.Exponent.{decimal}
+use Rattle.formats.specs.Items.{Section, scientificKind, fractionKind, literalKind, sameKind, kindOf}
 use Rattle.formats.specs.Where.{hasCondition}
 use Rattle.formats.specs.Choice.{numberExact, Reason, counted, chosen, choose}
 use Rattle.formats.specs.Minus.{isOwn, firstHasCondition, exceptionA, signUnits}
-use Rattle.formats.specs.Reading.{lookOf, within, numberContext, takesNumber, showsGeneral, showsNought, sectionText, exponentContext, numberSign, numberUnits, readNumber}
+use Rattle.formats.specs.Reading.{lookOf, within, numberContext, takesNumber, showsGeneral, showsNought, sectionText, exponentContext, sectionFraction, numberSign, numberUnits, readNumber}
 use Rattle.tables.specs.Words.{Head}
 use Rattle.tables.specs.Encode.{headOf}
 use Rattle.tables.specs.Decode.{decode}
@@ -22,7 +23,7 @@ use Rattle.table_words.specs.Sections.{sectionIn, headIn}
 use Rattle.choosing.proofs.Finding.{chosen-exception}
 use Rattle.figure_text.specs.declared.Figures.{Figures}
 use Rattle.section_text.specs.Subject.{SubjectIs}
-use Rattle.section_text.specs.Show.{signText, sectionReading, scientificReading}
+use Rattle.section_text.specs.Show.{signText, sectionReading, scientificReading, fractionReading}
 use Rattle.section_text.proofs.Cuts.{other-kind}
 use Rattle.showing.specs.Minus.{minusTold, minusIn}
 use Rattle.showing.specs.Plan.{SectionIs}
@@ -32,6 +33,11 @@ pub minus-words : (ws : List ℕ) (i : ℕ) (negative held : Bool) {minus except
     → minus ≡ minusTold negative (eqb (h .items) 0) excepted held → minus ≡ minusTold negative (eqb (length (sectionIn ws i .items)) 0) x held
 unfolding headOf
 minus-words ws i negative held eh ee em = em ∙ ap₂ (λ (k : Head) (b : Bool). minusTold negative (eqb (k .items) 0) b held) eh ee
+
+-- a value's number is the one that its magnitude and sign are of
+pub exact : (v : Signed) (x : Number) → v ≡ signedOf x → decimal (v .magnitude) (v .scale) ≡ numberExact x .size
+unfolding numberExact signedOf
+exact v x ev = ap (λ (u : Signed). decimal (u .magnitude) (u .scale)) ev
 
 -- a section shows a number, as nought or not
 pub record Takes (z : Section) (x : Number) (held : Bool) : Type 0 where
@@ -65,12 +71,12 @@ module _ (ws : List ℕ) (i : ℕ) (v : Signed) (x : Number) (why : Reason) (ev 
       ap (readNumber (decode ws) x size) eo ∙ rw (t .number, t .narrow)
       (ap (λ (us : List ℕ). within size (lookOf (us ++ sectionText s x) (s .colour) i)) number-sign)
 
-  -- in a section with no E
-  plain-reads : sameKind (kindOf (sectionIn ws i)) scientificKind ≡ false → (size : ℕ)
+  -- in a section with no E and no solidus
+  plain-reads : sameKind (kindOf (sectionIn ws i)) scientificKind ≡ false → sameKind (kindOf (sectionIn ws i)) fractionKind ≡ false → (size : ℕ)
       → readNumber (decode ws) x size (choose (decode ws) (numberExact x))
       ≡ sectionReading size (sectionIn ws i) i (minusIn ws i (v .negative) held) (numberContext (sectionIn ws i) x)
   unfolding sectionReading sectionText
-  plain-reads e size = number-reads size ∙ rw e
+  plain-reads e f size = number-reads size ∙ rw (e, f)
 
   pub number-section : {digits text : List ℕ} {f : Figures} → i < getD ws 0 0 → f .used ≤ 40
       → SubjectIs (kindOf (sectionIn ws i)) digits (record { figures = f; lent = false }) text (numberContext (sectionIn ws i) x)
@@ -83,7 +89,7 @@ module _ (ws : List ℕ) (i : ℕ) (v : Signed) (x : Number) (why : Reason) (ev 
     short = λ e. absurd (true≢false (sym e));
     known = record { context = numberContext (sectionIn ws i) x; is = is };
     places = refl;
-    reads = plain-reads (other-kind (kindOf (sectionIn ws i)) (is .unscientific));
+    reads = plain-reads (other-kind scientificKind (kindOf (sectionIn ws i)) (is .unscientific)) (other-kind fractionKind (kindOf (sectionIn ws i)) (is .unfractional));
   }
 
   -- in a scientific section
@@ -92,3 +98,10 @@ module _ (ws : List ℕ) (i : ℕ) (v : Signed) (x : Number) (why : Reason) (ev 
       ≡ scientificReading size (sectionIn ws i) i (minusIn ws i (v .negative) held) (numberContext (sectionIn ws i) x) (exponentContext (sectionIn ws i) x)
   unfolding scientificReading sectionText
   scientific-reads k size = number-reads size ∙ rw k
+
+  -- in a fraction
+  pub fraction-reads : kindOf (sectionIn ws i) ≡ fractionKind → (size : ℕ)
+      → readNumber (decode ws) x size (choose (decode ws) (numberExact x))
+      ≡ fractionReading size (sectionIn ws i) i (minusIn ws i (v .negative) held) (sectionFraction (sectionIn ws i) x)
+  unfolding fractionReading sectionText
+  fraction-reads k size = number-reads size ∙ rw k

@@ -2,7 +2,7 @@
 -- Assumes nothing.
 use Prim.Native.Nat.{ℕ, suc, _+_, _*_, _≤_, _<_}
 use native.Mathlib.Omega.{arith}
-use mathlib.Core.Path.{_≡_, refl, sym, ap, subst, _∙_}
+use mathlib.Core.Path.{_≡_, refl, sym, _∙_}
 use mathlib.Core.Bool.{true, false, _||_}
 use mathlib.Core.List.{List, [], _∷_}
 use lib.Dec.{T, eqb→eq}
@@ -10,24 +10,26 @@ use lib.ListN.{getD}
 use Rattle.values.specs.Ranges.{between}
 use Rattle.lists.specs.Lists.{any}
 use Rattle.lists.proofs.Bools.{and-left, and-right, by-cases, cond-both}
-use Rattle.formats.specs.Items.{Item, Section, isPlace, isPoint, isExponent, integerPlaces}
+use Rattle.lists.proofs.Counts.{any-either}
+use Rattle.formats.specs.Items.{Item, fractionKind, sameKind, kindOf, isPlace, isPoint, isExponent, isSolidus, isCut, integerPlaces}
 use Rattle.formats.specs.Text.{digitAfter, along, firstOf}
+use Rattle.formats.proofs.Cutting.{no-solidus, main-all}
 use Rattle.tables.specs.Words.{Entry, entriesIn}
 use Rattle.tables.specs.Decode.{itemAt, itemsAt}
-use Rattle.tables.specs.Rules.{powerFits, powersFrom, allOf, passes}
+use Rattle.tables.specs.Rules.{powerFits, powersFrom, runPowers, allOf, passes}
 use Rattle.tables.proofs.Words.{Seeking, seeking-front, seeking-step, seeking-end}
-use Rattle.tables.proofs.BackEntries.{place-tag}
+use Rattle.tables.proofs.BackEntries.{place-tag, powers-all}
 use Rattle.table_words.specs.Sections.{sectionIn, ItemsOf}
-use Rattle.table_words.proofs.Bodies.{section-exponent}
+use Rattle.table_words.proofs.Bodies.{section-allowed, section-limits, section-exponent}
 use Rattle.showing.specs.Number.{firstArgument}
 
--- a place's argument, and that an item which is neither a place nor an E changes no power
+-- a place's argument, and that an item which is no place, no E and no solidus changes no power
 first-argument : (a q : ℕ) (e : Entry) (es : List Entry) → isPlace (itemAt e) ≡ true → T (powersFrom a q (e ∷ es)) → e .argument ≡ suc q
 unfolding powersFrom along allOf
 first-argument a q e es h t =
     let p = and-left (powerFits q e) (powersFrom a (digitAfter a q (itemAt e)) es) t in eqb→eq (e .argument) (suc q) (rw h at p)
 
-powers-behind : (a q : ℕ) (e : Entry) (es : List Entry) → isPlace (itemAt e) ≡ false → isExponent (itemAt e) ≡ false
+powers-behind : (a q : ℕ) (e : Entry) (es : List Entry) → isPlace (itemAt e) ≡ false → isCut (itemAt e) ≡ false
     → T (powersFrom a q (e ∷ es)) → T (powersFrom a q es)
 unfolding powersFrom digitAfter along allOf
 powers-behind a q e es h g t =
@@ -35,19 +37,19 @@ powers-behind a q e es h g t =
 
 places-most : (i : Item) (is : List Item) → isPlace i ≡ false → integerPlaces (i ∷ is) ≤ integerPlaces is
 unfolding integerPlaces
-places-most i is h = cond-both (λ (n : ℕ). n ≤ integerPlaces is) (isPoint i || isExponent i) (omega arith) (rw h (omega arith))
+places-most i is h = cond-both (λ (n : ℕ). n ≤ integerPlaces is) (isPoint i || isCut i) (omega arith) (rw h (omega arith))
 
--- items that have an E have an integer place
+-- items that have an E or a solidus have an integer place
 abbrev Placed : List Item → Type 0
-Placed is = any isExponent is ≡ true → 1 ≤ integerPlaces is
+Placed is = any isCut is ≡ true → 1 ≤ integerPlaces is
 
-marked-places : (i : Item) (is : List Item) → isExponent i ≡ true → integerPlaces (i ∷ is) ≡ 0
+marked-places : (i : Item) (is : List Item) → isCut i ≡ true → integerPlaces (i ∷ is) ≡ 0
 unfolding integerPlaces
 marked-places i is e = by-cases (isPoint i) (λ t. rw t) (λ t. rw (t, e))
 
-unmarked : (i : Item) (is : List Item) → Placed (i ∷ is) → isExponent i ≡ false
+unmarked : (i : Item) (is : List Item) → Placed (i ∷ is) → isCut i ≡ false
 unfolding any
-unmarked i is p = by-cases (isExponent i) (λ e. let some = p (rw e) in absurd (omega (arith, some, marked-places i is e))) (λ e. e)
+unmarked i is p = by-cases (isCut i) (λ e. let some = p (rw e) in absurd (omega (arith, some, marked-places i is e))) (λ e. e)
 
 placed-behind : (i : Item) (is : List Item) → isPlace i ≡ false → Placed (i ∷ is) → Placed is
 unfolding any
@@ -66,14 +68,27 @@ first-is a n (e ∷ es) t z p =
     (first-is a n es (powers-behind a (firstOf n) e es h (unmarked (itemAt e) (itemsAt es) p) t)
     (λ y. z (omega (arith, places-most (itemAt e) (itemsAt es) h))) (placed-behind (itemAt e) (itemsAt es) h p)))
 
--- a section's integer places, from the words of its items
-pub argument-is : (ws : List ℕ) (i : ℕ) {words : List ℕ} {r : ℕ} → T (passes ws) → i < getD ws 0 0 → ItemsOf (sectionIn ws i) words
-    → r ≡ firstArgument (entriesIn words) → r ≡ 15 + integerPlaces (sectionIn ws i .items)
-argument-is ws i {words} t l o e =
-    let s : Section = sectionIn ws i in
-    let placed : Placed (s .items) = λ some. section-exponent ws i t l some .integer in
-    e ∙ first-is _ (integerPlaces (s .items)) (entriesIn words) (o .powers) (λ y. ap integerPlaces (o .items) ∙ y)
-    (subst Placed (o .items) placed)
+-- of a section that is no fraction
+module _ (ws : List ℕ) (i : ℕ) (t : T (passes ws)) (l : i < getD ws 0 0) (k : sameKind (kindOf (sectionIn ws i)) fractionKind ≡ false) where
+  no-fraction : any isSolidus (sectionIn ws i .items) ≡ false
+  no-fraction = no-solidus (kindOf (sectionIn ws i)) (sectionIn ws i .items) k (section-allowed ws i t l)
+
+  pub integers-most : integerPlaces (sectionIn ws i .items) ≤ 20
+  integers-most = rw (main-all (sectionIn ws i .items) no-fraction) at (section-limits ws i t l .integers-most)
+
+  section-placed : Placed (sectionIn ws i .items)
+  section-placed some =
+      section-exponent ws i t l
+      (by-cases (any isExponent (sectionIn ws i .items)) (λ e. e) (λ e. sym (any-either isExponent isSolidus (sectionIn ws i .items) ∙ rw (e, no-fraction)) ∙ some)) .integer
+
+  -- its integer places, from the words of its items
+  pub argument-is : {words : List ℕ} {r : ℕ} → ItemsOf (sectionIn ws i) words → r ≡ firstArgument (entriesIn words)
+      → r ≡ 15 + integerPlaces (sectionIn ws i .items)
+  unfolding runPowers
+  argument-is {words} o e =
+      e ∙ rw (o .items)
+      (first-is _ (integerPlaces (itemsAt (entriesIn words))) (entriesIn words)
+      (powers-all (entriesIn words) (rw (o .items) at no-fraction) (o .powers)) (λ y. y) (rw (o .items) at section-placed))
 
 -- ---- the loop over the item words, before item k: no place has been met
 module _ {words : List ℕ} {n k : ℕ} (s : Seeking firstArgument words n k) where

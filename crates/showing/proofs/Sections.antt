@@ -17,8 +17,8 @@ use Rattle.figures.specs.Rounding.{scaled, rounded}
 use Rattle.figures.specs.Rounder.{Roundable}
 use Rattle.figures.specs.Sign.{signedOf}
 use Rattle.figures.proofs.Rounding.{powered-net, scaled-powered, scaled-small, roundable}
-use Rattle.formats.specs.Items.{Section, Kind, numberKind, scientificKind, showsPlaces, kindOf, isPercent, integerPlaces, decimalPlaces}
-use Rattle.formats.specs.Reading.{takesNumber, showsGeneral, sectionRounded, numberContext, showsNought}
+use Rattle.formats.specs.Items.{Section, Kind, numberKind, scientificKind, fractionKind, showsPlaces, kindOf, isPercent, integerPlaces, decimalPlaces}
+use Rattle.formats.specs.Reading.{takesNumber, showsGeneral, sectionRounded, numberContext, placesNought, showsNought}
 use Rattle.tables.specs.Words.{Head}
 use Rattle.tables.specs.Encode.{shiftWord, decimalsWord, headOf}
 use Rattle.tables.specs.Rules.{passes}
@@ -84,36 +84,44 @@ or-none : (b : Bool) → b ≡ b || false
 or-none true = refl
 or-none false = refl
 
--- a kind whose places show a rounded number
-abbrev ShowsRounded : Kind → Type 0
-ShowsRounded k = (showsPlaces k ≡ true) × (showsGeneral k ≡ false) × (takesNumber k ≡ true)
+-- a kind whose places show a number
+abbrev ShowsPlaces : Kind → Type 0
+ShowsPlaces k = (showsPlaces k ≡ true) × (showsGeneral k ≡ false) × (takesNumber k ≡ true)
 
-number-shows : (k : Kind) → k ≡ numberKind → ShowsRounded k
+number-shows : (k : Kind) → k ≡ numberKind → ShowsPlaces k
 unfolding showsGeneral takesNumber
 number-shows k e = rw e (refl, refl, refl)
 
-scientific-shows : (k : Kind) → k ≡ scientificKind → ShowsRounded k
+scientific-shows : (k : Kind) → k ≡ scientificKind → ShowsPlaces k
 unfolding showsGeneral takesNumber
 scientific-shows k e = rw e (refl, refl, refl)
 
+fraction-shows : (k : Kind) → k ≡ fractionKind → ShowsPlaces k
+unfolding showsGeneral takesNumber
+fraction-shows k e = rw e (refl, refl, refl)
+
 -- the figures that the section shows of a number
 module _ (z : Section) (x : Number) where
-  pub number-figures : {digits : List ℕ} {integers : ℕ} {grouped : Bool} → kindOf z ≡ numberKind → Within z → signedOf x .magnitude < 10 ^ 15
+  pub number-figures : {digits : List ℕ} {integers : ℕ} {grouped : Bool} → kindOf z ≡ numberKind → Within z → integerPlaces (z .items) ≤ 20 → signedOf x .magnitude < 10 ^ 15
       → digits ≡ figures (sectionRounded z x) → integers ≡ integerPlaces (z .items) → grouped ≡ z .grouped
       → FiguresAre digits (figuresWith digits integers grouped) (numberContext z x)
   unfolding signedOf numberContext
-  number-figures {digits} k w h ed ei eg =
+  number-figures {digits} k w l h ed ei eg =
       figures-are digits (numberContext z x) (rw (ei, eg)) ed
       (rw (rounded-plain z x k) (scaled-small (natAbs (x .coefficient)) (x .scale) (count isPercent (z .items)) (z .thousands) (decimalPlaces (z .items)) h (w .percents-most) (w .decimals-most)))
-      (omega (arith, w .integers-most))
+      (omega arith)
 
-  rounded-takes : {held : Bool} → ShowsRounded (kindOf z) → held ≡ eqb (sectionRounded z x) 0 → Takes z x held
+  places-take : {held : Bool} → ShowsPlaces (kindOf z) → held ≡ placesNought z x → Takes z x held
   unfolding showsNought
-  rounded-takes k e = record { nought = e ∙ rw (k .0, k .1) (or-none (eqb (sectionRounded z x) 0)); number = k .2; narrow = rw (k .1) }
+  places-take k e = record { nought = e ∙ rw (k .0, k .1) (or-none (placesNought z x)); number = k .2; narrow = rw (k .1) }
 
   pub number-takes : {digits : List ℕ} {f : Figures} → kindOf z ≡ numberKind → FiguresAre digits f (numberContext z x) → Takes z x (eqb (f .used) 0)
-  unfolding numberContext
-  number-takes k are = rounded-takes (number-shows (kindOf z) k) (figures-nought (numberContext z x) are)
+  unfolding numberContext placesNought
+  number-takes k are = places-take (number-shows (kindOf z) k) (figures-nought (numberContext z x) are ∙ rw k)
 
   pub scientific-takes : kindOf z ≡ scientificKind → Takes z x (eqb (sectionRounded z x) 0)
-  scientific-takes k = rounded-takes (scientific-shows (kindOf z) k) refl
+  unfolding placesNought
+  scientific-takes k = places-take (scientific-shows (kindOf z) k) (rw k)
+
+  pub fraction-takes : kindOf z ≡ fractionKind → Takes z x (placesNought z x)
+  fraction-takes k = places-take (fraction-shows (kindOf z) k) refl

@@ -9,7 +9,7 @@ use lib.ListN.{length}
 use borrow.Author.Tests.{le-leb}
 use Rattle.values.specs.declared.Value.the-variants as value
 use Rattle.lists.proofs.Bools.{and-left, and-right, implied, true-T, by-cases, cond-case}
-use Rattle.formats.specs.Items.{Kind, textKind, generalKind, dateKind, numberKind, scientificKind, literalKind, sameKind, kindOf, Section}
+use Rattle.formats.specs.Items.{Kind, textKind, generalKind, dateKind, numberKind, scientificKind, fractionKind, literalKind, sameKind, kindOf, Section}
 use Rattle.formats.specs.Where.{implies, isText, standsAt}
 use Rattle.formats.specs.Choice.{TextChoice, itself, textIn, fourthFrom, textFrom, chooseText}
 use Rattle.formats.specs.Reading.{textContext, lookOf, within, readText, readValue}
@@ -50,12 +50,13 @@ abbrev Plain : Kind → Bool
 Plain k = sameKind k textKind || sameKind k generalKind || sameKind k literalKind
 
 plain-kind : (k : Kind) → T (Plain k) → Unfigured k
-plain-kind textKind t = (refl, refl, refl)
-plain-kind generalKind t = (refl, refl, refl)
-plain-kind literalKind t = (refl, refl, refl)
+plain-kind textKind t = (refl, refl, refl, refl)
+plain-kind generalKind t = (refl, refl, refl, refl)
+plain-kind literalKind t = (refl, refl, refl, refl)
 plain-kind numberKind t = absurd t
 plain-kind dateKind t = absurd t
 plain-kind scientificKind t = absurd t
+plain-kind fractionKind t = absurd t
 
 text-plain : (k : Kind) → sameKind k textKind ≡ true → T (Plain k)
 text-plain k e = rw e tt

@@ -12,15 +12,15 @@ use Rattle.values.specs.declared.Value.{Value}
 use Rattle.values.specs.Ranges.{valueInRange}
 use Rattle.figures.specs.declared.Signed.{Signed}
 use Rattle.figures.specs.Sign.{signedOf}
-use Rattle.formats.specs.Items.{dateKind, scientificKind, kindOf, integerPlaces}
+use Rattle.formats.specs.Items.{Kind, dateKind, scientificKind, fractionKind, kindOf, integerPlaces}
 use Rattle.formats.specs.Choice.{numberExact, Reason, chosen, choose}
-use Rattle.formats.specs.Reading.{Reading, refused, lookOf, within, instantContext, sectionRounded, numberContext, exponentContext, readNumber, readValue}
+use Rattle.formats.specs.Reading.{Reading, refused, lookOf, within, instantContext, sectionRounded, numberContext, exponentContext, sectionFraction, placesNought, readNumber, readValue}
 use Rattle.tables.specs.Decode.{decode}
 use Rattle.table_words.specs.Sections.{sectionIn}
 use Rattle.figure_text.specs.declared.Figures.{Figures}
 use Rattle.section_text.specs.declared.Subject.{Subject}
 use Rattle.section_text.specs.Walk.{Known}
-use Rattle.section_text.specs.Show.{sectionReading, scientificReading}
+use Rattle.section_text.specs.Show.{sectionReading, scientificReading, fractionReading}
 use Rattle.showing.specs.declared.Plan.{Plan}
 use Rattle.showing.specs.declared.Plan.the-variants as plan
 use Rattle.showing.specs.declared.Planned.{Planned}
@@ -46,13 +46,20 @@ scientificOf ws i negative x size =
     let s = sectionIn ws i in
     scientificReading size s i (minusIn ws i negative (eqb (sectionRounded s x) 0)) (numberContext s x) (exponentContext s x)
 
-pub record ScientificIs (i : ℕ) (v : Signed) (ws : List ℕ) (read : ℕ → Reading) : Type 0 where
+-- section i, a fraction, read for a number: with a minus where what its places show is not nought
+abbrev pub fractionShown : List ℕ → ℕ → Bool → Number → ℕ → Reading
+fractionShown ws i negative x size =
+    let s = sectionIn ws i in
+    fractionReading size s i (minusIn ws i negative (placesNought s x)) (sectionFraction s x)
+
+-- section i, of this kind, is read so for a number
+pub record NumberIs (k : Kind) (of : List ℕ → ℕ → Bool → Number → ℕ → Reading) (i : ℕ) (v : Signed) (ws : List ℕ) (read : ℕ → Reading) : Type 0 where
   pub inside : i < getD ws 0 0
-  pub kind : kindOf (sectionIn ws i) ≡ scientificKind
+  pub kind : kindOf (sectionIn ws i) ≡ k
   pub small : v .magnitude < 10 ^ 15
   pub scale : v .scale ≤ 15
-  pub of : NumberOf v
-  pub reads : (size : ℕ) → read size ≡ scientificOf ws i (v .negative) (of .number) size
+  pub number : NumberOf v
+  pub reads : (size : ℕ) → read size ≡ of ws i (v .negative) (number .number) size
 
 -- a plan, with these digits beside it, is what is read through the table `ws`, beside this text
 abbrev pub PlanIs : Plan → List ℕ → List ℕ → List ℕ → (ℕ → Reading) → Type 0
@@ -60,7 +67,8 @@ PlanIs (plan.Refused a) digits ws text read = (size : ℕ) → read size ≡ ref
 PlanIs plan.Itself digits ws text read = (length text ≤ 1024) × ((size : ℕ) → read size ≡ within size (lookOf text 0 4))
 PlanIs (plan.Dated i d m) digits ws text read = (i < getD ws 0 0) × (kindOf (sectionIn ws i) ≡ dateKind)
     × ((size : ℕ) → read size ≡ sectionReading size (sectionIn ws i) i false (instantContext (sectionIn ws i) d m))
-PlanIs (plan.Scientific i v) digits ws text read = ScientificIs i v ws read
+PlanIs (plan.Scientific i v) digits ws text read = NumberIs scientificKind scientificOf i v ws read
+PlanIs (plan.Fraction i v) digits ws text read = NumberIs fractionKind fractionShown i v ws read
 PlanIs (plan.Section i minus s) digits ws text read = SectionIs i minus s digits ws text read
 
 -- the reading of a value through a table; 9 where it is out of range

@@ -5,9 +5,10 @@ ghost use mathlib.Core.List.{List};
 ghost use Prim.Native.Nat.{_-_, _≤_, _<_, _^_, ℕ};
 ghost use lib.Dec.{T, eqb};
 ghost use lib.ListN.{length, getD};
-ghost use Rattle.formats.specs.Items.{numberKind, dateKind, scientificKind, kindOf, integerPlaces};
+ghost use Rattle.lists.specs.Lists.{any};
+ghost use Rattle.formats.specs.Items.{numberKind, dateKind, scientificKind, fractionKind, sameKind, kindOf, isPlace, integerPlaces, beforeEnd};
 ghost use Rattle.formats.specs.Choice.{instantExact, Reason, chosen, choose};
-ghost use Rattle.formats.specs.Reading.{lookOf, within, instantContext, readInstant, showsGeneral, sectionRounded, readValue, reading};
+ghost use Rattle.formats.specs.Reading.{lookOf, within, instantContext, readInstant, showsGeneral, sectionRounded, sectionFraction, readValue, reading};
 ghost use Rattle.figures.specs.Digits.{figures};
 ghost use Rattle.figures.specs.Sign.{signedOf};
 ghost use Rattle.values.specs.declared.Number.{Number};
@@ -19,10 +20,11 @@ ghost use Rattle.tables.specs.Calls.{showing, roomAfter};
 ghost use Rattle.table_words.specs.Sections.{sectionIn};
 ghost use Rattle.choosing.specs.Seeking.{instantSought};
 ghost use Rattle.figure_text.specs.Shown.{figuresWith};
+ghost use Rattle.table_words.specs.Runs.{itemsIn};
 ghost use Rattle.section_text.specs.Show.{sectionReading, Shows};
 ghost use Rattle.showing.specs.Minus.{minusTold, minusIn};
 ghost use Rattle.showing.specs.Number.{signedSought, firstArgument};
-ghost use Rattle.showing.specs.Plan.{NumberOf, scientificOf, PlanIs, PlansNumber, valueReading, barePlan, digitsPlan};
+ghost use Rattle.showing.specs.Plan.{NumberOf, scientificOf, fractionShown, PlanIs, PlansNumber, valueReading, barePlan, digitsPlan};
 use answers::Answer;
 use answers::Shown;
 use answers::done_shown;
@@ -34,7 +36,13 @@ use figure_text::Figures;
 use figure_text::figures_of;
 use figures::Signed;
 use figures::Taken;
+use fractions::Mixed;
+use fractions::fixed_fraction;
+use fractions::nearest_fraction;
 use section_text::Subject;
+use section_text::count_between;
+use section_text::cut_start;
+use section_text::mixed::show_fraction_section;
 use section_text::show_dated_section;
 use section_text::show_scientific_section;
 use section_text::show_section;
@@ -43,6 +51,7 @@ use table_words::is_grouped;
 use table_words::is_twelve_hour;
 use table_words::items_of;
 use table_words::no_minus;
+use table_words::runs::run_start;
 use tables::kinds;
 use tables::tags;
 use values::Ask;
@@ -52,13 +61,14 @@ use values::Number;
 use values::Value;
 use values::integers::excess;
 
-// What is to be shown of a value: a refusal, a text by itself, an instant in a date-time section, a number in a scientific section, or
-// another section, with an added minus or without.
+// What is to be shown of a value: a refusal, a text by itself, an instant in a date-time section, a number in a scientific or a fraction
+// section, or another section, with an added minus or without.
 enum Plan {
     Refused(Answer),
     Itself,
     Dated(u16, Day, Millisecond),
     Scientific(u16, Signed),
+    Fraction(u16, Signed),
     Section(u16, bool, Subject),
 }
 
@@ -238,9 +248,10 @@ fn first_argument(items: &[u16]) -> u16
     15
 }
 
-// How many integer places section i has: powers run down by one from the first place, whose argument is 16 more than its power.
+// How many integer places section i has, which is no fraction: powers run down by one from the first place, whose argument is 16 more
+// than its power.
 fn integer_places(table: &[u16], i: usize) -> u32
-    requires { ⌜ T (passes (now table)) × (i < getD (now table) 0 0) ⌝ }
+    requires { ⌜ T (passes (now table)) × (i < getD (now table) 0 0) × (sameKind (kindOf (sectionIn (now table) i)) fractionKind ≡ false) ⌝ }
     ensures { λ r. ⌜ r ≡ integerPlaces (sectionIn (now (table .entry)) i .items) ⌝ }
 {
     first_argument(items_of(table, i)) as u32 - 15
@@ -290,6 +301,7 @@ fn number_in(table: &[u16], i: u16, v: Signed) -> Planned
         kinds::NUMBER => figures_plan(table, i, v),
         kinds::DATE_TIME => without_digits(Plan::Refused(Answer::Sort)),
         kinds::SCIENTIFIC => without_digits(Plan::Scientific(i, v)),
+        kinds::FRACTION => without_digits(Plan::Fraction(i, v)),
         _ => general_plan(table, i, v),
     }
 }
@@ -395,6 +407,47 @@ fn show_scientific(room: &mut [u16], table: &[u16], i: u16, v: Signed) -> Shown
     )
 }
 
+// Whether there is an integer place among the item words before a solidus: a place before the run at their end, the numerator's.
+fn is_parted(before: &[u16]) -> bool
+    ensures { λ r. ⌜ r ≡ any isPlace (beforeEnd (itemsIn (now (before .entry)))) ⌝ }
+{
+    let end = run_start(before);
+    let places = count_between(&before[..end], tags::ZERO_PLACE, tags::SPACE_PLACE);
+    0 < places
+}
+
+// The fraction of a number in section i, which is a fraction section. Directly behind its solidus stands the fixed number or a place.
+fn section_fraction(table: &[u16], i: usize, v: Signed) -> Mixed
+    requires { ⌜ T (passes (now table)) × (i < getD (now table) 0 0) × (kindOf (sectionIn (now table) i) ≡ fractionKind)
+        × (v .magnitude < 10 ^ 15) × (v .scale ≤ 15) ⌝ }
+    ensures is { λ r. ⌜ ((x : Number) → v ≡ signedOf x → r ≡ sectionFraction (sectionIn (now (table .entry)) i) x) ⌝ }
+    ensures small { λ r. ⌜ (r .whole ≤ 10 ^ 15) × (r .above < 10 ^ 19) × (1 ≤ r .below) × (r .below ≤ 999) ⌝ }
+{
+    let items = items_of(table, i);
+    let start = cut_start(items);
+    let parted = is_parted(&items[..start]);
+    let tag = items[start + 2];
+    if tag == tags::FIXED {
+        let fixed = items[start + 3];
+        return fixed_fraction(v.magnitude, v.scale, parted, fixed as u32);
+    }
+    let places = count_between(&items[start..], tags::ZERO_PLACE, tags::SPACE_PLACE);
+    nearest_fraction(v.magnitude, v.scale, parted, places as u32)
+}
+
+// Shows a number in section i, which is a fraction section.
+fn show_fraction(room: &mut [u16], table: &[u16], i: u16, v: Signed) -> Shown
+    requires { ⌜ T (passes (now table)) × (i < getD (now table) 0 0) × (kindOf (sectionIn (now table) i) ≡ fractionKind)
+        × (v .magnitude < 10 ^ 15) × (v .scale ≤ 15) ⌝ }
+    ensures { λ r. ⌜ ((x : Number) → v ≡ signedOf x
+        → Shows (fractionShown (now (table .entry)) i (v .negative) x (length (now (room .entry)))) (now (room .entry)) r (now (room .exit))) ⌝ }
+{
+    let f = section_fraction(table, i as usize, v);
+    let nought = (f.whole == 0) & (f.above == 0);
+    let minus = added_minus(table, i, v.negative, nought);
+    show_fraction_section(room, table, i, minus, f)
+}
+
 // Shows a value through a table that passes.
 fn show_value(room: &mut [u16], table: &[u16], ask: Ask, text: &[u16]) -> Shown
     requires { ⌜ T (passes (now table)) ⌝ }
@@ -409,6 +462,7 @@ fn show_value(room: &mut [u16], table: &[u16], ask: Ask, text: &[u16]) -> Shown
         Plan::Itself => show_plain(room, text),
         Plan::Dated(i, d, m) => show_dated(room, table, i, d, m),
         Plan::Scientific(i, v) => show_scientific(room, table, i, v),
+        Plan::Fraction(i, v) => show_fraction(room, table, i, v),
         Plan::Section(i, minus, s) => show_section(room, table, i, minus, &digits, s, text),
     }
 }

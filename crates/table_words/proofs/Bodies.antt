@@ -10,12 +10,12 @@ use lib.ListN.{length, getD, drop, take, length-take, length-drop}
 use lib.Seq.{drop-drop}
 use Rattle.lists.specs.Lists.{every, any}
 use Rattle.lists.proofs.Bools.{and-left, and-right}
-use Rattle.formats.specs.Items.{Section, itemAllowed, isExponent, kindOf, exponentFits, itemsFit}
+use Rattle.formats.specs.Items.{Section, itemAllowed, isExponent, isSolidus, kindOf, exponentFits, fractionFits, itemsFit}
 use Rattle.formats.specs.WellFormed.{groupingFits}
-use Rattle.formats.proofs.Cutting.{ExponentRules, exponent-rules}
+use Rattle.formats.proofs.Cutting.{ExponentRules, exponent-rules, FractionRules, fraction-rules}
 use Rattle.tables.specs.Words.{Head, Row, headAt, entriesAt, entriesIn, rowsAt, headsIn, rowsIn, itemsSaid}
 use Rattle.tables.specs.Decode.{sectionAt}
-use Rattle.tables.specs.Rules.{powersRunDown, passes}
+use Rattle.tables.specs.Rules.{passes}
 use Rattle.tables.proofs.Words.{rows-length, entries-part, Exactly, exactly}
 use Rattle.tables.proofs.Ranges.{head-ranges}
 use Rattle.tables.proofs.MadeHeads.{Within, within-limits}
@@ -80,7 +80,11 @@ items-allowed s f = search (and-left)
 
 items-exponent : (s : Section) → T (itemsFit (s .items)) → T (exponentFits (s .items))
 unfolding itemsFit
-items-exponent s f = search (and-right)
+items-exponent s f = search (and-left, and-right)
+
+items-fraction : (s : Section) → T (itemsFit (s .items)) → T (fractionFits (s .items))
+unfolding itemsFit
+items-fraction s f = search (and-right)
 
 module _ (ws : List ℕ) (i : ℕ) (t : T (passes ws)) (l : i < getD ws 0 0) where
   facts : RowFacts (rowIn ws i)
@@ -92,10 +96,14 @@ module _ (ws : List ℕ) (i : ℕ) (t : T (passes ws)) (l : i < getD ws 0 0) whe
   pub section-limits : Within (sectionIn ws i)
   section-limits = rw (section-row ws i l) (within-limits (sectionAt (rowIn ws i)) (facts .within))
 
-  -- the rules for its E where it has one, and for grouping
+  -- the rules for its E where it has one, for its solidus where it has one, and for grouping
   pub section-exponent : any isExponent (sectionIn ws i .items) ≡ true → ExponentRules (sectionIn ws i .items)
   section-exponent some =
       exponent-rules (sectionIn ws i .items) some (rw (section-row ws i l) (items-exponent (sectionAt (rowIn ws i)) (facts .items)))
+
+  pub section-fraction : any isSolidus (sectionIn ws i .items) ≡ true → FractionRules (sectionIn ws i .items)
+  section-fraction some =
+      fraction-rules (sectionIn ws i .items) some (rw (section-row ws i l) (items-fraction (sectionAt (rowIn ws i)) (facts .items)))
 
   pub section-grouping : T (groupingFits (sectionIn ws i))
   section-grouping = rw (section-row ws i l) (facts .grouping)
@@ -124,7 +132,7 @@ module _ (ws : List ℕ) (i : ℕ) {start : ℕ} {h : Head} (t : T (passes ws)) 
       ∙ ap (λ (k : ℕ). entriesAt (rowIn ws i .head .items) (drop k ws)) es ∙ sym (row-entries ws i l)
 
   row-items : (words : List ℕ) (r : Row) → RowFacts r → length words ≤ 508 → entriesIn words ≡ r .entries → ItemsOf (sectionAt r) words
-  unfolding powersRunDown sectionAt
+  unfolding sectionAt
   row-items words r f few e =
       record {
         few = few;

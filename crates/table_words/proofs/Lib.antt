@@ -1,2 +1,4 @@
 pub mod Heads
 pub mod Bodies
+pub mod Cuts
+pub mod PlaceRuns

@@ -8,15 +8,14 @@ use mathlib.Core.Option.{none}
 use lib.Dec.{T}
 use lib.ListN.{length, getD, drop}
 use Rattle.lists.specs.Lists.{every}
-use Rattle.formats.specs.Items.{Section, itemAllowed, kindOf, integerPlaces, exponentPlaces}
+use Rattle.formats.specs.Items.{Section, itemAllowed, kindOf}
 use Rattle.formats.specs.Choice.{counted}
 use Rattle.formats.specs.Minus.{firstHasCondition}
 use Rattle.tables.specs.Words.{Head, headAt, entriesIn}
 use Rattle.tables.specs.Encode.{headOf}
 use Rattle.tables.specs.Decode.{itemsAt, decode}
-use Rattle.tables.specs.Rules.{entryInRange, powersFrom}
+use Rattle.tables.specs.Rules.{entryInRange, powersRunDown}
 use Rattle.table_words.specs.declared.HeadWords.{HeadWords}
-use Rattle.formats.specs.Text.{firstOf}
 
 unfoldable pub noSection : Section
 noSection = record { colour = 0; condition = none; grouped = false; thousands = 0; items = [] }
@@ -57,4 +56,4 @@ pub record ItemsOf (s : Section) (words : List ℕ) : Type 0 where
   pub items : s .items ≡ itemsAt (entriesIn words)
   pub inRange : T (every entryInRange (entriesIn words))
   pub allowed : T (every (itemAllowed (kindOf s)) (itemsAt (entriesIn words)))
-  pub powers : T (powersFrom (firstOf (exponentPlaces (s .items))) (firstOf (integerPlaces (s .items))) (entriesIn words))
+  pub powers : T (powersRunDown (entriesIn words))

@@ -1,4 +1,6 @@
 // The words of a table, read: how many sections there are, the words of a head by their names, the part of a section's items.
+pub mod runs;
+
 ghost use mathlib.Core.Path.{_≡_};
 ghost use Prim.Native.Nat.{_+_, _*_, _≤_, _<_};
 ghost use lib.Dec.{T};

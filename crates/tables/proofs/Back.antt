@@ -8,7 +8,7 @@ use lib.ListN.{length}
 use lib.Dec.{T, eqb→eq, le→leb}
 use Rattle.lists.specs.Lists.{every, count}
 use Rattle.lists.proofs.Bools.{and-left, and-right, and-in, nought-unless, every-head, every-tail, every-cons}
-use Rattle.formats.specs.Items.{numberKind, sameKind, kindOf, itemsKind, isPercent, itemsFit, integerPlaces, itemInRange, exponentPlaces}
+use Rattle.formats.specs.Items.{numberKind, sameKind, kindOf, itemsKind, isPercent, itemsFit, integerPlaces, itemInRange, placesBehind}
 use Rattle.formats.specs.Limits.{sectionWithin}
 use Rattle.formats.specs.WellFormed.{conditionInRange, oneFill, partsFollow, isSettled, groupingFits, dividingFits, sectionFormed, sectionFits}
 use Rattle.tables.specs.Words.{Head, Row}
@@ -17,7 +17,7 @@ use Rattle.tables.specs.Decode.{wholeAt, millionthsAt, itemsAt, thousand
 use Rattle.tables.specs.Rules.{headInRange, entryInRange, rowInRange, conditionFits, powersRunDown, shiftFits, kindFits, decimalsFit, flagsFit, flagsFrom, rowFits}
 use Rattle.tables.proofs.Words.{Counted}
 use Rattle.tables.proofs.Ranges.{HeadRanges, head-ranges}
-use Rattle.tables.proofs.BackEntries.{entries-back, items-ranged, items-length}
+use Rattle.tables.proofs.BackEntries.{made-entries, items-ranged, items-length}
 use Rattle.tables.proofs.BackHead.{condition-facts, ConditionBack, condition-back, condition-ranged, low-back, high-back, shift-back}
 use Rattle.formats.specs.Text.{firstOf}
 
@@ -93,12 +93,11 @@ head-back n i firstHas r f g counted =
 
 pub row-back : (n i : ℕ) (firstHas : Bool) (r : Row) → T (rowFits r) → T (flagsFit n i firstHas r) → r .head .items ≡ length (r .entries)
     → rowOf n i firstHas (sectionAt r) ≡ r
-unfolding rowOf entriesOf sectionAt powersRunDown
+unfolding rowOf sectionAt
 row-back n i firstHas r t g counted =
     let f : RowFacts r = row-facts r t in
     let heads : headOf n i firstHas (sectionAt r) ≡ r .head = head-back n i firstHas r f g counted in
-    let bodies : entriesOf (sectionAt r .items) ≡ r .entries =
-    entries-back (firstOf (exponentPlaces (itemsAt (r .entries)))) (firstOf (integerPlaces (itemsAt (r .entries)))) (r .entries) (f .entries) (f .powers) in
+    let bodies : entriesOf (sectionAt r .items) ≡ r .entries = made-entries (r .entries) (f .entries) (f .powers) in
     λ j. record { head = heads j; entries = bodies j }
 
 dividing : (r : Row) → T (dividingFits (sectionAt r))

@@ -2,24 +2,26 @@
 -- Assumes nothing.
 use Prim.Native.Nat.{ℕ, zero, suc, _+_, _≤_, _<_}
 use native.Mathlib.Omega.{arith}
-use mathlib.Core.Path.{_≡_, refl, sym}
-use mathlib.Core.Bool.{true, false, true≢false}
+use mathlib.Core.Path.{_≡_, refl, sym, _∙_, ap, subst}
+use mathlib.Core.Bool.{true, false, _||_, true≢false}
 use mathlib.Core.List.{List, [], _∷_}
-use lib.ListN.{length, length-map, List·getD-eq-default}
-use lib.Dec.{T, eqb, leb→le, eqb→eq}
-use borrow.Author.Tests.{eqb-true, eqb-false, le-leb, lt-leb}
+use lib.ListN.{length, take, drop, length-map, take-append-drop, List·getD-eq-default}
+use lib.Seq.{take-append-seam, drop-append-seam}
+use lib.Dec.{T, leb, eqb, leb→le, eqb→eq}
+use borrow.Author.Tests.{eqb-true, eqb-false, leb-true, leb-false, le-leb, lt-leb}
 use Rattle.values.specs.Ranges.{between}
-use Rattle.lists.specs.Lists.{every}
-use Rattle.lists.proofs.Bools.{and-left, and-right, by-cases, every-head, every-tail, every-cons}
+use Rattle.lists.specs.Lists.{every, any}
+use Rattle.lists.proofs.Bools.{and-left, and-right, by-cases, every-head, every-tail, every-cons, every-take, every-drop}
 use Rattle.formats.specs.Tokens.{halfIndex}
-use Rattle.formats.specs.Items.{isPlace, Item, place, elapsed, half, itemInRange, exponent, isExponent}
+use Rattle.formats.specs.Items.{isPlace, Item, place, elapsed, half, itemInRange, exponent, isCut, isSolidus, isFixed, integerPlaces, placesBehind, wholeItems, mainItems}
+use Rattle.formats.proofs.Cutting.{whole-joins, whole-none}
 use Rattle.formats.proofs.Each.{by-item, by-place, by-elapsed, by-exponent}
 use Rattle.formats.proofs.ByNumber.{by-number}
-use Rattle.formats.specs.Text.{digitAfter, along}
+use Rattle.formats.specs.Text.{digitAfter, along, firstOf}
 use Rattle.tables.specs.Words.{Entry}
-use Rattle.tables.specs.Encode.{entry, entryOf, entriesFrom, tagOf}
+use Rattle.tables.specs.Encode.{entry, entryOf, entriesFrom, runEntries, entriesOf, tagOf}
 use Rattle.tables.specs.Decode.{halfAt, itemAt, itemsAt, itemsByTag}
-use Rattle.tables.specs.Rules.{entryInRange, powersFrom, allOf, powerFits}
+use Rattle.tables.specs.Rules.{entryInRange, powersFrom, runPowers, powersRunDown, allOf, powerFits}
 
 -- what holds of each of the n numbers from k
 abbrev pub Span : (ℕ → Type 0) → ℕ → ℕ → Type 0
@@ -43,45 +45,43 @@ pub between-facts : (least greatest n : ℕ) → T (between least greatest n) �
 between-facts least greatest n t = search (and-left, and-right, leb→le)
 
 -- a number of no item is read as 21
-pub late-tag : (t a : ℕ) → 23 < t → itemAt (entry t a) ≡ half (halfAt a)
+pub late-tag : (t a : ℕ) → 25 < t → itemAt (entry t a) ≡ half (halfAt a)
 unfolding itemAt
 late-tag t a h = List·getD-eq-default (itemsByTag a) (half (halfAt a)) h
 
--- a number from 21 on that is no E's is read as a half-day mark
-pub half-tag : (t a : ℕ) → 21 ≤ t → isExponent (itemAt (entry t a)) ≡ false → itemAt (entry t a) ≡ half (halfAt a)
+-- a number from 21 on that is no E's, no solidus' and no fixed number's is read as a half-day mark
+pub half-tag : (t a : ℕ) → 21 ≤ t → (isCut (itemAt (entry t a)) || isFixed (itemAt (entry t a))) ≡ false → itemAt (entry t a) ≡ half (halfAt a)
 unfolding itemAt
 half-tag t a h e =
-    by-cases (eqb t 21) (λ f. rw (eqb-true t 21 f))
-    (λ f. by-cases (eqb t 22) (λ g. absurd (true≢false (rw (eqb-true t 22 g) at e)))
-    (λ g. by-cases (eqb t 23) (λ i. absurd (true≢false (rw (eqb-true t 23 i) at e)))
-    (λ i. late-tag t a (last (eqb-false t 21 f) (eqb-false t 22 g) (eqb-false t 23 i)))))
-  where
-    last : (t ≡ 21 → ⊥) → (t ≡ 22 → ⊥) → (t ≡ 23 → ⊥) → 23 < t
-    last f g i = omega arith
+    by-cases (leb 26 t) (λ f. late-tag t a (leb-true 26 t f))
+    (λ f.
+    span-at (λ n. (isCut (itemAt (entry n a)) || isFixed (itemAt (entry n a))) ≡ false → itemAt (entry n a) ≡ half (halfAt a)) 21 5 t
+    ((λ e. refl), ((λ e. absurd (true≢false e)), ((λ e. absurd (true≢false e)), ((λ e. absurd (true≢false e)), ((λ e. absurd (true≢false e)), tt)))))
+    h (omega (arith, leb-false 26 t f)) e)
 
 pub place-tag : (t a : ℕ) → isPlace (itemAt (entry t a)) ≡ between 4 6 t
 unfolding itemAt
 place-tag t a =
-    by-number isPlace (λ (n : ℕ). between 4 6 n) (itemsByTag a) 24 (half (halfAt a)) refl
+    by-number isPlace (λ (n : ℕ). between 4 6 n) (itemsByTag a) 26 (half (halfAt a)) refl
     (λ n h. sym (simp (le-leb 4 n (omega arith), lt-leb n 6 (omega arith)))) t
 
 -- an entry in its range has one of the tags
-tag-most : (i : Item) → T (between 1 23 (tagOf i))
+tag-most : (i : Item) → T (between 1 25 (tagOf i))
 tag-most =
-    by-item (λ i. T (between 1 23 (tagOf i))) (λ u. tt) (λ u. tt) (λ u. tt) (by-place (λ p. T (between 1 23 (tagOf (place p)))) tt tt tt)
+    by-item (λ i. T (between 1 25 (tagOf i))) (λ u. tt) (λ u. tt) (λ u. tt) (by-place (λ p. T (between 1 25 (tagOf (place p)))) tt tt tt)
     tt tt tt tt (λ n. tt) (λ n. tt) (λ n. tt) (λ n. tt) (λ n. tt) (λ n. tt) (λ n. tt)
-    (λ e n. by-elapsed (λ d. T (between 1 23 (tagOf (elapsed d n)))) tt tt tt e) (λ h. tt)
-    (by-exponent (λ m. T (between 1 23 (tagOf (exponent m)))) tt tt)
+    (λ e n. by-elapsed (λ d. T (between 1 25 (tagOf (elapsed d n)))) tt tt tt e) (λ h. tt)
+    (by-exponent (λ m. T (between 1 25 (tagOf (exponent m)))) tt tt) tt (λ n. tt)
 
-pub tag-known : (e : Entry) → T (entryInRange e) → (1 ≤ e .tag) × (e .tag ≤ 23)
+pub tag-known : (e : Entry) → T (entryInRange e) → (1 ≤ e .tag) × (e .tag ≤ 25)
 unfolding entryInRange
-tag-known e t = rw (← eqb→eq (tagOf (itemAt e)) (e .tag) (and-left (eqb (tagOf (itemAt e)) (e .tag)) _ t)) (between-facts 1 23 (tagOf (itemAt e)) (tag-most (itemAt e)))
+tag-known e t = rw (← eqb→eq (tagOf (itemAt e)) (e .tag) (and-left (eqb (tagOf (itemAt e)) (e .tag)) _ t)) (between-facts 1 25 (tagOf (itemAt e)) (tag-most (itemAt e)))
 
 -- what holds at each tag holds of every entry in its range
-pub by-tag : (P : Entry → Type 0) → Span (λ t. (a : ℕ) → T (entryInRange (entry t a)) → P (entry t a)) 1 23
+pub by-tag : (P : Entry → Type 0) → Span (λ t. (a : ℕ) → T (entryInRange (entry t a)) → P (entry t a)) 1 25
     → (e : Entry) → T (entryInRange e) → P e
 by-tag P ps e r =
-    span-at (λ t. (a : ℕ) → T (entryInRange (entry t a)) → P (entry t a)) 1 23 (e .tag) ps
+    span-at (λ t. (a : ℕ) → T (entryInRange (entry t a)) → P (entry t a)) 1 25 (e .tag) ps
     (tag-known e r .0) (omega (arith, tag-known e r)) (e .argument) r
 
 half-back : (a : ℕ) → T (between 1 2 a) → suc (halfIndex (halfAt a)) ≡ a
@@ -101,7 +101,8 @@ entry-back q =
     (also (λ a r f. rw (eqb→eq a 0 r)) (also (λ a r f. rw (eqb→eq a 0 r)) (also (λ a r f. rw (eqb→eq a 0 r)) (also (λ a r f. rw (eqb→eq a 0 r))
     (also (λ a r f. refl) (also (λ a r f. refl) (also (λ a r f. refl) (also (λ a r f. refl) (also (λ a r f. refl)
     (also (λ a r f. refl) (also (λ a r f. refl) (also (λ a r f. refl) (also (λ a r f. refl) (also (λ a r f. refl)
-    (also (λ a r f. rw (half-back a r)) (also (λ a r f. rw (eqb→eq a 0 r)) (also (λ a r f. rw (eqb→eq a 0 r)) tt)))))))))))))))))))))))
+    (also (λ a r f. rw (half-back a r)) (also (λ a r f. rw (eqb→eq a 0 r)) (also (λ a r f. rw (eqb→eq a 0 r))
+    (also (λ a r f. rw (eqb→eq a 0 r)) (also (λ a r f. refl) tt)))))))))))))))))))))))))
 
 pub entries-back : (anew q : ℕ) (es : List Entry) → T (every entryInRange es) → T (powersFrom anew q es) → entriesFrom anew q (itemsAt es) ≡ es
 unfolding powersFrom itemsAt along allOf
@@ -114,6 +115,46 @@ entries-back anew q (e ∷ es) r f =
       entries-back anew (digitAfter anew q (itemAt e)) es (every-tail entryInRange e es r) later,
     )
 
+items-take : (n : ℕ) (es : List Entry) → itemsAt (take n es) ≡ take n (itemsAt es)
+unfolding itemsAt
+items-take zero es = refl
+items-take (suc n) [] = refl
+items-take (suc n) (e ∷ es) = ap (λ (is : List Item). itemAt e ∷ is) (items-take n es)
+
+items-drop : (n : ℕ) (es : List Entry) → itemsAt (drop n es) ≡ drop n (itemsAt es)
+unfolding itemsAt
+items-drop zero es = refl
+items-drop (suc n) [] = refl
+items-drop (suc n) (e ∷ es) = items-drop n es
+
+run-back : (is : List Item) (es : List Entry) → itemsAt es ≡ is → T (every entryInRange es) → T (runPowers es) → runEntries is ≡ es
+unfolding runPowers runEntries
+run-back is es e r f =
+    subst (λ (js : List Item). entriesFrom (firstOf (placesBehind js)) (firstOf (integerPlaces js)) js ≡ es) e
+    (entries-back (firstOf (placesBehind (itemsAt es))) (firstOf (integerPlaces (itemsAt es))) es r f)
+
+-- entries whose powers run down are those of their items
+pub made-entries : (es : List Entry) → T (every entryInRange es) → T (powersRunDown es) → entriesOf (itemsAt es) ≡ es
+unfolding powersRunDown entriesOf
+made-entries es r f =
+    let is = itemsAt es in
+    let n : ℕ = length (wholeItems is) in
+    let whole : itemsAt (take n es) ≡ wholeItems is =
+    items-take n es ∙ ap (take n) (sym (whole-joins is)) ∙ take-append-seam (wholeItems is) (mainItems is) in
+    let main : itemsAt (drop n es) ≡ mainItems is =
+    items-drop n es ∙ ap (drop n) (sym (whole-joins is)) ∙ drop-append-seam (wholeItems is) (mainItems is) in
+    let a = and-left (runPowers (take n es)) (runPowers (drop n es)) f in
+    let b = and-right (runPowers (take n es)) (runPowers (drop n es)) f in
+    rw (run-back (wholeItems is) (take n es) whole (every-take entryInRange n es r) a, run-back (mainItems is) (drop n es) main (every-drop entryInRange n es r) b)
+    (take-append-drop n es)
+
+-- without a solidus they run down in one run
+pub powers-all : (es : List Entry) → any isSolidus (itemsAt es) ≡ false → T (powersRunDown es) → T (runPowers es)
+unfolding powersRunDown
+powers-all es none f =
+    let n : ℕ = length (wholeItems (itemsAt es)) in
+    rw (whole-none (itemsAt es) none) at (and-right (runPowers (take n es)) (runPowers (drop n es)) f)
+
 pub item-ranged : (e : Entry) → T (entryInRange e) → T (itemInRange (itemAt e))
 unfolding entryInRange itemAt itemInRange
 item-ranged =
@@ -121,7 +162,7 @@ item-ranged =
     (also (λ a r. r) (also (λ a r. r) (also (λ a r. r)
     (also (λ a r. tt) (also (λ a r. tt) (also (λ a r. tt) (also (λ a r. tt) (also (λ a r. tt) (also (λ a r. tt) (also (λ a r. tt)
     (also (λ a r. r) (also (λ a r. r) (also (λ a r. r) (also (λ a r. r) (also (λ a r. r) (also (λ a r. r) (also (λ a r. r) (also (λ a r. r) (also (λ a r. r) (also (λ a r. r)
-    (also (λ a r. rw (half-back a r) r) (also (λ a r. tt) (also (λ a r. tt) tt)))))))))))))))))))))))
+    (also (λ a r. rw (half-back a r) r) (also (λ a r. tt) (also (λ a r. tt) (also (λ a r. tt) (also (λ a r. r) tt)))))))))))))))))))))))))
 
 pub items-ranged : (es : List Entry) → T (every entryInRange es) → T (every itemInRange (itemsAt es))
 unfolding itemsAt every

@@ -29,7 +29,7 @@ abbrev pub makes : String → List ℕ → Made
 makes c ws = record { code = c; words = ws }
 
 -- 01's own example; flag 2 on a literal and on a date section; a half-day mark; a part of a second; a condition below zero and one
--- at minus zero; literals of a date; a dividing comma; the last fill; a scientific section
+-- at minus zero; literals of a date; a dividing comma; the last fill; a scientific section; fractions over places and over a fixed number
 unfoldable pub made : List Made
 made =
     makes "0" (1 ∷ 2 ∷ 0 ∷ 0 ∷ 0 ∷ 0 ∷ 0 ∷ 0 ∷ 0 ∷ 15 ∷ 0 ∷ 0 ∷ 1 ∷ 4 ∷ 16 ∷ [])
@@ -43,6 +43,9 @@ made =
     ∷ makes "0," (1 ∷ 2 ∷ 0 ∷ 0 ∷ 0 ∷ 0 ∷ 0 ∷ 0 ∷ 0 ∷ 12 ∷ 0 ∷ 0 ∷ 1 ∷ 4 ∷ 16 ∷ [])
     ∷ makes "*a0*b" (1 ∷ 2 ∷ 0 ∷ 0 ∷ 0 ∷ 0 ∷ 0 ∷ 0 ∷ 0 ∷ 15 ∷ 0 ∷ 0 ∷ 2 ∷ 4 ∷ 16 ∷ 3 ∷ 98 ∷ [])
     ∷ makes "0.00E+00" (1 ∷ 5 ∷ 0 ∷ 0 ∷ 0 ∷ 0 ∷ 0 ∷ 0 ∷ 0 ∷ 0 ∷ 0 ∷ 2 ∷ 7 ∷ 4 ∷ 16 ∷ 7 ∷ 0 ∷ 4 ∷ 15 ∷ 4 ∷ 14 ∷ 22 ∷ 0 ∷ 4 ∷ 17 ∷ 4 ∷ 16 ∷ [])
+    ∷ makes "# ?/?" (1 ∷ 6 ∷ 0 ∷ 0 ∷ 0 ∷ 0 ∷ 0 ∷ 0 ∷ 0 ∷ 0 ∷ 0 ∷ 0 ∷ 5 ∷ 5 ∷ 16 ∷ 1 ∷ 32 ∷ 6 ∷ 16 ∷ 24 ∷ 0 ∷ 6 ∷ 16 ∷ [])
+    ∷ makes "0-0 00/???" (1 ∷ 6 ∷ 0 ∷ 0 ∷ 0 ∷ 0 ∷ 0 ∷ 0 ∷ 0 ∷ 0 ∷ 0 ∷ 0 ∷ 10 ∷ 4 ∷ 17 ∷ 1 ∷ 45 ∷ 4 ∷ 16 ∷ 1 ∷ 32 ∷ 4 ∷ 17 ∷ 4 ∷ 16 ∷ 24 ∷ 0 ∷ 6 ∷ 18 ∷ 6 ∷ 17 ∷ 6 ∷ 16 ∷ [])
+    ∷ makes "# ?/8" (1 ∷ 6 ∷ 0 ∷ 0 ∷ 0 ∷ 0 ∷ 0 ∷ 0 ∷ 0 ∷ 0 ∷ 0 ∷ 0 ∷ 5 ∷ 5 ∷ 16 ∷ 1 ∷ 32 ∷ 6 ∷ 16 ∷ 24 ∷ 0 ∷ 25 ∷ 8 ∷ [])
     ∷ []
 
 abbrev pub wordsMade : Made → List ℕ
@@ -144,6 +147,30 @@ brokenTables =
     ∷ (1 ∷ plain 5 0 0 0 4 (4 ∷ 16 ∷ 8 ∷ 0 ∷ 22 ∷ 0 ∷ 4 ∷ 16 ∷ []))
     ∷ (1 ∷ plain 2 15 0 0 3 (4 ∷ 16 ∷ 22 ∷ 0 ∷ 4 ∷ 16 ∷ []))
     ∷ (1 ∷ plain 6 0 0 0 3 (4 ∷ 16 ∷ 22 ∷ 0 ∷ 4 ∷ 16 ∷ []))
+    -- fractions: shift 15; flag 1; a decimal place told; kind 2; a fixed number of 0 and of 1,000; a second solidus; no numerator; a literal on either
+    -- side of the solidus; no denominator; four places below; a place and a fixed number behind the denominator, and one before the solidus; integer
+    -- places that only a blank parts from the numerator; powers that go on to the numerator, and that end at 1 below; 21 places of either; a point
+    ∷ (1 ∷ plain 6 15 0 0 3 (4 ∷ 16 ∷ 24 ∷ 0 ∷ 4 ∷ 16 ∷ []))
+    ∷ (1 ∷ plain 6 0 1 0 6 (4 ∷ 17 ∷ 4 ∷ 16 ∷ 1 ∷ 32 ∷ 4 ∷ 16 ∷ 24 ∷ 0 ∷ 4 ∷ 16 ∷ []))
+    ∷ (1 ∷ plain 6 0 0 1 3 (4 ∷ 16 ∷ 24 ∷ 0 ∷ 4 ∷ 16 ∷ []))
+    ∷ (1 ∷ plain 2 15 0 0 3 (4 ∷ 16 ∷ 24 ∷ 0 ∷ 4 ∷ 16 ∷ []))
+    ∷ (1 ∷ plain 6 0 0 0 3 (4 ∷ 16 ∷ 24 ∷ 0 ∷ 25 ∷ 0 ∷ []))
+    ∷ (1 ∷ plain 6 0 0 0 3 (4 ∷ 16 ∷ 24 ∷ 0 ∷ 25 ∷ 1000 ∷ []))
+    ∷ (1 ∷ plain 6 0 0 0 5 (4 ∷ 16 ∷ 24 ∷ 0 ∷ 4 ∷ 16 ∷ 24 ∷ 0 ∷ 4 ∷ 16 ∷ []))
+    ∷ (1 ∷ plain 6 0 0 0 2 (24 ∷ 0 ∷ 4 ∷ 16 ∷ []))
+    ∷ (1 ∷ plain 6 0 0 0 4 (4 ∷ 16 ∷ 1 ∷ 32 ∷ 24 ∷ 0 ∷ 4 ∷ 16 ∷ []))
+    ∷ (1 ∷ plain 6 0 0 0 4 (4 ∷ 16 ∷ 24 ∷ 0 ∷ 1 ∷ 32 ∷ 4 ∷ 16 ∷ []))
+    ∷ (1 ∷ plain 6 0 0 0 2 (4 ∷ 16 ∷ 24 ∷ 0 ∷ []))
+    ∷ (1 ∷ plain 6 0 0 0 6 (4 ∷ 16 ∷ 24 ∷ 0 ∷ placesDown 4 19 []))
+    ∷ (1 ∷ plain 6 0 0 0 5 (4 ∷ 16 ∷ 24 ∷ 0 ∷ 4 ∷ 16 ∷ 1 ∷ 32 ∷ 4 ∷ 16 ∷ []))
+    ∷ (1 ∷ plain 6 0 0 0 4 (4 ∷ 16 ∷ 24 ∷ 0 ∷ 25 ∷ 8 ∷ 25 ∷ 8 ∷ []))
+    ∷ (1 ∷ plain 6 0 0 0 4 (25 ∷ 8 ∷ 4 ∷ 16 ∷ 24 ∷ 0 ∷ 4 ∷ 16 ∷ []))
+    ∷ (1 ∷ plain 6 0 0 0 5 (4 ∷ 16 ∷ 2 ∷ 65 ∷ 4 ∷ 16 ∷ 24 ∷ 0 ∷ 4 ∷ 16 ∷ []))
+    ∷ (1 ∷ plain 6 0 0 0 5 (4 ∷ 17 ∷ 1 ∷ 32 ∷ 4 ∷ 16 ∷ 24 ∷ 0 ∷ 4 ∷ 16 ∷ []))
+    ∷ (1 ∷ plain 6 0 0 0 3 (4 ∷ 16 ∷ 24 ∷ 0 ∷ 4 ∷ 17 ∷ []))
+    ∷ (1 ∷ plain 6 0 0 0 23 (placesDown 21 36 (24 ∷ 0 ∷ 4 ∷ 16 ∷ [])))
+    ∷ (1 ∷ plain 6 0 0 0 25 (placesDown 21 36 (1 ∷ 32 ∷ 4 ∷ 16 ∷ 24 ∷ 0 ∷ 4 ∷ 16 ∷ [])))
+    ∷ (1 ∷ plain 6 0 0 0 4 (7 ∷ 0 ∷ 4 ∷ 16 ∷ 24 ∷ 0 ∷ 4 ∷ 16 ∷ []))
     ∷ []
 
 pub broken-refused : any passes brokenTables ≡ false
@@ -152,7 +179,7 @@ broken-refused = refl
 
 -- tables that pass: 254 items; all places and percents that may be; five dividing commas; the greatest condition; a point and decimals
 -- alone; a percent and a comma; equal runs side by side; an elapsed run of nine; minutes before seconds; all places that a scientific
--- section may have; an empty section
+-- section may have; those of a fraction; the greatest fixed number; a literal `/` beside a solidus; an empty section
 unfoldable pub soundTables : List (List ℕ)
 unfolding copies placesDown
 soundTables =
@@ -166,6 +193,9 @@ soundTables =
     ∷ (1 ∷ plain 4 0 0 0 1 (18 ∷ 9 ∷ []))
     ∷ (1 ∷ plain 4 0 0 0 3 (12 ∷ 1 ∷ 15 ∷ 2 ∷ 16 ∷ 1 ∷ []))
     ∷ (1 ∷ plain 5 0 0 15 40 (placesDown 20 35 (7 ∷ 0 ∷ placesDown 15 15 (23 ∷ 0 ∷ placesDown 3 18 []))))
+    ∷ (1 ∷ plain 6 0 0 0 45 (placesDown 20 35 (1 ∷ 32 ∷ placesDown 20 35 (24 ∷ 0 ∷ placesDown 3 18 []))))
+    ∷ (1 ∷ plain 6 0 0 0 3 (4 ∷ 16 ∷ 24 ∷ 0 ∷ 25 ∷ 999 ∷ []))
+    ∷ (1 ∷ plain 6 0 0 0 5 (4 ∷ 16 ∷ 1 ∷ 47 ∷ 4 ∷ 16 ∷ 24 ∷ 0 ∷ 4 ∷ 16 ∷ []))
     ∷ (1 ∷ plain 0 0 0 0 0 [])
     ∷ []
 

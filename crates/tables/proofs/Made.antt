@@ -9,13 +9,13 @@ use lib.ListN.{length}
 use lib.Dec.{T, eqb→eq, eqb-refl}
 use Rattle.lists.specs.Lists.{every, count}
 use Rattle.lists.proofs.Bools.{and-in, by-cases, every-head, every-tail, every-cons}
-use Rattle.formats.specs.Items.{Section, numberKind, sameKind, kindOf, isPercent, integerPlaces, exponentPlaces}
+use Rattle.formats.specs.Items.{Section, numberKind, sameKind, kindOf, isPercent, integerPlaces, placesBehind}
 use Rattle.formats.specs.WellFormed.{dividingFits, sectionFormed, itemsInAll}
 use Rattle.tables.specs.Encode.{kindWord, shiftWord, flagsWord, noMinus, hasHalf, decimalsWord, headOf, entriesOf, rowOf, rowsFrom}
 use Rattle.tables.specs.Decode.{thousandsAt, sectionAt}
 use Rattle.tables.specs.Rules.{headInRange, entryInRange, rowInRange, shiftFits, kindFits, decimalsFit, flagsFit, flagsFrom, rowFits}
 use Rattle.tables.proofs.Words.{Counted}
-use Rattle.tables.proofs.MadeItems.{items-back, entries-length, entries-in-range, powers-run-down}
+use Rattle.tables.proofs.MadeItems.{made-back, made-length, made-in-range, powers-run-down}
 use Rattle.tables.proofs.MadeHeads.{Formed, formed, within-limits, says, condition-back, condition-fits, grouped-back, thousands-back, shift-tells, head-in-range}
 use Rattle.formats.specs.Text.{firstOf}
 
@@ -34,11 +34,11 @@ thousands-at s f =
     (λ e. rw e (sym (undivided s (f .dividing) e)))
 
 pub section-back : (n i : ℕ) (firstHas : Bool) (s : Section) → T (sectionFormed s) → sectionAt (rowOf n i firstHas s) ≡ s
-unfolding sectionAt rowOf headOf entriesOf kindOf
+unfolding sectionAt rowOf headOf kindOf
 section-back n i firstHas s t =
     let f = formed s t in
     rw (
-      items-back (firstOf (exponentPlaces (s .items))) (firstOf (integerPlaces (s .items))) (s .items),
+      made-back (s .items),
       condition-back (headOf n i firstHas s) (s .condition) (says n i firstHas s),
       grouped-back (s .grouped) (noMinus n i firstHas s) (hasHalf (s .items)),
       thousands-at s f,
@@ -47,13 +47,13 @@ section-back n i firstHas s t =
 -- a row made from a section that is formed
 module _ (n i : ℕ) (firstHas : Bool) (s : Section) (t : T (sectionFormed s)) where
   row-in-range : length (s .items) ≤ 254 → T (rowInRange (rowOf n i firstHas s))
-  unfolding rowInRange rowOf entriesOf
+  unfolding rowInRange rowOf
   row-in-range h =
       let f = formed s t in
       let w = within-limits s (f .within) in
       and-in (headInRange (headOf n i firstHas s)) (every entryInRange (entriesOf (s .items)))
       (head-in-range n i firstHas s t h)
-      (entries-in-range (firstOf (exponentPlaces (s .items))) (firstOf (integerPlaces (s .items))) (s .items) (f .items-in-range) (omega arith) (omega arith))
+      (made-in-range (s .items) (f .items-in-range) (omega (arith, w .exponents-most)) (w .wholes-most) (w .integers-most))
 
   kind-fits : T (kindFits (rowOf n i firstHas s))
   unfolding kindFits rowOf headOf
@@ -112,7 +112,7 @@ rows-fit n i firstHas (s ∷ ss) t h =
     (rows-fit n (suc i) firstHas ss (every-tail sectionFormed s ss t) (omega arith))
 
 pub made-counted : (n i : ℕ) (firstHas : Bool) (ss : List Section) → Counted (rowsFrom n i firstHas ss)
-unfolding rowsFrom rowOf headOf entriesOf
+unfolding rowsFrom rowOf headOf
 made-counted n i firstHas [] = tt
 made-counted n i firstHas (s ∷ ss) =
-    (sym (entries-length (firstOf (exponentPlaces (s .items))) (firstOf (integerPlaces (s .items))) (s .items)), made-counted n (suc i) firstHas ss)
+    (sym (made-length (s .items)), made-counted n (suc i) firstHas ss)

@@ -10,7 +10,7 @@ use lib.Dec.{T, leb, ltb, eqb, leb→le, le→leb, ltb→lt, eqb→eq, eqb-refl}
 use Rattle.lists.specs.Lists.{every, count, isSome}
 use Rattle.lists.proofs.Bools.{and-left, and-right, and-in, true-T, by-cases}
 use Rattle.formats.specs.Tokens.{Comparison}
-use Rattle.formats.specs.Items.{Condition, Section, Kind, numberKind, sameKind, kindOf, isPercent, integerPlaces, decimalPlaces, itemInRange, showsPlaces, exponentPlaces}
+use Rattle.formats.specs.Items.{Condition, Section, Kind, numberKind, sameKind, kindOf, isPercent, integerPlaces, wholeItems, mainItems, decimalPlaces, itemInRange, showsPlaces, placesBehind}
 use Rattle.formats.specs.Where.{implies}
 use Rattle.formats.specs.Limits.{sectionWithin}
 use Rattle.formats.specs.WellFormed.{conditionInRange, dividingFits, sectionFormed, sectionFits}
@@ -35,15 +35,16 @@ unfolding sectionFormed sectionFits
 formed s t = search (and-left, and-right, leb→le) depth 12
 
 pub record Within (s : Section) : Type 0 where
-  pub integers-most : integerPlaces (s .items) ≤ 20
+  pub wholes-most : integerPlaces (wholeItems (s .items)) ≤ 20
+  pub integers-most : integerPlaces (mainItems (s .items)) ≤ 20
   pub decimals-most : decimalPlaces (s .items) ≤ 15
-  pub exponents-most : exponentPlaces (s .items) ≤ 3
+  pub exponents-most : placesBehind (s .items) ≤ 3
   pub percents-most : count isPercent (s .items) ≤ 5
   pub thousands-most : s .thousands ≤ 5
 
 pub within-limits : (s : Section) → T (sectionWithin s) → Within s
 unfolding sectionWithin
-within-limits s t = search (and-left, and-right, leb→le)
+within-limits s t = search (and-left, and-right, leb→le) depth 8
 
 -- two words
 pub words-back : (n : ℕ) → twoWords (lowWord n) (highWord n) ≡ n
@@ -152,9 +153,9 @@ decimals-most : (s : Section) → Within s → decimalsWord s ≤ 15
 unfolding decimalsWord
 decimals-most s w = by-cases (showsPlaces (kindOf s)) (λ e. rw e (omega arith)) (λ e. rw e (omega arith))
 
-kind-most : (k : Kind) → kindWord k ≤ 5
+kind-most : (k : Kind) → kindWord k ≤ 6
 unfolding kindWord
-kind-most = by-kind (λ k. kindWord k ≤ 5) (omega arith) (omega arith) (omega arith) (omega arith) (omega arith) (omega arith)
+kind-most = by-kind (λ k. kindWord k ≤ 6) (omega arith) (omega arith) (omega arith) (omega arith) (omega arith) (omega arith) (omega arith)
 
 -- the words of a condition in range
 record Ranges (o : Option Condition) : Type 0 where

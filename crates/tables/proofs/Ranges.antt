@@ -8,7 +8,7 @@ use Rattle.tables.specs.Decode.{wholeAt, millionthsAt}
 use Rattle.tables.specs.Rules.{headInRange}
 
 pub record HeadRanges (h : Head) : Type 0 where
-  pub kind : h .kind ≤ 5
+  pub kind : h .kind ≤ 6
   pub colour : h .colour ≤ 56
   pub operator : h .operator ≤ 6
   pub negative : h .negative ≤ 1

@@ -46,7 +46,8 @@ argument-word =
     (also (λ a r. small 1 2 a (omega arith) r) (also (λ a r. small 1 2 a (omega arith) r) (also (λ a r. small 1 2 a (omega arith) r)
     (also (λ a r. small 1 3 a (omega arith) r)
     (also (λ a r. small 1 9 a (omega arith) r) (also (λ a r. small 1 9 a (omega arith) r) (also (λ a r. small 1 9 a (omega arith) r)
-    (also (λ a r. small 1 2 a (omega arith) r) (also (λ a r. nought a r) (also (λ a r. nought a r) tt)))))))))))))))))))))))
+    (also (λ a r. small 1 2 a (omega arith) r) (also (λ a r. nought a r) (also (λ a r. nought a r)
+    (also (λ a r. nought a r) (also (λ a r. small 1 999 a (omega arith) r) tt)))))))))))))))))))))))))
 
 entries-are-words : (es : List Entry) (ws : List ℕ) → T (every entryInRange es) → T (every isUnit ws) → T (every isUnit (entriesWords es ws))
 unfolding entriesWords

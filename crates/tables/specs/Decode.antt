@@ -8,7 +8,7 @@ use lib.ListN.{getD}
 use lib.Dec.{eqb}
 use Rattle.lists.specs.Lists.{count}
 use Rattle.formats.specs.Tokens.{zeroPlace, hashPlace, spacePlace, hours, minutes, seconds, HalfDay, short, long, ePlus, eMinus, Comparison, equal, less, greater, atMost, atLeast, unequal}
-use Rattle.formats.specs.Items.{Item, literal, blank, fill, place, point, percent, general, at, year, month, day, hour, minute, second, part, elapsed, half, exponent, Condition, Section, numberKind, sameKind, itemsKind, isPercent}
+use Rattle.formats.specs.Items.{Item, literal, blank, fill, place, point, percent, general, at, year, month, day, hour, minute, second, part, elapsed, half, exponent, solidus, fixed, Condition, Section, numberKind, sameKind, itemsKind, isPercent}
 use Rattle.tables.specs.Words.{Head, Entry, Row, rowsIn}
 
 -- a word of no comparison, which the rules refuse, is read as the last
@@ -37,12 +37,12 @@ conditionAt h =
 unfoldable pub halfAt : ℕ → HalfDay
 halfAt a = cond (eqb a 1) short long
 
--- the items by their tags from 0 to 23, with the argument a; 0 is the tag of no item
+-- the items by their tags from 0 to 25, with the argument a; 0 is the tag of no item
 abbrev pub itemsByTag : ℕ → List Item
 itemsByTag a =
     half (halfAt a) ∷ literal a ∷ blank a ∷ fill a ∷ place zeroPlace ∷ place hashPlace ∷ place spacePlace ∷ point ∷ percent ∷ general ∷ at
     ∷ year a ∷ month a ∷ day a ∷ hour a ∷ minute a ∷ second a ∷ part a ∷ elapsed hours a ∷ elapsed minutes a ∷ elapsed seconds a
-    ∷ half (halfAt a) ∷ exponent ePlus ∷ exponent eMinus ∷ []
+    ∷ half (halfAt a) ∷ exponent ePlus ∷ exponent eMinus ∷ solidus ∷ fixed a ∷ []
 
 -- an item from its tag and argument; a tag of no item, which the rules refuse, is read as 21
 unfoldable pub itemAt : Entry → Item

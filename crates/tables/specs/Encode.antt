@@ -2,19 +2,19 @@
 -- Assumes nothing.
 use Prim.Native.Nat.{ℕ, suc, _+_, _-_, _*_, _/_, _%_, _^_}
 use mathlib.Core.Bool.{Bool, true, false, cond}
-use mathlib.Core.List.{List, [], _∷_}
+use mathlib.Core.List.{List, [], _∷_, _++_}
 use mathlib.Core.Option.{Option, none, some}
 use lib.ListN.{length}
 use Rattle.lists.specs.Lists.{any, count}
 use Rattle.formats.specs.Tokens.{Comparison, equal, less, greater, atMost, atLeast, unequal}
-use Rattle.formats.specs.Items.{Item, itemRow, Condition, Section, Kind, kindRow, showsPlaces, numberKind, sameKind, kindOf, isPlace, isPercent, isHalf, integerPlaces, decimalPlaces, exponentPlaces}
+use Rattle.formats.specs.Items.{Item, itemRow, Condition, Section, Kind, kindRow, showsPlaces, numberKind, sameKind, kindOf, isPlace, isPercent, isHalf, integerPlaces, decimalPlaces, placesBehind, wholeItems, mainItems}
 use Rattle.formats.specs.Where.{hasCondition}
 use Rattle.formats.specs.Choice.{counted}
 use Rattle.formats.specs.Minus.{firstHasCondition, exceptionA}
 use Rattle.formats.specs.Text.{along, self, firstOf}
 use Rattle.tables.specs.Words.{Head, Entry, Row, tableWords}
 
--- "kind (0 literal, 1 General, 2 number, 3 text, 4 date-time)", 5 scientific (R90, R131)
+-- "kind (0 literal, 1 General, 2 number, 3 text, 4 date-time)", 5 scientific, 6 fraction (R90, R131, R136)
 unfoldable pub kindWord : Kind → ℕ
 kindWord k = kindRow k .number
 
@@ -107,8 +107,12 @@ abbrev pub entriesFrom : ℕ → ℕ → List Item → List Entry
 entriesFrom anew q is = along self entryOf anew q is
 
 -- "the last integer place having 0 and the first decimal place -1" (R101), "exponent places down to power 0" (R131)
+unfoldable pub runEntries : List Item → List Entry
+runEntries is = entriesFrom (firstOf (placesBehind is)) (firstOf (integerPlaces is)) is
+
+-- "numerator and denominator places each run down to power 0" (R136): the integer places of a fraction stand apart from these
 unfoldable pub entriesOf : List Item → List Entry
-entriesOf is = entriesFrom (firstOf (exponentPlaces is)) (firstOf (integerPlaces is)) is
+entriesOf is = runEntries (wholeItems is) ++ runEntries (mainItems is)
 
 unfoldable pub rowOf : ℕ → ℕ → Bool → Section → Row
 rowOf n i firstHas s = record { head = headOf n i firstHas s; entries = entriesOf (s .items) }

@@ -1,12 +1,13 @@
--- "Table rules" (R95 to R104, R113): a test for each clause of their sentence.
+-- "Table rules" (R95 to R104, R113, R131, R136): a test for each clause of their sentence.
 -- Assumes nothing.
 use Prim.Native.Nat.{ℕ, suc, _+_, _*_}
 use mathlib.Core.Bool.{Bool, true, cond, _&&_}
 use mathlib.Core.List.{List, [], _∷_}
+use lib.ListN.{length, take, drop}
 use lib.Dec.{leb, eqb}
 use Rattle.values.specs.Ranges.{between}
 use Rattle.lists.specs.Lists.{every, count}
-use Rattle.formats.specs.Items.{itemRow, isUnit, numberKind, sameKind, kindOf, isPercent, isPlace, integerPlaces, exponentPlaces}
+use Rattle.formats.specs.Items.{itemRow, isUnit, numberKind, sameKind, kindOf, isPercent, isPlace, integerPlaces, placesBehind, wholeItems}
 use Rattle.formats.specs.Where.{implies}
 use Rattle.formats.specs.WellFormed.{sectionFits, sectionsStand}
 use Rattle.formats.specs.Choice.{counted}
@@ -19,7 +20,7 @@ use Rattle.tables.specs.Decode.{wholeAt, millionthsAt, itemAt, itemsAt, 
 -- "every word in its range" (R97)
 unfoldable pub headInRange : Head → Bool
 headInRange h =
-    leb (h .kind) 5
+    leb (h .kind) 6
     && leb (h .colour) 56
     && leb (h .operator) 6
     && leb (h .negative) 1
@@ -58,8 +59,14 @@ unfoldable pub powersFrom : ℕ → ℕ → List Entry → Bool
 powersFrom anew q es = allOf (along itemAt powerFits anew q es)
 
 -- "the last integer place having 0 and the first decimal place -1", "exponent places down to power 0" (R131)
+unfoldable pub runPowers : List Entry → Bool
+runPowers es = powersFrom (firstOf (placesBehind (itemsAt es))) (firstOf (integerPlaces (itemsAt es))) es
+
+-- "numerator and denominator places each run down to power 0" (R136): the integer places of a fraction stand apart from these
 unfoldable pub powersRunDown : List Entry → Bool
-powersRunDown es = powersFrom (firstOf (exponentPlaces (itemsAt es))) (firstOf (integerPlaces (itemsAt es))) es
+powersRunDown es =
+    let n = length (wholeItems (itemsAt es)) in
+    runPowers (take n es) && runPowers (drop n es)
 
 -- "the shift, beside the percents, must tell 0 to 5 dividing commas" (R104)
 unfoldable pub shiftTells : ℕ → ℕ → Bool

@@ -10,3 +10,5 @@ pub const TEXT: u16 = 3;
 pub const DATE_TIME: u16 = 4;
 
 pub const SCIENTIFIC: u16 = 5;
+
+pub const FRACTION: u16 = 6;

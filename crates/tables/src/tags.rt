@@ -44,3 +44,7 @@ pub const HALF_DAY: u16 = 21;
 pub const EXPONENT_PLUS: u16 = 22;
 
 pub const EXPONENT_MINUS: u16 = 23;
+
+pub const SOLIDUS: u16 = 24;
+
+pub const FIXED: u16 = 25;

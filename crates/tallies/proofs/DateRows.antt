@@ -7,31 +7,32 @@ use mathlib.Core.Path.{_≡_, refl, sym, _∙_, ap}
 use mathlib.Core.Bool.{Bool, true, false, true≢false, cond, not, _&&_, _||_, and-true}
 use mathlib.Core.List.{List, [], _∷_}
 use lib.ListN.{length, getD}
-use lib.Dec.{T, leb, eqb, eqb→eq}
+use lib.Dec.{T, leb, eqb, leb→le, le→leb, eqb→eq}
 use borrow.Author.Tests.{eqb-true, eq-eqb, ne-eqb, le-leb, lt-leb}
 use Rattle.values.specs.Ranges.{between}
 use Rattle.lists.specs.Lists.{every, any, count}
 use Rattle.lists.proofs.Bools.{no, and-left, and-right, and-in, by-cases, true-T, T-true, same-test, or-cond, or-right, or-false, carry, every-head, every-tail, every-cons}
 use Rattle.formats.specs.Tokens.{Elapsed, hours, minutes, seconds, elapsedIndex}
-use Rattle.formats.specs.Items.{Item, half, dateKind, itemAllowed, itemMakes, isFill, isPart, isHour, isMinute, isSecond, isElapsed, isElapsedOf, isHalf, noPlain, runOf, runOfElapsed, elapsed}
+use Rattle.formats.specs.Items.{Item, half, dateKind, itemAllowed, itemMakes, itemsKind, itemsFit, isFill, isPart, isGeneral, isPoint, isHour, isMinute, isSecond, isElapsed, isElapsedOf, isHalf, noPlain, runOf, runOfElapsed, elapsed, integerPlaces, placesBehind, exponentFits}
 use Rattle.formats.specs.Where.{implies}
-use Rattle.formats.specs.WellFormed.{isSeconds, partsFrom, partsFollow}
+use Rattle.formats.specs.Text.{firstOf}
+use Rattle.formats.specs.WellFormed.{isSeconds, oneFill, partsFrom, partsFollow, isSettled}
 use Rattle.formats.proofs.Each.{by-item, by-elapsed}
 use Rattle.formats.proofs.ByNumber.{by-number}
 use Rattle.tables.specs.Words.{Entry, entriesAt, entriesIn}
-use Rattle.tables.specs.Encode.{entry, hasHalf}
+use Rattle.tables.specs.Encode.{entry, kindWord, hasHalf}
 use Rattle.tables.specs.Decode.{halfAt, itemAt, itemsAt, itemsByTag}
-use Rattle.tables.specs.Rules.{entryInRange}
+use Rattle.tables.specs.Rules.{entryInRange, powersFrom, powersRunDown}
 use Rattle.tables.proofs.Words.{entriesLeft, entries-front}
 use Rattle.tables.proofs.MadeHeads.{bit-back}
 use Rattle.tables.proofs.BackEntries.{between-facts, span-at}
 use Rattle.tallies.specs.declared.date_rows.DateWalk.{DateWalk}
-use Rattle.tallies.specs.Tally.{makesDate, itemsOf}
+use Rattle.tallies.specs.Tally.{makesDate, soundEntries, itemsOf}
 use Rattle.tallies.specs.Runs.{runAfter, earlierAfter, mayStand, answers}
 use Rattle.tallies.specs.DateRows.{DateTold, noDates, dateSound, dateAfter, noDate, dateNext, passed, plainTold}
 use Rattle.tallies.proofs.Runs.{runsFrom, runs-front, runs-end, runs-start}
 use Rattle.tallies.proofs.Told.{no-plain-every}
-use Rattle.tallies.proofs.Held.{holds, holds-back}
+use Rattle.tallies.proofs.Held.{Holds, holds, holds-back}
 use Rattle.tallies.proofs.Scanned.{tag-is, any-tagged}
 use Rattle.tallies.specs.Scans.{hasTag}
 
@@ -70,16 +71,16 @@ elapsed-back false x t r n i h = h
 elapsed-number : (t a : ℕ) → isElapsed (itemAt (entry t a)) ≡ between 18 20 t
 unfolding itemAt
 elapsed-number t a =
-    by-number isElapsed (λ (n : ℕ). between 18 20 n) (itemsByTag a) 24 (half (halfAt a)) refl
+    by-number isElapsed (λ (n : ℕ). between 18 20 n) (itemsByTag a) 26 (half (halfAt a)) refl
     (λ n h. sym (simp (le-leb 18 n (omega arith), lt-leb n 20 (omega arith)))) t
 
 elapsed-tag : (d : Elapsed) (t a : ℕ) → isElapsedOf d (itemAt (entry t a)) ≡ eqb t (18 + elapsedIndex d)
 unfolding itemAt
 elapsed-tag d t a =
     by-elapsed (λ d. isElapsedOf d (itemAt (entry t a)) ≡ eqb t (18 + elapsedIndex d))
-    (by-number (isElapsedOf hours) (λ (n : ℕ). eqb n 18) (itemsByTag a) 24 (half (halfAt a)) refl (λ n h. sym (ne-eqb n 18 (λ e. absurd (omega arith)))) t)
-    (by-number (isElapsedOf minutes) (λ (n : ℕ). eqb n 19) (itemsByTag a) 24 (half (halfAt a)) refl (λ n h. sym (ne-eqb n 19 (λ e. absurd (omega arith)))) t)
-    (by-number (isElapsedOf seconds) (λ (n : ℕ). eqb n 20) (itemsByTag a) 24 (half (halfAt a)) refl (λ n h. sym (ne-eqb n 20 (λ e. absurd (omega arith)))) t)
+    (by-number (isElapsedOf hours) (λ (n : ℕ). eqb n 18) (itemsByTag a) 26 (half (halfAt a)) refl (λ n h. sym (ne-eqb n 18 (λ e. absurd (omega arith)))) t)
+    (by-number (isElapsedOf minutes) (λ (n : ℕ). eqb n 19) (itemsByTag a) 26 (half (halfAt a)) refl (λ n h. sym (ne-eqb n 19 (λ e. absurd (omega arith)))) t)
+    (by-number (isElapsedOf seconds) (λ (n : ℕ). eqb n 20) (itemsByTag a) 26 (half (halfAt a)) refl (λ n h. sym (ne-eqb n 20 (λ e. absurd (omega arith)))) t)
     d
 
 elapsed-some : (t a : ℕ) → isElapsed (itemAt (entry t a)) ≡ true → t ≡ 0 → ⊥
@@ -151,6 +152,7 @@ run-left n =
     by-item (λ i. not (eqb (earlierAfter n i) 0) ≡ (makesDate i || not (eqb n 0))) (λ u. refl) (λ u. refl) (λ u. refl) (λ p. refl) refl refl refl refl (λ a. refl)
     (λ a. by-cases (leb a 2) (λ e. rw e) (λ e. rw e)) (λ a. refl) (λ a. refl) (λ a. by-cases (eqb n 1) (λ e. rw e) (λ e. rw e)) (λ a. refl) (λ a. refl)
     (λ x a. by-elapsed (λ (d : Elapsed). not (eqb (earlierAfter n (elapsed d a)) 0) ≡ (makesDate (elapsed d a) || not (eqb n 0))) refl refl refl x) (λ h. refl) (λ m. refl)
+    refl (λ n. refl)
 
 met-front : (a b r : Bool) → (a || cond b true r) ≡ ((b || a) || r)
 met-front true true r = refl
@@ -233,6 +235,7 @@ module _ (es : List Entry) where
         general = λ e. no e;
         figures = λ e. no e;
         exponent = λ e. no e;
+        fraction = λ e. no e;
         dates = λ e. record { parts = l .parts; settled = carry (runs-start is) (l .runs); elapsed = l .elapsed; plain = w .1 };
       })
 

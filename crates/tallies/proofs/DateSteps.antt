@@ -3,9 +3,10 @@
 use Prim.Native.Nat.{ℕ, _≤_, _<_}
 use native.Mathlib.Omega.{arith}
 use mathlib.Core.Path.{_≡_, refl}
-use mathlib.Core.Bool.{Bool, true, false, cond, _&&_, _||_, and-true, and-false}
+use mathlib.Core.Bool.{true, false, cond, _&&_, _||_, and-true, and-false}
+use mathlib.Core.List.{List, _∷_}
 use lib.Dec.{leb, eqb}
-use borrow.Author.Tests.{ne-eqb, lt-ltb, leb-true, leb-false}
+use borrow.Author.Tests.{eq-eqb, ne-eqb, lt-ltb, leb-true, leb-false}
 use Rattle.values.specs.Ranges.{between}
 use Rattle.lists.specs.Lists.{any}
 use Rattle.lists.proofs.Bools.{and-parts, by-cases}
@@ -74,9 +75,9 @@ module _ (s : DateWalk) (a : ℕ) where
   unfolding computed
   second-step = refl
 
-  pub part-step : (b : Bool) → b ≡ between 1 3 a → (t : Bool) → (eqb (s .behind) 1 && b) ≡ t → cond t (passed s (s .earlier) 0) noDate ≡ dateNext s (entry 17 a)
+  pub part-step : cond (eqb (s .behind) 1 && between 1 3 a) (passed s (s .earlier) 0) noDate ≡ dateNext s (entry 17 a)
   unfolding computed
-  part-step b e t f = rw (← f, e, and-true (between 1 3 a))
+  part-step = rw (and-true (between 1 3 a))
 
   pub elapsed-hours-step : elapsedTaken s 18 a 1 0 ≡ dateNext s (entry 18 a)
   unfolding computed
@@ -109,6 +110,6 @@ module _ (s : DateWalk) (a : ℕ) where
   pub unknown-step : (t : ℕ) → 21 < t → noDate ≡ dateNext s (entry t a)
   unfolding computed
   unknown-step t h =
-      by-cases (leb t 23)
-      (λ m. span-at (λ (k : ℕ). noDate ≡ dateNext s (entry k a)) 22 2 t (refl, (refl, tt)) (omega arith) (omega (arith, leb-true t 23 m)))
-      (λ m. rw (late-tag t a (leb-false t 23 m), ne-eqb 21 t (λ e. absurd (omega arith))))
+      by-cases (leb t 25)
+      (λ m. span-at (λ (k : ℕ). noDate ≡ dateNext s (entry k a)) 22 4 t (refl, (refl, (refl, (refl, tt)))) (omega arith) (omega (arith, leb-true t 25 m)))
+      (λ m. rw (late-tag t a (leb-false t 25 m), ne-eqb 21 t (λ e. absurd (omega arith))))

@@ -11,10 +11,10 @@ use lib.ListN.{length, getD}
 use borrow.Author.Tests.{eqb-true}
 use Rattle.lists.specs.Lists.{every, any, count}
 use Rattle.lists.proofs.Bools.{by-cases}
-use Rattle.lists.proofs.Counts.{count-least, any-same, any-either, positive-count}
+use Rattle.lists.proofs.Counts.{count-least, any-same, any-either, every-and, positive-count}
 use Rattle.formats.specs.Tokens.{hours, minutes, seconds}
-use Rattle.formats.specs.Items.{Item, elapsed, isPlace, isPoint, isPercent, isHour, isMinute, isSecond, isPart, isElapsedOf, isHalf, isExponent, isSpace, itemRow, itemMakes, itemNumber, beforeE, fromE, integerPlaces, decimalPlaces, exponentPlaces}
-use Rattle.formats.specs.Limits.{elapsedShort}
+use Rattle.formats.specs.Items.{Item, elapsed, isPlace, isPoint, isPercent, isHour, isMinute, isSecond, isPart, isElapsedOf, isHalf, isExponent, isSolidus, isCut, isSpace, itemRow, itemMakes, itemNumber, beforeCut, fromCut, integerPlaces, decimalPlaces, placesBehind}
+use Rattle.formats.specs.Limits.{elapsedShort, fixedSmall}
 use Rattle.formats.proofs.Each.{by-item, by-elapsed}
 use Rattle.tables.specs.Words.{Entry, entriesAt, entriesIn}
 use Rattle.tables.specs.Encode.{entry, bit}
@@ -45,15 +45,16 @@ unfolding walkFrom stepOf itemsAt numbersLeft
 numbers-walked w [] = omega arith
 numbers-walked w (e ∷ es) = omega (arith, numbers-walked (stepOf w e) es)
 
--- an E, a point, a place `?` or another, or none of these
-figure-cases : {P : Type 0} (i : Item) → (itemNumber i ≡ 22 → P) → (itemNumber i ≡ 7 → P) → (itemNumber i ≡ 4 → eqb (itemRow i .variant) 2 ≡ true → P)
-    → (itemNumber i ≡ 4 → eqb (itemRow i .variant) 2 ≡ false → P) → (isExponent i ≡ false → isPoint i ≡ false → isPlace i ≡ false → P) → P
-figure-cases i e p s q o =
+-- an E, a solidus, a point, a place `?` or another, or none of these
+figure-cases : {P : Type 0} (i : Item) → (itemNumber i ≡ 22 → P) → (itemNumber i ≡ 24 → P) → (itemNumber i ≡ 7 → P) → (itemNumber i ≡ 4 → eqb (itemRow i .variant) 2 ≡ true → P)
+    → (itemNumber i ≡ 4 → eqb (itemRow i .variant) 2 ≡ false → P) → (isExponent i ≡ false → isSolidus i ≡ false → isPoint i ≡ false → isPlace i ≡ false → P) → P
+figure-cases i e c p s q o =
     by-cases (isExponent i) (λ x. e (eqb-true (itemNumber i) 22 x))
-    (λ x. by-cases (isPoint i) (λ g. p (eqb-true (itemNumber i) 7 g))
+    (λ x. by-cases (isSolidus i) (λ y. c (eqb-true (itemNumber i) 24 y))
+    (λ y. by-cases (isPoint i) (λ g. p (eqb-true (itemNumber i) 7 g))
     (λ g. by-cases (isPlace i)
     (λ k. by-cases (eqb (itemRow i .variant) 2) (s (eqb-true (itemNumber i) 4 k)) (q (eqb-true (itemNumber i) 4 k)))
-    (o x g)))
+    (o x y g))))
 
 abbrev figuresOf : List Item → ℕ
 figuresOf is = packed (tallies figureTests is)
@@ -65,34 +66,34 @@ behind-numbers [] = rw (tallies-none figureTests)
 behind-numbers (i ∷ is) =
     let h = behind-numbers is in
     rw (tallies-turn figureTests i is)
-    (figure-cases i (λ n. rw n (omega arith)) (λ n. rw n (omega arith)) (λ n v. rw (n, v) (omega arith)) (λ n v. rw (n, v) (omega arith))
-    (λ x g k. rw (x, g, k) (omega arith)))
+    (figure-cases i (λ n. rw n (omega arith)) (λ n. rw n (omega arith)) (λ n. rw n (omega arith)) (λ n v. rw (n, v) (omega arith)) (λ n v. rw (n, v) (omega arith))
+    (λ x y g k. rw (x, y, g, k) (omega arith)))
 
 abbrev behindOf : List Item → ℕ
-behindOf is = behindUnit * exponentPlaces is + 281474976710656 * count isMisplaced (fromE is)
+behindOf is = behindUnit * placesBehind is + 281474976710656 * count isMisplaced (fromCut is)
 
-closed-numbers : (is : List Item) → numbersLeft 256 is ≡ 256 * count isPlace (beforeE is) + 65536 * figuresOf is + behindOf is
-unfolding numbersLeft numberWeight unitAfter beforeE fromE exponentPlaces count weight bit
+closed-numbers : (is : List Item) → numbersLeft 256 is ≡ 256 * count isPlace (beforeCut is) + 65536 * figuresOf is + behindOf is
+unfolding numbersLeft numberWeight unitAfter beforeCut fromCut placesBehind count weight bit
 closed-numbers [] = rw (tallies-none figureTests)
 closed-numbers (i ∷ is) =
     let h = closed-numbers is in
     rw (tallies-turn figureTests i is)
-    (figure-cases i (λ n. rw (n, n) (omega (arith, behind-numbers is))) (λ n. rw (n, n) (omega arith)) (λ n v. rw (n, n, v) (omega arith)) (λ n v. rw (n, n, v) (omega arith))
-    (λ x g k. rw (x, g, k) (omega arith)))
+    (figure-cases i (λ n. rw (n, n) (omega (arith, behind-numbers is))) (λ n. rw (n, n) (omega (arith, behind-numbers is))) (λ n. rw (n, n) (omega arith)) (λ n v. rw (n, n, v) (omega arith)) (λ n v. rw (n, n, v) (omega arith))
+    (λ x y g k. rw (x, y, g, k) (omega arith)))
 
 opened-numbers : (is : List Item) → numbersLeft 1 is ≡ integerPlaces is + 256 * decimalPlaces is + 65536 * figuresOf is + behindOf is
-unfolding numbersLeft numberWeight unitAfter integerPlaces decimalPlaces fromE exponentPlaces count weight bit
+unfolding numbersLeft numberWeight unitAfter integerPlaces decimalPlaces fromCut placesBehind count weight bit
 opened-numbers [] = rw (tallies-none figureTests)
 opened-numbers (i ∷ is) =
     let h = opened-numbers is in
     rw (tallies-turn figureTests i is)
-    (figure-cases i (λ n. rw (n, n) (omega (arith, behind-numbers is))) (λ n. rw n (omega (arith, closed-numbers is))) (λ n v. rw (n, v) (omega arith)) (λ n v. rw (n, v) (omega arith))
-    (λ x g k. rw (x, g, k) (omega arith)))
+    (figure-cases i (λ n. rw (n, n) (omega (arith, behind-numbers is))) (λ n. rw (n, n) (omega (arith, behind-numbers is))) (λ n. rw n (omega (arith, closed-numbers is))) (λ n v. rw (n, v) (omega arith)) (λ n v. rw (n, v) (omega arith))
+    (λ x y g k. rw (x, y, g, k) (omega arith)))
 
-from-short : (is : List Item) → length (fromE is) ≤ length is
-unfolding fromE
+from-short : (is : List Item) → length (fromCut is) ≤ length is
+unfolding fromCut
 from-short [] = omega arith
-from-short (i ∷ is) = by-cases (isExponent i) (λ x. rw x (omega arith)) (λ x. rw x (omega (arith, from-short is)))
+from-short (i ∷ is) = by-cases (isCut i) (λ x. rw x (omega arith)) (λ x. rw x (omega (arith, from-short is)))
 
 -- ---- what an item's weight says
 date-weight : (i : Item) → ltb 0 (weight dateTests i) ≡ makesDate i
@@ -101,6 +102,7 @@ date-weight =
     by-item (λ i. ltb 0 (weight dateTests i) ≡ makesDate i) (λ u. refl) (λ u. refl) (λ u. refl) (λ p. refl) refl refl refl refl
     (λ n. refl) (λ n. refl) (λ n. refl) (λ n. refl) (λ n. refl) (λ n. refl) (λ n. refl)
     (λ e n. by-elapsed (λ d. ltb 0 (weight dateTests (elapsed d n)) ≡ makesDate (elapsed d n)) refl refl refl e) (λ h. refl) (λ m. refl)
+    refl (λ n. refl)
 
 -- a half-day mark or a part of a second
 abbrev besideTests : List (Item → Bool)
@@ -110,10 +112,10 @@ beside-weight : (i : Item) → ltb 0 (weight besideTests i) ≡ (isHalf i || isP
 unfolding weight bit
 beside-weight i = by-cases (isHalf i) (λ h. rw h (by-cases (isPart i) (λ k. rw k) (λ k. rw k))) (λ h. rw h (by-cases (isPart i) (λ k. rw k) (λ k. rw k)))
 
-none-long : (is : List Item) → eqb (count isLong is) 0 ≡ every elapsedShort is
+none-long : (is : List Item) → eqb (count isLong is) 0 ≡ every (λ (i : Item). elapsedShort i && fixedSmall i) is
 unfolding count every
 none-long [] = refl
-none-long (i ∷ is) = by-cases (elapsedShort i) (λ h. rw h (none-long is)) (λ h. rw h (eqb·suc-zero (count isLong is)))
+none-long (i ∷ is) = by-cases (elapsedShort i && fixedSmall i) (λ h. rw h (none-long is)) (λ h. rw h (eqb·suc-zero (count isLong is)))
 
 -- ---- the end
 module _ (es : List Entry) (few : length es ≤ 254) where
@@ -128,14 +130,14 @@ module _ (es : List Entry) (few : length es ≤ 254) where
 
   abbrev numberCounts : List ℕ
   numberCounts =
-      integerPlaces is ∷ decimalPlaces is ∷ count isPoint is ∷ count isPercent is ∷ count isExponent is ∷ exponentPlaces is ∷ count isMisplaced (fromE is) ∷ []
+      integerPlaces is ∷ decimalPlaces is ∷ count isPoint is ∷ count isPercent is ∷ count isExponent is ∷ placesBehind is ∷ count isMisplaced (fromCut is) ∷ []
 
   numbers-are : end .numbers ≡ packed numberCounts
   unfolding packed tallies
   numbers-are = omega (arith, numbers-walked startOf es, opened-numbers is)
 
   numbers-small : Small numberCounts
-  unfolding exponentPlaces
+  unfolding placesBehind
   numbers-small =
       let l = few-items in
       let p = places-counted is in
@@ -149,7 +151,7 @@ module _ (es : List Entry) (few : length es ≤ 254) where
               omega (arith, count-least isPercent is),
               (
                 omega (arith, count-least isExponent is),
-                (omega arith, (omega (arith, count-least isMisplaced (fromE is), from-short is), tt)),
+                (omega arith, (omega (arith, count-least isMisplaced (fromCut is), from-short is), tt)),
               ),
             ),
           ),
@@ -188,16 +190,16 @@ module _ (es : List Entry) (few : length es ≤ 254) where
   dating-told : ltb 0 (end .dates) ≡ any makesDate is
   dating-told = rw dates-are (packed-positive dateTests is ∙ any-same (λ (i : Item). ltb 0 (weight dateTests i)) makesDate date-weight is)
 
-  dates-told : (ltb 0 (end .dates) || ltb 0 (end .others / 4294967296)) ≡ any belongsDate is
+  dates-told : (ltb 0 (end .dates) || ltb 0 (end .others / 1099511627776)) ≡ any belongsDate is
   unfolding tallies
   dates-told =
       let beside : Item → Bool = λ i. ltb 0 (weight besideTests i) in
-      let high : end .others / 4294967296 ≡ packed (tallies besideTests is) = rw others-are (digits-from (tallies otherTests is) 4 (small otherTests)) in
+      let high : end .others / 1099511627776 ≡ packed (tallies besideTests is) = rw others-are (digits-from (tallies otherTests is) 5 (small otherTests)) in
       rw (dating-told, high, packed-positive besideTests is)
       (sym (any-either makesDate beside is) ∙ any-same (λ (i : Item). makesDate i || beside i) belongsDate (λ i. rw (beside-weight i)) is)
 
-  misplaced-told : ltb 0 (end .numbers / 281474976710656 % 256) ≡ (any isPoint (fromE is) || any isSpace (fromE is))
-  misplaced-told = flag _ isMisplaced (fromE is) (number-digit 6) ∙ any-either isPoint isSpace (fromE is)
+  misplaced-told : ltb 0 (end .numbers / 281474976710656 % 256) ≡ (any isPoint (fromCut is) || any isSpace (fromCut is))
+  misplaced-told = flag _ isMisplaced (fromCut is) (number-digit 6) ∙ any-either isPoint isSpace (fromCut is)
 
   finished-is : finishedOf end ≡ tallyOf es
   unfolding tallyOf tallies
@@ -207,13 +209,14 @@ module _ (es : List Entry) (few : length es ≤ 254) where
     points = number-digit 2 i;
     percents = number-digit 3 i;
     exponents = number-digit 4 i;
-    «exponent_places» = number-digit 5 i;
+    «places_behind» = number-digit 5 i;
     misplaced = misplaced-told i;
     generals = first-of (end .others) _ (other-digit 0) i;
     texts = flag _ makesText is (other-digit 1) i;
     elapsed = other-digit 2 i;
-    short = (ap (λ (n : ℕ). eqb n 0) (other-digit 3) ∙ none-long is) i;
-    halves = flag _ isHalf is (other-digit 4) i;
+    short = (ap (λ (n : ℕ). eqb n 0) (other-digit 3) ∙ none-long is ∙ every-and elapsedShort fixedSmall is) i;
+    solidi = other-digit 4 i;
+    halves = flag _ isHalf is (other-digit 5) i;
     dating = dating-told i;
     dates = dates-told i;
     hours = date-flag 1 isHour refl i;
@@ -237,7 +240,7 @@ few-step w e n h =
       numbers = by-cases (isMisplaced i && eqb (w .unit) behindUnit) (λ b. rw b (omega (arith, h .numbers))) (λ b. rw b (omega (arith, h .numbers)));
       others = omega (arith, h .others, weight-most otherTests i);
       dates = omega (arith, h .dates, weight-most dateTests i);
-      unit = by-cases (isExponent i) (λ x. rw x (omega arith)) (λ x. rw x (by-cases (isPoint i && eqb (w .unit) 1) (λ g. rw g (omega arith)) (λ g. rw g unit)));
+      unit = by-cases (isCut i) (λ x. rw x (omega arith)) (λ x. rw x (by-cases (isPoint i && eqb (w .unit) 1) (λ g. rw g (omega arith)) (λ g. rw g unit)));
     }
 
 few-most : (w : Walk) (n : ℕ) → Few n w → n ≤ 253 → Few 253 w

@@ -13,20 +13,22 @@ use Rattle.values.specs.Ranges.{between}
 use Rattle.lists.specs.Lists.{every, any, count}
 use Rattle.lists.proofs.Bools.{no, cond-left, cond-right, and-left, and-right, and-in, by-cases, cond-case, true-T, T-true, carry}
 use Rattle.lists.proofs.Counts.{any-count, positive-count}
-use Rattle.formats.specs.Items.{Item, half, numberKind, itemAllowed, isFill, isPlace, isPoint, isPercent, beforeE, integerPlaces, decimalPlaces}
+use Rattle.formats.specs.Items.{Item, half, numberKind, itemAllowed, itemsKind, itemsFit, isFill, isPlace, isPoint, isPercent, isGeneral, isElapsed, noPlain, noRun, beforeCut, integerPlaces, decimalPlaces}
 use Rattle.formats.proofs.ByNumber.{by-number}
+use Rattle.formats.proofs.FigureItems.{number-place}
+use Rattle.formats.specs.WellFormed.{oneFill, partsFrom, partsFollow, settledTest, isSettled}
 use Rattle.formats.specs.Text.{digitAfter, along, firstOf}
 use Rattle.tables.specs.Words.{Entry, entriesAt, entriesIn}
-use Rattle.tables.specs.Encode.{entry}
+use Rattle.tables.specs.Encode.{entry, kindWord}
 use Rattle.tables.specs.Decode.{halfAt, itemAt, itemsAt, itemsByTag}
-use Rattle.tables.specs.Rules.{entryInRange, allOf, powersFrom, powersRunDown}
+use Rattle.tables.specs.Rules.{entryInRange, allOf, powersFrom, runPowers}
 use Rattle.tables.proofs.Words.{entriesLeft, entries-front}
 use Rattle.tables.proofs.BackEntries.{between-facts, span-at}
 use Rattle.tallies.proofs.Steps.{no-place-beyond}
 use Rattle.tallies.specs.declared.number_rows.NumberWalk.{NumberWalk}
-use Rattle.tallies.specs.Tally.{itemsOf}
+use Rattle.tallies.specs.Tally.{soundEntries, itemsOf}
 use Rattle.tallies.proofs.Places.{places-bare}
-use Rattle.tallies.proofs.Held.{apart, holds, holds-back, powers-bare}
+use Rattle.tallies.proofs.Held.{apart, uncut, no-solidi, holds, holds-back, powers-one, powers-bare}
 use Rattle.tallies.specs.NumberRows.{numberItems, greatestPower, NumberTold, noRow, noNumber, countedAt, placeTaken, pointTaken, percentTaken, fillTaken, numberAfter}
 
 -- the power and 15 that the next place must have, with n integer places left: before the first place it is theirs
@@ -75,7 +77,7 @@ pub record Counted (i d p first : ℕ) (point : Bool) (next percent filled n m c
 abbrev pub Known : ℕ → ℕ → ℕ → NumberWalk → List Entry → Type 0
 Known i d p s es =
     let is = itemsAt es in
-    Counted i d p (s .first) (s .point) (s .next) (s .percents) (s .fills) (integerPlaces is) (decimalPlaces is) (count isPlace (beforeE is)) (count isPercent is)
+    Counted i d p (s .first) (s .point) (s .next) (s .percents) (s .fills) (integerPlaces is) (decimalPlaces is) (count isPlace (beforeCut is)) (count isPercent is)
 
 -- the limits, and that there is a place
 pub record Within (i d p : ℕ) : Type 0 where
@@ -92,7 +94,7 @@ pub record Turned (i d p : ℕ) (s : NumberWalk) (e : Entry) (es : List Entry) (
 
 -- opens all that an entry with a known tag computes by
 unfoldable computed : Entry → Item
-unfolding itemAt itemsAt every count beforeE integerPlaces decimalPlaces powersFrom allOf along digitAfter entryInRange itemAllowed
+unfolding itemAt itemsAt every count beforeCut integerPlaces decimalPlaces powersFrom allOf along digitAfter entryInRange itemAllowed
 computed e = itemAt e
 
 module _ (i d p : ℕ) (s : NumberWalk) (a : ℕ) (es : List Entry) where
@@ -184,7 +186,7 @@ module _ (i d p : ℕ) (es : List Entry) (fits : Bool) (percents fills : ℕ) wh
   unfolding computed
   power-turn point zero a b e k = absurd (omega (arith, k .places))
   power-turn point (suc f) a b e k =
-      let q = power-places f point a b i d (integerPlaces (itemsAt es)) (decimalPlaces (itemsAt es)) (count isPlace (beforeE (itemsAt es))) e (k .places) in
+      let q = power-places f point a b i d (integerPlaces (itemsAt es)) (decimalPlaces (itemsAt es)) (count isPlace (beforeCut (itemsAt es))) e (k .places) in
       let ends = power-ends f point a b (integerPlaces (itemsAt es)) e in
       let below : b - 1 ≡ a - 1 - 1 = omega arith in
       record {
@@ -301,7 +303,7 @@ module _ (i d p : ℕ) (es : List Entry) (fits : Bool) (percents fills : ℕ) wh
 foreign-tag : (t a : ℕ) → itemAllowed numberKind (itemAt (entry t a)) ≡ between 1 8 t
 unfolding itemAt itemAllowed
 foreign-tag t a =
-    by-number (itemAllowed numberKind) (λ (n : ℕ). between 1 8 n) (itemsByTag a) 24 (half (halfAt a)) refl
+    by-number (itemAllowed numberKind) (λ (n : ℕ). between 1 8 n) (itemsByTag a) 26 (half (halfAt a)) refl
     (λ n h. sym (simp (le-leb 1 n (omega arith), lt-leb n 8 (omega arith)))) t
 
 no-figure : (t : ℕ) → between 4 6 t ≡ false → (t ≡ 1 → ⊥) → (t ≡ 2 → ⊥) → (t ≡ 3 → ⊥) → (t ≡ 7 → ⊥) → (t ≡ 8 → ⊥) → between 1 8 t ≡ false
@@ -363,30 +365,33 @@ module _ (es : List Entry) where
   number-known = record { places = (refl, refl, refl, refl); percents = omega arith; few = omega arith; fill = omega arith }
 
   number-out : T (numberItems es) → Limits × Left begun es
-  unfolding numberItems powersRunDown
+  unfolding numberItems runPowers
   number-out t =
       let integers : integerPlaces is ≤ 20 = search (and-left, and-right, leb→le) depth 6 in
       let decimals : decimalPlaces is ≤ 15 = search (and-left, and-right, leb→le) depth 6 in
       let percents : count isPercent is ≤ 5 = search (and-left, and-right, leb→le) depth 6 in
       let h = holds numberKind es (and-left (itemsOf 2 es) _ t) in
-      let bare = apart numberKind is (h .items) .exponents refl in
+      let a = apart numberKind is (h .items) in
+      let bare = uncut is (a .exponents refl) (a .solidi refl) in
       let some = any-count isPlace is (T-true (any isPlace is) (h .made)) in (
         record { some = omega (arith, places-bare is bare); integers = integers; decimals = decimals; percents = percents },
-        record { items = h .items; ranges = h .ranges; fill = omega (arith, h .fill); points = h .figures refl .0; powers = carry (powers-bare _ 0 (firstOf (integerPlaces is)) es bare) (h .figures refl .1); ends = tt },
+        record { items = h .items; ranges = h .ranges; fill = omega (arith, h .fill); points = h .figures refl .0; powers = carry (powers-one es (no-solidi is (a .solidi refl) .0) ∙ powers-bare _ 0 (firstOf (integerPlaces is)) es bare) (h .figures refl .1); ends = tt },
       )
 
   number-back : Limits → Left begun es → T (numberItems es)
-  unfolding numberItems powersRunDown
+  unfolding numberItems runPowers
   number-back w l =
-      let bare = apart numberKind is (l .items) .exponents refl in
+      let a = apart numberKind is (l .items) in
+      let bare = uncut is (a .exponents refl) (a .solidi refl) in
       let items : T (itemsOf 2 es) = holds-back numberKind es (record {
         items = l .items;
         made = true-T (sym (positive-count isPlace is) ∙ lt-ltb 0 (count isPlace is) (omega (arith, w .some, places-bare is bare)));
         ranges = l .ranges;
         fill = omega (arith, l .fill);
         general = λ e. no e;
-        figures = λ e. (l .points, carry (powers-bare 0 _ (firstOf (integerPlaces is)) es bare) (l .powers));
+        figures = λ e. (l .points, carry (powers-bare 0 _ (firstOf (integerPlaces is)) es bare ∙ sym (powers-one es (no-solidi is (a .solidi refl) .0))) (l .powers));
         exponent = λ e. no e;
+        fraction = λ e. no e;
         dates = λ e. no e;
       }) in
       search (and-in, le→leb) depth 6
@@ -493,7 +498,7 @@ module _ (words : List ℕ) (n k : ℕ) (s : NumberWalk) (inv : Counting words n
     none = let z : n - k ≡ 0 = omega (arith, h) in rw z
 
     places : Places (s .first) (s .point) (s .next) (integerPlaces all) (decimalPlaces all) 0 0 0
-    unfolding itemsAt beforeE integerPlaces decimalPlaces count
+    unfolding itemsAt beforeCut integerPlaces decimalPlaces count
     places = rw none at (inv .known .places)
 
     pub counting-none : s .first ≡ s .next → NumberTold whole noRow

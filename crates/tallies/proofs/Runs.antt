@@ -40,6 +40,7 @@ run-behind n =
     by-item (λ i. runAt (earlierAfter n i) ≡ nearer (runOf i) (runAt n)) (λ u. refl) (λ u. refl) (λ u. refl) (λ p. refl) refl refl refl refl (λ a. refl)
     (λ a. by-cases (leb a 2) (λ e. rw e) (λ e. rw e)) (λ a. refl) (λ a. refl) (λ a. by-cases (eqb n 1) (λ e. rw e) (λ e. rw e)) (λ a. refl) (λ a. refl)
     (λ x a. by-elapsed (λ (d : Elapsed). runAt (earlierAfter n (elapsed d a)) ≡ nearer (runOf (elapsed d a)) (runAt n)) refl refl refl x) (λ h. refl) (λ m. refl)
+    refl (λ n. refl)
 
 -- an item's test by the rule and what waits before it are told by the tests that are made at once and by what waits behind it
 abbrev Told : ℕ → Run → Item → Type 0
@@ -81,6 +82,7 @@ told n l =
     by-item (Told n l) (λ u. refl) (λ u. refl) (λ u. refl) (λ p. refl) refl refl refl refl (λ a. other-told n) (λ a. month-told n a l) (λ a. other-told n) (λ a. other-told n)
     (λ a. minute-told n a l) (λ a. second-told n) (λ a. refl)
     (λ x a. by-elapsed (λ (d : Elapsed). Told n l (elapsed d a)) (other-told n) (other-told n) (second-told n) x) (λ h. refl) (λ m. refl)
+    refl (λ n. refl)
 
 -- the front of the tests, put in another order
 in-front : (o w s x y : Bool) → (o && w) ≡ (x && y) → (w && (o && s)) ≡ (x && (y && s))

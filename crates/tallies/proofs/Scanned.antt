@@ -1,8 +1,8 @@
 -- Items by their tags, and the words before and behind one of them.
 -- Assumes nothing.
-use Prim.Native.Nat.{ℕ, zero, suc, _+_, _-_, _*_, _/_, _≤_, _<_}
+use Prim.Native.Nat.{ℕ, suc, _+_, _-_, _*_, _/_, _≤_, _<_}
 use native.Mathlib.Omega.{arith}
-use mathlib.Core.Path.{_≡_, refl, sym, _∙_, ap}
+use mathlib.Core.Path.{_≡_, refl, sym, _∙_}
 use mathlib.Core.Bool.{Bool, false}
 use mathlib.Core.List.{List, [], _∷_, _++_, map}
 use lib.ListN.{length, getD, take, drop, length-drop}
@@ -17,14 +17,15 @@ use Rattle.tables.specs.Words.{Entry, entriesAt, entriesIn}
 use Rattle.tables.specs.Encode.{entry}
 use Rattle.tables.specs.Decode.{halfAt, itemAt, itemsAt, itemsByTag}
 use Rattle.tables.proofs.Words.{Seeking, seeking-front, seeking-end, entries-part}
+use Rattle.table_words.proofs.Cuts.{entries-joined}
 use Rattle.tallies.specs.Scans.{tagged, hasTag, FoundAt}
 
 -- ---- a test that only one tag passes
-pub tag-is : (p : Item → Bool) (m : ℕ) (e : Entry) → map p (itemsByTag (e .argument)) ≡ numbered (λ (n : ℕ). eqb n m) 0 24 → m < 24
+pub tag-is : (p : Item → Bool) (m : ℕ) (e : Entry) → map p (itemsByTag (e .argument)) ≡ numbered (λ (n : ℕ). eqb n m) 0 26 → m < 26
     → p (half (halfAt (e .argument))) ≡ false → p (itemAt e) ≡ eqb (e .tag) m
 unfolding itemAt
 tag-is p m e rows few last =
-    by-number p (λ (n : ℕ). eqb n m) (itemsByTag (e .argument)) 24 (half (halfAt (e .argument))) rows
+    by-number p (λ (n : ℕ). eqb n m) (itemsByTag (e .argument)) 26 (half (halfAt (e .argument))) rows
     (λ n h. last ∙ sym (ne-eqb n m (λ x. absurd (omega arith)))) (e .tag)
 
 module _ (p : Item → Bool) (m : ℕ) (f : (e : Entry) → p (itemAt e) ≡ eqb (e .tag) m) where
@@ -64,14 +65,6 @@ module _ {words : List ℕ} {tag n k : ℕ} (s : Seeking (λ es. hasTag es tag) 
       }
 
 -- ---- the entries before, at and behind a place
-entries-joined : (m n : ℕ) (ws : List ℕ) → entriesAt (m + n) ws ≡ entriesAt m ws ++ entriesAt n (drop (2 * m) ws)
-unfolding entriesAt
-entries-joined zero n ws = let z : 0 + n ≡ n = omega arith in rw z
-entries-joined (suc m) n ws =
-    let one : suc m + n ≡ suc (m + n) = omega arith in
-    let two : 2 * suc m ≡ 2 + 2 * m = omega arith in
-    rw (one, two, entries-joined m n (drop 2 ws), ← drop-drop (2 * m) 2 ws)
-
 pub entries-cut : (words : List ℕ) (at : ℕ) → at < length words / 2
     → entriesIn words
     ≡ entriesIn (take (2 * at) words)
@@ -79,12 +72,13 @@ pub entries-cut : (words : List ℕ) (at : ℕ) → at < length words / 2
 unfolding entriesIn entriesAt
 entries-cut words at h =
     let rest = length words / 2 - at - 1 in
-    let whole : length words / 2 ≡ at + suc rest = omega arith in
+    let some : length words / 2 - at ≡ suc rest = omega arith in
     let size = length-drop (2 * at + 2) words in
     let behind : length (drop (2 * at + 2) words) / 2 ≡ rest = rw size (omega arith) in
     let nought : 2 * at + 0 ≡ 2 * at = omega arith in
-    ap (λ (n : ℕ). entriesAt n words) whole ∙ entries-joined at (suc rest) words
+    entries-joined (length words / 2) at words (omega arith)
     ∙ rw (
+      some,
       take-all (length words - (2 * at + 2)) (drop (2 * at + 2) words) (rw size (omega arith)),
       entries-part at words (omega arith),
       behind,

@@ -9,17 +9,17 @@ use borrow.Author.Tests.{eqb-true, le-leb, leb-false, lt-leb, ltb-true, ltb-fals
 use Rattle.values.specs.Ranges.{between}
 use Rattle.tables.specs.Encode.{entry, bit}
 use Rattle.formats.specs.Items.{itemMakes}
-use Rattle.formats.specs.Limits.{elapsedShort}
+use Rattle.formats.specs.Limits.{elapsedShort, fixedSmall}
 use Rattle.tables.specs.Words.{Entry}
 use Rattle.tables.specs.Decode.{itemAt}
 use Rattle.tallies.specs.declared.Walk.{Walk}
-use Rattle.tallies.specs.Walk.{weight, behindUnit, numberWeight, unitAfter, countedOf, placedOf, elapsedOf, stepOf}
+use Rattle.tallies.specs.Walk.{weight, behindUnit, numberWeight, unitAfter, countedOf, placedOf, elapsedOf, fixedOf, stepOf}
 use Rattle.lists.proofs.Bools.{by-cases, true-T}
 use Rattle.tables.proofs.BackEntries.{between-facts, span-at, late-tag}
 
 -- opens all that a step at a known tag computes by
 unfoldable pub computed : Walk → Entry → Walk
-unfolding stepOf numberWeight weight bit unitAfter itemAt itemMakes elapsedShort
+unfolding stepOf numberWeight weight bit unitAfter itemAt itemMakes elapsedShort fixedSmall
 computed w e = stepOf w e
 
 module _ (w : Walk) (a : ℕ) where
@@ -42,7 +42,11 @@ module _ (w : Walk) (a : ℕ) where
   elapsed-steps =
       by-cases (ltb 9 a) (λ h. rw (h, lt-leb a 9 (ltb-true 9 a h)) (refl, refl, refl)) (λ h. rw (h, le-leb a 9 (ltb-false 9 a h)) (refl, refl, refl))
 
-  pub unknown-step : (t : ℕ) → 23 < t → countedOf w 0 4294967296 0 ≡ stepOf w (entry t a)
+  pub fixed-step : fixedOf w a ≡ stepOf w (entry 25 a)
+  unfolding computed
+  fixed-step = by-cases (ltb 999 a) (λ h. rw (h, lt-leb a 999 (ltb-true 999 a h))) (λ h. rw (h, le-leb a 999 (ltb-false 999 a h)))
+
+  pub unknown-step : (t : ℕ) → 25 < t → countedOf w 0 1099511627776 0 ≡ stepOf w (entry t a)
   unfolding computed
   unknown-step t h = rw (late-tag t a h)
 

@@ -6,3 +6,4 @@ pub mod NumberRows
 pub mod DateRows
 pub mod BareRows
 pub mod ScientificRows
+pub mod FractionRows

@@ -1,15 +1,12 @@
 -- The items of a scientific section: their rules and limits, and those of its items before the E and behind it.
 -- Assumes nothing.
-use Prim.Native.Nat.{ℕ}
 use mathlib.Core.Path.{_≡_}
 use mathlib.Core.Bool.{Bool, true, false, not, _&&_}
-use mathlib.Core.List.{List, _∷_, _++_}
-use lib.Dec.{T, leb, eqb}
-use Rattle.values.specs.Ranges.{between}
+use mathlib.Core.List.{List}
+use lib.Dec.{leb, eqb}
 use Rattle.lists.specs.Lists.{any, count}
-use Rattle.formats.specs.Items.{isPoint, isPercent, isSpace, integerPlaces, decimalPlaces, exponentPlaces}
+use Rattle.formats.specs.Items.{isPoint, isPercent, isSpace, integerPlaces, decimalPlaces, placesBehind}
 use Rattle.tables.specs.Words.{Entry}
-use Rattle.tables.specs.Encode.{entry}
 use Rattle.tables.specs.Decode.{itemsAt}
 use Rattle.tallies.specs.Tally.{itemsOf}
 use Rattle.tallies.specs.NumberRows.{numberItems}
@@ -19,17 +16,12 @@ use Rattle.tallies.specs.declared.scientific_rows.ScientificRow.{Scienti
 unfoldable pub scientificItems : List Entry → Bool
 scientificItems es =
     let is = itemsAt es in
-    itemsOf 5 es && (leb (integerPlaces is) 20 && (leb (decimalPlaces is) 15 && leb (exponentPlaces is) 3))
+    itemsOf 5 es && (leb (integerPlaces is) 20 && (leb (decimalPlaces is) 15 && leb (placesBehind is) 3))
 
 -- what is told of them
 pub record ScientificTold (es : List Entry) (r : ScientificRow) : Type 0 where
   pub fits : r .fits ≡ scientificItems es
   pub decimals : r .fits ≡ true → r .decimals ≡ decimalPlaces (itemsAt es)
-
--- these are the entries before and behind an E with this argument
-pub record CutAt (es fs : List Entry) (t a : ℕ) (gs : List Entry) : Type 0 where
-  pub same : es ≡ fs ++ (entry t a ∷ gs)
-  pub exponent : T (between 22 23 t)
 
 abbrev pub noScientific : ScientificRow
 noScientific = record { fits = false; decimals = 0 }

@@ -4,11 +4,11 @@ use Prim.Native.Nat.{ℕ}
 use mathlib.Core.Bool.{Bool, cond, not, _&&_, _||_}
 use mathlib.Core.Path.{_≡_}
 use mathlib.Core.List.{List}
-use lib.Dec.{leb, ltb, eqb}
+use lib.Dec.{T, leb, ltb, eqb}
 use Rattle.lists.specs.Lists.{every, any, count}
 use Rattle.formats.specs.Tokens.{hours, minutes, seconds}
-use Rattle.formats.specs.Items.{Item, dateKind, textKind, itemMakes, itemsKind, itemsFit, isPoint, isPercent, isGeneral, isHour, isMinute, isSecond, isPart, isElapsed, isElapsedOf, isHalf, isExponent, isSpace, fromE, integerPlaces, decimalPlaces, exponentPlaces}
-use Rattle.formats.specs.Limits.{elapsedShort}
+use Rattle.formats.specs.Items.{Item, dateKind, textKind, itemMakes, itemsKind, itemsFit, isPoint, isPercent, isGeneral, isHour, isMinute, isSecond, isPart, isElapsed, isElapsedOf, isHalf, isExponent, isSolidus, isFixed, isSpace, fromCut, integerPlaces, decimalPlaces, placesBehind}
+use Rattle.formats.specs.Limits.{elapsedShort, fixedSmall}
 use Rattle.formats.specs.WellFormed.{oneFill, partsFollow, isSettled}
 use Rattle.tables.specs.Words.{Entry}
 unfoldable pub use Rattle.tables.specs.Words.{entriesIn}
@@ -22,6 +22,10 @@ makesText i = itemMakes textKind i
 
 abbrev pub makesDate : Item → Bool
 makesDate i = itemMakes dateKind i
+
+-- an item that makes a fraction
+abbrev pub makesFraction : Item → Bool
+makesFraction i = isSolidus i || isFixed i
 
 -- an item that only a date-time section holds
 abbrev pub belongsDate : Item → Bool
@@ -38,8 +42,9 @@ tallyOf es =
       generals = count isGeneral is;
       elapsed = count isElapsed is;
       exponents = count isExponent is;
-      «exponent_places» = exponentPlaces is;
-      misplaced = any isPoint (fromE is) || any isSpace (fromE is);
+      solidi = count makesFraction is;
+      «places_behind» = placesBehind is;
+      misplaced = any isPoint (fromCut is) || any isSpace (fromCut is);
       texts = any makesText is;
       dating = any makesDate is;
       dates = any belongsDate is;
@@ -50,7 +55,7 @@ tallyOf es =
       «elapsed_minutes» = any (isElapsedOf minutes) is;
       «elapsed_seconds» = any (isElapsedOf seconds) is;
       halves = any isHalf is;
-      short = every elapsedShort is;
+      short = every elapsedShort is && every fixedSmall is;
     }
 
 -- ---- the rules for the items of a section
@@ -68,36 +73,47 @@ itemsOf kind es =
 
 -- ---- the tests on a tally
 abbrev pub hasPlaces : Tally → Bool
-hasPlaces t = ltb 0 (t .integers) || (ltb 0 (t .decimals) || ltb 0 (t .«exponent_places»))
+hasPlaces t = ltb 0 (t .integers) || (ltb 0 (t .decimals) || ltb 0 (t .«places_behind»))
 
 abbrev pub hasExponent : Tally → Bool
 hasExponent t = ltb 0 (t .exponents)
 
--- most sections have no E, and so no place behind one
-pub record NoExponent (t : Tally) : Type 0 where
-  pub exponents : t .exponents ≡ 0
-  pub places : t .«exponent_places» ≡ 0
+abbrev pub hasSolidus : Tally → Bool
+hasSolidus t = ltb 0 (t .solidi)
 
--- a place or point, percent or E, which only number and scientific sections hold
+-- most sections have no E and no solidus, and so no place behind one
+pub record Uncut (t : Tally) : Type 0 where
+  pub exponents : t .exponents ≡ 0
+  pub solidi : t .solidi ≡ 0
+  pub places : t .«places_behind» ≡ 0
+
+-- some have one
+abbrev pub Cut : Tally → Type 0
+Cut t = T (hasExponent t || hasSolidus t)
+
+-- a place or point, percent, E or solidus, which only number and scientific sections and fractions hold
 abbrev pub hasFigures : Tally → Bool
 hasFigures t = hasPlaces t || ltb 0 (t .points)
 
 abbrev pub hasNumberItems : Tally → Bool
-hasNumberItems t = hasFigures t || (ltb 0 (t .percents) || hasExponent t)
+hasNumberItems t = hasFigures t || (ltb 0 (t .percents) || (hasExponent t || hasSolidus t))
 
--- an E makes a scientific section, a place without one a number section
+-- an E makes a scientific section, a solidus without one a fraction, a place without either a number section
 abbrev pub kindTold : Tally → ℕ
 kindTold t =
-    cond (t .texts) 3 (cond (ltb 0 (t .generals)) 1 (cond (t .dating) 4 (cond (hasExponent t) 5 (cond (hasPlaces t) 2 0))))
+    cond (t .texts) 3
+    (cond (ltb 0 (t .generals)) 1
+    (cond (t .dating) 4 (cond (hasExponent t) 5 (cond (hasSolidus t) 6 (cond (hasPlaces t) 2 0)))))
 
--- no item belongs to another kind; a scientific section holds no percent
+-- no item belongs to another kind; a scientific section holds no percent and no solidus, a fraction no percent and no point
 abbrev pub allowedTold : Tally → Bool
 allowedTold t =
     cond (t .texts) (not (ltb 0 (t .generals)) && (not (t .dates) && not (hasNumberItems t)))
     (cond (ltb 0 (t .generals)) (not (t .dates) && not (hasNumberItems t))
     (cond (t .dating) (not (hasNumberItems t))
-    (cond (hasExponent t) (not (t .dates) && not (ltb 0 (t .percents)))
-    (cond (hasPlaces t) (not (t .dates)) (not (t .dates) && not (hasNumberItems t))))))
+    (cond (hasExponent t) (not (t .dates) && (not (ltb 0 (t .percents)) && not (hasSolidus t)))
+    (cond (hasSolidus t) (not (t .dates) && (not (ltb 0 (t .points)) && not (ltb 0 (t .percents))))
+    (cond (hasPlaces t) (not (t .dates)) (not (t .dates) && not (hasNumberItems t)))))))
 
 -- no elapsed item beside its plain equivalent
 abbrev pub noPlainTold : Tally → Bool
@@ -109,17 +125,24 @@ noPlainTold t =
 abbrev pub exponentTold : Tally → Bool
 exponentTold t =
     not (hasExponent t)
-    || (leb (t .exponents) 1 && leb 1 (t .integers) && leb 1 (t .«exponent_places») && not (t .misplaced))
+    || (leb (t .exponents) 1 && leb 1 (t .integers) && leb 1 (t .«places_behind») && not (t .misplaced))
 
+-- without the rules for a solidus that look at the order of the items
 abbrev pub itemsFitTold : Tally → Bool
 itemsFitTold t =
     allowedTold t
     && (leb (t .generals) 1 && (leb (t .points) 1 && (leb (t .elapsed) 1 && (noPlainTold t && exponentTold t))))
 
+-- the limits but for that on integer places, and with it
+abbrev pub restTold : Tally → ℕ → Bool
+restTold t thousands = leb (t .decimals) 15 && (leb (t .«places_behind») 3 && (leb (t .percents) 5 && (leb thousands 5 && t .short)))
+
 abbrev pub withinTold : Tally → ℕ → Bool
-withinTold t thousands =
-    leb (t .integers) 20
-    && (leb (t .decimals) 15 && (leb (t .«exponent_places») 3 && (leb (t .percents) 5 && (leb thousands 5 && t .short))))
+withinTold t thousands = leb (t .integers) 20 && restTold t thousands
+
+-- those of a fraction, with so many integer places and so many of its numerator
+abbrev pub fractionTold : Tally → ℕ → ℕ → ℕ → Bool
+fractionTold t thousands wholes numerators = leb wholes 20 && (leb numerators 20 && restTold t thousands)
 
 abbrev pub decimalsTold : Tally → ℕ
-decimalsTold t = cond (eqb (kindTold t) 2 || eqb (kindTold t) 5) (t .decimals) 0
+decimalsTold t = cond (eqb (kindTold t) 2 || (eqb (kindTold t) 5 || eqb (kindTold t) 6)) (t .decimals) 0

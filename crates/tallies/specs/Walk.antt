@@ -7,14 +7,14 @@ use lib.Dec.{ltb, eqb}
 use Rattle.values.specs.Ranges.{between}
 use Rattle.lists.specs.Lists.{count}
 use Rattle.formats.specs.Tokens.{hours, minutes, seconds}
-use Rattle.formats.specs.Items.{Item, itemNumber, isPlace, isPoint, isPercent, isGeneral, isHour, isMinute, isSecond, isPart, isElapsed, isElapsedOf, isHalf, isExponent, isSpace}
-use Rattle.formats.specs.Limits.{elapsedShort}
+use Rattle.formats.specs.Items.{Item, itemNumber, isPlace, isPoint, isPercent, isGeneral, isHour, isMinute, isSecond, isPart, isElapsed, isElapsedOf, isHalf, isExponent, isCut, isSpace}
+use Rattle.formats.specs.Limits.{elapsedShort, fixedSmall}
 use Rattle.tables.specs.Words.{Entry}
 use Rattle.tables.specs.Encode.{bit}
 use Rattle.tables.specs.Decode.{itemAt}
 use Rattle.tallies.specs.declared.Tally.{Tally}
 use Rattle.tallies.specs.declared.Walk.{Walk}
-use Rattle.tallies.specs.Tally.{makesText}
+use Rattle.tallies.specs.Tally.{makesText, makesFraction}
 
 -- ---- counts as the digits of a number by base 256, lowest first
 unfoldable pub packed : List ℕ → ℕ
@@ -31,11 +31,12 @@ unfoldable pub weight : List (Item → Bool) → Item → ℕ
 weight [] i = 0
 weight (p ∷ ps) i = bit (p i) + 256 * weight ps i
 
+-- an elapsed run that is too long, or such a fixed number
 abbrev pub isLong : Item → Bool
-isLong i = not (elapsedShort i)
+isLong i = not (elapsedShort i && fixedSmall i)
 
 abbrev pub otherTests : List (Item → Bool)
-otherTests = isGeneral ∷ makesText ∷ isElapsed ∷ isLong ∷ isHalf ∷ isPart ∷ []
+otherTests = isGeneral ∷ makesText ∷ isElapsed ∷ isLong ∷ makesFraction ∷ isHalf ∷ isPart ∷ []
 
 -- a year, a month or a day
 abbrev pub isDay : Item → Bool
@@ -44,11 +45,11 @@ isDay i = between 11 13 (itemNumber i)
 abbrev pub dateTests : List (Item → Bool)
 dateTests = isDay ∷ isHour ∷ isMinute ∷ isSecond ∷ isElapsedOf hours ∷ isElapsedOf minutes ∷ isElapsedOf seconds ∷ []
 
--- ---- integer and decimal places, points, percents, E, exponent places, and what is misplaced behind an E
+-- ---- integer and decimal places, points, percents, E, exponent places, and what is misplaced behind an E or solidus
 abbrev pub figureTests : List (Item → Bool)
 figureTests = isPoint ∷ isPercent ∷ isExponent ∷ []
 
--- what a place adds from the first E on
+-- what a place adds from the first E or solidus on
 abbrev pub behindUnit : ℕ
 behindUnit = 1099511627776
 
@@ -63,7 +64,7 @@ numberWeight unit i =
     cond (isMisplaced i && eqb unit behindUnit) (plain + 281474976710656) plain
 
 unfoldable pub unitAfter : ℕ → Item → ℕ
-unitAfter unit i = cond (isExponent i) behindUnit (cond (isPoint i && eqb unit 1) 256 unit)
+unitAfter unit i = cond (isCut i) behindUnit (cond (isPoint i && eqb unit 1) 256 unit)
 
 -- ---- the pass
 unfoldable pub stepOf : Walk → Entry → Walk
@@ -92,15 +93,16 @@ finishedOf w =
       points = w .numbers / 65536 % 256;
       percents = w .numbers / 16777216 % 256;
       exponents = w .numbers / 4294967296 % 256;
-      «exponent_places» = w .numbers / 1099511627776 % 256;
+      «places_behind» = w .numbers / 1099511627776 % 256;
       misplaced = ltb 0 (w .numbers / 281474976710656 % 256);
       generals = w .others % 256;
       texts = ltb 0 (w .others / 256 % 256);
       elapsed = w .others / 65536 % 256;
       short = eqb (w .others / 16777216 % 256) 0;
-      halves = ltb 0 (w .others / 4294967296 % 256);
+      solidi = w .others / 4294967296 % 256;
+      halves = ltb 0 (w .others / 1099511627776 % 256);
       dating = ltb 0 (w .dates);
-      dates = ltb 0 (w .dates) || ltb 0 (w .others / 4294967296);
+      dates = ltb 0 (w .dates) || ltb 0 (w .others / 1099511627776);
       hours = ltb 0 (w .dates / 256 % 256);
       minutes = ltb 0 (w .dates / 65536 % 256);
       seconds = ltb 0 (w .dates / 16777216 % 256);
@@ -121,6 +123,10 @@ placedOf w tag = countedOf w (cond (eqb tag 6 && eqb (w .unit) behindUnit) 28257
 -- an elapsed run of this length
 abbrev pub elapsedOf : Walk → ℕ → ℕ → Walk
 elapsedOf w date a = countedOf w 0 (cond (ltb 9 a) 16842752 65536) date
+
+-- a fixed number
+abbrev pub fixedOf : Walk → ℕ → Walk
+fixedOf w a = countedOf w 0 (cond (ltb 999 a) 4311744512 4294967296) 0
 
 -- ---- no number is too large for its field
 -- the numbers after n items or fewer; a weight is below 2^49

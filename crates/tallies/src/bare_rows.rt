@@ -49,7 +49,7 @@ fn owns_fit(kind: u16, owns: usize) -> bool
 
 // Whether these are the words of such a section's items.
 pub fn bare_fits(words: &[u16], kind: u16) -> bool
-    ensures { λ r. ⌜ ((kind ≡ 2 → ⊥) → (kind ≡ 4 → ⊥) → (kind ≡ 5 → ⊥) → r ≡ itemsOf kind (entriesIn (now (words .entry)))) ⌝ }
+    ensures { λ r. ⌜ ((kind ≡ 2 → ⊥) → (kind ≡ 4 → ⊥) → (kind ≡ 5 → ⊥) → (kind ≡ 6 → ⊥) → r ≡ itemsOf kind (entriesIn (now (words .entry)))) ⌝ }
 {
     let own = own_tag(kind);
     let n = words.len() / 2;

@@ -2,6 +2,7 @@
 pub mod bare_rows;
 pub mod date_rows;
 mod earlier_runs;
+pub mod fraction_rows;
 pub mod number_rows;
 mod scans;
 pub mod scientific_rows;
@@ -11,15 +12,15 @@ ghost use Prim.Native.Nat.{_≤_, _<_};
 ghost use lib.ListN.{length};
 ghost use Rattle.tables.specs.Words.{entriesIn};
 ghost use Rattle.tables.specs.Encode.{entry};
-ghost use Rattle.tallies.specs.Tally.{tallyOf, hasPlaces, hasNumberItems, NoExponent, kindTold, allowedTold, noPlainTold, exponentTold, itemsFitTold, withinTold, decimalsTold};
-ghost use Rattle.tallies.specs.Walk.{countedOf, placedOf, elapsedOf, stepOf, startOf, finishedOf, Few, Weights};
+ghost use Rattle.tallies.specs.Tally.{tallyOf, hasPlaces, hasNumberItems, Uncut, Cut, kindTold, allowedTold, noPlainTold, exponentTold, itemsFitTold, withinTold, fractionTold, decimalsTold};
+ghost use Rattle.tallies.specs.Walk.{countedOf, placedOf, elapsedOf, fixedOf, stepOf, startOf, finishedOf, Few, Weights};
 use tables::kinds;
 use tables::tags;
 use values::integers::is_between;
 
 // What the items of a section tell together.
 pub struct Tally {
-    // no elapsed run is too long
+    // no elapsed run is too long, and no fixed number
     pub short: bool,
     // integer and decimal places, and how many there are of some other items
     pub integers: u16,
@@ -29,8 +30,10 @@ pub struct Tally {
     pub generals: u16,
     pub elapsed: u16,
     pub exponents: u16,
-    pub exponent_places: u16,
-    // a point or `?` stands behind the first E
+    pub solidi: u16,
+    // places behind the first E or solidus
+    pub places_behind: u16,
+    // a point or `?` stands behind it
     pub misplaced: bool,
     // an item makes a text section, a date-time section; an item belongs to a date-time section
     pub texts: bool,
@@ -56,8 +59,8 @@ const PERCENTS: u64 = 16777216;
 
 const EXPONENTS: u64 = 4294967296;
 
-// Behind the first E: a place, and a point or a place `?`, which are misplaced there.
-const EXPONENT_PLACES: u64 = 1099511627776;
+// Behind the first E or solidus: a place, and a point or a place `?`, which are misplaced there.
+const PLACES_BEHIND: u64 = 1099511627776;
 
 const MISPLACED: u64 = 281474976710656;
 
@@ -76,9 +79,14 @@ const LONG_RUNS: u64 = 16777216;
 
 const LONG_ELAPSED_RUNS: u64 = 16842752;
 
-const HALVES: u64 = 4294967296;
+// A solidus or a fixed number.
+const SOLIDI: u64 = 4294967296;
 
-const PARTS: u64 = 1099511627776;
+const LONG_NUMBERS: u64 = 4311744512;
+
+const HALVES: u64 = 1099511627776;
+
+const PARTS: u64 = 281474976710656;
 
 // To the dates. Years, months and days share a digit.
 const DAYS: u64 = 1;
@@ -100,11 +108,11 @@ const ELAPSED_SECONDS: u64 = 281474976710656;
 struct Walk {
     // places, points, percents and E
     numbers: u64,
-    // Generals, text and elapsed items, too long elapsed runs, half-day marks and parts of a second
+    // Generals, text and elapsed items, too long ones, what makes a fraction, half-day marks and parts of a second
     others: u64,
     // the runs of a date-time section
     dates: u64,
-    // what a place adds: INTEGERS up to the first point, DECIMALS from there, EXPONENT_PLACES from the first E on
+    // what a place adds: INTEGERS up to the first point, DECIMALS from there, PLACES_BEHIND from the first E or solidus on
     unit: u64,
 }
 
@@ -135,7 +143,7 @@ fn place(w: Walk, tag: u16) -> Walk
     requires { ⌜ Few 253 w ⌝ }
     ensures { λ r. ⌜ r ≡ placedOf w tag ⌝ }
 {
-    if (tag == tags::SPACE_PLACE) & (w.unit == EXPONENT_PLACES) {
+    if (tag == tags::SPACE_PLACE) & (w.unit == PLACES_BEHIND) {
         return counted(w, SPACE_PLACES, 0, 0);
     }
     counted(w, w.unit, 0, 0)
@@ -151,7 +159,7 @@ fn point(w: Walk) -> Walk
         p.unit = DECIMALS;
         return p;
     }
-    if w.unit == EXPONENT_PLACES {
+    if w.unit == PLACES_BEHIND {
         return counted(w, MISPLACED_POINTS, 0, 0);
     }
     counted(w, POINTS, 0, 0)
@@ -163,8 +171,28 @@ fn exponent(w: Walk) -> Walk
     ensures { λ r. ⌜ r ≡ stepOf w (entry 22 0) ⌝ }
 {
     let mut e = counted(w, EXPONENTS, 0, 0);
-    e.unit = EXPONENT_PLACES;
+    e.unit = PLACES_BEHIND;
     e
+}
+
+// Behind a solidus stand the denominator's places.
+fn solidus(w: Walk) -> Walk
+    requires { ⌜ Few 253 w ⌝ }
+    ensures { λ r. ⌜ r ≡ stepOf w (entry 24 0) ⌝ }
+{
+    let mut s = counted(w, 0, SOLIDI, 0);
+    s.unit = PLACES_BEHIND;
+    s
+}
+
+fn fixed(w: Walk, a: u16) -> Walk
+    requires { ⌜ Few 253 w ⌝ }
+    ensures { λ r. ⌜ r ≡ fixedOf w a ⌝ }
+{
+    if 999 < a {
+        return counted(w, 0, LONG_NUMBERS, 0);
+    }
+    counted(w, 0, SOLIDI, 0)
 }
 
 fn elapsed(w: Walk, date: u64, a: u16) -> Walk
@@ -207,6 +235,8 @@ fn step(w: Walk, tag: u16, a: u16) -> Walk
         tags::HALF_DAY => counted(w, 0, HALVES, 0),
         tags::EXPONENT_PLUS => exponent(w),
         tags::EXPONENT_MINUS => exponent(w),
+        tags::SOLIDUS => solidus(w),
+        tags::FIXED => fixed(w, a),
         _ => counted(w, 0, HALVES, 0),
     }
 }
@@ -224,7 +254,8 @@ fn tally_of(w: Walk) -> Tally
         generals: (w.others % 256) as u16,
         elapsed: (w.others / ELAPSED_RUNS % 256) as u16,
         exponents: (w.numbers / EXPONENTS % 256) as u16,
-        exponent_places: (w.numbers / EXPONENT_PLACES % 256) as u16,
+        solidi: (w.others / SOLIDI % 256) as u16,
+        places_behind: (w.numbers / PLACES_BEHIND % 256) as u16,
         misplaced: 0 < w.numbers / MISPLACED % 256,
         texts: 0 < w.others / TEXTS % 256,
         dating: 0 < w.dates,
@@ -256,24 +287,24 @@ pub fn tally_words(words: &[u16]) -> Tally
     tally_of(w)
 }
 
-// Most sections have no E: their tests look at nothing that only an E brings.
+// Most sections have no E and no solidus: their tests look at nothing that only these bring.
 fn has_places(t: Tally) -> bool
-    requires { ⌜ NoExponent t ⌝ }
+    requires { ⌜ Uncut t ⌝ }
     ensures { λ r. ⌜ r ≡ hasPlaces t ⌝ }
 {
     (0 < t.integers) | (0 < t.decimals)
 }
 
 fn has_number_items(t: Tally) -> bool
-    requires { ⌜ NoExponent t ⌝ }
+    requires { ⌜ Uncut t ⌝ }
     ensures { λ r. ⌜ r ≡ hasNumberItems t ⌝ }
 {
     has_places(t) | ((0 < t.points) | (0 < t.percents))
 }
 
-// The kind word of a section without an E.
+// The kind word of a section without them.
 pub fn kind(t: Tally) -> u16
-    requires { ⌜ NoExponent t ⌝ }
+    requires { ⌜ Uncut t ⌝ }
     ensures { λ r. ⌜ r ≡ kindTold t ⌝ }
 {
     if t.texts {
@@ -293,7 +324,7 @@ pub fn kind(t: Tally) -> u16
 
 // No item belongs to another kind than the section's.
 fn allowed(t: Tally) -> bool
-    requires { ⌜ NoExponent t ⌝ }
+    requires { ⌜ Uncut t ⌝ }
     ensures { λ r. ⌜ r ≡ allowedTold t ⌝ }
 {
     let numbers = has_number_items(t);
@@ -328,11 +359,11 @@ fn exponent_fits(t: Tally) -> bool
     requires { ⌜ 0 < t .exponents ⌝ }
     ensures { λ r. ⌜ r ≡ exponentTold t ⌝ }
 {
-    (t.exponents <= 1) & (1 <= t.integers) & (1 <= t.exponent_places) & !t.misplaced
+    (t.exponents <= 1) & (1 <= t.integers) & (1 <= t.places_behind) & !t.misplaced
 }
 
 pub fn items_fit(t: Tally) -> bool
-    requires { ⌜ NoExponent t ⌝ }
+    requires { ⌜ Uncut t ⌝ }
     ensures { λ r. ⌜ r ≡ itemsFitTold t ⌝ }
 {
     allowed(t) & ((t.generals <= 1) & ((t.points <= 1) & ((t.elapsed <= 1) & no_plain(t))))
@@ -340,14 +371,14 @@ pub fn items_fit(t: Tally) -> bool
 
 // The limits, but for that on exponent places.
 pub fn within(t: Tally, thousands: u16) -> bool
-    requires { ⌜ t .«exponent_places» ≤ 3 ⌝ }
+    requires { ⌜ t .«places_behind» ≤ 3 ⌝ }
     ensures { λ r. ⌜ r ≡ withinTold t thousands ⌝ }
 {
     (t.integers <= 20) & ((t.decimals <= 15) & ((t.percents <= 5) & ((thousands <= 5) & t.short)))
 }
 
 pub fn decimals_word(t: Tally) -> u16
-    requires { ⌜ NoExponent t ⌝ }
+    requires { ⌜ Uncut t ⌝ }
     ensures { λ r. ⌜ r ≡ decimalsTold t ⌝ }
 {
     if kind(t) == kinds::NUMBER {
@@ -357,9 +388,9 @@ pub fn decimals_word(t: Tally) -> u16
     }
 }
 
-// The kind word of a section with an E.
-pub fn exponent_kind(t: Tally) -> u16
-    requires { ⌜ 0 < t .exponents ⌝ }
+// The kind word of a section with an E or a solidus.
+pub fn cut_kind(t: Tally) -> u16
+    requires { ⌜ Cut t ⌝ }
     ensures { λ r. ⌜ r ≡ kindTold t ⌝ }
 {
     if t.texts {
@@ -371,35 +402,59 @@ pub fn exponent_kind(t: Tally) -> u16
     if t.dating {
         return kinds::DATE_TIME;
     }
-    kinds::SCIENTIFIC
+    if 0 < t.exponents {
+        return kinds::SCIENTIFIC;
+    }
+    kinds::FRACTION
 }
 
-// No text, General or date-time section holds an E, and no scientific section a date item or a percent.
-pub fn exponent_items_fit(t: Tally) -> bool
-    requires { ⌜ 0 < t .exponents ⌝ }
+// A scientific section holds no date item, percent or solidus.
+fn scientific_items_fit(t: Tally) -> bool
+    requires { ⌜ kindTold t ≡ 5 ⌝ }
     ensures { λ r. ⌜ r ≡ itemsFitTold t ⌝ }
 {
-    if exponent_kind(t) != kinds::SCIENTIFIC {
-        return false;
-    }
-    (!t.dates & !(0 < t.percents))
+    (!t.dates & (!(0 < t.percents) & !(0 < t.solidi)))
         & ((t.points <= 1) & ((t.elapsed <= 1) & (no_plain(t) & exponent_fits(t))))
 }
 
-pub fn exponent_within(t: Tally, thousands: u16) -> bool
-    ensures { λ r. ⌜ r ≡ withinTold t thousands ⌝ }
+// A fraction holds no date item, point or percent.
+fn fraction_items_fit(t: Tally) -> bool
+    requires { ⌜ kindTold t ≡ 6 ⌝ }
+    ensures { λ r. ⌜ r ≡ itemsFitTold t ⌝ }
 {
-    if 3 < t.exponent_places {
-        return false;
-    }
-    within(t, thousands)
+    (!t.dates & (!(0 < t.points) & !(0 < t.percents))) & ((t.elapsed <= 1) & no_plain(t))
 }
 
-pub fn exponent_decimals(t: Tally) -> u16
-    requires { ⌜ 0 < t .exponents ⌝ }
+// No text, General or date-time section holds an E or a solidus.
+pub fn cut_items_fit(t: Tally) -> bool
+    requires { ⌜ Cut t ⌝ }
+    ensures { λ r. ⌜ r ≡ itemsFitTold t ⌝ }
+{
+    let kind = cut_kind(t);
+    if kind == kinds::SCIENTIFIC {
+        return scientific_items_fit(t);
+    }
+    if kind == kinds::FRACTION {
+        return fraction_items_fit(t);
+    }
+    false
+}
+
+// The limits of a fraction, whose integer places and numerator stand apart.
+pub fn fraction_within(t: Tally, thousands: u16, wholes: u16, numerators: u16) -> bool
+    ensures { λ r. ⌜ r ≡ fractionTold t thousands wholes numerators ⌝ }
+{
+    (wholes <= 20)
+        & ((numerators <= 20)
+            & ((t.decimals <= 15)
+                & ((t.places_behind <= 3) & ((t.percents <= 5) & ((thousands <= 5) & t.short)))))
+}
+
+pub fn cut_decimals(t: Tally) -> u16
+    requires { ⌜ Cut t ⌝ }
     ensures { λ r. ⌜ r ≡ decimalsTold t ⌝ }
 {
-    if exponent_kind(t) == kinds::SCIENTIFIC {
+    if kinds::SCIENTIFIC <= cut_kind(t) {
         t.decimals
     } else {
         0

@@ -5,14 +5,15 @@ use super::scans::has_tag;
 use tables::tags;
 ghost use mathlib.Core.Path.{_≡_};
 ghost use mathlib.Core.Bool.{_&&_};
-ghost use mathlib.Core.List.{List};
+ghost use mathlib.Core.List.{_∷_, _++_};
 ghost use Prim.Native.Nat.{ℕ, _*_, _/_, _<_};
 ghost use lib.Dec.{T};
 ghost use lib.ListN.{length, getD};
 ghost use Rattle.values.specs.Ranges.{between};
-ghost use Rattle.tables.specs.Words.{Entry, entriesIn};
+ghost use Rattle.tables.specs.Words.{entriesIn};
+ghost use Rattle.tables.specs.Encode.{entry};
 ghost use Rattle.tallies.specs.Scans.{hasTag};
-ghost use Rattle.tallies.specs.ScientificRows.{ScientificTold, CutAt, MantissaTold, exponentItems, noScientific};
+ghost use Rattle.tallies.specs.ScientificRows.{ScientificTold, MantissaTold, exponentItems, noScientific};
 
 // Whether the items are those of a scientific section and within its limits; where they are, how many decimal places there are.
 pub struct ScientificRow {
@@ -65,7 +66,7 @@ fn are_filled(mantissa: &[u16], exponent: &[u16]) -> bool
 
 // The items before and behind an E with this argument. One fill stands in both.
 fn parts_row(mantissa: &[u16], a: u16, exponent: &[u16]) -> ScientificRow
-    ensures { λ r. ⌜ ((es : List Entry) (t : ℕ) → CutAt es (entriesIn (now (mantissa .entry))) t a (entriesIn (now (exponent .entry))) → ScientificTold es r) ⌝ }
+    ensures { λ r. ⌜ ((t : ℕ) → T (between 22 23 t) → ScientificTold (entriesIn (now (mantissa .entry)) ++ (entry t a ∷ entriesIn (now (exponent .entry)))) r) ⌝ }
 {
     if a != 0 {
         return no_row();

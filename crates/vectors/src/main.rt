@@ -9,10 +9,10 @@ ghost use Prim.Native.Nat.{_≤_, _<_};
 ghost use lib.ListN.{length};
 
 // One byte more than is taken, to see that there is no more.
-fn input_bytes() -> [u8; 65537]
-    ensures { λ r. ⌜ 65537 ≡ length r ⌝ }
+fn input_bytes() -> [u8; 131073]
+    ensures { λ r. ⌜ 131073 ≡ length r ⌝ }
 {
-    [0; 65537]
+    [0; 131073]
 }
 
 fn output_bytes() -> [u8; 4203]
@@ -71,7 +71,7 @@ fn respond_blocks(input: &[u8]) {
 fn main() {
     let mut input = input_bytes();
     let got = io::read_full(STDIN_FILENO, &mut input);
-    if 65536 < got {
+    if 131072 < got {
         io::write_all(STDOUT_FILENO, b"input too long\n");
         return;
     }

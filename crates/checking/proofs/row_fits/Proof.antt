@@ -1,12 +1,17 @@
 -- `checking::row_fits` meets its contract.
 -- Assumes nothing.
 use native.Mathlib.Omega.{arith}
-use mathlib.Core.Path.{sym, _∙_}
+use Prim.Native.Nat.{ℕ, _<_}
+use mathlib.Core.Path.{_≡_, sym, _∙_}
+use mathlib.Core.Bool.{Bool}
+use mathlib.Core.List.{List}
 use borrow.Author.Tests.{not-true, not-false}
+use Rattle.tables.specs.Words.{Entry}
 use Rattle.tables.proofs.Ranges.{head-ranges}
 use Rattle.table_words.specs.Sections.{headFrom}
 use Rattle.lists.proofs.Bools.{carry}
-use Rattle.checking.proofs.Rows.{Front, refused, no-number, number-answer, no-dated, dated-answer, no-scientific, scientific-answer, no-bare, bare-answer, rowed, front-of, number-again, scientific-again, other-again}
+use Rattle.tallies.specs.Tally.{itemsOf}
+use Rattle.checking.proofs.Rows.{Front, refused, no-number, number-answer, no-dated, dated-answer, no-bare, bare-answer, rowed, cut-rowed, front-of, number-again, other-again}
 use borrow.Author.Needs.{needs}
 use Rattle.checking.proofs.row_fits.Statement.{statement}
 use Rattle.checking.proofs.row_fits.Tie as tie
@@ -67,43 +72,37 @@ returns-6 c =
 
 returns-7 : tie.Need-returns-7
 returns-7 c =
-    let q = c .before .before in
-    let k = q .before .before .before .before .before .before in
+    let q = c .before in
+    let k = q .before .before .before .before .before in
     let h = k .before .before .before .before .before .head-at in
-    rowed _ _ _ _ (h .ensures)
-    (no-scientific (headFrom (h .result)) _ (q .before .if7 .taken) (front k) _ (q .scientific-row .ensures) (not-true _ (c .if8 .taken)))
+    cut-rowed (h .result) _ _ _ (h .ensures) (q .if7 .taken) (front k) (c .cut-fits .ensures)
+
+-- what `bare_fits` says of a kind that is none of those before
+bare : (kind : ℕ) (es : List Entry) (r : Bool) → kind < 5 → ((kind ≡ 5 → ⊥) → (kind ≡ 6 → ⊥) → r ≡ itemsOf kind es) → r ≡ itemsOf kind es
+bare kind es r m e = e (λ x. absurd (omega (arith, m, x))) (λ x. absurd (omega (arith, m, x)))
 
 returns-8 : tie.Need-returns-8
 returns-8 c =
-    let q = c .before .before .before .before in
-    let k = q .before .before .before .before .before .before in
-    let h = k .before .before .before .before .before .head-at in
-    rowed _ _ _ _ (h .ensures)
-    (scientific-answer (headFrom (h .result)) _ (q .before .if7 .taken) (front k) _ (q .scientific-row .ensures) (not-false _ (c .before .before .if8 .left)) _
-    (scientific-again _ _ _ (h .ensures) (c .before .head-at4 .ensures) _ _ (c .scientific-fits .ensures)))
-
-returns-9 : tie.Need-returns-9
-returns-9 c =
     let b = c .before in
-    let n = b .before .if7 .left in
+    let m = b .before .if7 .left in
     let d = b .before .before .before in
     let i = d .before .before in
     let h = i .before .before .before .before .before .before .head-at in
     rowed _ _ _ _ (h .ensures)
-    (no-bare (headFrom (h .result)) _ _ (b .bare-fits .ensures (i .if3 .left) (d .if5 .left) n) (c .if9 .taken))
+    (no-bare (headFrom (h .result)) _ (i .if3 .left) m _ (bare _ _ _ m (b .bare-fits .ensures (i .if3 .left) (d .if5 .left))) (c .if8 .taken))
 
-returns-10 : tie.Need-returns-10
-returns-10 c =
+returns-9 : tie.Need-returns-9
+returns-9 c =
     let b = c .before .before .before in
-    let n = b .before .if7 .left in
+    let m = b .before .if7 .left in
     let d = b .before .before .before in
     let i = d .before .before in
     let k = i .before in
     let h = k .before .before .before .before .before .head-at in
     rowed _ _ _ _ (h .ensures)
-    (bare-answer (headFrom (h .result)) _ (i .if3 .left) (d .if5 .left) n (front k) _
-    (b .bare-fits .ensures (i .if3 .left) (d .if5 .left) n) (c .before .before .if9 .left) _
-    (other-again _ _ _ (h .ensures) (c .before .head-at5 .ensures) _ _ (c .other-fits2 .ensures)))
+    (bare-answer (headFrom (h .result)) _ (i .if3 .left) m (d .if5 .left) (front k) _
+    (bare _ _ _ m (b .bare-fits .ensures (i .if3 .left) (d .if5 .left))) (c .before .before .if8 .left) _
+    (other-again _ _ _ (h .ensures) (c .before .head-at4 .ensures) _ _ (c .other-fits2 .ensures)))
 
 pub row-fits-spec : {M : Type 1} → statement M
 row-fits-spec =
@@ -115,17 +114,18 @@ row-fits-spec =
     returns-2
     (λ c κs. search needs)
     returns-3
-    (λ c κs. search needs) (λ c κs. search needs)
+    (λ c κs. search needs)
+    (λ c κs. search needs)
     returns-4
     (λ c κs. search needs)
     returns-5
-    (λ c κs. search needs) (λ c κs. search needs)
+    (λ c κs. search needs)
+    (λ c κs. search needs)
     returns-6
     (λ c κs. search needs)
     returns-7
-    (λ c κs. search needs) (λ c κs. search needs)
+    (λ c κs. search needs)
     returns-8
     (λ c κs. search needs)
-    returns-9
-    (λ c κs. search needs) (λ c κs. search needs)
-    returns-10)
+    (λ c κs. search needs)
+    returns-9)

@@ -5,7 +5,7 @@ use mathlib.Core.Path.{sym, _∙_}
 use denote.Ref.{now}
 use native.Mathlib.Omega.{arith}
 use Rattle.writing.proofs.Laws.{put-none}
-use Rattle.emitting.proofs.Turns.{piece-part, piece-literal, piece-goes, piece-made, made-short, literals-short, put-near}
+use Rattle.emitting.proofs.Turns.{piece-part, piece-literal, piece-goes, piece-over, piece-made, over-short, made-short, literals-short, put-near}
 use borrow.Author.Needs.{needs}
 use Rattle.emitting.proofs.put_form.Statement.{statement}
 use Rattle.emitting.proofs.put_form.Tie as tie
@@ -50,11 +50,8 @@ returns-3 c =
     let e = sym (g .fill-goes .ensures) ∙ c .if3 .taken in
     put-near (piece-goes (a .date) (a .w) (a .n) (now (a .code)) (a .form) (a .argument) (a .start) (g .before .before .if1 .left) e) (omega arith) (put-none _ _)
 
-item-of-requires : tie.Need-item-of-requires
-item-of-requires c κs = search needs
-
-put-made-requires : tie.Need-put-made-requires
-put-made-requires c κs = search needs
+put-over-requires : tie.Need-put-over-requires
+put-over-requires c κs = search needs
 
 same-length-3 : tie.Need-same-length-3
 same-length-3 c = search needs
@@ -62,13 +59,34 @@ same-length-3 c = search needs
 returns-4 : tie.Need-returns-4
 returns-4 c =
     let p = c .before .before in
+    let o = p .before .before in
+    let t = o .before in
+    let g = t .before in
+    let a = g .before .before .before .before .before .args in
+    let e = sym (g .fill-goes .ensures) ∙ t .if3 .left in
+    put-near (piece-over (a .date) (a .w) (a .n) (now (a .code)) (a .form) (a .argument) (a .start) (g .before .before .if1 .left) e (o .if4 .taken))
+    (omega (arith, over-short (a .w .digit) (a .argument) (a .form))) (p .put-over .ensures)
+
+item-of-requires : tie.Need-item-of-requires
+item-of-requires c κs = search needs
+
+put-made-requires : tie.Need-put-made-requires
+put-made-requires c κs = search needs
+
+same-length-4 : tie.Need-same-length-4
+same-length-4 c = search needs
+
+returns-5 : tie.Need-returns-5
+returns-5 c =
+    let p = c .before .before in
     let i = p .before in
-    let t = i .before .before in
+    let o = i .before .before in
+    let t = o .before in
     let g = t .before in
     let a = g .before .before .before .before .before .args in
     let e = sym (g .fill-goes .ensures) ∙ t .if3 .left in
     put-near
-    (piece-made (a .date) (a .w) (a .n) (now (a .code)) (a .form) (a .argument) (a .start) (g .before .before .if1 .left) e (g .before .if2 .left)
+    (piece-made (a .date) (a .w) (a .n) (now (a .code)) (a .form) (a .argument) (a .start) (g .before .before .if1 .left) e (g .before .if2 .left) (o .if4 .left)
     (i .item-of .result) (i .item-of .ensures))
     (omega (arith, made-short (i .item-of .result))) (p .put-made .ensures)
 
@@ -85,7 +103,10 @@ put-form-spec =
     returns-2
     fill-goes-requires
     returns-3
+    put-over-requires
+    same-length-3
+    returns-4
     item-of-requires
     put-made-requires
-    same-length-3
-    returns-4)
+    same-length-4
+    returns-5)

@@ -6,7 +6,7 @@ use denote.Ref.{now}
 use Rattle.marks.specs.Marks.{markToken, markRows}
 use Rattle.lexing.specs.Marks.{stepBehind}
 use Rattle.lexing.specs.Classes.{classStep}
-use Rattle.lexing.proofs.Classing.{class-marked, class-single, letter-low, class-letter, class-none, class-step}
+use Rattle.lexing.proofs.Classing.{class-marked, class-place, class-single, letter-low, class-letter, class-none, class-step}
 use Rattle.lexing.proofs.step_of.Statement.{statement}
 use Rattle.lexing.proofs.step_of.Tie as tie
 
@@ -34,10 +34,14 @@ exponent-word-requires c κs = search needs
 marked-unit-requires : tie.Need-marked-unit-requires
 marked-unit-requires c κs = search needs
 
+place-token-requires : tie.Need-place-token-requires
+place-token-requires c κs = (c .before .before .before .before .before .pre, c .before .if1 .left, search needs)
+
 letter-run-requires : tie.Need-letter-run-requires
 letter-run-requires c κs =
-    let r = c .before .before .before .match .rest in
-    (c .before .before .before .before .before .before .pre, letter-low _ 0 (now (c .before .before .before .before .before .before .args .us)) (c .before .if2 .left) (r .0 .0 .0 .0 .1) (r .0 .0 .0 .1) (r .0 .0 .1), search needs)
+    let r = c .before .before .before .before .match .rest in
+    let a = c .before .before .before .before .before .before .before in
+    (a .pre, letter-low _ 0 (now (a .args .us)) (c .before .if3 .left) (r .0 .0 .0 .0 .1) (r .0 .0 .0 .1) (r .0 .0 .1), search needs)
 
 returns : tie.Need-returns
 unfolding classStep
@@ -76,22 +80,31 @@ returns-8 c =
 
 returns-9 : tie.Need-returns-9
 returns-9 c =
-    let us = now (c .before .before .before .before .before .args .us) in
-    class-step _ (c .before .before .before .before .before .args .u) us (c .before .before .before .class-of .ensures) _ (class-single _ (c .before .before .before .before .before .args .u) us (c .before .if1 .left) (c .if2 .taken))
+    let a = c .before .before .before .before .before .before .args in
+    let us = now (a .us) in
+    class-step _ (a .u) us (c .before .before .before .before .class-of .ensures) _ (c .place-token .ensures ∙ class-place _ (a .u) us (c .before .before .if1 .left) (c .before .if2 .taken))
 
 returns-10 : tie.Need-returns-10
 returns-10 c =
-    let us = now (c .before .before .before .before .before .before .before .args .us) in
-    let r = c .before .before .before .before .match .rest in
-    class-step _ (c .before .before .before .before .before .before .before .args .u) us (c .before .before .before .before .before .class-of .ensures) _
-    (c .letter-run .ensures ∙ class-letter _ (c .before .before .before .before .before .before .before .args .u) us (c .before .before .if2 .left) (r .0 .0 .0 .0 .1) (r .0 .0 .0 .1) (r .0 .0 .1) (c .before .if3 .taken))
+    let a = c .before .before .before .before .before .before .args in
+    let us = now (a .us) in
+    class-step _ (a .u) us (c .before .before .before .before .class-of .ensures) _ (class-single _ (a .u) us (c .before .if2 .left) (c .if3 .taken))
 
 returns-11 : tie.Need-returns-11
 returns-11 c =
-    let us = now (c .before .before .before .before .before .before .args .us) in
-    let r = c .before .before .before .match .rest in
-    class-step _ (c .before .before .before .before .before .before .args .u) us (c .before .before .before .before .class-of .ensures) _
-    (class-none _ (c .before .before .before .before .before .before .args .u) us (c .before .if2 .left) (r .0 .0 .0 .0 .1) (r .0 .0 .0 .1) (r .0 .0 .1) (c .if3 .left) (r .0 .1) (r .1))
+    let a = c .before .before .before .before .before .before .before .before .args in
+    let us = now (a .us) in
+    let r = c .before .before .before .before .before .match .rest in
+    class-step _ (a .u) us (c .before .before .before .before .before .before .class-of .ensures) _
+    (c .letter-run .ensures ∙ class-letter _ (a .u) us (c .before .before .if3 .left) (r .0 .0 .0 .0 .1) (r .0 .0 .0 .1) (r .0 .0 .1) (c .before .if4 .taken))
+
+returns-12 : tie.Need-returns-12
+returns-12 c =
+    let a = c .before .before .before .before .before .before .before .args in
+    let us = now (a .us) in
+    let r = c .before .before .before .before .match .rest in
+    class-step _ (a .u) us (c .before .before .before .before .before .class-of .ensures) _
+    (class-none _ (a .u) us (c .before .if3 .left) (r .0 .0 .0 .0 .1) (r .0 .0 .0 .1) (r .0 .0 .1) (c .if4 .left) (r .0 .1) (r .1))
 
 pub step-of-spec : {M : Type 1} → statement M
 step-of-spec =
@@ -105,6 +118,7 @@ step-of-spec =
     bracketed-token-requires
     exponent-word-requires
     marked-unit-requires
+    place-token-requires
     letter-run-requires
     returns
     returns-2
@@ -116,4 +130,5 @@ step-of-spec =
     returns-8
     returns-9
     returns-10
-    returns-11)
+    returns-11
+    returns-12)

@@ -23,7 +23,7 @@ mark c =
     let p = c .before .before in
     let t = p .before .before in
     let r = t .before .before .before .pre .2 in
-    λ x k q i f. rw (mark-units _ _ x q (t .if2 .taken) r, i .1 .sign) (p .put-mark .ensures)
+    λ x k q i f. rw (mark-units _ _ x k q (i .0) (t .if2 .taken) r f, i .1 .sign) (p .put-mark .ensures)
 
 point : tie.Need-returns-5
 unfolding itemUnits itemAt

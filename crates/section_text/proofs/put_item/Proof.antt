@@ -8,7 +8,7 @@ use Rattle.formats.specs.Text.{itemUnits}
 use Rattle.tables.specs.Decode.{itemAt}
 use Rattle.tables.proofs.BackEntries.{between-facts}
 use Rattle.writing.proofs.Laws.{put-none}
-use Rattle.section_text.proofs.Items.{place-argument, place-put, late-other}
+use Rattle.section_text.proofs.Items.{place-argument, place-put, point-held, late-other}
 use borrow.Author.Needs.{needs}
 use Rattle.section_text.proofs.put_item.Statement.{statement}
 use Rattle.section_text.proofs.put_item.Tie as tie
@@ -30,7 +30,7 @@ place c =
 other : tie.Need-returns-9
 other c =
     let g = c .before in
-    λ x k q i f. absurd (late-other k q _ _ (g .before .before .before .pre .3) (g .if1 .left) (c .match .rest) f (i .undated) (i .unscientific))
+    λ x k q i f. absurd (late-other k q _ _ (g .before .before .before .pre .3) (g .if1 .left) (c .match .rest) f (i .undated) (i .unscientific) (i .unfractional))
 
 pub put-item-spec : {M : Type 1} → statement M
 unfolding itemUnits itemAt itemAllowed units
@@ -53,7 +53,7 @@ put-item-spec =
     (λ c x k q i f. let p = c .before .before in rw (p .before .before .match .keys2) (p .put-unit2 .ensures))
     (λ c x k q i f. rw (c .match .keys3) (put-none _ _))
     (λ c. search needs)
-    (λ c x k q i f. let p = c .before .before in let e = p .before .before .match .keys4 in rw e (p .put-point .ensures .1 x (i .numeric (rw e at (f .allowed)))))
+    (λ c x k q i f. let p = c .before .before in let e = p .before .before .match .keys4 in rw e (p .put-point .ensures .1 x (i .numeric (point-held k (rw e at (f .allowed))))))
     (λ c. search needs)
     (λ c x k q i f. let p = c .before .before in rw (p .before .before .match .keys5) (p .put-unit3 .ensures))
     (λ c. search needs)

@@ -5,7 +5,7 @@ use Rattle.tables.specs.Words.{Head}
 use Rattle.tables.specs.Encode.{headOf}
 use mathlib.Core.Bool.{false}
 use Rattle.section_text.proofs.Fitting.{unsigned}
-use Rattle.section_text.proofs.Bodies.{date-unscientific, items-fit, items-moment, dated-ready, items-shows}
+use Rattle.section_text.proofs.Bodies.{date-uncut, items-fit, items-moment, dated-ready, items-shows}
 use borrow.Author.Needs.{needs}
 use Rattle.section_text.proofs.show_dated_section.Statement.{statement}
 use Rattle.section_text.proofs.show_dated_section.Tie as tie
@@ -26,7 +26,7 @@ returns c =
     let k = o .before .before .before .before .pre .2 in
     λ x is places.
     items-shows e _ false x (ap (λ (h : Head). h .colour) (o .before .head-of .ensures .0)) places
-    (unsigned _ _ _ (s .show-dated-items .ensures x _ _ (items-moment e k is) (items-fit e x (date-unscientific _ k))))
+    (unsigned _ _ _ (s .show-dated-items .ensures x _ _ (items-moment e k is) (items-fit e x (date-uncut _ k))))
 
 pub show-dated-section-spec : {M : Type 1} → statement M
 show-dated-section-spec =

@@ -3,10 +3,11 @@
 use native.Mathlib.Omega.{arith}
 use mathlib.Core.Path.{refl, sym, ap, _∙_}
 use lib.Seq.{length-take-le}
-use Rattle.formats.specs.Items.{kindOf}
+use Rattle.formats.specs.Items.{kindOf, isPlace}
 use Rattle.formats.proofs.Cutting.{scientific-some}
 use Rattle.tables.specs.Words.{Head}
 use Rattle.tables.specs.Encode.{headOf}
+use Rattle.tables.proofs.BackEntries.{place-tag}
 use Rattle.table_words.proofs.Bodies.{section-exponent, section-limits}
 use Rattle.section_text.proofs.Scientific.{mantissa-fit, power-fit, power-places, scientific-ready, scientific-shows}
 use borrow.Author.Needs.{needs}
@@ -14,7 +15,7 @@ use Rattle.section_text.proofs.show_scientific_section.Statement.{state
 use Rattle.section_text.proofs.show_scientific_section.Tie as tie
 
 cut-within : tie.Need-slice-aggregate-show-scientific-items
-cut-within c = let x = c .before .before .before .before in sym (length-take-le _ _ (x .exponent-start .ensures .inside))
+cut-within c = let x = c .before .before .before .before in sym (length-take-le _ _ (x .cut-start .ensures .inside))
 
 show-scientific-items-requires : tie.Need-show-scientific-items-requires
 unfolding kindOf
@@ -24,8 +25,8 @@ show-scientific-items-requires c κs =
     let o = x .before in
     let b = o .before .before .before .before in
     let p = b .pre in
-    scientific-ready (o .items-of .ensures) (p .2) (x .exponent-start .ensures) (p .3) (p .4) (p .5) (p .6)
-    (section-exponent _ _ (p .0) (p .1) (scientific-some _ (p .2)) .places) (omega (arith, section-limits _ _ (p .0) (p .1) .exponents-most)) (n .count-places .ensures)
+    scientific-ready (o .items-of .ensures) (p .2) (x .cut-start .ensures) (p .3) (p .4) (p .5) (p .6)
+    (section-exponent _ _ (p .0) (p .1) (scientific-some _ (p .2)) .places) (omega (arith, section-limits _ _ (p .0) (p .1) .exponents-most)) (n .count-between .ensures isPlace place-tag)
 
 returns : tie.Need-returns
 unfolding headOf
@@ -36,8 +37,8 @@ returns c =
     let o = x .before in
     let p = o .before .before .before .before .pre in
     let f = o .items-of .ensures in
-    let u = x .exponent-start .ensures in
-    let counted = power-places f (p .2) u (n .count-places .ensures) in
+    let u = x .cut-start .ensures in
+    let counted = power-places f (p .2) u (n .count-between .ensures isPlace place-tag) in
     λ m e is places shows power.
     scientific-shows f (p .2) u _ _ m e (ap (λ (h : Head). h .colour) (o .before .head-of .ensures .0)) places power
     (y .show-scientific-items .ensures m _ _ is (mantissa-fit f (p .2) u m)

@@ -3,7 +3,7 @@
 use mathlib.Core.Path.{ap}
 use Rattle.tables.specs.Words.{Head}
 use Rattle.tables.specs.Encode.{headOf}
-use Rattle.section_text.proofs.Bodies.{items-fit, items-ready, items-shows}
+use Rattle.section_text.proofs.Bodies.{subject-uncut, items-fit, items-ready, items-shows}
 use borrow.Author.Needs.{needs}
 use Rattle.section_text.proofs.show_section.Statement.{statement}
 use Rattle.section_text.proofs.show_section.Tie as tie
@@ -22,7 +22,7 @@ returns c =
     let o = s .before .before in
     let e = o .items-of .ensures in
     λ x is places.
-    items-shows e _ _ x (ap (λ (h : Head). h .colour) (o .before .head-of .ensures .0)) places (s .show-items .ensures x _ _ is (items-fit e x (is .unscientific)))
+    items-shows e _ _ x (ap (λ (h : Head). h .colour) (o .before .head-of .ensures .0)) places (s .show-items .ensures x _ _ is (items-fit e x (subject-uncut is)))
 
 pub show-section-spec : {M : Type 1} → statement M
 show-section-spec =

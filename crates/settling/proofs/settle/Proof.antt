@@ -9,7 +9,7 @@ use lib.Dec.{T}
 use Rattle.lists.specs.Lists.{every}
 use Rattle.formats.specs.Items.{Item}
 use Rattle.tables.specs.Words.{entriesWords}
-use Rattle.tables.specs.Encode.{entriesOf}
+use Rattle.tables.specs.Encode.{runEntries}
 use Rattle.settling.specs.Settle.{isNoMinute}
 use Rattle.settling.proofs.Settling.{Going, going-start, going-step, going-end}
 use borrow.Author.Needs.{needs}
@@ -18,7 +18,7 @@ use Rattle.settling.proofs.settle.Tie as tie
 
 abbrev Inv-loop : tie.InvT-loop
 Inv-loop words₀ hours₀ i₀ words hours i =
-    ((is : List Item) → T (every isNoMinute is) → words₀ ≡ entriesWords (entriesOf is) [] → Going is words hours i) × (length words ≡ length words₀) × (i ≤ length words)
+    ((is : List Item) → T (every isNoMinute is) → words₀ ≡ entriesWords (runEntries is) [] → Going is words hours i) × (length words ≡ length words₀) × (i ≤ length words)
 
 abbrev μ-loop : tie.MeasureT-loop
 μ-loop words₀ hours₀ i₀ words hours i = length words - i

@@ -2,6 +2,7 @@
 -- Assumes nothing.
 use Rattle.table_words.proofs.Bodies.{section-limits}
 use Rattle.figure_text.proofs.Digits.{figures-used}
+use Rattle.showing.proofs.Places.{integers-most}
 use Rattle.showing.proofs.Subjects.{number-subject}
 use Rattle.showing.proofs.Numbers.{number-section}
 use Rattle.showing.proofs.Sections.{number-figures, number-takes}
@@ -16,7 +17,7 @@ returns c =
     let n = g .before in
     let p = n .before .before .pre in
     λ text x why ev eo.
-    let are = number-figures _ x (p .4) (section-limits _ _ (p .0) (p .1)) (rw ev at (p .2)) (n .number-digits .ensures x ev) (g .integer-places .ensures) (w .is-grouped .ensures) in
+    let are = number-figures _ x (p .4) (section-limits _ _ (p .0) (p .1)) (integers-most _ _ (p .0) (p .1) (rw (p .4))) (rw ev at (p .2)) (n .number-digits .ensures x ev) (g .integer-places .ensures) (w .is-grouped .ensures) in
     rw (c .with-digits .ensures .0, c .with-digits .ensures .1)
     (number-section _ _ _ x why ev eo (number-takes _ x (p .4) are) (p .1) (figures-used are) (number-subject _ (p .4) are))
 
@@ -25,7 +26,7 @@ figures-plan-spec =
     tie.close
     (tie.spec
     (λ c κs. search needs)
-    (λ c κs. search needs)
+    (λ c κs. let p = c .before .before .pre in (p .0, p .1, rw (p .4)))
     (λ c κs. search needs)
     (λ c κs. search needs)
     returns)

@@ -13,5 +13,5 @@ integer-places-spec =
     (λ c κs. search needs)
     (λ c κs. search needs)
     (λ c. search needs)
-    (λ c. let o = c .before in let p = o .before .before .pre in omega (arith, argument-is _ _ (p .0) (p .1) (o .items-of .ensures) (c .first-argument .ensures)))
-    (λ c. let o = c .before in let p = o .before .before .pre in omega (arith, argument-is _ _ (p .0) (p .1) (o .items-of .ensures) (c .first-argument .ensures))))
+    (λ c. let o = c .before in let p = o .before .before .pre in omega (arith, argument-is _ _ (p .0) (p .1) (p .2) (o .items-of .ensures) (c .first-argument .ensures)))
+    (λ c. let o = c .before in let p = o .before .before .pre in omega (arith, argument-is _ _ (p .0) (p .1) (p .2) (o .items-of .ensures) (c .first-argument .ensures))))

@@ -2,8 +2,8 @@
 -- Assumes nothing.
 use native.Mathlib.Omega.{arith}
 use Rattle.showing.proofs.Subjects.{literal-subject}
-use Rattle.showing.proofs.Numbers.{literal-takes, number-section, scientific-reads}
-use Rattle.showing.proofs.Sections.{scientific-takes}
+use Rattle.showing.proofs.Numbers.{literal-takes, number-section, scientific-reads, fraction-reads}
+use Rattle.showing.proofs.Sections.{scientific-takes, fraction-takes}
 use Rattle.showing.proofs.KindWords.{kind-with, told-general, date-refused}
 use borrow.Author.Needs.{needs}
 use Rattle.showing.proofs.number_in.Statement.{statement}
@@ -20,7 +20,7 @@ general-plan-requires c κs =
     let w = c .before in
     let p = w .before .before .pre in
     let o = c .match .rest in
-    (p .0, p .1, p .2, told-general _ _ (w .head-of .ensures .0) (o .0 .0 .0 .1) (o .0 .0 .1) (o .0 .1) (o .1))
+    (p .0, p .1, p .2, told-general _ _ (w .head-of .ensures .0) (o .0 .0 .0 .0 .1, o .0 .0 .0 .1, o .0 .0 .1, o .0 .1, o .1))
 
 returns : tie.Need-returns
 returns c =
@@ -54,8 +54,25 @@ returns-4 c =
       kind = e;
       small = p .2;
       scale = p .3;
-      of = record { number = x; is = ev };
+      number = record { number = x; is = ev };
       reads = scientific-reads _ _ _ x why ev eo (scientific-takes _ x e) e;
+    })
+
+returns-5 : tie.Need-returns-5
+returns-5 c =
+    let m = c .before in
+    let w = m .before in
+    let p = w .before .before .pre in
+    let e = kind-with _ _ (w .head-of .ensures .0) 6 (omega (arith, m .match .keys5)) in
+    λ text x why ev eo.
+    rw (c .without-digits4 .ensures)
+    (record {
+      inside = p .1;
+      kind = e;
+      small = p .2;
+      scale = p .3;
+      number = record { number = x; is = ev };
+      reads = fraction-reads _ _ _ x why ev eo (fraction-takes _ x e) e;
     })
 
 pub number-in-spec : {M : Type 1} → statement M
@@ -69,9 +86,11 @@ number-in-spec =
     figures-plan-requires
     (λ c κs. search needs)
     (λ c κs. search needs)
+    (λ c κs. search needs)
     general-plan-requires
     returns
     (λ c. c .figures-plan .ensures)
     returns-3
     returns-4
+    returns-5
     (λ c. c .general-plan .ensures))

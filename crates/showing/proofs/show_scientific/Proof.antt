@@ -2,7 +2,7 @@
 -- Assumes nothing.
 use native.Mathlib.Omega.{arith}
 use mathlib.Core.Path.{refl}
-use Rattle.formats.specs.Reading.{numberContext, exponentContext}
+use Rattle.formats.specs.Reading.{numberContext, wholeContext, exponentContext}
 use Rattle.showing.proofs.Mantissas.{scientific-words, mantissa-subject, mantissa-nought, exponent-shows, exponent-most, scientific-minus}
 use Rattle.showing.proofs.Values.{shows-as}
 use borrow.Author.Needs.{needs}
@@ -37,7 +37,7 @@ show-scientific-section-requires c κs =
     )
 
 returns : tie.Need-returns
-unfolding numberContext exponentContext
+unfolding numberContext exponentContext wholeContext
 returns c =
     let y = c .before .before in
     let m = y .before .before .before in
@@ -58,7 +58,7 @@ show-scientific-spec =
     tie.close
     (tie.spec
     (λ c κs. search needs)
-    (λ c κs. search needs)
+    (λ c κs. let p = c .before .before .before .pre in (p .0, p .1, rw (p .2)))
     (λ c. search needs)
     round-scientific-requires
     (λ c κs. search needs)

@@ -24,13 +24,20 @@ show-scientific-requires c κs =
     let n = c .before .before in
     let f = n .before .before .before in
     let p = rw (n .plan3 .given .1) at (f .plan-of .ensures) in
-    (f .before .before .before .before .pre, p .inside, p .kind, p .small, p .scale, p .of)
+    (f .before .before .before .before .pre, p .inside, p .kind, p .small, p .scale, p .number)
+
+show-fraction-requires : tie.Need-show-fraction-requires
+show-fraction-requires c κs =
+    let n = c .before .before in
+    let f = n .before .before .before in
+    let p = rw (n .plan4 .given .1) at (f .plan-of .ensures) in
+    (f .before .before .before .before .pre, p .inside, p .kind, p .small, p .scale)
 
 show-section-requires : tie.Need-show-section-requires
 show-section-requires c κs =
     let n = c .before .before .before in
     let f = n .before .before .before in
-    let p = rw (n .plan4 .given .1) at (f .plan-of .ensures) in
+    let p = rw (n .plan5 .given .1) at (f .plan-of .ensures) in
     (f .before .before .before .before .pre, p .inside, p .used, p .short, p .known)
 
 returns : tie.Need-returns
@@ -58,13 +65,20 @@ returns-4 c =
     let s = c .before .before in
     let n = s .before .before .before in
     let p = rw (n .plan3 .given .1) at (n .before .before .before .plan-of .ensures) in
-    shows-as (p .reads _) (s .show-scientific .ensures (p .of .number) (p .of .is))
+    shows-as (p .reads _) (s .show-scientific .ensures (p .number .number) (p .number .is))
 
 returns-5 : tie.Need-returns-5
 returns-5 c =
     let s = c .before .before in
-    let n = s .before .before .before .before in
+    let n = s .before .before .before in
     let p = rw (n .plan4 .given .1) at (n .before .before .before .plan-of .ensures) in
+    shows-as (p .reads _) (s .show-fraction .ensures (p .number .number) (p .number .is))
+
+returns-6 : tie.Need-returns-6
+returns-6 c =
+    let s = c .before .before in
+    let n = s .before .before .before .before in
+    let p = rw (n .plan5 .given .1) at (n .before .before .before .plan-of .ensures) in
     shows-as (p .reads _) (s .show-section .ensures _ (p .known .is) (p .places))
 
 pub show-value-spec : {M : Type 1} → statement M
@@ -81,6 +95,8 @@ show-value-spec =
     (λ c. search needs)
     show-scientific-requires
     (λ c. search needs)
+    show-fraction-requires
+    (λ c. search needs)
     show-section-requires
     returns
     (λ c. search needs)
@@ -90,4 +106,6 @@ show-value-spec =
     (λ c. search needs)
     returns-4
     (λ c. search needs)
-    returns-5)
+    returns-5
+    (λ c. search needs)
+    returns-6)

@@ -2,25 +2,46 @@
 -- Assumes nothing.
 use mathlib.Core.Path.{sym, _∙_}
 use borrow.Author.Tests.{lt-ltb, le-ltb}
-use Rattle.tallies.proofs.Exponents.{no-exponent}
+use Rattle.tallies.proofs.Exponents.{no-exponent, no-solidus}
 use borrow.Author.Needs.{needs}
 use Rattle.tallies.proofs.allowed.Statement.{statement}
 use Rattle.tallies.proofs.allowed.Tie as tie
 
+has-number-items-requires : tie.Need-has-number-items-requires
+has-number-items-requires c κs = search needs
+
+returns : tie.Need-returns
+returns c = rw (c .before .before .before .has-number-items .ensures, c .before .before .if1 .taken)
+
+returns-2 : tie.Need-returns-2
+returns-2 c = rw (c .before .before .before .before .has-number-items .ensures, c .before .before .before .if1 .left, lt-ltb _ _ (c .before .if2 .taken))
+
+returns-3 : tie.Need-returns-3
+returns-3 c = rw (c .before .before .before .before .has-number-items .ensures, c .before .before .before .if1 .left, le-ltb _ _ (c .before .if2 .left), c .if3 .taken)
+
+has-places-requires : tie.Need-has-places-requires
+has-places-requires c κs = search needs
+
+returns-4 : tie.Need-returns-4
+returns-4 c =
+    let d = c .before .before .before in
+    let f = d .before .before .before in
+    let s = f .before .before in
+    rw (no-exponent (s .args .t) (s .pre), no-solidus (s .args .t) (s .pre), sym (c .before .before .has-places .ensures) ∙ c .before .if4 .taken, le-ltb _ _ (d .before .if2 .left), f .if1 .left, d .if3 .left)
+
+returns-5 : tie.Need-returns-5
+returns-5 c =
+    let d = c .before .before .before in
+    let f = d .before .before .before in
+    let s = f .before .before in
+    rw (f .before .has-number-items .ensures, no-exponent (s .args .t) (s .pre), no-solidus (s .args .t) (s .pre), sym (c .before .before .has-places .ensures) ∙ c .before .if4 .left, le-ltb _ _ (d .before .if2 .left), f .if1 .left, d .if3 .left)
+
 pub allowed-spec : {M : Type 1} → statement M
-allowed-spec =
-    tie.close
-    (tie.spec
-    (λ c κs. search needs)
-    (λ c. rw (c .before .before .before .has-number-items .ensures, c .before .before .if1 .taken))
-    (λ c. rw (c .before .before .before .before .has-number-items .ensures, c .before .before .before .if1 .left, lt-ltb _ _ (c .before .if2 .taken)))
-    (λ c. rw (c .before .before .before .before .has-number-items .ensures, c .before .before .before .if1 .left, le-ltb _ _ (c .before .if2 .left), c .if3 .taken))
-    (λ c κs. search needs)
-    (λ c. let d = c .before .before .before in
-    let f = d .before .before .before in
-    let s = f .before .before in
-    rw (no-exponent (s .args .t) (s .pre), sym (c .before .before .has-places .ensures) ∙ c .before .if4 .taken, le-ltb _ _ (d .before .if2 .left), f .if1 .left, d .if3 .left))
-    (λ c. let d = c .before .before .before in
-    let f = d .before .before .before in
-    let s = f .before .before in
-    rw (f .before .has-number-items .ensures, no-exponent (s .args .t) (s .pre), sym (c .before .before .has-places .ensures) ∙ c .before .if4 .left, le-ltb _ _ (d .before .if2 .left), f .if1 .left, d .if3 .left)))
+allowed-spec = tie.close (tie.spec
+    has-number-items-requires
+    returns
+    returns-2
+    returns-3
+    has-places-requires
+    returns-4
+    returns-5)

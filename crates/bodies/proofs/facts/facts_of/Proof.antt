@@ -25,15 +25,6 @@ mul-see c = search needs
 shared-slice-read-see : tie.Need-shared-slice-read-see Inv-loop μ-loop
 shared-slice-read-see c = search needs
 
-add-see : tie.Need-add-see Inv-loop μ-loop
-add-see c = search needs
-
-mul-see-2 : tie.Need-mul-see-2 Inv-loop μ-loop
-mul-see-2 c = search needs
-
-shared-slice-read-see-2 : tie.Need-shared-slice-read-see-2 Inv-loop μ-loop
-shared-slice-read-see-2 c = search needs
-
 see-requires : tie.Need-see-requires Inv-loop μ-loop
 see-requires c κs = search (needs, seeing-roomy)
 
@@ -59,9 +50,6 @@ facts-of-spec =
     add-loop
     mul-see
     shared-slice-read-see
-    add-see
-    mul-see-2
-    shared-slice-read-see-2
     see-requires
     add-i
     loop-less

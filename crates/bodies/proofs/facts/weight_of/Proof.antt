@@ -6,7 +6,7 @@ use Rattle.bodies.proofs.Tests.{weight-none}
 use Rattle.bodies.proofs.facts.weight_of.Statement.{statement}
 use Rattle.bodies.proofs.facts.weight_of.Tie as tie
 
-last : tie.Need-returns-20
+last : tie.Need-returns-15
 unfolding dateForms
 last c = weight-none (c .before .args .form) (c .match .rest)
 
@@ -29,9 +29,4 @@ weight-of-spec =
     (λ c. rw (c .match .keys12))
     (λ c. rw (c .match .keys13))
     (λ c. rw (c .match .keys14))
-    (λ c. rw (c .match .keys15))
-    (λ c. rw (c .match .keys16))
-    (λ c. rw (c .match .keys17))
-    (λ c. rw (c .match .keys18))
-    (λ c. rw (c .match .keys19))
     last)

@@ -6,10 +6,7 @@ use Rattle.drafting.proofs.drafts.body_of.Statement.{statement}
 use Rattle.drafting.proofs.drafts.body_of.Tie as tie
 
 returns : tie.Need-returns
-returns c = c .exponent-body .ensures
-
-returns-2 : tie.Need-returns-2
-returns-2 c =
+returns c =
     let f = c .before .before .before .before .before .before in
     rw (
       f .fits2 .ensures,
@@ -26,12 +23,10 @@ body-of-spec =
     tie.close
     (tie.spec
     (λ c κs. search needs)
-    returns
     (λ c κs. search needs)
-    (λ c κs. c .before .before .before .pre (c .before .if1 .left))
     (λ c κs. search needs)
-    (λ c κs. omega (arith, c .before .before .before .before .before .pre (c .before .before .before .if1 .left) .places))
-    (λ c κs. c .before .before .before .before .before .before .pre (c .before .before .before .before .if1 .left))
-    (λ c κs. c .before .before .before .before .before .before .before .pre (c .before .before .before .before .before .if1 .left))
-    (λ c κs. c .before .before .before .before .before .before .before .before .before .before .pre (c .before .before .before .before .before .before .before .before .if1 .left))
-    returns-2)
+    (λ c κs. omega (arith, c .before .before .before .pre .places))
+    (λ c κs. search needs)
+    (λ c κs. search needs)
+    (λ c κs. search needs)
+    returns)

@@ -5,7 +5,7 @@ use denote.Ref.{now}
 use Prim.Native.Nat.{_-_, _*_}
 use lib.ListN.{length}
 use Rattle.drafting.proofs.Drafting.{part-short, heading-body, section-drafted}
-use Rattle.drafting.proofs.Digits.{heading-digit}
+use Rattle.drafting.proofs.Digits.{heading-digit, units-behind}
 use borrow.Author.Needs.{needs}
 use Rattle.drafting.proofs.drafts.draft_section.Statement.{statement}
 use Rattle.drafting.proofs.drafts.draft_section.Tie as tie
@@ -19,11 +19,12 @@ heading-condition-requires c κs =
 draft-body-requires : tie.Need-draft-body-requires
 draft-body-requires c κs =
     let h = c .before .before .before .before in
-    let s = h .before .before .before .before in (
-      s .pre .0 .0,
-      part-short (now (s .args .part)) (length (now (s .args .part)) - 3 * h .heading-of .result .tokens) (3 * h .heading-of .result .tokens) (s .pre .0 .1),
-      s .pre .0 .2,
-      rw (heading-body (now (s .args .code)) (now (s .args .part)) _ (h .heading-of .ensures)) (s .pre .1 .0),
+    let s = h .before .before .before .before in
+    let code = now (s .args .code) in
+    let part = now (s .args .part) in
+    let n = h .heading-of .result .tokens in (
+      (s .pre .0 .0, part-short part (length part - 3 * n) (3 * n) (s .pre .0 .1), s .pre .0 .2, rw (heading-body code part _ (h .heading-of .ensures)) (s .pre .1 .0)),
+      units-behind code part n (s .pre .1 .1),
     )
 
 returns : tie.Need-returns

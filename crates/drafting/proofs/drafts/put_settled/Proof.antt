@@ -7,7 +7,7 @@ use Rattle.marks.specs.Marks.{tokensIn}
 use Rattle.writing.proofs.Laws.{put-size}
 use Rattle.drafting.specs.declared.places.Places.{Places}
 use Rattle.drafting.proofs.Drafting.{facts-date, facts-fills}
-use Rattle.drafting.proofs.Settled.{settled-size, settled-put, settled-few}
+use Rattle.drafting.proofs.Settled.{settled-size, settled-put, put-few}
 use borrow.Author.Needs.{needs}
 use Rattle.drafting.proofs.drafts.put_settled.Statement.{statement}
 use Rattle.drafting.proofs.drafts.put_settled.Tie as tie
@@ -32,7 +32,7 @@ settle-requires : tie.Need-settle-requires
 settle-requires c κs =
     let p = c .before .before .before in
     let s = p .before .before .before .before .before in
-    settled-few (tokensIn (now (s .args .code)) (now (s .args .body))) (p .put-items .ensures) (s .pre .0 .3) (s .pre .0 .2)
+    put-few (p .put-items .ensures) (omega (arith, settled-size (tokensIn (now (s .args .code)) (now (s .args .body))), s .pre .0 .3)) (s .pre .0 .2)
 
 returns : tie.Need-returns
 returns c =
