@@ -39,11 +39,11 @@ static void print_walker(size_t library, size_t walker, size_t at)
     print_ratio(&jobs[library + at], &jobs[walker + at]);
 }
 
-/* What a scientific section costs beside a number section of the same places. */
-static void print_scientific(size_t library, const char *room)
+/* What a scientific section or a fraction costs beside a number section. */
+static void print_beside(size_t which, size_t library, const char *room)
 {
-    printf("| `%s` to `%s`, %s |", specimens[SCIENTIFIC].code, specimens[FIXED].code, room);
-    print_ratio(&jobs[library + SCIENTIFIC], &jobs[library + FIXED]);
+    printf("| `%s` to `%s`, %s |", specimens[which].code, specimens[FIXED].code, room);
+    print_ratio(&jobs[library + which], &jobs[library + FIXED]);
     printf("\n");
 }
 
@@ -67,8 +67,10 @@ static void print_showing(const char *numbers)
     printf("| `snprintf(\"%%.2f\")` | | | |");
     print_cell(&jobs[PRINT]);
     printf(" | | |\n\n| library | ratio |\n|---|---|\n");
-    print_scientific(LIBRARY, "long room");
-    print_scientific(LIBRARY_SHORT, "short room");
+    for (at = WALKED; at < SPECIMENS; at++) {
+        print_beside(at, LIBRARY, "long room");
+        print_beside(at, LIBRARY_SHORT, "short room");
+    }
     printf("\n");
 }
 

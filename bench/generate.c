@@ -75,7 +75,18 @@ static void add_section(uint64_t *state, code_text *to)
     }
 }
 
-/* Whether the code was accepted. */
+/* Whether the walker knows every kind of section: places and a mark may have come to a fraction. */
+static bool is_walked(const uint16_t *table)
+{
+    unsigned section;
+
+    for (section = 0; section < table[0]; section++)
+        if (head_of(table, section)[KIND] > DATE_KIND)
+            return false;
+    return true;
+}
+
+/* Whether the code was accepted, with kinds that the walker knows. */
 static bool prepare_random(uint64_t *state, random_table *made)
 {
     uint16_t units[4 * NUMFMT_CODE_MOST];
@@ -94,7 +105,7 @@ static bool prepare_random(uint64_t *state, random_table *made)
     for (at = 0; at < code.len; at++)
         units[at] = (unsigned char)code.units[at];
     made->count = numfmt_prepare(units, code.len, made->words, NUMFMT_TABLE_WORDS).words;
-    return made->count > 0;
+    return made->count > 0 && is_walked(made->words);
 }
 
 /* Tables with no code behind them, whose derived words are what their rules give, with limits passed now and then */

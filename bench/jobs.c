@@ -15,6 +15,7 @@ specimen specimens[SPECIMENS] = {
     {.code = "h:mm:ss AM/PM", .instant = plain_clock},
     {.code = "General", .number = plain_general},
     [SCIENTIFIC] = {.code = "0.00E+00", .number = plain_scientific},
+    [FRACTION] = {.code = "# ?\?\?/\?\?\?", .number = plain_fraction}, /* two question marks and a solidus are a trigraph */
 };
 
 static const char *const by_sections[SECTIONS] = {

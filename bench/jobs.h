@@ -11,8 +11,8 @@
  */
 enum { ROOM = 4096, SHORT_ROOM = 64, AMPLE = 82 * NUMFMT_CODE_MOST + 1 };
 
-/* The walker knows the specimens before WALKED. FIXED and SCIENTIFIC are the two that are set side by side. */
-enum { FIXED = 1, SCIENTIFIC = 6, WALKED = SCIENTIFIC, SPECIMENS };
+/* The walker knows the specimens before WALKED. SCIENTIFIC and FRACTION are set beside FIXED. */
+enum { FIXED = 1, SCIENTIFIC = 6, FRACTION, SPECIMENS, WALKED = SCIENTIFIC };
 
 enum { LITERALS = 7, PLACES = 8, SECTIONS = 4 };
 

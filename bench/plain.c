@@ -6,7 +6,7 @@
 #include "calendar.h"
 #include "powers.h"
 
-enum { MOST = 48, RED = 3 };
+enum { MOST = 48, RED = 3, FRACTION_PLACES = 3, BELOW_MOST = 999 };
 
 /* A text under way. It grows from its end to its front, as digits come. */
 typedef struct {
@@ -176,6 +176,83 @@ plain_text plain_scientific(int64_t coefficient, uint32_t scale, uint16_t *room,
     put(&text, '.');
     put_whole(&text, hundredths / 100);
     if (coefficient < 0)
+        put(&text, '-');
+    return keep(&text, 0, room, room_len);
+}
+
+/* A fraction on one side of a number, and how far it is from it, times both denominators. */
+typedef struct {
+    uint64_t above, below, rest;
+} side;
+
+/* One side moved towards the other, as far as the number and the greatest denominator allow. */
+static side moved(side near, side far)
+{
+    uint64_t steps = near.rest / far.rest, room = (BELOW_MOST - near.below) / far.below;
+    side made;
+
+    if (steps > room)
+        steps = room;
+    made.above = near.above + steps * far.above;
+    made.below = near.below + steps * far.below;
+    made.rest = near.rest - steps * far.rest;
+    return made;
+}
+
+/* The fraction nearest to rest / unit, which is below 1: no other between two neighbours has a denominator below the sum of theirs. */
+static side nearest(uint64_t rest, uint64_t unit)
+{
+    side low = {0, 1, rest}, high = {1, 1, unit - rest};
+
+    while (low.rest > 0 && high.rest > 0 && low.below + high.below <= BELOW_MOST) {
+        low = moved(low, high);
+        if (low.rest > 0)
+            high = moved(high, low);
+    }
+    return high.rest * low.below < low.rest * high.below ? high : low;
+}
+
+static void put_spaces(backward *text, size_t count)
+{
+    for (; count > 0; count--)
+        put(text, ' ');
+}
+
+/* Above in three places with spaces in front, below with spaces behind; all of them and the solidus where there is nothing above. */
+static void put_fraction(backward *text, const side *of)
+{
+    size_t end;
+
+    if (of->above == 0) {
+        put_spaces(text, 2 * FRACTION_PLACES + 1);
+        return;
+    }
+    put_spaces(text, FRACTION_PLACES - digits_of(of->below));
+    put_whole(text, of->below);
+    put(text, '/');
+    end = text->first - FRACTION_PLACES;
+    put_whole(text, of->above);
+    put_spaces(text, text->first - end);
+}
+
+plain_text plain_fraction(int64_t coefficient, uint32_t scale, uint16_t *room, size_t room_len)
+{
+    backward text;
+    uint64_t magnitude = magnitude_of(coefficient), unit = power_of_ten[scale], whole = magnitude / unit;
+    side part = nearest(magnitude % unit, unit);
+    bool nought;
+
+    if (part.above == part.below) {
+        part.above = 0;
+        whole++;
+    }
+    nought = whole == 0 && part.above == 0;
+    text.first = MOST;
+    put_fraction(&text, &part);
+    put(&text, ' ');
+    if (whole > 0)
+        put_whole(&text, whole);
+    if (coefficient < 0 && !nought)
         put(&text, '-');
     return keep(&text, 0, room, room_len);
 }

@@ -1,5 +1,5 @@
 /*
- * The seven codes of the benchmark, each written out by hand: what the table is
+ * The eight codes of the benchmark, each written out by hand: what the table is
  * compared with. Each writes its text to the room, or nothing and length 0
  * where the room is too short. Numbers are coefficient / 10^scale within the
  * library's range, days and milliseconds too: nothing else is checked.
@@ -23,6 +23,7 @@ plain_number plain_fixed;      /* 0.00 */
 plain_number plain_accounting; /* #,##0.00;[Red](#,##0.00) */
 plain_number plain_general;    /* General, below 10^11 */
 plain_number plain_scientific; /* 0.00E+00 */
+plain_number plain_fraction;   /* # ???/??? */
 plain_instant plain_date;      /* d-mmm-yy */
 plain_instant plain_clock;     /* h:mm:ss AM/PM */
 

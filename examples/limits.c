@@ -132,7 +132,8 @@ static int stack_told(const char *name, void *(*call)(void *), unsigned char *st
 {
     static const char *const codes[] = {
         "#,##0.00;[Red](#,##0.00);\"none\";\"text: \"@", "dddd, d mmmm yyyy h:mm:ss.000 AM/PM", "[h]:mm:ss.00", "General",
-        "##0.000E+00;[Red]0.0E-000", "[>100]#,##0,,;[<=-1.5]0.00%%;General;@", "\"x\"@\"y\"@", "0;0;0;0;0", "\"broken"};
+        "##0.000E+00;[Red]0.0E-000", "# ?\?\?/\?\?\?;[Red]0/999", "[>100]#,##0,,;[<=-1.5]0.00%%;General;@", "\"x\"@\"y\"@",
+        "0;0;0;0;0", "\"broken"};
     unsigned long deepest = 0, empty = stack_of(do_nothing, stack), used;
     size_t at;
 

@@ -47,9 +47,10 @@ extern "C" {
 
 /*
  * Most units that a call shows through any table: a room of so many is never
- * refused with 13. A section has at most 254 items. An item shows of a number
- * at most General's 11 units, and one minus goes before them all; of an instant
- * a name of 9, and one of them a count of 12; of a text the text, or 1 unit.
+ * refused with 13. A section has at most 254 items. Of a number they show most
+ * where each is an @, General's 11 units, and one minus goes before them all:
+ * places, an exponent or a fraction come to less. An item shows of an instant a
+ * name of 9, and one of them a count of 12; of a text the text, or 1 unit.
  */
 #define NUMFMT_SHOWN_NUMBER_MOST 2795
 #define NUMFMT_SHOWN_INSTANT_MOST 2289
@@ -136,7 +137,8 @@ typedef struct {
  * Writes the table of a code in front of the table room, and tells how many
  * words it has. Those words, and no more, are the table to lend to the calls
  * that show. Refuses with 1 to 7; a room of NUMFMT_TABLE_WORDS is never
- * refused with 7.
+ * refused with 7. (In a C string the ??/ of a fraction's code is a trigraph,
+ * that is a backslash: write ?\?/ there.)
  */
 numfmt_prepared numfmt_prepare(const uint16_t *code, size_t code_len,
                                uint16_t *table, size_t table_len);

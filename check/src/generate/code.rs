@@ -1,11 +1,14 @@
 //! Format codes: from the grammar, mutated from it, and at random.
 
+mod fraction;
+
+use self::fraction::fraction;
 use crate::generate::LANDMARKS;
 use crate::oracle::units;
 use crate::random::Random;
 
 const ALPHABET: &[u8] =
-    b"00##??..,,%%@;;\"\"\\_*[]GeneralAM/PmydhsRd<>=-+/ ():!^&'~{}$x19EEE++--e`|mmhhss\x7f\n";
+    b"00##??..,,%%@;;\"\"\\_*[]GeneralAM/PmydhsRd<>=-+/ ():!^&'~{}$x19EEE++--e`|mmhhss///8\x7f\n";
 
 const BARE: &[u8] = b"$-+/():!^&'~{}<>= ";
 
@@ -26,6 +29,12 @@ const PIECES: &[&str] = &[
     "E-00",
     "E",
     "e+",
+    "/8",
+    "/16",
+    "/1000",
+    "?/?",
+    "0/0",
+    "# ?/",
     "AM/PM",
     "A/P",
     "yy",
@@ -116,11 +125,11 @@ fn section(random: &mut Random, index: usize, count: usize, text_last: bool, out
     let stray = random.chance(3);
     let last = index + 1 == count;
     let kind = match (stray, index, last) {
-        (true, ..) => random.below(6),
+        (true, ..) => random.below(7),
         (false, 3, _) => random.pick(&[0, 1, 3]),
         (false, _, true) if text_last => 3,
-        _ if count == 1 => random.weighted(&[10, 12, 32, 8, 20, 18]),
-        _ => random.weighted(&[12, 13, 37, 0, 20, 18]),
+        _ if count == 1 => random.weighted(&[9, 11, 28, 7, 18, 16, 11]),
+        _ => random.weighted(&[11, 12, 32, 0, 18, 16, 11]),
     };
     let bare_fourth = index == 3 && !stray;
     if !bare_fourth && random.chance(25) {
@@ -139,7 +148,8 @@ fn section(random: &mut Random, index: usize, count: usize, text_last: bool, out
         2 => number(random, out),
         3 => text(random, out),
         4 => date_time(random, out),
-        _ => scientific(random, out),
+        5 => scientific(random, out),
+        _ => fraction(random, out),
     }
 }
 

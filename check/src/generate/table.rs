@@ -1,5 +1,8 @@
 //! Tables: prepared and then damaged, built with no code behind them, and words at random.
 
+mod fraction;
+
+use self::fraction::fraction;
 use crate::generate::{code, LANDMARKS};
 use crate::oracle::prepare;
 use crate::random::Random;
@@ -11,6 +14,7 @@ const NUMBER: u16 = 2;
 const TEXT: u16 = 3;
 const DATE_TIME: u16 = 4;
 const SCIENTIFIC: u16 = 5;
+const FRACTION: u16 = 6;
 
 pub fn table(random: &mut Random) -> Vec<u16> {
     match random.weighted(&[42, 40, 12, 6]) {
@@ -163,11 +167,12 @@ fn section(random: &mut Random, index: usize, count: usize, text_last: bool) -> 
     // Now and then a section is made without regard to where it stands.
     let stray = random.chance(3);
     let kind = match index {
-        _ if stray => random.below(6) as u16,
+        _ if stray => random.below(7) as u16,
         _ if text_last && index + 1 == count => TEXT,
         3 => random.pick(&[0, GENERAL, TEXT]),
         _ => random.pick(&[
             0, GENERAL, NUMBER, NUMBER, NUMBER, DATE_TIME, DATE_TIME, SCIENTIFIC, SCIENTIFIC,
+            FRACTION, FRACTION,
         ]),
     };
     let mut section = Section {
@@ -190,6 +195,7 @@ fn section(random: &mut Random, index: usize, count: usize, text_last: bool) -> 
         TEXT => (0..random.between(1, 3)).for_each(|_| around(random, &mut section.items, [10, 0])),
         DATE_TIME => date_time(random, &mut section),
         SCIENTIFIC => scientific(random, &mut section),
+        FRACTION => fraction(random, &mut section),
         _ => literals(random, &mut section.items, 4),
     }
     section

@@ -37,20 +37,36 @@ fn tables_that_pass_are_those_that_codes_make() {
 /// An `E+` or `E-` stands in one code of ten at least, in accepted and in refused ones.
 #[test]
 fn one_code_in_ten_has_an_exponent() {
+    assert_drawn(|code| {
+        let has = |mark: &str| code.windows(2).any(|pair| pair == units(mark));
+        has("E+") || has("E-")
+    });
+}
+
+/// So does a solidus between a place and a place or digit.
+#[test]
+fn one_code_in_ten_has_a_fraction() {
+    let among = |unit: u16, bytes: &[u8]| bytes.iter().any(|byte| u16::from(*byte) == unit);
+    assert_drawn(|code| {
+        code.windows(3).any(|three| {
+            among(three[0], b"0#?") && among(three[1], b"/") && among(three[2], b"0#?123456789")
+        })
+    });
+}
+
+fn assert_drawn(has: impl Fn(&[u16]) -> bool) {
     let (mut accepted, mut refused) = (0, 0);
     for index in 0..CODES {
         let code = code(&mut Random::for_case(3, index));
-        let has = |mark: &str| code.windows(2).any(|pair| pair == units(mark));
-        if has("E+") || has("E-") {
+        if has(&code) {
             match prepare(&code, usize::MAX).answer {
                 answer::DONE => accepted += 1,
                 _ => refused += 1,
             }
         }
     }
-    assert!(accepted + refused > CODES / 10, "{accepted} {refused}");
     assert!(
-        accepted > CODES / 20 && refused > CODES / 50,
+        accepted + refused > CODES / 10 && accepted > CODES / 20 && refused > CODES / 50,
         "{accepted} {refused}"
     );
 }
@@ -149,6 +165,8 @@ fn item_code(item: &[u16]) -> Option<Vec<u16>> {
         21 => units(if item[1] == 1 { "A/P" } else { "AM/PM" }),
         22 => units("E+"),
         23 => units("E-"),
+        24 => units("/"),
+        25 => units(&item[1].to_string()),
         _ => return None,
     })
 }

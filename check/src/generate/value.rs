@@ -1,4 +1,5 @@
-//! Values: at the edges of their ranges, beside what conditions name, at halves, and at random.
+//! Values: at the edges of their ranges, beside what conditions name, at halves, midway between
+//! fractions, and at random.
 
 use crate::generate::LANDMARKS;
 use crate::oracle::Value;
@@ -57,6 +58,15 @@ const MILLISECONDS: [u32; 13] = [
 
 const TEXT_LENGTHS: [usize; 5] = [0, 1, 1023, 1024, 1025];
 
+/// Numbers to which two fractions are equally near: 3/8 and 2/5, 145/512 and 177/625, and what is left
+/// of 1.
+const TIES: [(i64, u32); 4] = [
+    (3875, 4),
+    (6125, 4),
+    (2_832_015_625, 10),
+    (7_167_984_375, 10),
+];
+
 pub fn value(random: &mut Random) -> Value {
     match random.weighted(&[60, 28, 12]) {
         0 => number(random),
@@ -65,13 +75,14 @@ pub fn value(random: &mut Random) -> Value {
     }
 }
 
-fn number(random: &mut Random) -> Value {
-    let (coefficient, scale) = match random.weighted(&[15, 22, 22, 28, 10, 3]) {
+pub fn number(random: &mut Random) -> Value {
+    let (coefficient, scale) = match random.weighted(&[14, 20, 20, 25, 9, 9, 3]) {
         0 => (random.pick(&COEFFICIENTS), random.between(0, 16) as u32),
         1 => beside_landmark(random),
         2 => half(random),
         3 => (digits(random, 15), random.between(0, 15) as u32),
         4 => nines(random),
+        5 => between_fractions(random),
         _ => (
             random.next() as i64,
             random.pick(&[0, 15, 16, 17, 100, u32::MAX]),
@@ -122,6 +133,50 @@ fn nines(random: &mut Random) -> (i64, u32) {
     let tail = random.pick(&["", "4", "49", "5", "50", "6"]);
     let coefficient = format!("0{front}{tail}").parse().unwrap_or(0);
     (coefficient, random.between(0, 15) as u32)
+}
+
+/// A number at or beside the middle between two fractions, perhaps with a whole part.
+fn between_fractions(random: &mut Random) -> (i64, u32) {
+    let (mut coefficient, mut scale) = if random.chance(25) {
+        random.pick(&TIES)
+    } else {
+        near_middle(random)
+    };
+    while scale < 15 && random.chance(60) {
+        coefficient *= 10;
+        scale += 1;
+    }
+    let whole = digits(random, 15 - scale as usize);
+    let off = random.pick(&[0, 0, 1, -1]);
+    (whole * 10i64.pow(scale) + coefficient + off, scale)
+}
+
+/// The middle between two neighbours, cut off after some decimals.
+fn near_middle(random: &mut Random) -> (i64, u32) {
+    let (top, bottom) = if random.chance(30) {
+        let fixed = random.pick(&[1, 2, 8, 16, 100, 999]);
+        (2 * random.below(fixed) + 1, 2 * fixed)
+    } else {
+        let (low, high) = neighbours(random);
+        (low.0 * high.1 + high.0 * low.1, 2 * low.1 * high.1)
+    };
+    let scale = random.between(1, 15) as u32;
+    let middle = top as i128 * 10i128.pow(scale) / bottom as i128;
+    (middle as i64, scale)
+}
+
+/// Two fractions with none between of a denominator that one, two or three places hold.
+fn neighbours(random: &mut Random) -> ((usize, usize), (usize, usize)) {
+    let most = random.pick(&[9, 99, 999]);
+    let (mut low, mut high) = ((0, 1), (1, 1));
+    while low.1 + high.1 <= most {
+        let between = (low.0 + high.0, low.1 + high.1);
+        match random.below(2) {
+            0 => low = between,
+            _ => high = between,
+        }
+    }
+    (low, high)
 }
 
 fn instant(random: &mut Random) -> Value {

@@ -3,6 +3,7 @@
 //! Each test is made over the whole code before the next one is.
 
 use super::answer;
+use super::fraction::{self, fraction_shape, has_solidus, is_solidus};
 use super::token::{tokens, Condition, Placed, Token};
 
 const LONGEST_CODE: usize = 254;
@@ -16,6 +17,7 @@ pub enum Kind {
     Text = 3,
     DateTime = 4,
     Scientific = 5,
+    Fraction = 6,
 }
 
 /// Why a code is refused, and where.
@@ -139,6 +141,8 @@ fn kind_of(body: &[Token]) -> Option<Kind> {
         (Kind::DateTime, is_date_time(body))
     } else if has(is_exponent) {
         (Kind::Scientific, scientific_shape(body).is_some())
+    } else if has_solidus(body) {
+        (Kind::Fraction, fraction_shape(body).is_some())
     } else if has(|token| matches!(token, Token::Place(_))) {
         (Kind::Number, number_shape(body).is_some())
     } else {
@@ -148,7 +152,7 @@ fn kind_of(body: &[Token]) -> Option<Kind> {
 }
 
 /// Literals, blanks and fills, which may stand anywhere in a body.
-fn is_literal(token: &Token) -> bool {
+pub fn is_literal(token: &Token) -> bool {
     matches!(
         token,
         Token::Bare(_) | Token::Escaped(_) | Token::Quoted(_) | Token::Blank(_) | Token::Fill(_)
@@ -206,7 +210,7 @@ pub fn number_shape(body: &[Token]) -> Option<NumberShape> {
                 Comma::Grouping => shape.grouping = true,
                 Comma::Dividing => shape.dividing_commas += 1,
             },
-            Token::Bare(b'/') if is_fraction_bar(body, at) => return None,
+            Token::Bare(_) if is_solidus(body, at) => return None,
             literal if is_literal(literal) => {}
             _ => return None,
         }
@@ -244,7 +248,7 @@ pub fn scientific_shape(body: &[Token]) -> Option<ScientificShape> {
 fn exponent_places(behind: &[Token]) -> Option<usize> {
     let may = |at: usize| match &behind[at] {
         Token::Place(place) => *place != b'?',
-        Token::Bare(b'/') => !is_fraction_bar(behind, at),
+        Token::Bare(_) => !is_solidus(behind, at),
         token => is_literal(token),
     };
     let places = positions(behind, |token| matches!(token, Token::Place(_)));
@@ -272,12 +276,6 @@ fn comma(at: usize, point: usize, integer: &[usize], places: &[usize]) -> Option
     } else {
         None
     }
-}
-
-/// A solidus whose very neighbours are places would be a fraction.
-fn is_fraction_bar(body: &[Token], at: usize) -> bool {
-    let is_place = |token: Option<&Token>| matches!(token, Some(Token::Place(_)));
-    at > 0 && is_place(body.get(at - 1)) && is_place(body.get(at + 1))
 }
 
 fn is_date_time(body: &[Token]) -> bool {
@@ -369,7 +367,7 @@ fn may_stand(sections: &[Section], index: usize) -> bool {
     text_is_last && (!conditioned || condition_may) && fourth_may
 }
 
-/// Document 01, "Limits", and 02's for the exponent.
+/// Document 01, "Limits", and 02's for the exponent and for fractions.
 fn passes_a_limit(section: &Section) -> bool {
     let condition = section
         .condition
@@ -393,6 +391,9 @@ fn places_pass_a_limit(section: &Section) -> bool {
         Kind::Number => number_shape(&section.body).is_some_and(pass),
         Kind::Scientific => scientific_shape(&section.body)
             .is_some_and(|shape| pass(shape.mantissa) || shape.exponent_places > 3),
+        Kind::Fraction => {
+            fraction_shape(&section.body).is_some_and(|shape| fraction::passes_a_limit(&shape))
+        }
         _ => false,
     }
 }

@@ -1,6 +1,8 @@
 //! Rounding on written decimal digits. The reading off a code uses it; the reading of a table has its
 //! own in `figures`, so that the two check each other.
 
+use super::fraction::Denominator;
+
 /// A rounded magnitude: integer digits without leading zeros, and as many decimals as asked for.
 pub struct Decimal {
     pub integer: Vec<u8>,
@@ -29,8 +31,7 @@ pub fn rounded(coefficient: i64, scale: i32, decimals: usize) -> Decimal {
 
 /// Integer digits (at least one) and decimal digits of the exact magnitude.
 fn written(coefficient: i64, scale: i32) -> (Vec<u8>, Vec<u8>) {
-    let text = coefficient.unsigned_abs().to_string();
-    let mut digits: Vec<u8> = text.bytes().map(|b| b - b'0').collect();
+    let mut digits = spelled(coefficient.unsigned_abs());
     digits.extend(std::iter::repeat_n(0, (-scale).max(0) as usize));
     let decimals = scale.max(0) as usize;
     while digits.len() <= decimals {
@@ -38,6 +39,12 @@ fn written(coefficient: i64, scale: i32) -> (Vec<u8>, Vec<u8>) {
     }
     let fraction = digits.split_off(digits.len() - decimals);
     (digits, fraction)
+}
+
+/// The digits of a whole number, one at least.
+fn spelled(number: u64) -> Vec<u8> {
+    let text = number.to_string();
+    text.bytes().map(|byte| byte - b'0').collect()
 }
 
 /// Adds one in the last place; true if a digit was added in front.
@@ -74,6 +81,70 @@ pub fn exponent(coefficient: i64, scale: i32, places: usize, decimals: usize) ->
     let first = -(35 / step + 1);
     let mut multiples = (first..).map(|index| index * step);
     multiples.find(leaves).expect("a multiple leaves them")
+}
+
+/// A magnitude as digits of an integer part and of a fraction, each without leading zeros.
+pub struct Mixed {
+    pub integer: Vec<u8>,
+    pub numerator: Vec<u8>,
+    pub denominator: Vec<u8>,
+}
+
+impl Mixed {
+    pub fn is_zero(&self) -> bool {
+        self.integer.is_empty() && self.numerator.is_empty()
+    }
+}
+
+/// |coefficient| / 10^scale as a fraction over what `below` allows. With an integer part the fraction
+/// is only of what stands behind the point, and one that comes to 1 is carried.
+pub fn mixed(coefficient: i64, scale: u32, with_integer: bool, below: Denominator) -> Mixed {
+    let (mut integer, mut part) = written(coefficient, scale as i32);
+    if !with_integer {
+        part.splice(0..0, integer.drain(..));
+    }
+    let part = part
+        .iter()
+        .fold(0, |sum, digit| sum * 10 + u64::from(*digit));
+    let (mut numerator, denominator) = match below {
+        Denominator::Fixed(number) => {
+            let product = part * u64::from(number);
+            let top = rounded(product as i64, scale as i32, 0).integer;
+            (top, digits(u64::from(number)))
+        }
+        Denominator::Places(places) => {
+            let (top, bottom) = nearest(part, 10u64.pow(scale), 10u64.pow(places as u32) - 1);
+            (digits(top), digits(bottom))
+        }
+    };
+    if with_integer && numerator == denominator {
+        add_one(&mut integer);
+        numerator.clear();
+    }
+    Mixed {
+        integer: without_leading_zeros(&integer),
+        numerator,
+        denominator,
+    }
+}
+
+fn digits(number: u64) -> Vec<u8> {
+    without_leading_zeros(&spelled(number))
+}
+
+/// The fraction nearest to top / unit: every denominator is tried upward with its nearest numerator,
+/// and a later one is taken only where it comes strictly closer.
+fn nearest(top: u64, unit: u64, most: u64) -> (u64, u64) {
+    let numerator = |denominator: u64| (2 * top * denominator + unit) / (2 * unit);
+    // How far off the fraction is, times unit and the denominator.
+    let miss = |denominator: u64| (top * denominator).abs_diff(numerator(denominator) * unit);
+    let mut best = 1;
+    for denominator in 2..=most {
+        if miss(denominator) * best < miss(best) * denominator {
+            best = denominator;
+        }
+    }
+    (numerator(best), best)
 }
 
 /// General's text for the magnitude without its sign, or none where it reaches 10^11.

@@ -1,5 +1,9 @@
 //! Document 01, "Figures": the rounded number as digits by value, 25 before the point and 15 after.
 
+use std::cmp::Ordering;
+
+use super::fraction::Denominator;
+
 const DECIMALS: u32 = 15;
 
 /// A rounded magnitude: its whole part, and its fraction in units of 10^-15.
@@ -47,7 +51,45 @@ pub fn exponent(coefficient: i64, scale: u32, places: i32, decimals: u32) -> i32
     exponent
 }
 
+/// Numerator and denominator for part / unit, which is below 1: over a fixed number the nearest
+/// numerator, halves up, else the fraction that is found between mediants.
+pub fn fraction(part: i128, unit: i128, below: Denominator) -> (i128, i128) {
+    match below {
+        Denominator::Fixed(number) => {
+            let number = i128::from(number);
+            ((2 * part * number + unit) / (2 * unit), number)
+        }
+        Denominator::Places(places) => nearest(part, unit, 10i128.pow(places as u32) - 1),
+    }
+}
+
+/// The nearest fraction of a denominator up to `most`, the smaller one of two: mediants narrow the
+/// span from 0/1 to 1/1 as long as their denominators are allowed, and one end of what is left is it.
+fn nearest(part: i128, unit: i128, most: i128) -> (i128, i128) {
+    let (mut low, mut high) = ((0, 1), (1, 1));
+    while low.1 + high.1 <= most {
+        let between = (low.0 + high.0, low.1 + high.1);
+        match (part * between.1).cmp(&(between.0 * unit)) {
+            Ordering::Less => high = between,
+            Ordering::Greater => low = between,
+            Ordering::Equal => return between,
+        }
+    }
+    let above_low = (part * low.1 - low.0 * unit) * high.1;
+    let under_high = (high.0 * unit - part * high.1) * low.1;
+    match above_low.cmp(&under_high) {
+        Ordering::Less => low,
+        Ordering::Greater => high,
+        Ordering::Equal if low.1 < high.1 => low,
+        Ordering::Equal => high,
+    }
+}
+
 impl Figures {
+    pub fn of_whole(whole: i128) -> Figures {
+        Figures { whole, fraction: 0 }
+    }
+
     pub fn is_zero(&self) -> bool {
         self.whole == 0 && self.fraction == 0
     }

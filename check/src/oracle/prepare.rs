@@ -3,8 +3,9 @@
 use super::answer;
 use super::code::{
     means_minutes, number_shape, part_of_second, scientific_shape, sections,
-    takes_negatives_by_fallback, Kind, Section,
+    takes_negatives_by_fallback, Kind, NumberShape, Section,
 };
+use super::fraction::{fraction_shape, is_solidus, Denominator};
 use super::table::{item, words, Entry, Item, GROUPING, NO_MINUS, TWELVE_HOUR};
 use super::token::{Condition, Token};
 
@@ -103,26 +104,27 @@ fn items(section: &Section) -> Vec<Item> {
     let last_fill = body.iter().rposition(|t| matches!(t, Token::Fill(_)));
     let mut items = Vec::new();
     let mut put = |number, operand| items.push(Item { number, operand });
-    let mut power = first_power(section);
+    let mut powers = powers(section).into_iter();
     for (at, token) in body.iter().enumerate() {
         match token {
+            Token::Bare(_) if is_solidus(body, at) => put(item::SOLIDUS, 0),
             Token::Bare(byte) => put(item::LITERAL, u16::from(*byte)),
             Token::Escaped(unit) => put(item::LITERAL, *unit),
             Token::Quoted(units) => units.iter().for_each(|unit| put(item::LITERAL, *unit)),
             Token::Blank(unit) => put(item::BLANK, *unit),
             Token::Fill(unit) if last_fill == Some(at) => put(item::FILL, *unit),
-            Token::Place(place) if has_powers(section.kind) => {
-                power -= 1;
-                put(place_number(*place), (power + 16) as u16);
+            Token::Place(place) => {
+                // The zeros of a part of a second have no powers and are no items.
+                if let Some(power) = powers.next() {
+                    put(place_number(*place), (power + 16) as u16);
+                }
             }
-            Token::Exponent { plus } => {
-                power = exponent_power(section);
-                put(exponent_number(*plus), 0);
-            }
+            Token::DigitRun(digits) => put(item::FIXED, value_of(digits) as u16),
+            Token::Exponent { plus } => put(exponent_number(*plus), 0),
             Token::Percent => put(item::PERCENT, 0),
             Token::General => put(item::GENERAL, 0),
             Token::At => put(item::AT, 0),
-            Token::Point if has_powers(section.kind) => put(item::POINT, 0),
+            Token::Point if section.kind != Kind::DateTime => put(item::POINT, 0),
             Token::Point => match part_of_second(body, at) {
                 0 => put(item::LITERAL, u16::from(b'.')),
                 zeros => put(item::PART_OF_SECOND, zeros as u16),
@@ -131,31 +133,38 @@ fn items(section: &Section) -> Vec<Item> {
             Token::Run { length, .. } => put(run_number(body, at), *length as u16),
             Token::Elapsed { letter, length } => put(elapsed_number(*letter), *length as u16),
             Token::HalfDay { long } => put(item::HALF_DAY, 1 + u16::from(*long)),
-            // An earlier fill, a number's comma and the zeros of a part of a second are no items.
+            // An earlier fill and a number's comma are no items.
             _ => {}
         }
     }
     items
 }
 
-/// Kinds whose places stand for powers of ten.
-fn has_powers(kind: Kind) -> bool {
-    matches!(kind, Kind::Number | Kind::Scientific)
-}
-
-/// One above the power of the first place.
-fn first_power(section: &Section) -> i32 {
-    let shape = match section.kind {
-        Kind::Number => number_shape(&section.body),
-        Kind::Scientific => scientific_shape(&section.body).map(|shape| shape.mantissa),
-        _ => None,
+/// The powers of ten that the body's places stand for, one after another.
+fn powers(section: &Section) -> Vec<i32> {
+    let body = &section.body;
+    let around_point = |shape: NumberShape| {
+        let lowest = -(shape.decimal_places as i32);
+        (lowest..shape.integer_places as i32).rev()
     };
-    shape.map_or(0, |shape| shape.integer_places as i32)
-}
-
-/// One above the power of the first exponent place.
-fn exponent_power(section: &Section) -> i32 {
-    scientific_shape(&section.body).map_or(0, |shape| shape.exponent_places as i32)
+    let down = |places: usize| (0..places as i32).rev();
+    match section.kind {
+        Kind::Number => number_shape(body).map(|shape| around_point(shape).collect()),
+        Kind::Scientific => scientific_shape(body).map(|shape| {
+            let mantissa = around_point(shape.mantissa);
+            mantissa.chain(down(shape.exponent_places)).collect()
+        }),
+        Kind::Fraction => fraction_shape(body).map(|shape| {
+            let below = match shape.denominator {
+                Denominator::Places(places) => places,
+                Denominator::Fixed(_) => 0,
+            };
+            let above = down(shape.integer_places).chain(down(shape.numerator_places));
+            above.chain(down(below)).collect()
+        }),
+        _ => None,
+    }
+    .unwrap_or_default()
 }
 
 fn exponent_number(plus: bool) -> u16 {

@@ -8,7 +8,8 @@ use super::code::{
     takes_negatives_by_fallback, Kind, NumberShape, Section,
 };
 use super::days;
-use super::decimal::{exponent, general, rounded, Decimal};
+use super::decimal::{exponent, general, mixed, rounded, Decimal};
+use super::fraction::fraction_shape;
 use super::token::{Condition, Operator, Token};
 use super::value::{Reading, Value};
 
@@ -63,6 +64,9 @@ fn value_reading(sections: &[Section], value: &Value) -> Result<Reading, u16> {
         }
         (Kind::Scientific, Value::Number { coefficient, scale }) => {
             scientific_figure(section, *coefficient, *scale)
+        }
+        (Kind::Fraction, Value::Number { coefficient, scale }) => {
+            fraction_figure(section, *coefficient, *scale)
         }
         (Kind::General | Kind::Text, Value::Number { coefficient, scale }) => {
             general_figure(section, *coefficient, *scale)?
@@ -282,6 +286,56 @@ fn scientific_figure(section: &Section, coefficient: i64, scale: u32) -> Figure 
         text,
         rounds_to_zero: number.is_zero(),
     }
+}
+
+/// The places of the integer part, the numerator and the denominator have a piece each. Beside an
+/// integer part a fraction of zero is blank.
+fn fraction_figure(section: &Section, coefficient: i64, scale: u32) -> Figure {
+    let body = &section.body;
+    let shape = fraction_shape(body).expect("a fraction section has its shape");
+    let with_integer = shape.integer_places > 0;
+    let number = mixed(coefficient, scale, with_integer, shape.denominator);
+    let blank = with_integer && number.numerator.is_empty();
+    let start = shape.solidus - shape.numerator_places;
+    let plain = NumberShape::default();
+    let mut pieces = integer_pieces(&body[..start], &number.integer, &plain);
+    let numerator = &body[start..shape.solidus];
+    pieces.extend(integer_pieces(numerator, &number.numerator, &plain));
+    pieces.extend(denominator_pieces(
+        &body[shape.solidus..],
+        &number.denominator,
+    ));
+    let mut pieces = pieces.iter();
+    let mut text = Vec::new();
+    for (at, token) in body.iter().enumerate() {
+        match token {
+            Token::Place(_) => {
+                let piece = pieces.next().expect("a piece for each place");
+                put(&mut text, if blank && at >= start { " " } else { piece });
+            }
+            Token::DigitRun(digits) if blank => put(&mut text, &" ".repeat(digits.len())),
+            Token::DigitRun(digits) => text.extend(digits.iter().map(|digit| u16::from(*digit))),
+            Token::Bare(_) if blank && at == shape.solidus => put(&mut text, " "),
+            other => put_literal(&mut text, other),
+        }
+    }
+    Figure {
+        text,
+        rounds_to_zero: number.is_zero(),
+    }
+}
+
+/// The first place takes all: zeros for the spare `0`, the digits, spaces for the spare `?`.
+fn denominator_pieces(behind: &[Token], digits: &[u8]) -> Vec<String> {
+    let places = place_tokens(behind).0;
+    let mut pieces = vec![String::new(); places.len()];
+    if let Some(first) = pieces.first_mut() {
+        let spare = &places[..places.len() - digits.len()];
+        first.extend(spare.iter().filter(|place| **place == b'0').map(|_| '0'));
+        first.extend(digits.iter().map(|digit| char::from(digit + b'0')));
+        first.extend(spare.iter().filter(|place| **place == b'?').map(|_| ' '));
+    }
+    pieces
 }
 
 fn place_tokens(body: &[Token]) -> (Vec<u8>, Vec<u8>) {

@@ -11,6 +11,7 @@ const NUMBER: u16 = Kind::Number as u16;
 const TEXT: u16 = Kind::Text as u16;
 const DATE_TIME: u16 = Kind::DateTime as u16;
 const SCIENTIFIC: u16 = Kind::Scientific as u16;
+const FRACTION: u16 = Kind::Fraction as u16;
 
 /// True when the words break no table rule.
 pub fn check_table(words: &[u16]) -> bool {
@@ -28,7 +29,7 @@ pub fn check_table(words: &[u16]) -> bool {
 
 /// Every word in its range that needs no look at another section or item.
 fn ranges(entry: &Entry) -> bool {
-    entry.kind <= SCIENTIFIC
+    entry.kind <= FRACTION
         && entry.colour <= 56
         && condition_ranges(entry)
         && entry.flags <= GROUPING + NO_MINUS + TWELVE_HOUR
@@ -52,7 +53,8 @@ fn operand_range(one: Item) -> bool {
         // Powers are followed place by place below.
         item::ZERO_PLACE | item::HASH_PLACE | item::QUERY_PLACE => true,
         item::POINT | item::PERCENT | item::GENERAL | item::AT => one.operand == 0,
-        item::EXPONENT_PLUS | item::EXPONENT_MINUS => one.operand == 0,
+        item::EXPONENT_PLUS | item::EXPONENT_MINUS | item::SOLIDUS => one.operand == 0,
+        item::FIXED => run(1, 999),
         item::YEAR => one.operand == 2 || one.operand == 4,
         item::MONTH => run(1, 5),
         item::DAY => run(1, 4),
@@ -99,6 +101,10 @@ fn items_fit_kind(entry: &Entry) -> bool {
             only(&|n| is_place(n) || n == item::POINT || item::is_exponent(n))
                 && scientific_items(entry)
         }
+        FRACTION => {
+            only(&|n| is_place(n) || n == item::SOLIDUS || n == item::FIXED)
+                && fraction_items(entry)
+        }
         DATE_TIME => {
             only(&|n| is_date_item(n) || n == item::PART_OF_SECOND || n == item::HALF_DAY)
                 && date_items(entry)
@@ -138,6 +144,52 @@ fn around_exponent(entry: &Entry) -> (&[Item], &[Item]) {
         Some(at) => (&entry.items[..at], &entry.items[at + 1..]),
         None => (&entry.items, &[]),
     }
+}
+
+/// Items around the one solidus: those before the numerator, the run of places that is the numerator,
+/// the fixed number or run of places behind it, and the rest.
+pub fn fraction_parts(items: &[Item]) -> Option<[&[Item]; 4]> {
+    let mut parts = items.split(|one| one.number == item::SOLIDUS);
+    let (Some(before), Some(behind), None) = (parts.next(), parts.next(), parts.next()) else {
+        return None;
+    };
+    let no_place = |one: &Item| !one.is_place();
+    let numerator = before.iter().rposition(no_place).map_or(0, |at| at + 1);
+    let denominator_end = match behind.first() {
+        Some(one) if one.number == item::FIXED => 1,
+        _ => behind.iter().position(no_place).unwrap_or(behind.len()),
+    };
+    let (front, numerator) = before.split_at(numerator);
+    let (denominator, rest) = behind.split_at(denominator_end);
+    Some([front, numerator, denominator, rest])
+}
+
+/// The three runs in their limits down to power 0, no place or fixed number elsewhere, and a literal
+/// between integer places and the numerator.
+fn fraction_items(entry: &Entry) -> bool {
+    let Some([front, numerator, denominator, rest]) = fraction_parts(&entry.items) else {
+        return false;
+    };
+    places_in(front) <= 20
+        && (1..=20).contains(&numerator.len())
+        && (1..=3).contains(&denominator.len())
+        && [front, numerator, denominator]
+            .into_iter()
+            .all(powers_run_down)
+        && places_in(rest) == 0
+        && !front
+            .iter()
+            .chain(rest)
+            .any(|one| one.number == item::FIXED)
+        && literal_behind_places(front)
+}
+
+fn literal_behind_places(front: &[Item]) -> bool {
+    let last = front.iter().rposition(|one| one.is_place());
+    last.is_none_or(|last| {
+        let mut behind = front[last..].iter();
+        behind.any(|one| one.number == item::LITERAL)
+    })
 }
 
 fn places_around_point(items: &[Item]) -> bool {

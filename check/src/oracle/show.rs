@@ -5,8 +5,9 @@ use std::cmp::Ordering;
 use super::answer;
 use super::code::Kind;
 use super::days;
-use super::figures::{exponent, general, rounded, Figures};
-use super::rules::{check_table, counted};
+use super::figures::{exponent, fraction, general, rounded, Figures};
+use super::fraction::Denominator;
+use super::rules::{check_table, counted, fraction_parts};
 use super::table::{entries, item, Entry, Item, GROUPING, NO_MINUS, TWELVE_HOUR};
 use super::value::{Reading, Value};
 
@@ -16,6 +17,7 @@ const NUMBER: u16 = Kind::Number as u16;
 const TEXT: u16 = Kind::Text as u16;
 const DATE_TIME: u16 = Kind::DateTime as u16;
 const SCIENTIFIC: u16 = Kind::Scientific as u16;
+const FRACTION: u16 = Kind::Fraction as u16;
 
 /// Shows a value through the words lent as a table, in a room of that length.
 pub fn show(table: &[u16], value: &Value, room_length: usize) -> Result<Reading, u16> {
@@ -87,6 +89,7 @@ fn show_number(entries: &[Entry], coefficient: i64, scale: u32) -> Result<Readin
         LITERAL => (spelled(&entry.items, |_| vec![]), false),
         NUMBER => number_text(entry, coefficient, scale),
         SCIENTIFIC => scientific_text(entry, coefficient, scale),
+        FRACTION => fraction_text(entry, coefficient, scale),
         GENERAL | TEXT => {
             let (text, zero) = general(coefficient, scale).ok_or(answer::GENERAL)?;
             (spelled(&entry.items, |_| units(&text)), zero)
@@ -203,6 +206,51 @@ fn scientific_text(entry: &Entry, coefficient: i64, scale: u32) -> (Vec<u16>, bo
         figures_text(behind, &size, false),
     ];
     (text.concat(), figures.is_zero())
+}
+
+/// A fraction section's text without a minus, and whether integer part and numerator are both zero.
+fn fraction_text(entry: &Entry, coefficient: i64, scale: u32) -> (Vec<u16>, bool) {
+    let [front, above, below, rest] =
+        fraction_parts(&entry.items).expect("a table that passes has a fraction's parts");
+    let (denominator, width) = match below[0].number {
+        item::FIXED => (
+            Denominator::Fixed(below[0].operand),
+            below[0].operand.to_string().len(),
+        ),
+        _ => (Denominator::Places(below.len()), below.len()),
+    };
+    let magnitude = i128::from(coefficient.unsigned_abs());
+    let unit = 10i128.pow(scale);
+    let (part, over) = fraction(magnitude % unit, unit, denominator);
+    let whole = magnitude / unit;
+    let beside = front.iter().any(|one| one.is_place());
+    let (integer, numerator) = if beside {
+        (whole + part / over, part % over)
+    } else {
+        (0, whole * over + part)
+    };
+    let middle = if beside && numerator == 0 {
+        units(&" ".repeat(above.len() + 1 + width))
+    } else {
+        let top = figures_text(above, &Figures::of_whole(numerator), false);
+        [top, units("/"), units(&denominator_text(below, over))].concat()
+    };
+    let text = [
+        figures_text(front, &Figures::of_whole(integer), false),
+        middle,
+        spelled(rest, |_| vec![]),
+    ];
+    (text.concat(), integer == 0 && numerator == 0)
+}
+
+/// Each spare place gives a 0 in front, a space behind or nothing.
+fn denominator_text(places: &[Item], number: i128) -> String {
+    let digits = number.to_string();
+    let spare = &places[..places.len().saturating_sub(digits.len())];
+    let times = |mark: u16| spare.iter().filter(|one| one.number == mark).count();
+    let zeros = "0".repeat(times(item::ZERO_PLACE));
+    let spaces = " ".repeat(times(item::QUERY_PLACE));
+    zeros + &digits + &spaces
 }
 
 /// The power of the first place.

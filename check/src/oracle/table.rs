@@ -31,6 +31,8 @@ pub mod item {
     pub const HALF_DAY: u16 = 21;
     pub const EXPONENT_PLUS: u16 = 22;
     pub const EXPONENT_MINUS: u16 = 23;
+    pub const SOLIDUS: u16 = 24;
+    pub const FIXED: u16 = 25;
 
     pub fn is_exponent(number: u16) -> bool {
         matches!(number, EXPONENT_PLUS | EXPONENT_MINUS)

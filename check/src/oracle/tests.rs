@@ -1,3 +1,5 @@
+mod fractions;
+
 use super::{answer, check_table, prepare, read, section, show, units, Value};
 
 const ROOM: usize = 4096;

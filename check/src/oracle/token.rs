@@ -1,5 +1,5 @@
-//! Document 01, "Tokens", with 02's `E+` and `E-`: a code's units read left to right, the longest
-//! token first.
+//! Document 01, "Tokens", with 02's `E+`, `E-` and digit runs: a code's units read left to right, the
+//! longest token first.
 
 /// Literals that need no quotes.
 const BARE_LITERALS: &[u8] = b"$-+/():!^&'~{}<>= ";
@@ -46,6 +46,8 @@ pub enum Token {
     Blank(u16),
     Fill(u16),
     Place(u8),
+    /// The digits of a fixed denominator.
+    DigitRun(Vec<u8>),
     Point,
     Comma,
     Percent,
@@ -84,11 +86,27 @@ pub fn tokens(code: &[u16]) -> Result<Vec<Placed>, usize> {
     let mut found = Vec::new();
     let mut at = 0;
     while at < code.len() {
-        let (token, length) = first_token(&code[at..]).ok_or(at)?;
+        let rest = &code[at..];
+        let (token, length) = digit_run(&found, rest)
+            .or_else(|| first_token(rest))
+            .ok_or(at)?;
         found.push(Placed { token, at });
         at += length;
     }
     Ok(found)
+}
+
+/// Digits that begin with 1 to 9, directly behind a solidus that directly follows a place.
+fn digit_run(before: &[Placed], rest: &[u16]) -> Option<(Token, usize)> {
+    let [.., place, solidus] = before else {
+        return None;
+    };
+    let may = matches!(place.token, Token::Place(_)) && solidus.token == Token::Bare(b'/');
+    let bytes = rest.iter().map(|unit| byte(*unit));
+    let digits: Vec<u8> = bytes.take_while(u8::is_ascii_digit).collect();
+    let length = digits.len();
+    let starts = digits.first().is_some_and(|digit| *digit != b'0');
+    (may && starts).then_some((Token::DigitRun(digits), length))
 }
 
 /// The byte of an ASCII unit; any other unit becomes a byte that starts no token.
