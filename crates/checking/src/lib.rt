@@ -11,8 +11,15 @@ ghost use Rattle.tables.specs.Standing.{countedOne, countedKinds};
 ghost use Rattle.tables.specs.Decode.{thousandsAt};
 ghost use Rattle.tables.specs.Rules.{shiftTells, passes};
 ghost use Rattle.table_words.specs.Sections.{headFrom};
-ghost use Rattle.tallies.specs.FractionRows.{fractionItems};
+ghost use Rattle.rows.specs.FractionRows.{fractionItems};
 ghost use Rattle.checking.specs.Checking.{agree, sized, Sized, comparedTold, conditionTold, numberTold, scientificTold, otherTold, cutTold, rowWith, rowGood, comparedStands, plainFits, placeFits, kindsIn, placesFit};
+use rows::bare_rows::bare_fits;
+use rows::date_rows::dated_row;
+use rows::fraction_rows::fraction_row;
+use rows::number_rows::NumberRow;
+use rows::number_rows::number_row;
+use rows::scientific_rows::ScientificRow;
+use rows::scientific_rows::scientific_row;
 use table_words::HeadWords;
 use table_words::head_at;
 use table_words::number;
@@ -20,13 +27,6 @@ use table_words::section_count;
 use tables::flags;
 use tables::heads;
 use tables::kinds;
-use tallies::bare_rows::bare_fits;
-use tallies::date_rows::dated_row;
-use tallies::fraction_rows::fraction_row;
-use tallies::number_rows::NumberRow;
-use tallies::number_rows::number_row;
-use tallies::scientific_rows::ScientificRow;
-use tallies::scientific_rows::scientific_row;
 
 fn agree(a: bool, b: bool) -> bool
     ensures { λ r. ⌜ r ≡ agree a b ⌝ }

@@ -1,12 +1,4 @@
-// What the rules ask of a section's items: counts for preparing, a walk for each sort of section for the table check.
-pub mod bare_rows;
-pub mod date_rows;
-mod earlier_runs;
-pub mod fraction_rows;
-pub mod number_rows;
-mod scans;
-pub mod scientific_rows;
-
+// What the rules ask of a section's items, told by counts: one pass over their words, and the rules as tests on the counts.
 ghost use mathlib.Core.Path.{_≡_};
 ghost use Prim.Native.Nat.{_≤_, _<_};
 ghost use lib.ListN.{length};

@@ -1,0 +1,11 @@
+pub mod Scanned
+pub mod Runs
+pub mod DateSteps
+pub mod DateRows
+pub mod NumberRows
+pub mod Parts
+pub mod BareRows
+pub mod ScientificRows
+pub mod FractionLoops
+pub mod FractionParts
+pub mod FractionRows
