@@ -118,13 +118,16 @@ typedef struct {
 /*
  * What showing returns. The colour is 0 for none, 1 to 8 for black, white, red,
  * green, blue, yellow, magenta and cyan, or up to 56 for a colour by number.
- * The section is 0 to 3, or 4 when a text is shown by no section.
+ * The section is 0 to 3, or 4 when a text is shown by no section. `exact` is 1
+ * where the text tells the value exactly, sign aside, and 0 where it is rounded
+ * or cut.
  */
 typedef struct {
     uint16_t answer;
     uint32_t length;
     uint16_t colour;
     uint16_t section;
+    uint16_t exact;
 } numfmt_shown;
 
 /* A part of a code: `length` units from unit `start` on. */

@@ -28,12 +28,13 @@ pub struct Prepared {
     pub words: u32,
 }
 
-// What showing returns. On a refusal every number but the answer is 0.
+// What showing returns, and whether what is shown is exact. On a refusal every number but the answer is 0, and nothing is exact.
 pub struct Shown {
     pub answer: Answer,
     pub length: u32,
     pub colour: u16,
     pub section: u16,
+    pub exact: bool,
 }
 
 // What preparing returns where it has made a table of so many words.
@@ -59,14 +60,15 @@ pub fn refused_prepared(answer: Answer, place: u32) -> Prepared
 }
 
 // What showing returns where a text of this length is shown.
-pub fn done_shown(length: u32, colour: u16, section: u16) -> Shown
-    ensures { λ r. ⌜ r ≡ doneShown length colour section ⌝ }
+pub fn done_shown(length: u32, colour: u16, section: u16, exact: bool) -> Shown
+    ensures { λ r. ⌜ r ≡ doneShown length colour section exact ⌝ }
 {
     Shown {
         answer: Answer::Done,
         length,
         colour,
         section,
+        exact,
     }
 }
 
@@ -79,6 +81,7 @@ pub fn refused_shown(answer: Answer) -> Shown
         length: 0,
         colour: 0,
         section: 0,
+        exact: false,
     }
 }
 

@@ -12,11 +12,20 @@ use Rattle.values.specs.Ranges.{between}
 use Rattle.calendar.specs.Date.{Date, dateOf}
 use Rattle.calendar.specs.Clock.{clockOf, sinceDayZero}
 use Rattle.formats.specs.Text.{Context}
+use Rattle.formats.specs.Reading.{itemSpan, finestSpan}
 use Rattle.tables.specs.Words.{Entry}
+use Rattle.tables.specs.Decode.{itemAt, itemsAt}
 
 -- the entry is that of a year, a month or a day
 abbrev pub datedEntry : Entry → Bool
 datedEntry e = between 11 13 (e .tag)
+
+-- the unit that the entry's item shows cuts nothing of a millisecond, and the finest unit that items show cuts nothing of it (R138)
+abbrev pub wholeEntry : ℕ → Entry → Bool
+wholeEntry m e = eqb (m % itemSpan (itemAt e)) 0
+
+abbrev pub wholeFor : ℕ → List Entry → Bool
+wholeFor m es = eqb (m % finestSpan (itemsAt es)) 0
 
 -- the date of a day where it is shown, else noughts
 abbrev pub dateShown : Bool → ℕ → Date

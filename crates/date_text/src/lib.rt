@@ -9,10 +9,12 @@ use writing::put_unit;
 use writing::units;
 ghost use mathlib.Core.Path.{_≡_};
 ghost use mathlib.Core.Bool.{true, false, cond, _||_};
-ghost use Prim.Native.Nat.{ℕ, _-_, _/_, _<_, _^_};
+ghost use Prim.Native.Nat.{ℕ, _-_, _/_, _%_, _<_, _^_};
+ghost use lib.Dec.{eqb};
 ghost use Rattle.figures.specs.Digits.{numeral};
 ghost use Rattle.formats.specs.Items.{isCut, isFixed};
 ghost use Rattle.formats.specs.Text.{Context, yearUnits, hourShown, partUnits, halfUnits, itemUnits};
+ghost use Rattle.formats.specs.Reading.{daySpan};
 ghost use Rattle.lists.specs.Lists.{any};
 ghost use Rattle.calendar.specs.Clock.{afternoon};
 ghost use Rattle.calendar.specs.Made.{madeDate};
@@ -22,7 +24,7 @@ ghost use Rattle.tables.specs.Encode.{entry};
 ghost use Rattle.tables.specs.Decode.{halfAt, itemAt};
 ghost use Rattle.writing.specs.Put.{Put};
 ghost use Rattle.date_text.specs.Letters.{packed, lettersUpTo, mostLetters};
-ghost use Rattle.date_text.specs.Moment.{datedEntry, dateShown, momentOf, isNamed, DateIs, ClockIs};
+ghost use Rattle.date_text.specs.Moment.{datedEntry, wholeEntry, wholeFor, dateShown, momentOf, isNamed, DateIs, ClockIs};
 
 // At least how many digits an item shows, and the number that they show.
 struct Numeral(u32, u64);
@@ -47,6 +49,94 @@ pub fn shows_date(items: &[u16]) -> bool
         k += 1;
     }
     false
+}
+
+// Whether a part of a second of n digits cuts nothing of a millisecond.
+fn part_is_whole(n: u16, m: u32) -> bool
+    ensures { λ r. ⌜ r ≡ eqb (m % 10 ^ (3 - n)) 0 ⌝ }
+{
+    match n {
+        0 => m % 1000 == 0,
+        1 => m % 100 == 0,
+        2 => m % 10 == 0,
+        _ => true,
+    }
+}
+
+// Whether an item cuts nothing of a millisecond that is within a second: none but a part of a second does.
+fn is_fine(tag: u16, argument: u16, m: u32) -> bool
+    requires { ⌜ ¬ (m % 1000 ≡ 0) ⌝ }
+    ensures { λ r. ⌜ r ≡ wholeEntry m (entry tag argument) ⌝ }
+{
+    if tag == tags::PART {
+        return part_is_whole(argument, m);
+    }
+    false
+}
+
+// Whether one of the items cuts nothing of a millisecond that is within a second.
+fn shows_part(items: &[u16], m: u32) -> bool
+    requires { ⌜ ¬ (m % 1000 ≡ 0) ⌝ }
+    ensures { λ r. ⌜ r ≡ wholeFor m (entriesIn (now (items .entry))) ⌝ }
+{
+    let n = items.len() / 2;
+    let mut k: usize = 0;
+    while k < n {
+        let i = 2 * k;
+        let j = i + 1;
+        if is_fine(items[i], items[j], m) {
+            return true;
+        }
+        k += 1;
+    }
+    false
+}
+
+// Whether the unit of an item with this tag cuts nothing of whole seconds, which are no whole days.
+fn is_whole(tag: u16, m: u32) -> bool
+    requires { ⌜ (m % 1000 ≡ 0) × (¬ (m % daySpan ≡ 0)) ⌝ }
+    ensures { λ r. ⌜ ((a : ℕ) → r ≡ wholeEntry m (entry tag a)) ⌝ }
+{
+    match tag {
+        tags::HOUR => m % 3600000 == 0,
+        tags::MINUTE => m % 60000 == 0,
+        tags::SECOND => true,
+        tags::PART => true,
+        tags::ELAPSED_HOURS => m % 3600000 == 0,
+        tags::ELAPSED_MINUTES => m % 60000 == 0,
+        tags::ELAPSED_SECONDS => true,
+        _ => false,
+    }
+}
+
+// Whether one of the items cuts nothing of whole seconds, which are no whole days.
+fn shows_unit(items: &[u16], m: u32) -> bool
+    requires { ⌜ (m % 1000 ≡ 0) × (¬ (m % daySpan ≡ 0)) ⌝ }
+    ensures { λ r. ⌜ r ≡ wholeFor m (entriesIn (now (items .entry))) ⌝ }
+{
+    let n = items.len() / 2;
+    let mut k: usize = 0;
+    while k < n {
+        if is_whole(items[2 * k], m) {
+            return true;
+        }
+        k += 1;
+    }
+    false
+}
+
+// Whether items cut nothing of a millisecond of the day: of units that are multiples of one another one is enough that cuts nothing.
+// (Parts of a second have a way of their own: most milliseconds are within a second, and few sections show parts.)
+pub fn cuts_nothing(items: &[u16], m: Millisecond) -> bool
+    ensures { λ r. ⌜ r ≡ wholeFor (m .0) (entriesIn (now (items .entry))) ⌝ }
+{
+    if m.0 % 1000 != 0 {
+        return shows_part(items, m.0);
+    }
+    if m.0 % 86400000 == 0 {
+        return true;
+    }
+    shows_unit(items, m.0)
 }
 
 // The date of a day where it is shown. Where it is not the calendar is not asked.

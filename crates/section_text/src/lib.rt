@@ -186,6 +186,7 @@ fn write_items(
     digits: &[u8; 40],
     s: Subject,
     text: &[u16],
+    exact: bool,
     colour: u16,
     section: u16,
 ) -> Shown
@@ -193,10 +194,10 @@ fn write_items(
         × Ready (λ k. SubjectIs k (now digits) s (now text)) (now items) ⌝ }
     ensures { λ r. ⌜ OfText (λ k. SubjectIs k (now (digits .entry)) s (now (text .entry))) (now (items .entry))
         (λ us. length (signText minus ++ us) ≤ length (now (room .entry))
-        → Shows (within (length (now (room .entry))) (lookOf (signText minus ++ us) colour section)) (now (room .entry)) r (now (room .exit))) ⌝ }
+        → Shows (within (length (now (room .entry))) (lookOf (signText minus ++ us) colour section exact)) (now (room .entry)) r (now (room .exit))) ⌝ }
 {
     let n = put_text(room, minus, items, digits, s, text);
-    done_shown(n as u32, colour, section)
+    done_shown(n as u32, colour, section, exact)
 }
 
 // Shows a section's text where the room takes it. Only where it may not is the text measured.
@@ -207,21 +208,22 @@ fn show_items(
     digits: &[u8; 40],
     s: Subject,
     text: &[u16],
+    exact: bool,
     colour: u16,
     section: u16,
 ) -> Shown
     requires { ⌜ (s .figures .used ≤ 40) × (s .lent ≡ true → length (now text) ≤ 1024) × (length (now items) ≤ 508)
         × Ready (λ k. SubjectIs k (now digits) s (now text)) (now items) ⌝ }
     ensures { λ r. ⌜ OfText (λ k. SubjectIs k (now (digits .entry)) s (now (text .entry))) (now (items .entry))
-        (λ us. Shows (within (length (now (room .entry))) (lookOf (signText minus ++ us) colour section)) (now (room .entry)) r (now (room .exit))) ⌝ }
+        (λ us. Shows (within (length (now (room .entry))) (lookOf (signText minus ++ us) colour section exact)) (now (room .entry)) r (now (room .exit))) ⌝ }
 {
     if is_roomy(room.len(), items.len(), s.lent) {
-        return write_items(room, minus, items, digits, s, text, colour, section);
+        return write_items(room, minus, items, digits, s, text, exact, colour, section);
     }
     if room.len() < length_of(minus, items, digits, s, text) {
         return refused_shown(Answer::TextRoom);
     }
-    write_items(room, minus, items, digits, s, text, colour, section)
+    write_items(room, minus, items, digits, s, text, exact, colour, section)
 }
 
 // Puts the text of a date-time section's item. (Its walker is one of its own: in the other it would slow down numbers.)
@@ -274,16 +276,17 @@ fn show_dated_items(
     room: &mut [u16],
     items: &[u16],
     m: &[u64; 7],
+    exact: bool,
     colour: u16,
     section: u16,
 ) -> Shown
     requires { ⌜ (length (now items) ≤ 508) × Ready (DatedIs (now m) (any datedEntry (entriesIn (now items)))) (now items) ⌝ }
     ensures { λ r. ⌜ OfText (DatedIs (now (m .entry)) (any datedEntry (entriesIn (now (items .entry))))) (now (items .entry))
-        (λ us. Shows (within (length (now (room .entry))) (lookOf us colour section)) (now (room .entry)) r (now (room .exit))) ⌝ }
+        (λ us. Shows (within (length (now (room .entry))) (lookOf us colour section exact)) (now (room .entry)) r (now (room .exit))) ⌝ }
 {
     if takes_dated(room.len(), items, m) {
         let end = put_dated_items(room, items, m);
-        return done_shown(end as u32, colour, section);
+        return done_shown(end as u32, colour, section, exact);
     }
     refused_shown(Answer::TextRoom)
 }
@@ -471,21 +474,22 @@ fn show_scientific_items(
     digits: &[u8; 40],
     s: Subject,
     p: Power,
+    exact: bool,
     colour: u16,
     section: u16,
 ) -> Shown
     requires { ⌜ ScientificReady (now digits) s p (now before) (now from) ⌝ }
     ensures { λ r. ⌜ OfScientific (now (digits .entry)) s p (now (before .entry)) (now (from .entry))
-        (λ us. Shows (within (length (now (room .entry))) (lookOf (signText minus ++ us) colour section)) (now (room .entry)) r (now (room .exit))) ⌝ }
+        (λ us. Shows (within (length (now (room .entry))) (lookOf (signText minus ++ us) colour section exact)) (now (room .entry)) r (now (room .exit))) ⌝ }
 {
     if takes_scientific(room.len(), minus, before, from, digits, s, p) {
         let n = put_scientific(room, minus, before, from, digits, s, p);
-        return done_shown(n as u32, colour, section);
+        return done_shown(n as u32, colour, section, exact);
     }
     refused_shown(Answer::TextRoom)
 }
 
-// Shows section i, which is a scientific section: the digits and the subject are those of the mantissa.
+// Shows section i, which is a scientific section: the digits and the subject are those of the mantissa, exact or not.
 pub fn show_scientific_section(
     room: &mut [u16],
     table: &[u16],
@@ -495,13 +499,14 @@ pub fn show_scientific_section(
     s: Subject,
     exponent: u32,
     below: bool,
+    exact: bool,
 ) -> Shown
     requires { ⌜ T (passes (now table)) × (i < getD (now table) 0 0) × (kindOf (sectionIn (now table) i) ≡ scientificKind)
         × (s .figures .used ≤ 40) × (s .lent ≡ false) × (exponent < 100) × Known numberKind (now digits) s [] ⌝ }
     ensures { λ r. ⌜ ((m e : Context) → SubjectIs numberKind (now (digits .entry)) s [] m
         → m .integerPlaces ≡ integerPlaces (sectionIn (now (table .entry)) i .items)
         → ExponentIs exponent below e → e .integerPlaces ≡ placesBehind (sectionIn (now (table .entry)) i .items)
-        → Shows (scientificReading (length (now (room .entry))) (sectionIn (now (table .entry)) i) i minus m e) (now (room .entry)) r (now (room .exit))) ⌝ }
+        → Shows (scientificReading (length (now (room .entry))) (sectionIn (now (table .entry)) i) i minus exact m e) (now (room .entry)) r (now (room .exit))) ⌝ }
 {
     let h = head_of(table, i as usize);
     let items = items_of(table, i as usize);
@@ -520,25 +525,32 @@ pub fn show_scientific_section(
         digits,
         s,
         p,
+        exact,
         h.colour,
         i,
     )
 }
 
-// Shows section i, which is a date-time section.
-pub fn show_dated_section(room: &mut [u16], table: &[u16], i: u16, m: &[u64; 7]) -> Shown
+// Shows section i, which is a date-time section; `exact`: it cuts nothing of the instant.
+pub fn show_dated_section(
+    room: &mut [u16],
+    table: &[u16],
+    i: u16,
+    m: &[u64; 7],
+    exact: bool,
+) -> Shown
     requires { ⌜ T (passes (now table)) × (i < getD (now table) 0 0) × (kindOf (sectionIn (now table) i) ≡ dateKind)
         × DatedKnown (now m) (any datedEntry (entriesOf (sectionIn (now table) i .items))) ⌝ }
     ensures { λ r. ⌜ ((c : Context) → MomentIs (now (m .entry)) (any datedEntry (entriesOf (sectionIn (now (table .entry)) i .items))) c
         → c .integerPlaces ≡ integerPlaces (sectionIn (now (table .entry)) i .items)
-        → Shows (sectionReading (length (now (room .entry))) (sectionIn (now (table .entry)) i) i false c) (now (room .entry)) r (now (room .exit))) ⌝ }
+        → Shows (sectionReading (length (now (room .entry))) (sectionIn (now (table .entry)) i) i false exact c) (now (room .entry)) r (now (room .exit))) ⌝ }
 {
     let h = head_of(table, i as usize);
     let items = items_of(table, i as usize);
-    show_dated_items(room, items, m, h.colour, i)
+    show_dated_items(room, items, m, exact, h.colour, i)
 }
 
-// Shows section i, which is no date-time section.
+// Shows section i, which is no date-time section; `exact`: what it shows is.
 pub fn show_section(
     room: &mut [u16],
     table: &[u16],
@@ -547,14 +559,15 @@ pub fn show_section(
     digits: &[u8; 40],
     s: Subject,
     text: &[u16],
+    exact: bool,
 ) -> Shown
     requires { ⌜ T (passes (now table)) × (i < getD (now table) 0 0) × (s .figures .used ≤ 40) × (s .lent ≡ true → length (now text) ≤ 1024)
         × Known (kindOf (sectionIn (now table) i)) (now digits) s (now text) ⌝ }
     ensures { λ r. ⌜ ((c : Context) → SubjectIs (kindOf (sectionIn (now (table .entry)) i)) (now (digits .entry)) s (now (text .entry)) c
         → c .integerPlaces ≡ integerPlaces (sectionIn (now (table .entry)) i .items)
-        → Shows (sectionReading (length (now (room .entry))) (sectionIn (now (table .entry)) i) i minus c) (now (room .entry)) r (now (room .exit))) ⌝ }
+        → Shows (sectionReading (length (now (room .entry))) (sectionIn (now (table .entry)) i) i minus exact c) (now (room .entry)) r (now (room .exit))) ⌝ }
 {
     let h = head_of(table, i as usize);
     let items = items_of(table, i as usize);
-    show_items(room, minus, items, digits, s, text, h.colour, i)
+    show_items(room, minus, items, digits, s, text, exact, h.colour, i)
 }

@@ -6,6 +6,7 @@ use native.Mathlib.Omega.{arith}
 use borrow.Author.Needs.{needs}
 use Rattle.figures.specs.Digits.{figures}
 use Rattle.figures.proofs.Rounding.{powered-net}
+use Rattle.figures.proofs.Exactly.{exactly-net}
 use Rattle.exponents.proofs.rounded_by.Statement.{statement}
 use Rattle.exponents.proofs.rounded_by.Tie as tie
 
@@ -16,8 +17,10 @@ returns : tie.Need-returns
 returns c =
     let b = c .before .before in
     let a = b .before .args in
-    rw (b .excess .ensures, c .before .excess2 .ensures) at (c .round .ensures)
-    ∙ ap figures (powered-net (a .m) (a .up - a .down) (a .down - a .up) (a .up) (a .down) (a .decimals) (omega arith))
+    let r = rw (b .excess .ensures, c .before .excess2 .ensures) at (c .round .ensures) in (
+      r .0 ∙ ap figures (powered-net (a .m) (a .up - a .down) (a .down - a .up) (a .up) (a .down) (a .decimals) (omega arith)),
+      r .1 ∙ exactly-net (a .m) (a .up - a .down) (a .down - a .up) (a .up) (a .down) (a .decimals) (omega arith),
+    )
 
 pub rounded-by-spec : {M : Type 1} → statement M
 rounded-by-spec = tie.close (tie.spec (λ c κs. search needs) (λ c κs. search needs) round-requires returns)

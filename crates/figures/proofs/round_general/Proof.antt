@@ -4,6 +4,7 @@ use mathlib.Core.Path.{ap, _∙_}
 use native.Mathlib.Omega.{arith}
 use borrow.Author.Needs.{needs}
 use Rattle.figures.specs.Digits.{figures}
+use Rattle.figures.proofs.Exactly.{general-same}
 use Rattle.figures.proofs.round_general.Statement.{statement}
 use Rattle.figures.proofs.round_general.Tie as tie
 
@@ -11,7 +12,9 @@ round-requires : tie.Need-round-requires
 round-requires c κs = record { whole = omega arith; power = omega arith; decimals = c .general-decimals .ensures .0 }
 
 returns : tie.Need-returns
-returns c = c .round .ensures ∙ ap figures (c .before .general-decimals .ensures .1)
+returns c =
+    let e = c .before .general-decimals .ensures .1 in
+    (c .round .ensures .0 ∙ ap figures e, c .round .ensures .1 ∙ general-same _ _ e)
 
 pub round-general-spec : {M : Type 1} → statement M
 round-general-spec = tie.close (tie.spec (λ c κs. search needs) round-requires returns)

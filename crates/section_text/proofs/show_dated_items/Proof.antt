@@ -13,12 +13,12 @@ returns c =
     let t = p .before .before in
     λ x k q i f.
     rw (c .done-shown .ensures)
-    (shows-all _ _ _ _ (leb-true _ _ (sym (t .before .takes-dated .ensures x k q i f) ∙ t .if1 .taken)) (p .put-dated-items .ensures .1 x k q i f))
+    (shows-all _ _ _ _ _ (leb-true _ _ (sym (t .before .takes-dated .ensures x k q i f) ∙ t .if1 .taken)) (p .put-dated-items .ensures .1 x k q i f))
 
 returns-2 : tie.Need-returns-2
 returns-2 c =
     let t = c .before in
-    λ x k q i f. rw (c .refused-shown .ensures) (shows-none _ _ _ _ (leb-false _ _ (sym (t .before .takes-dated .ensures x k q i f) ∙ t .if1 .left)))
+    λ x k q i f. rw (c .refused-shown .ensures) (shows-none _ _ _ _ _ (leb-false _ _ (sym (t .before .takes-dated .ensures x k q i f) ∙ t .if1 .left)))
 
 pub show-dated-items-spec : {M : Type 1} → statement M
 show-dated-items-spec =
