@@ -35,8 +35,8 @@ extern "C" {
 #endif
 
 /* The version of this header and its archive: 10000 * major + 100 * minor + patch. */
-#define NUMFMT_VERSION 100
-#define NUMFMT_VERSION_TEXT "0.1.0"
+#define NUMFMT_VERSION 200
+#define NUMFMT_VERSION_TEXT "0.2.0"
 
 /* Words of table room that hold the table of every accepted code. */
 #define NUMFMT_TABLE_WORDS 557
@@ -119,12 +119,20 @@ typedef struct {
  * What showing returns. The colour is 0 for none, 1 to 8 for black, white, red,
  * green, blue, yellow, magenta and cyan, or up to 56 for a colour by number.
  * The section is 0 to 3, or 4 when a text is shown by no section.
+ *
+ * `exact` is 1 where the value is shown exactly, sign aside: a number where the
+ * figures, or the integer part and the fraction, are the scaled number; an
+ * instant where nothing was cut below the finest of hour, minute, second and
+ * part of a second that is shown, or below the day where none is; always a text,
+ * and any value in a section of literals. Else, and on a refusal, it is 0. The
+ * field is there from version 0.2.0 on.
  */
 typedef struct {
     uint16_t answer;
     uint32_t length;
     uint16_t colour;
     uint16_t section;
+    uint16_t exact;
 } numfmt_shown;
 
 /* A part of a code: `length` units from unit `start` on. */

@@ -1,6 +1,7 @@
 -- "The answer list" (R7, R10): the number of each answer, and what a call that is done and a refusal return.
 -- Assumes nothing.
 use Prim.Native.Nat.{ℕ}
+use mathlib.Core.Bool.{Bool, false}
 use Rattle.answers.specs.declared.Answer.{Answer}
 use Rattle.answers.specs.declared.Answer.the-variants as answer
 use Rattle.answers.specs.declared.Prepared.{Prepared}
@@ -27,13 +28,15 @@ numberOf answer.Line = 14
 abbrev pub donePrepared : ℕ → Prepared
 donePrepared words = record { answer = answer.Done; place = 0; words = words }
 
--- a text of this length
-abbrev pub doneShown : ℕ → ℕ → ℕ → Shown
-doneShown length colour section = record { answer = answer.Done; length = length; colour = colour; section = section }
+-- a text of this length, its colour and section, and whether it is exact
+abbrev pub doneShown : ℕ → ℕ → ℕ → Bool → Shown
+doneShown length colour section exact =
+    record { answer = answer.Done; exact = exact; length = length; colour = colour; section = section }
 
 -- "On a refusal every returned number but the answer and the place is 0." (R7)
 abbrev pub refusedPrepared : Answer → ℕ → Prepared
 refusedPrepared a at = record { answer = a; place = at; words = 0 }
 
+-- and nothing is exact: "on a refusal it is 0" (R7)
 abbrev pub refusedShown : Answer → Shown
-refusedShown a = record { answer = a; length = 0; colour = 0; section = 0 }
+refusedShown a = record { answer = a; exact = false; length = 0; colour = 0; section = 0 }

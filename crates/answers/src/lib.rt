@@ -28,9 +28,11 @@ pub struct Prepared {
     pub words: u32,
 }
 
-// What showing returns. On a refusal every number but the answer is 0.
+// What showing returns, and whether what is shown is exact. On a refusal every number but the answer is 0, and nothing is exact.
+// (The answer and `exact` stand side by side: so they are twelve bytes.)
 pub struct Shown {
     pub answer: Answer,
+    pub exact: bool,
     pub length: u32,
     pub colour: u16,
     pub section: u16,
@@ -59,11 +61,12 @@ pub fn refused_prepared(answer: Answer, place: u32) -> Prepared
 }
 
 // What showing returns where a text of this length is shown.
-pub fn done_shown(length: u32, colour: u16, section: u16) -> Shown
-    ensures { λ r. ⌜ r ≡ doneShown length colour section ⌝ }
+pub fn done_shown(length: u32, colour: u16, section: u16, exact: bool) -> Shown
+    ensures { λ r. ⌜ r ≡ doneShown length colour section exact ⌝ }
 {
     Shown {
         answer: Answer::Done,
+        exact,
         length,
         colour,
         section,
@@ -76,6 +79,7 @@ pub fn refused_shown(answer: Answer) -> Shown
 {
     Shown {
         answer,
+        exact: false,
         length: 0,
         colour: 0,
         section: 0,

@@ -3,8 +3,10 @@
 use Prim.Native.Nat.{ℕ, _+_, _≤_}
 use native.Mathlib.Omega.{arith}
 use mathlib.Core.Path.{_≡_, refl, ap, _∙_}
+use mathlib.Core.Bool.{Bool, true, false, cond}
 use mathlib.Core.List.{List}
 use lib.ListN.{length}
+use mir.Val.{boolByte}
 use Rattle.answers.specs.declared.Prepared.{Prepared}
 use Rattle.answers.specs.declared.Shown.{Shown}
 use Rattle.answers.specs.Number.{numberOf}
@@ -21,9 +23,14 @@ pub prepared-told : {n : ℕ} {p q : Prepared} → n ≡ numberOf (p .answer) �
     → _≡_ {A = PreparedNumbers} (record { answer = n; place = p .place; words = p .words }) (preparedNumbers q)
 prepared-told {n} {p} {q} e h = (λ j. record { answer = e j; place = p .place; words = p .words }) ∙ ap preparedNumbers h
 
+as-number : (b : Bool) → boolByte b ≡ cond b 1 0
+as-number true = refl
+as-number false = refl
+
 pub shown-told : (s : Shown) {n : ℕ} → n ≡ numberOf (s .answer)
-    → _≡_ {A = ShownNumbers} (record { answer = n; length = s .length; colour = s .colour; section = s .section }) (shownNumbers s)
-shown-told s e = λ j. record { answer = e j; length = s .length; colour = s .colour; section = s .section }
+    → _≡_ {A = ShownNumbers} (record { answer = n; length = s .length; colour = s .colour; section = s .section; exact = boolByte (s .exact) })
+    (shownNumbers s)
+shown-told s e = λ j. record { answer = e j; length = s .length; colour = s .colour; section = s .section; exact = as-number (s .exact) j }
 
 -- a section stands among the first 254 units: a code that is not refused has no more
 small-by : (v : Verdict) (code : List ℕ) (n : ℕ) → verdict code ≡ v → spanBy v n code .start + spanBy v n code .size ≤ length code

@@ -30,7 +30,8 @@ abbrev pub checkNumber : Bool → ℕ
 checkNumber passed = cond passed (numberOf answer.Done) (numberOf answer.Table)
 
 abbrev pub shownNumbers : Shown → ShownNumbers
-shownNumbers s = record { answer = numberOf (s .answer); length = s .length; colour = s .colour; section = s .section }
+shownNumbers s =
+    record { answer = numberOf (s .answer); length = s .length; colour = s .colour; section = s .section; exact = cond (s .exact) 1 0 }
 
 -- what is asked for: a number, an instant, a text
 abbrev pub numberAsk : ℤ → ℕ → Ask

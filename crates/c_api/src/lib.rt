@@ -42,6 +42,7 @@ pub struct ShownNumbers {
     pub length: u32,
     pub colour: u16,
     pub section: u16,
+    pub exact: u16,
 }
 
 #[no_mangle]
@@ -91,6 +92,7 @@ fn shown_numbers(s: Shown) -> ShownNumbers
         length: s.length,
         colour: s.colour,
         section: s.section,
+        exact: s.exact as u16,
     }
 }
 

@@ -26,17 +26,17 @@ fn write_units(units: [u16; 12], n: usize) {
 
 // What an item shows of an instant, on a 12-hour clock where `twelve` says so.
 fn write_item(twelve: bool, day: u32, ms: u32, tag: u16, argument: u16)
-    requires { ⌜ 10 < tag ⌝ }
+    requires { ⌜ (10 < tag) × (tag < 22) ⌝ }
 {
     let mut room = [0u16; 12];
     let moment = date_text::moment_of(twelve, true, Day(day), Millisecond(ms));
-    let n = date_text::put_moment_item(&mut room, 0, tag, argument, &moment);
-    write_units(room, n);
+    let w = date_text::put_moment_item(&mut room, 0, tag, argument, &moment, 86400000);
+    write_units(room, w.end);
 }
 
 // The same with the argument 1, and a space.
 fn write_part(twelve: bool, day: u32, ms: u32, tag: u16)
-    requires { ⌜ 10 < tag ⌝ }
+    requires { ⌜ (10 < tag) × (tag < 22) ⌝ }
 {
     write_item(twelve, day, ms, tag, 1);
     write_byte(b' ');

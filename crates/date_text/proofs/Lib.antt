@@ -1,3 +1,4 @@
 pub mod Letters
 pub mod Items
 pub mod Moments
+pub mod Spans

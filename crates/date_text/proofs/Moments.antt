@@ -33,9 +33,9 @@ flag-back false = refl
 
 module _ (twelve dated : Bool) (s : Section) (d : Day) (m : Millisecond) (r : List ℕ) (e : r ≡ momentOf twelve dated d m) where
   -- whatever tells that the clock is a 12-hour one
-  pub clock-instant : twelve ≡ any isHalf (s .items) → ClockIs r (instantContext s d m)
+  pub clock-instant : m .0 < 4294967296 → twelve ≡ any isHalf (s .items) → ClockIs r (instantContext s d m)
   unfolding instantContext
-  clock-instant f = rw (e, f) (record { clock = refl; elapsed = refl; twelve = flag-back _ })
+  clock-instant h f = rw (e, f) (record { small = h; clock = refl; elapsed = refl; twelve = flag-back _ })
 
   pub date-instant : dated ≡ true → DateIs r (instantContext s d m)
   unfolding instantContext dateOf

@@ -1,6 +1,6 @@
 -- The numbers that the code finds once of an instant, and that they are what a context shows.
 -- Assumes nothing.
-use Prim.Native.Nat.{ℕ, _%_}
+use Prim.Native.Nat.{ℕ, _%_, _<_}
 use mathlib.Core.Path.{_≡_}
 use mathlib.Core.Bool.{Bool, cond, _&&_, _||_}
 use mathlib.Core.List.{List, [], _∷_}
@@ -35,8 +35,9 @@ pub record DateIs (m : List ℕ) (c : Context) : Type 0 where
   pub dayOfMonth : getD m 2 0 ≡ c .date .dayOfMonth
   pub weekday : getD m 3 0 % 7 ≡ c .date .weekday
 
--- its clock and its count since day 0 are
+-- its clock and its count since day 0 are; the millisecond is one of 32 bits
 pub record ClockIs (m : List ℕ) (c : Context) : Type 0 where
+  pub small : getD m 4 0 < 4294967296
   pub clock : clockOf (getD m 4 0) ≡ c .clock
   pub elapsed : getD m 5 0 ≡ c .elapsed
   pub twelve : eqb (getD m 6 0) 1 ≡ c .twelve

@@ -9,10 +9,11 @@ use writing::put_unit;
 use writing::units;
 ghost use mathlib.Core.Path.{_≡_};
 ghost use mathlib.Core.Bool.{true, false, cond, _||_};
-ghost use Prim.Native.Nat.{ℕ, _-_, _/_, _<_, _^_};
+ghost use Prim.Native.Nat.{ℕ, _-_, _/_, _%_, _≤_, _<_, _^_, min};
+ghost use lib.ListN.{getD};
 ghost use Rattle.figures.specs.Digits.{numeral};
-ghost use Rattle.formats.specs.Items.{isCut, isFixed};
 ghost use Rattle.formats.specs.Text.{Context, yearUnits, hourShown, partUnits, halfUnits, itemUnits};
+ghost use Rattle.formats.specs.Reading.{daySpan, itemSpan};
 ghost use Rattle.lists.specs.Lists.{any};
 ghost use Rattle.calendar.specs.Clock.{afternoon};
 ghost use Rattle.calendar.specs.Made.{madeDate};
@@ -24,8 +25,15 @@ ghost use Rattle.writing.specs.Put.{Put};
 ghost use Rattle.date_text.specs.Letters.{packed, lettersUpTo, mostLetters};
 ghost use Rattle.date_text.specs.Moment.{datedEntry, dateShown, momentOf, isNamed, DateIs, ClockIs};
 
-// At least how many digits an item shows, and the number that they show.
-struct Numeral(u32, u64);
+// At least how many digits an item shows, the number that they show, and the finest unit shown with it.
+struct Numeral(u32, u64, u32);
+
+// Where a text ends that was put, and the milliseconds of the finest unit shown so far: of an hour, a minute, a second or a part of one, or
+// of the day where none of these is shown.
+pub struct Written {
+    pub end: usize,
+    pub finest: u32,
+}
 
 const LETTER_A: u16 = 65;
 
@@ -49,6 +57,25 @@ pub fn shows_date(items: &[u16]) -> bool
     false
 }
 
+// The finer of two units.
+fn finer(a: u32, b: u32) -> u32
+    ensures { λ r. ⌜ r ≡ min a b ⌝ }
+{
+    if a < b { a } else { b }
+}
+
+// The milliseconds of a part of a second of n digits.
+fn part_span(n: u32) -> u32
+    ensures { λ r. ⌜ r ≡ 10 ^ (3 - n) ⌝ }
+{
+    match n {
+        0 => 1000,
+        1 => 100,
+        2 => 10,
+        _ => 1,
+    }
+}
+
 // The date of a day where it is shown. Where it is not the calendar is not asked.
 fn date_shown(dated: bool, d: Day) -> Date
     ensures { λ r. ⌜ r ≡ madeDate (dateShown dated (d .0)) ⌝ }
@@ -67,7 +94,8 @@ fn date_shown(dated: bool, d: Day) -> Date
 // What items show of a day and a millisecond of it, at the places that `numbers` names. The date is found here, where `dated` says
 // that one is shown; hours, minutes and counts are found by the item that shows them.
 pub fn moment_of(twelve: bool, dated: bool, d: Day, m: Millisecond) -> [u64; 7]
-    ensures { λ r. ⌜ r ≡ momentOf twelve dated d m ⌝ }
+    ensures moment { λ r. ⌜ r ≡ momentOf twelve dated d m ⌝ }
+    ensures small { λ r. ⌜ m .0 < 4294967296 ⌝ }
 {
     let date = date_shown(dated, d);
     [
@@ -234,54 +262,95 @@ fn hour_shown(twelve: bool, hour: u64) -> u64
 }
 
 // Two digits of the year, or four.
-fn year_numeral(n: u32, year: u64) -> Numeral
-    ensures { λ r. ⌜ yearUnits n year ≡ numeral (r .0) (r .1) ⌝ }
+fn year_numeral(n: u32, year: u64, finest: u32) -> Numeral
+    ensures { λ r. ⌜ (yearUnits n year ≡ numeral (r .0) (r .1)) × (r .2 ≡ finest) ⌝ }
 {
     if n == 2 {
-        return Numeral(2, year % 100);
+        return Numeral(2, year % 100, finest);
     }
-    Numeral(4, year)
+    Numeral(4, year, finest)
+}
+
+// The millisecond of a moment: 32 bits take it, and are divided in fewer instructions.
+fn millisecond_of(m: &[u64; 7]) -> u32
+    ensures { λ r. ⌜ r ≡ getD (now (m .entry)) 4 0 % 4294967296 ⌝ }
+{
+    (m[numbers::MILLISECOND] % 4294967296) as u32
 }
 
 // The numeral of an item that is shown by digits.
-fn numeral_of(tag: u16, n: u32, m: &[u64; 7]) -> Numeral
-    requires { ⌜ (10 < tag) × (¬ (tag ≡ 17)) × (tag < 21) × (isNamed tag n ≡ false) ⌝ }
-    ensures { λ r. ⌜ ((c : Context) (q : ℕ) → ClockIs (now (m .entry)) c → (datedEntry (entry tag n) ≡ true → DateIs (now (m .entry)) c)
+fn numeral_of(tag: u16, n: u32, m: &[u64; 7], finest: u32) -> Numeral
+    requires { ⌜ (10 < tag) × (¬ (tag ≡ 17)) × (tag < 21) × (isNamed tag n ≡ false) × (finest ≤ daySpan) ⌝ }
+    ensures units { λ r. ⌜ ((c : Context) (q : ℕ) → ClockIs (now (m .entry)) c → (datedEntry (entry tag n) ≡ true → DateIs (now (m .entry)) c)
         → itemUnits c q (itemAt (entry tag n)) ≡ numeral (r .0) (r .1)) ⌝ }
+    ensures finest { λ r. ⌜ r .2 ≡ min finest (itemSpan (itemAt (entry tag n))) ⌝ }
 {
     match tag {
-        tags::YEAR => year_numeral(n, m[numbers::YEAR]),
-        tags::MONTH => Numeral(n, m[numbers::MONTH]),
-        tags::DAY => Numeral(n, m[numbers::DAY]),
+        tags::YEAR => year_numeral(n, m[numbers::YEAR], finest),
+        tags::MONTH => Numeral(n, m[numbers::MONTH], finest),
+        tags::DAY => Numeral(n, m[numbers::DAY], finest),
         tags::HOUR => Numeral(
             n,
-            hour_shown(m[numbers::TWELVE] == 1, m[numbers::MILLISECOND] / 3600000),
+            hour_shown(
+                m[numbers::TWELVE] == 1,
+                (millisecond_of(m) / 3600000) as u64,
+            ),
+            finer(finest, 3600000),
         ),
-        tags::MINUTE => Numeral(n, m[numbers::MILLISECOND] / 60000 % 60),
-        tags::SECOND => Numeral(n, m[numbers::MILLISECOND] / 1000 % 60),
-        tags::ELAPSED_HOURS => Numeral(n, m[numbers::ELAPSED] / 3600000),
-        tags::ELAPSED_MINUTES => Numeral(n, m[numbers::ELAPSED] / 60000),
-        _ => Numeral(n, m[numbers::ELAPSED] / 1000),
+        tags::MINUTE => Numeral(
+            n,
+            (millisecond_of(m) / 60000 % 60) as u64,
+            finer(finest, 60000),
+        ),
+        tags::SECOND => Numeral(
+            n,
+            (millisecond_of(m) / 1000 % 60) as u64,
+            finer(finest, 1000),
+        ),
+        tags::ELAPSED_HOURS => Numeral(n, m[numbers::ELAPSED] / 3600000, finer(finest, 3600000)),
+        tags::ELAPSED_MINUTES => Numeral(n, m[numbers::ELAPSED] / 60000, finer(finest, 60000)),
+        _ => Numeral(n, m[numbers::ELAPSED] / 1000, finer(finest, 1000)),
     }
 }
 
 // Puts the text of a date section's item that a table has under a tag above that of `@`. (`put_numeral`
-// is called here alone: the compiler has it in place then, which it had not with a call for each sort of item.)
-pub fn put_moment_item(room: &mut [u16], at: usize, tag: u16, argument: u16, m: &[u64; 7]) -> usize
-    requires { ⌜ (at < 2 ^ 62) × (10 < tag) ⌝ }
-    ensures { λ r. ⌜ ((c : Context) (q : ℕ) → (isCut (itemAt (entry tag argument)) || isFixed (itemAt (entry tag argument))) ≡ false → ClockIs (now (m .entry)) c → (datedEntry (entry tag argument) ≡ true → DateIs (now (m .entry)) c)
-        → Put (now (room .entry)) at (itemUnits c q (itemAt (entry tag argument))) r (now (room .exit))) ⌝ }
+// is called here alone: the compiler has it in place then, which it had not with a call for each sort of item. Tags are
+// tested for being equal alone: the compiler makes one `match` of it.)
+pub fn put_moment_item(
+    room: &mut [u16],
+    at: usize,
+    tag: u16,
+    argument: u16,
+    m: &[u64; 7],
+    finest: u32,
+) -> Written
+    requires { ⌜ (at < 2 ^ 62) × (10 < tag) × (tag < 22) × (finest ≤ daySpan) ⌝ }
+    ensures put { λ r. ⌜ ((c : Context) (q : ℕ) → ClockIs (now (m .entry)) c → (datedEntry (entry tag argument) ≡ true → DateIs (now (m .entry)) c)
+        → Put (now (room .entry)) at (itemUnits c q (itemAt (entry tag argument))) (r .end) (now (room .exit))) ⌝ }
+    ensures finest { λ r. ⌜ r .finest ≡ min finest (itemSpan (itemAt (entry tag argument))) ⌝ }
 {
     let n = argument as u32;
     if tag == tags::PART {
-        return put_part(room, at, n, m[numbers::MILLISECOND] % 1000);
+        return Written {
+            end: put_part(room, at, n, m[numbers::MILLISECOND] % 1000),
+            finest: finer(finest, part_span(n)),
+        };
     }
-    if tags::HALF_DAY <= tag {
-        return put_half(room, at, n, m[numbers::MILLISECOND] / 3600000);
+    if tag == tags::HALF_DAY {
+        return Written {
+            end: put_half(room, at, n, m[numbers::MILLISECOND] / 3600000),
+            finest,
+        };
     }
     if is_named(tag, n) {
-        return put_name(room, at, tag, n, m);
+        return Written {
+            end: put_name(room, at, tag, n, m),
+            finest,
+        };
     }
-    let x = numeral_of(tag, n, m);
-    writing::put_numeral(room, at, x.0, x.1)
+    let x = numeral_of(tag, n, m, finest);
+    Written {
+        end: writing::put_numeral(room, at, x.0, x.1),
+        finest: x.2,
+    }
 }

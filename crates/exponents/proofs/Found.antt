@@ -1,22 +1,24 @@
 -- The code's way to the exponent: the multiple of n at or below the leading digit's power, and the one behind it where rounding carries.
 -- Assumes nothing.
-use mathlib.Core.Path.{_≡_, ap₂, _∙_}
+use mathlib.Core.Path.{_≡_, sym, ap, ap₂, _∙_}
+use mathlib.Core.Bool.{false}
 use Prim.Native.Nat.{ℕ, _+_, _-_, _*_, _^_, _≤_, _<_}
 use native.Mathlib.Nat.{mul-le-mul-right, mul-assoc, add-zero, le-antisymm}
 use native.Mathlib.Omega.{arith}
-use borrow.Author.Tests.{le-ltb, ltb-true, ltb-false}
+use borrow.Author.Tests.{ne-eqb, le-ltb, ltb-true, ltb-false}
 use lib.Pow.{pow-add}
 use lib.Dec.{ltb}
 use Rattle.lists.proofs.Bools.{cond-case}
-use Rattle.figures.specs.Rounding.{rounded}
+use Rattle.figures.specs.Rounding.{Magnitude, rounded, roundsExactly}
 use Rattle.figures.specs.Powers.{powered}
 use Rattle.figures.proofs.Tens.{ten-le}
 use Rattle.figures.proofs.Rounding.{powered-net}
-use Rattle.exponents.specs.Exponent.{under, over, decimal, mantissaAt}
+use Rattle.figures.proofs.Exactly.{exactly-net}
+use Rattle.exponents.specs.Exponent.{under, over, decimal, dividedBy, mantissaAt}
 use Rattle.exponents.specs.Least.{LeastExponent}
 use Rattle.exponents.specs.Leading.{exponentBy, MultipleBy, Leading, Next}
 use Rattle.exponents.proofs.Powered.{powered-least, powered-most, powered-step}
-use Rattle.exponents.proofs.Least.{mantissa-powered, leaves-in, least-by, sum-multiple}
+use Rattle.exponents.proofs.Least.{divided-powered, leaves-in, least-by, sum-multiple}
 
 -- the two distances of an exponent made of them
 under-by : (u o : ℕ) → (0 < u → o ≡ 0) → under (exponentBy u o) ≡ u
@@ -33,10 +35,17 @@ module _ (m s n d : ℕ) {u o : ℕ} (by : MultipleBy n u o) where
   abbrev at : ℕ
   at = rounded (powered m u (s + o)) d
 
+  divided-by : dividedBy (decimal m s) (exponentBy u o) ≡ powered m u (s + o)
+  divided-by =
+      divided-powered m s (exponentBy u o)
+      ∙ ap₂ (λ (x y : ℕ). powered m x (s + y)) (under-by u o (by .oneSide)) (over-by u o (by .oneSide))
+
   pub mantissa-by : mantissaAt (decimal m s) d (exponentBy u o) ≡ rounded (powered m u (s + o)) d
-  mantissa-by =
-      mantissa-powered m s d (exponentBy u o)
-      ∙ ap₂ (λ (x y : ℕ). rounded (powered m x (s + y)) d) (under-by u o (by .oneSide)) (over-by u o (by .oneSide))
+  unfolding mantissaAt
+  mantissa-by = ap (λ (x : Magnitude). rounded x d) divided-by
+
+  pub exactly-by : roundsExactly (dividedBy (decimal m s) (exponentBy u o)) d ≡ roundsExactly (powered m u (s + o)) d
+  exactly-by = ap (λ (x : Magnitude). roundsExactly x d) divided-by
 
   -- it is the exponent where it leaves 1 to n digits and the multiple before leaves more
   by-least : 10 ^ 15 ≤ at → at < 10 ^ (15 + n) → 10 ^ (15 + n) ≤ rounded (powered m (u + n) (s + o)) d
@@ -58,13 +67,24 @@ module _ {m s n u o : ℕ} (d : ℕ) (most : d ≤ 15) (l : Leading m s n u o) w
 
   -- rounding carries: the mantissa is 1 at the next multiple
   module _ {u' o' : ℕ} (next : Next n u o u' o') (carry : 10 ^ (15 + n) ≤ rounded (powered m u (s + o)) d) where
-    pub carried-one : rounded (powered m u' (s + o')) d ≡ 10 ^ 15
-    carried-one =
+    carried-net : rounded (powered m u (s + o + n)) d ≡ 10 ^ 15
+    carried-net =
         let v : ℕ = s + o in
-        powered-net m u' (s + o') u (v + n) d (omega (arith, next .net))
-        ∙ le-antisymm
+        le-antisymm
         (powered-most m u (v + n) 0 d most (rw (add-zero (v + n)) (omega (arith, l .most))))
         (powered-step m u v n d most carry)
+
+    pub carried-one : rounded (powered m u' (s + o')) d ≡ 10 ^ 15
+    carried-one = powered-net m u' (s + o') u (s + o + n) d (omega (arith, next .net)) ∙ carried-net
+
+    -- and it is not exact: the number is below
+    pub carried-cut : false ≡ roundsExactly (powered m u' (s + o')) d
+    unfolding roundsExactly powered
+    carried-cut =
+        let v : ℕ = s + o + n in
+        let below : ¬ (rounded (powered m u v) d * 10 ^ v ≡ m * 10 ^ u * 10 ^ 15) =
+        λ e. omega (arith, l .most, e, ap (λ (x : ℕ). x * 10 ^ v) carried-net) in
+        sym (exactly-net m u' (s + o') u v d (omega (arith, next .net)) ∙ ne-eqb (rounded (powered m u v) d * 10 ^ v) (m * 10 ^ u * 10 ^ 15) below)
 
     pub carried-least : 1 ≤ n → LeastExponent (decimal m s) n d (exponentBy u' o')
     carried-least one =

@@ -15,11 +15,14 @@ use Rattle.exponents.specs.Exponent.{Exponent, under, over, decimal, div
 use Rattle.exponents.specs.Least.{atMost, LeastExponent}
 use Rattle.exponents.proofs.Powered.{powered-monotone}
 
--- the mantissa by its net power of ten
+-- x / 10^e and the mantissa by their net power of ten
+pub divided-powered : (m s : ℕ) (e : Exponent) → dividedBy (decimal m s) e ≡ powered m (under e) (s + over e)
+unfolding dividedBy powered
+divided-powered m s e = ap (λ (b : ℕ). record { above = m * 10 ^ under e; below = b }) (sym (pow-add 10 s (over e)))
+
 pub mantissa-powered : (m s d : ℕ) (e : Exponent) → mantissaAt (decimal m s) d e ≡ rounded (powered m (under e) (s + over e)) d
-unfolding mantissaAt dividedBy powered
-mantissa-powered m s d e =
-    ap (λ (b : ℕ). rounded (record { above = m * 10 ^ under e; below = b }) d) (sym (pow-add 10 s (over e)))
+unfolding mantissaAt
+mantissa-powered m s d e = ap (λ (x : Magnitude). rounded x d) (divided-powered m s e)
 
 -- what "1 to n integer digits" says
 module _ (x : Magnitude) (n d : ℕ) (e : Exponent) where

@@ -1,18 +1,18 @@
 -- Laws of the exponent and the mantissa for whoever shows them: nought, bounds, and how near the mantissa is.
 -- Assumes nothing.
-use mathlib.Core.Path.{_≡_, refl, ap, _∙_}
-use mathlib.Core.Bool.{Bool, false, cond}
+use mathlib.Core.Path.{_≡_, refl, sym, ap, _∙_}
+use mathlib.Core.Bool.{Bool, true, false, cond}
 use Prim.Native.Nat.{ℕ, zero, suc, _+_, _-_, _*_, _^_, _≤_, _<_}
 use native.Mathlib.Nat.{mul-zero, zero-mul, mul-pos, lt-of-lt-of-le}
 use native.Mathlib.Omega.{arith}
 use borrow.Author.Tests.{eq-eqb}
 use Rattle.lists.proofs.Bools.{cond-both}
 use lib.Dec.{eqb}
-use Rattle.figures.specs.Rounding.{Magnitude, nearest, rounded}
+use Rattle.figures.specs.Rounding.{Magnitude, nearest, rounded, roundsExactly}
 use Rattle.figures.specs.Bounds.{Near}
 use Rattle.figures.proofs.Tens.{ten-pos, ten-le}
 use Rattle.figures.proofs.Rounding.{nearest-le, half-unit}
-use Rattle.exponents.specs.Exponent.{Exponent, under, over, decimal, dividedBy, mantissaAt, leaves, multiple, exponentFrom, exponentOf, mantissaOf}
+use Rattle.exponents.specs.Exponent.{Exponent, under, over, decimal, dividedBy, mantissaAt, leaves, multiple, exponentFrom, exponentOf, mantissaOf, mantissaExactly}
 use Rattle.exponents.proofs.Search.{multiple-most, mantissa-digits}
 
 module _ (x : Magnitude) (n d : ℕ) where
@@ -36,6 +36,16 @@ module _ (x : Magnitude) (n d : ℕ) where
       let nought : nearest (x .above * 10 ^ under f * 10 ^ d) (x .below * 10 ^ over f) ≡ 0 =
       omega (arith, nearest-le (x .above * 10 ^ under f * 10 ^ d) (x .below * 10 ^ over f) (divided-pos pos f)) in
       ap (λ (q : ℕ). q * 10 ^ (15 - d)) nought ∙ zero-mul (10 ^ (15 - d))
+
+  pub nought-exactly : x .above ≡ 0 → 0 < x .below → mantissaExactly x n d ≡ true
+  unfolding mantissaExactly roundsExactly mantissaOf mantissaAt dividedBy
+  nought-exactly e pos =
+      let f : Exponent = exponentOf x n d in
+      eq-eqb _ _
+      (ap (λ (q : ℕ). q * (x .below * 10 ^ over f)) (mantissa-nought e pos)
+      ∙ zero-mul (x .below * 10 ^ over f)
+      ∙ sym
+      (ap (λ (a : ℕ). a * 10 ^ under f * 10 ^ 15) e ∙ ap (λ (a : ℕ). a * 10 ^ 15) (zero-mul (10 ^ under f)) ∙ zero-mul (10 ^ 15)))
 
   -- the mantissa is within half a unit of its last place, halves away from zero
   pub mantissa-near : 0 < x .below → d ≤ 15 → Near (dividedBy x (exponentOf x n d)) d (mantissaOf x n d)

@@ -1,10 +1,10 @@
--- Scientific sections: the exponent and the mantissa (R126).
+-- Scientific sections: the exponent and the mantissa (R126, R137).
 -- "With n integer places the exponent is the least multiple of n that leaves 1 to n integer digits after rounding [..]. Zero has exponent 0."
 -- Assumes nothing.
 use Prim.Native.Nat.{ℕ, zero, suc, _+_, _-_, _*_, _^_}
 use mathlib.Core.Bool.{Bool, true, false, cond, _&&_}
 use lib.Dec.{leb, ltb, eqb}
-use Rattle.figures.specs.Rounding.{Magnitude, rounded}
+use Rattle.figures.specs.Rounding.{Magnitude, rounded, roundsExactly}
 
 -- an exponent of ten: how far from 0, and whether it is below 0
 pub record Exponent : Type 0 where
@@ -52,3 +52,7 @@ exponentOf x n d = cond (eqb (x .above) 0) (multiple n 15) (exponentFrom x n d 0
 -- the mantissa of x
 unfoldable pub mantissaOf : Magnitude → ℕ → ℕ → ℕ
 mantissaOf x n d = mantissaAt x d (exponentOf x n d)
+
+-- "whether the rounded number equals the exact one" (R137): the mantissa against x / 10^e with the exponent shown
+unfoldable pub mantissaExactly : Magnitude → ℕ → ℕ → Bool
+mantissaExactly x n d = roundsExactly (dividedBy x (exponentOf x n d)) d

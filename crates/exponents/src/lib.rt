@@ -4,16 +4,17 @@ ghost use mathlib.Core.Path.{_≡_};
 ghost use Prim.Native.Nat.{ℕ, _+_, _-_, _^_, _≤_, _<_};
 ghost use lib.Dec.{leb, ltb};
 ghost use Rattle.figures.specs.Digits.{figures};
-ghost use Rattle.figures.specs.Rounding.{rounded};
+ghost use Rattle.figures.specs.Rounding.{rounded, roundsExactly};
 ghost use Rattle.figures.specs.Powers.{powered};
 ghost use Rattle.figures.specs.Rounder.{Roundable};
-ghost use Rattle.exponents.specs.Exponent.{decimal, exponentOf, mantissaOf};
+ghost use Rattle.exponents.specs.Exponent.{decimal, exponentOf, mantissaOf, mantissaExactly};
 ghost use Rattle.exponents.specs.Leading.{MultipleBy, Leading, Next};
 use values::integers::excess;
 
-// The digits of the mantissa, the exponent's distance from 0 and whether it is below 0.
+// The digits of the mantissa, whether it is exact, the exponent's distance from 0 and whether it is below 0.
 pub struct Scientific {
     pub digits: [u8; 40],
+    pub exact: bool,
     pub exponent: u32,
     pub below: bool,
 }
@@ -63,12 +64,20 @@ fn next_multiple(e: Power, integers: u32) -> Power
     }
 }
 
-// The digits of m times 10^up / 10^down: only the net power counts, which the rounder's reach is of.
-fn rounded_by(m: u64, up: u32, down: u32, decimals: u32) -> [u8; 40]
+// m times 10^up / 10^down rounded: only the net power counts, which the rounder's reach is of.
+fn rounded_by(m: u64, up: u32, down: u32, decimals: u32, exact: &mut bool) -> [u8; 40]
     requires { ⌜ Roundable m (up - down) decimals ⌝ }
-    ensures { λ r. ⌜ r ≡ figures (rounded (powered m up down) decimals) ⌝ }
+    ensures digits { λ r. ⌜ r ≡ figures (rounded (powered m up down) decimals) ⌝ }
+    ensures exact { λ r. ⌜ now (exact .exit) ≡ roundsExactly (powered m up down) decimals ⌝ }
 {
-    figures::round([0; 40], m, excess(up, down), excess(down, up), decimals)
+    figures::round(
+        [0; 40],
+        m,
+        excess(up, down),
+        excess(down, up),
+        decimals,
+        exact,
+    )
 }
 
 // Whether there is a digit more before the point than there are integer places. Rounding carries to 10^integers at most.
@@ -89,37 +98,41 @@ fn one() -> [u8; 40]
     digits
 }
 
-// The form with these digits and this exponent.
-fn told(digits: [u8; 40], e: Power) -> Scientific
+// The form with these digits, exact or not, and this exponent.
+fn told(digits: [u8; 40], exact: bool, e: Power) -> Scientific
     requires { ⌜ e .under + e .over ≤ 100 ⌝ }
-    ensures { λ r. ⌜ (r .digits ≡ digits) × (r .exponent ≡ e .under + e .over) × (r .below ≡ ltb 0 (e .under)) ⌝ }
+    ensures { λ r. ⌜ (r .digits ≡ digits) × (r .exact ≡ exact) × (r .exponent ≡ e .under + e .over) × (r .below ≡ ltb 0 (e .under)) ⌝ }
 {
     let under = e.under;
     Scientific {
         digits,
+        exact,
         exponent: under + e.over,
         below: 0 < under,
     }
 }
 
-// m / 10^scale in scientific form, under so many integer places and decimals.
+// m / 10^scale in scientific form, under so many integer places and decimals. What carries is not exact: before it is rounded it is below.
 pub fn round_scientific(m: u64, scale: u32, integers: u32, decimals: u32) -> Scientific
     requires { ⌜ (m < 10 ^ 15) × (scale ≤ 15) × (1 ≤ integers) × (integers ≤ 20) × (decimals ≤ 15) ⌝ }
     ensures mantissa { λ r. ⌜ r .digits ≡ figures (mantissaOf (decimal m scale) integers decimals) ⌝ }
+    ensures exact { λ r. ⌜ r .exact ≡ mantissaExactly (decimal m scale) integers decimals ⌝ }
     ensures size { λ r. ⌜ r .exponent ≡ exponentOf (decimal m scale) integers decimals .size ⌝ }
     ensures sign { λ r. ⌜ r .below ≡ exponentOf (decimal m scale) integers decimals .below ⌝ }
 {
     if m == 0 {
         return Scientific {
             digits: [0; 40],
+            exact: true,
             exponent: 0,
             below: false,
         };
     }
     let e = leading_multiple(m, scale, integers);
-    let digits = rounded_by(m, e.under, scale + e.over, decimals);
+    let mut exact = true;
+    let digits = rounded_by(m, e.under, scale + e.over, decimals, &mut exact);
     if carries(digits, integers) {
-        return told(one(), next_multiple(e, integers));
+        return told(one(), false, next_multiple(e, integers));
     }
-    told(digits, e)
+    told(digits, exact, e)
 }

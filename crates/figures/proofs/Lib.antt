@@ -8,3 +8,4 @@ pub mod Places
 pub mod General
 pub mod Widths
 pub mod Passed
+pub mod Exactly

@@ -179,7 +179,7 @@ nearest-far m k hm hk = sym (nearest-none m (10 ^ k) (omega (arith, ten-le 20 k 
 
 -- the quotient as the code finds it, p being the power
 module _ (m p k : ℕ) (e : p ≡ 10 ^ k) where
-  power-pos : 0 < p
+  pub power-pos : 0 < p
   power-pos = rw e (ten-pos k)
 
   pub divided-up : p ≤ 2 * (m % p) → m / p + 1 ≡ nearest m (10 ^ k)

@@ -1,4 +1,4 @@
--- "General" (R76, R77, R79): "n integer digits (at least 1); round to 10 - n decimals, or none from n = 10 on; drop trailing zeros [..]."
+-- "General" (R76, R77, R79, R137): "n integer digits (at least 1); round to 10 - n decimals, or none from n = 10 on; drop trailing zeros [..]."
 -- Assumes nothing.
 use Prim.Native.Nat.{ℕ, _-_, _/_, _^_}
 use mathlib.Core.Bool.{Bool, cond, _&&_}
@@ -6,7 +6,7 @@ use mathlib.Core.List.{List, [], _∷_, _++_}
 use lib.Dec.{leb, eqb}
 use Rattle.lists.specs.Lists.{isEmpty}
 use Rattle.figures.specs.Digits.{digitUnits, width, numeral}
-use Rattle.figures.specs.Rounding.{Magnitude, nearest, rounded}
+use Rattle.figures.specs.Rounding.{Magnitude, nearest, rounded, roundsExactly}
 
 -- "round to 10 - n decimals, or none from n = 10 on" (R76)
 unfoldable pub generalDecimals : Magnitude → ℕ
@@ -14,6 +14,10 @@ generalDecimals x = 10 - width (x .above / x .below)
 
 unfoldable pub generalRounded : Magnitude → ℕ
 generalRounded x = rounded x (generalDecimals x)
+
+-- "whether the rounded number equals the exact one" (R137), as General rounds it
+unfoldable pub generalExactly : Magnitude → Bool
+generalExactly x = roundsExactly x (generalDecimals x)
 
 -- "General, rounded to a whole number, reaches 10^11" (R79)
 unfoldable pub generalTooWide : Magnitude → Bool

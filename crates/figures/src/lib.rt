@@ -4,9 +4,9 @@ ghost use Prim.Native.Nat.{ℕ, _+_, _-_, _*_, _/_, _%_, _^_, _≤_, _<_};
 ghost use lib.Dec.{leb, ltb, eqb};
 ghost use lib.IntN.{natAbs};
 ghost use Rattle.figures.specs.Digits.{figures, width};
-ghost use Rattle.figures.specs.Rounding.{nearest, rounded};
+ghost use Rattle.figures.specs.Rounding.{nearest, rounded, roundsExactly};
 ghost use Rattle.figures.specs.Powers.{powered};
-ghost use Rattle.figures.specs.General.{generalRounded, generalTooWide};
+ghost use Rattle.figures.specs.General.{generalRounded, generalExactly, generalTooWide};
 ghost use Rattle.figures.specs.Sign.{takenOf};
 ghost use Rattle.figures.specs.Rounder.{Roundable};
 ghost use Rattle.figures.specs.Places.{digitSum, placesUsed, lowestFrom, lowestPlace};
@@ -92,20 +92,36 @@ pub fn power(k: u32) -> u64
     }
 }
 
+// A quotient to the nearest whole number, and whether nothing was cut.
+pub struct Quotient {
+    pub nearest: u64,
+    pub exact: bool,
+}
+
 // m / 10^k to the nearest whole number, halves up. 64 bits are less than half of 10^20.
-pub fn divided(m: u64, k: u32) -> u64
-    ensures { λ r. ⌜ r ≡ nearest m (10 ^ k) ⌝ }
+pub fn divided(m: u64, k: u32) -> Quotient
+    ensures nearest { λ r. ⌜ r .nearest ≡ nearest m (10 ^ k) ⌝ }
+    ensures exact { λ r. ⌜ r .exact ≡ eqb (nearest m (10 ^ k) * 10 ^ k) m ⌝ }
 {
     if 19 < k {
-        return 0;
+        return Quotient {
+            nearest: 0,
+            exact: m == 0,
+        };
     }
     let p = power(k);
     let q = m / p;
     let r = m % p;
     if p - r <= r {
-        return q + 1;
+        return Quotient {
+            nearest: q + 1,
+            exact: false,
+        };
     }
-    q
+    Quotient {
+        nearest: q,
+        exact: r == 0,
+    }
 }
 
 // Forty zeros, whatever the digits were.
@@ -143,17 +159,29 @@ fn spread(zeros: [u8; 40], m: u64, z: u32) -> [u8; 40]
     digits
 }
 
-// The rounder: the digits of m times 10^up / 10^down rounded to so many decimals, halves up, whatever the digits were.
-// One quotient where digits go, none where none goes.
-pub fn round(digits: [u8; 40], m: u64, up: u32, down: u32, decimals: u32) -> [u8; 40]
+// The rounder: m times 10^up / 10^down rounded to so many decimals, halves up, whatever the digits were.
+// One quotient where digits go, none where none goes. Whether the rounded number equals the exact one is told through `exact`: a struct
+// of both would be copied, digits and all.
+pub fn round(
+    digits: [u8; 40],
+    m: u64,
+    up: u32,
+    down: u32,
+    decimals: u32,
+    exact: &mut bool,
+) -> [u8; 40]
     requires { ⌜ Roundable m up decimals ⌝ }
-    ensures { λ r. ⌜ r ≡ figures (rounded (powered m up down) decimals) ⌝ }
+    ensures digits { λ r. ⌜ r ≡ figures (rounded (powered m up down) decimals) ⌝ }
+    ensures exact { λ r. ⌜ now (exact .exit) ≡ roundsExactly (powered m up down) decimals ⌝ }
 {
     let zeros = cleared(digits);
     let kept = up + decimals;
     if kept < down {
-        return spread(zeros, divided(m, down - kept), 15 - decimals);
+        let q = divided(m, down - kept);
+        *exact = q.exact;
+        return spread(zeros, q.nearest, 15 - decimals);
     }
+    *exact = true;
     spread(zeros, m, up + 15 - down)
 }
 
@@ -280,12 +308,13 @@ pub fn general_too_wide(m: u64, scale: u32) -> bool
     if m < 100000000000 {
         return false;
     }
-    100000000000 <= divided(m, scale)
+    100000000000 <= divided(m, scale).nearest
 }
 
-// The digits of m / 10^scale as General rounds it.
-pub fn round_general(digits: [u8; 40], m: u64, scale: u32) -> [u8; 40]
-    ensures { λ r. ⌜ r ≡ figures (generalRounded (powered m 0 scale)) ⌝ }
+// m / 10^scale as General rounds it; `exact`: whether it equals the exact one.
+pub fn round_general(digits: [u8; 40], m: u64, scale: u32, exact: &mut bool) -> [u8; 40]
+    ensures digits { λ r. ⌜ r ≡ figures (generalRounded (powered m 0 scale)) ⌝ }
+    ensures exact { λ r. ⌜ now (exact .exit) ≡ generalExactly (powered m 0 scale) ⌝ }
 {
-    round(digits, m, 0, scale, general_decimals(m, scale))
+    round(digits, m, 0, scale, general_decimals(m, scale), exact)
 }

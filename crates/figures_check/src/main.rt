@@ -57,7 +57,8 @@ fn show(c: i64, up: u32, down: u32, decimals: u32)
     };
     match figures::take_number(x) {
         Taken::In(s) => {
-            let digits = figures::round([7; 40], s.magnitude, up, down, decimals);
+            let mut exact = true;
+            let digits = figures::round([7; 40], s.magnitude, up, down, decimals, &mut exact);
             write_line(s.negative, digits, 114);
         }
         Taken::OutOfRange => write_refused(),
@@ -77,7 +78,8 @@ fn show_general(c: i64, scale: u32) {
             } else {
                 103
             };
-            let digits = figures::round_general([7; 40], s.magnitude, s.scale);
+            let mut exact = true;
+            let digits = figures::round_general([7; 40], s.magnitude, s.scale, &mut exact);
             write_line(s.negative, digits, mark);
         }
         Taken::OutOfRange => write_refused(),

@@ -3,6 +3,7 @@
 -- Assumes nothing.
 use Prim.Native.Nat.{ℕ}
 use Prim.Native.String.{String}
+use mathlib.Core.Bool.{Bool, true, false}
 use mathlib.Core.List.{List, [], _∷_, map}
 use mathlib.Core.Path.{_≡_, refl}
 use lib.IntN.{ℤ, pos, negsuc}
@@ -41,19 +42,23 @@ instant day ms = asked (value.Instant (record { 0 = day }) (record { 0 = ms }))
 abbrev pub aText : Ask
 aText = asked value.Text
 
-abbrev pub seen : String → ℕ → ℕ → Reading
+abbrev pub seen : String → ℕ → ℕ → Bool → Reading
 unfolding units
-seen text colour section = shown (lookOf (units text) colour section)
+seen text colour section exact = shown (lookOf (units text) colour section exact)
 
 -- without a text, in a room of 4,096 units
 abbrev pub gives : String → Ask → Reading → Case
 gives code ask answer = record { code = code; ask = ask; text = []; room = 4096; answer = answer }
 
+-- exactly, and not
 abbrev pub shows : String → Ask → String → ℕ → Case
-shows code ask text section = gives code ask (seen text 0 section)
+shows code ask text section = gives code ask (seen text 0 section true)
+
+abbrev pub about : String → Ask → String → ℕ → Case
+about code ask text section = gives code ask (seen text 0 section false)
 
 abbrev pub colours : String → Ask → String → ℕ → ℕ → Case
-colours code ask text colour section = gives code ask (seen text colour section)
+colours code ask text colour section = gives code ask (seen text colour section true)
 
 abbrev pub denies : String → Ask → Answer → Case
 denies code ask a = gives code ask (refused a)
@@ -62,7 +67,7 @@ denies code ask a = gives code ask (refused a)
 abbrev pub ofText : String → String → String → ℕ → ℕ → Case
 unfolding units
 ofText code text result colour section =
-    record { code = code; ask = aText; text = units text; room = 4096; answer = seen result colour section }
+    record { code = code; ask = aText; text = units text; room = 4096; answer = seen result colour section true }
 
 abbrev pub read : Case → Reading
 read c = codeReading (units (c .code)) (c .ask) (c .text) (c .room)
@@ -78,8 +83,8 @@ cases =
     ∷ shows "#.0#" (number (pos 123) 0) "123.0" 0
     ∷ shows "000-00-0000" (number (pos 123456789) 0) "123-45-6789" 0
     ∷ shows "0%" (number (negsuc 2) 0) "-300%" 0
-    ∷ shows "0" (number (negsuc 2) 1) "0" 0
-    ∷ shows "0.0" (number (negsuc 4) 2) "-0.1" 0
+    ∷ about "0" (number (negsuc 2) 1) "0" 0
+    ∷ about "0.0" (number (negsuc 4) 2) "-0.1" 0
     ∷ shows "[>100]0;0" (number (negsuc 4) 0) "-5" 1
     ∷ shows "#,##0;(#,##0)" (number (negsuc 2) 0) "(3)" 1
     ∷ denies "[>=10]0;[<0]0" (number (pos 5) 0) answer.NoSection
@@ -102,7 +107,7 @@ slips =
     -- a semicolon in quotes, and behind each mark; an elapsed run of nine letters
     ∷ shows "\"a;b\"0" (number (pos 1) 0) "a;b1" 0
     ∷ shows "\\;_;*;" (number (pos 1) 0) "; " 0
-    ∷ shows "[sssssssss]" (instant 0 5999) "000000005" 0
+    ∷ about "[sssssssss]" (instant 0 5999) "000000005" 0
     -- a colour by its number and by its name, of a number, an instant and a text
     ∷ colours "[Red]0;[Color56]0" (number (negsuc 4) 0) "5" 56 1
     ∷ colours "[Green]h:mm" (instant 0 53760000) "14:56" 4 0
@@ -118,9 +123,9 @@ slips =
     -- compared exactly: the last millionth, a part of it, and a millisecond to either side of noon
     ∷ shows "[=0.000001]\"a\";\"b\"" (number (pos 1) 6) "a" 0
     ∷ shows "[=0]\"a\";\"b\"" (number (pos 1) 7) "b" 1
-    ∷ shows "[=0.5]h;m" (instant 0 43199999) "1" 1
+    ∷ about "[=0.5]h;m" (instant 0 43199999) "1" 1
     ∷ shows "[=0.5]h;m" (instant 0 43200000) "12" 0
-    ∷ shows "[=0.5]h;m" (instant 0 43200001) "1" 1
+    ∷ about "[=0.5]h;m" (instant 0 43200001) "1" 1
     -- without conditions: two and three sections at 0; 10 comes before 11; N = 0 shows a number as General and refuses an instant
     ∷ shows "\"a\";\"b\"" (number (pos 0) 0) "a" 0
     ∷ shows "h;h;\"zero\"" (instant 0 0) "zero" 2
@@ -143,17 +148,17 @@ slips =
     ∷ shows "0;0;0;" (number (negsuc 4) 0) "5" 1
     ∷ colours "[Red]" (number (negsuc 4) 0) "" 3 0
     -- General up to 10^11
-    ∷ shows "General" (number (pos 999999999994) 1) "99999999999" 0
+    ∷ about "General" (number (pos 999999999994) 1) "99999999999" 0
     ∷ denies "General" (number (pos 999999999995) 1) answer.General
     -- 29 February 1900 and day 0
     ∷ shows "dddd, mmmm d, yyyy" (instant 60 0) "Wednesday, February 29, 1900" 0
     ∷ shows "ddd dd mmmmm" (instant 0 0) "Sat 00 J" 0
     -- noon; a part of a second; a month behind seconds; elapsed hours with minutes behind them; elapsed minutes
     ∷ shows "h:mm AM/PM" (instant 0 43200000) "12:00 PM" 0
-    ∷ shows "s.00" (instant 0 1239) "1.23" 0
+    ∷ about "s.00" (instant 0 1239) "1.23" 0
     ∷ shows "s m" (instant 60 307000) "7 2" 0
     ∷ shows "[h]:mm" (instant 1 3660000) "25:01" 0
-    ∷ shows "[mm]:ss" (instant 1 61999) "1441:01" 0
+    ∷ about "[mm]:ss" (instant 1 61999) "1441:01" 0
     -- minutes before seconds, over a half-day mark and before elapsed ones; by the nearest run alone: not over a day, nor over minutes;
     -- a month of three letters; seconds of another section
     ∷ shows "mm:ss" (instant 60 307000) "05:07" 0
@@ -162,7 +167,7 @@ slips =
     ∷ shows "m d s" (instant 60 307000) "2 29 7" 0
     ∷ shows "mm:mm:ss" (instant 60 307000) "02:05:07" 0
     ∷ shows "mmm:ss" (instant 60 307000) "Feb:07" 0
-    ∷ shows "m;s" (instant 60 307000) "2" 0
+    ∷ about "m;s" (instant 60 307000) "2" 0
     -- a text that is longer than the room is refused whole
     ∷ record { code = "00000000000000000"; ask = number (pos 1) 0; text = []; room = 16; answer = refused answer.TextRoom }
     ∷ []
@@ -178,15 +183,15 @@ scientifics =
     shows "0.00E+00" (number (pos 1) 0) "1.00E+00" 0
     -- the exponent is a multiple of the integer places, whatever stands between them, below 0 too
     ∷ shows "#0.0E+0" (number (pos 12200000) 0) "12.2E+6" 0
-    ∷ shows "0-0E+0" (number (pos 1230) 0) "1-2E+2" 0
+    ∷ about "0-0E+0" (number (pos 1230) 0) "1-2E+2" 0
     ∷ shows "##0.0E+0" (number (pos 3) 0) "3.0E+0" 0
     ∷ shows "##0.0E+0" (number (pos 3) 1) "300.0E-3" 0
     ∷ shows "000.0E+0" (number (pos 12) 0) "012.0E+0" 0
     -- it is told after rounding
-    ∷ shows "0E+0" (number (pos 94) 2) "9E-1" 0
-    ∷ shows "0E+0" (number (pos 95) 2) "1E+0" 0
-    ∷ shows "0.0E+0" (number (pos 995) 2) "1.0E+1" 0
-    ∷ shows "##0.0E+0" (number (pos 99995) 2) "1.0E+3" 0
+    ∷ about "0E+0" (number (pos 94) 2) "9E-1" 0
+    ∷ about "0E+0" (number (pos 95) 2) "1E+0" 0
+    ∷ about "0.0E+0" (number (pos 995) 2) "1.0E+1" 0
+    ∷ about "##0.0E+0" (number (pos 99995) 2) "1.0E+3" 0
     -- zero, by its marks; a number below 0 keeps its minus, however small
     ∷ shows "#.00E+00" (number (pos 0) 0) ".00E+00" 0
     ∷ shows "0E+0" (number (negsuc 0) 15) "-1E-15" 0
@@ -216,22 +221,22 @@ unfolding units seen
 fractions =
     -- over a fixed number the nearest numerator, halves up, never reduced; else no denominator comes closer, and of two as near the smaller is taken
     shows "# ?/8" (number (pos 125) 2) "1 2/8" 0
-    ∷ shows "# ?/2" (number (pos 25) 2) " 1/2" 0
+    ∷ about "# ?/2" (number (pos 25) 2) " 1/2" 0
     ∷ shows "?/80" (number (pos 5) 1) "40/80" 0
-    ∷ shows "# ?/?" (number (pos 3) 1) " 2/7" 0
+    ∷ about "# ?/?" (number (pos 3) 1) " 2/7" 0
     ∷ shows "# ??/??" (number (pos 3) 1) "  3/10" 0
-    ∷ shows "# ?/?" (number (pos 3875) 4) " 2/5" 0
-    ∷ shows "# ?/?" (number (pos 6125) 4) " 3/5" 0
+    ∷ about "# ?/?" (number (pos 3875) 4) " 2/5" 0
+    ∷ about "# ?/?" (number (pos 6125) 4) " 3/5" 0
     -- with integer places of the part behind the point, else of the number whole; these stand before the run of places at the solidus
     ∷ shows "# ?/?" (number (pos 125) 1) "12 1/2" 0
-    ∷ shows "?/?" (number (pos 123) 1) "86/7" 0
+    ∷ about "?/?" (number (pos 123) 1) "86/7" 0
     ∷ shows "#?/?" (number (pos 125) 2) "5/4" 0
     ∷ shows "0-0 0/8" (number (pos 1235) 1) "12-3 4/8" 0
     ∷ shows "0_x\" \"0/0" (number (pos 15) 1) "1  1/2" 0
     ∷ shows "_x?/?" (number (pos 5) 1) " 1/2" 0
     -- a fraction of 1 is carried where there are integer places; a numerator of nought is blank there, whatever the marks
-    ∷ shows "# ?/?" (number (pos 99) 2) "1    " 0
-    ∷ shows "?/?" (number (pos 99) 2) "1/1" 0
+    ∷ about "# ?/?" (number (pos 99) 2) "1    " 0
+    ∷ about "?/?" (number (pos 99) 2) "1/1" 0
     ∷ shows "0 00/00" (number (pos 3) 0) "3      " 0
     ∷ shows "# ?/100" (number (pos 3) 0) "3      " 0
     ∷ shows "# ?/?" (number (pos 0) 0) "    " 0
@@ -247,10 +252,10 @@ fractions =
     ∷ shows "?/0?" (number (pos 5) 1) "1/02" 0
     ∷ shows "?/#0" (number (pos 5) 1) "1/2" 0
     -- the minus is held back where whole number and numerator are nought as shown
-    ∷ shows "# ?/?" (number (negsuc 0) 2) "    " 0
-    ∷ shows "# ?/?" (number (negsuc 98) 2) "-1    " 0
+    ∷ about "# ?/?" (number (negsuc 0) 2) "    " 0
+    ∷ about "# ?/?" (number (negsuc 98) 2) "-1    " 0
     ∷ shows "# ?/?" (number (negsuc 4) 1) "- 1/2" 0
-    ∷ shows "?/?" (number (negsuc 0) 2) " /1" 0
+    ∷ about "?/?" (number (negsuc 0) 2) " /1" 0
     -- any other `/` is a literal; no instant
     ∷ shows "0/0/" (number (pos 5) 1) "1/2/" 0
     ∷ shows "0,/0" (number (pos 12) 0) "1/2" 0
@@ -263,6 +268,40 @@ fractions =
 pub fractions-right : All Right fractions
 unfolding fractions evaluated
 fractions-right = all-equal read (λ (c : Case). c .answer) fractions refl
+
+-- exact or not (R137, R138)
+unfoldable pub exacts : List Case
+unfolding units seen
+exacts =
+    -- of the scaled number, without its sign; General and `@` to their own decimals; a literal section whatever the number
+    shows "0%" (number (pos 5) 1) "50%" 0
+    ∷ shows "0;0" (number (negsuc 2) 0) "3" 1
+    ∷ about "#" (number (pos 4) 1) "" 0
+    ∷ shows "0.0E+0" (number (pos 12) 0) "1.2E+1" 0
+    ∷ about "General" (number (pos 100000000004) 11) "1" 0
+    ∷ about "@" (number (pos 12345678901) 11) "0.123456789" 0
+    ∷ shows "\"x\"" (number (pos 4) 1) "x" 0
+    -- whole number and fraction, blank or not, after the carry
+    ∷ shows "# ?/?" (number (pos 3) 0) "3    " 0
+    ∷ about "# ?/?" (number (pos 3001) 3) "3    " 0
+    ∷ about "# ?/?" (number (pos 96) 2) "1    " 0
+    ∷ shows "?/8" (number (pos 125) 2) "10/8" 0
+    -- the finest unit shown, whatever is not: coarser ones do not count, nor how often one is shown
+    ∷ shows "s" (instant 0 300000) "0" 0
+    ∷ shows "h s" (instant 0 300000) "0 0" 0
+    ∷ about "[h]" (instant 0 300000) "0" 0
+    ∷ shows "s.0 s.000" (instant 0 1) "0.0 0.001" 0
+    -- the day where there is none: a half-day mark is no hour, a month no minute
+    ∷ shows "yyyy" (instant 1 0) "1900" 0
+    ∷ about "yyyy" (instant 1 43200000) "1900" 0
+    ∷ about "mmm" (instant 1 1) "Jan" 0
+    ∷ about "d AM/PM" (instant 1 43200000) "1 PM" 0
+    ∷ about "m" (instant 1 300000) "1" 0
+    ∷ []
+
+pub exacts-right : All Right exacts
+unfolding exacts evaluated
+exacts-right = all-equal read (λ (c : Case). c .answer) exacts refl
 
 -- a code, and what the tests 1 to 6 say of it
 pub record Judged : Type 0 where

@@ -20,7 +20,7 @@ use Rattle.figures.specs.Rounding.{Magnitude}
 use Rattle.figures.proofs.Tens.{ten-pos, ten-le}
 use Rattle.figures.proofs.Digits.{digit-small}
 use Rattle.fractions.specs.declared.Mixed.{Mixed}
-use Rattle.fractions.specs.Fractions.{over, nearestFraction, behindPoint, fractionOf, unparted}
+use Rattle.fractions.specs.Fractions.{over, nearestFraction, behindPoint, fractionOf, unparted, mixedExactly}
 use Rattle.fractions.specs.Nearest.{NearestFraction, Carried}
 use Rattle.fractions.proofs.Scan.{nearest-fraction, over-half, over-within, nearest-within}
 use Rattle.fractions.proofs.Telling.{carry-keeps, TellsSmall, nearest-tells-small, over-tells-small}
@@ -212,8 +212,8 @@ module _ (s : Section) (x : Number) where
     told-fixed e = told-same ∙ picked-over is rules near near-pos e .over
 
     -- what the pieces show, where nought has no added minus
-    pub fraction-of : (added : Bool) → (told .whole ≡ 0 → told .above ≡ 0 → added ≡ false) → FractionOf exact is added (fractionPieces told is)
-    unfolding isParted
+    pub fraction-of : (added : Bool) → (told .whole ≡ 0 → told .above ≡ 0 → added ≡ false) → FractionOf exact is added (mixedExactly exact told) (fractionPieces told is)
+    unfolding isParted mixedExactly
     fraction-of added unsigned =
         let small : told .whole < 10 ^ 16 = omega (arith, told-small .whole) in
         let ws : List Item = wholeItems is in
@@ -241,4 +241,5 @@ module _ (s : Section) (x : Number) where
               (λ e.
               fraction-written is rules (told .above) (told .below) (lt-of-lt-of-le (told-small .above) (ten-le 18 25 (omega arith))) (told-small .upTo) told-fixed));
           noMinusAtNought = unsigned;
+          exactly = refl;
         }

@@ -76,13 +76,13 @@ blanks-spaces (i ∷ is) t =
     every-append isBlank (cond (isOfFraction i) (blankPiece i) []) _ (blank-spaces i (every-head (itemAllowed fractionKind) i is t))
     (blanks-spaces is (every-tail (itemAllowed fractionKind) i is t))
 
-module _ (x : Number) (added below : Bool) where
-  blank-piece : (i : Item) → T (itemAllowed fractionKind i) → PieceOf x added below i (blankPiece i)
+module _ (x : Number) (added below exact : Bool) where
+  blank-piece : (i : Item) → T (itemAllowed fractionKind i) → PieceOf x added below exact i (blankPiece i)
   unfolding blankPiece itemUnits every isDigit
   blank-piece =
-      held-case (λ (i : Item). PieceOf x added below i (blankPiece i)) ofLiteral ofBlank ofFill (λ p. ofPlace p (32 ∷ []) tt) (ofSolidus true) (ofFixed true)
+      held-case (λ (i : Item). PieceOf x added below exact i (blankPiece i)) ofLiteral ofBlank ofFill (λ p. ofPlace p (32 ∷ []) tt) (ofSolidus true) (ofFixed true)
 
-  pub blank-pieces : (is : List Item) → T (every (itemAllowed fractionKind) is) → PiecesOf x added below is (map blankPiece is)
+  pub blank-pieces : (is : List Item) → T (every (itemAllowed fractionKind) is) → PiecesOf x added below exact is (map blankPiece is)
   blank-pieces [] t = empty
   blank-pieces (i ∷ is) t =
       more i (blankPiece i) is (map blankPiece is) (blank-piece i (every-head (itemAllowed fractionKind) i is t))
@@ -154,7 +154,7 @@ none-figures = tt
 spare-plain : (d : ℕ) (is : List Item) → T (every isFigure (spare d is))
 spare-plain d is = every-weaker isBlank isFigure (λ u t. or-right (isDigit u || eqb u 44) (isBlank u) t) _ (spaces (count isSpace (sparePlaces d is)))
 
-module _ (x : Number) (added below : Bool) (c : Context) (us : List ℕ) (plain : T (every isFigure us)) where
+module _ (x : Number) (added below exact : Bool) (c : Context) (us : List ℕ) (plain : T (every isFigure us)) where
   abbrev after : ℕ → Item → ℕ
   after q i = digitAfter (firstOf (c .integerPlaces)) q i
 
@@ -164,11 +164,11 @@ module _ (x : Number) (added below : Bool) (c : Context) (us : List ℕ) (plain 
       by-place (λ (p : Place). T (every isFigure (itemUnits c q (spaceless (place p))))) (place-plain c zeroPlace q) (place-plain c hashPlace q)
       (place-plain c hashPlace q)
 
-  places-pieces : (q : ℕ) (is : List Item) → T (every isPlace is) → PiecesOf x added below is (endWith us (itemPieces c q (map spaceless is)))
+  places-pieces : (q : ℕ) (is : List Item) → T (every isPlace is) → PiecesOf x added below exact is (endWith us (itemPieces c q (map spaceless is)))
   unfolding endWith along
   places-pieces q [] t = empty
   places-pieces q (i ∷ is) t =
-      let P : Item → Type 0 = λ (j : Item). PiecesOf x added below (j ∷ is) (endWith us (itemPieces c q (map spaceless (j ∷ is)))) in
+      let P : Item → Type 0 = λ (j : Item). PiecesOf x added below exact (j ∷ is) (endWith us (itemPieces c q (map spaceless (j ∷ is)))) in
       place-case P
       (λ p.
       more (place p) _ is _
@@ -261,26 +261,26 @@ module _ (f : Mixed) (is : List Item) (r : FractionItems is) where
       (λ e. rw e (written-text (f .above) (f .below) is (r .parts))))
 
   -- a piece an item, where that holds of items that show a whole number
-  module _ (x : Number) (added below : Bool)
-      (each : (n : ℕ) (js : List Item) → T (every (itemAllowed fractionKind) js) → PiecesOf x added below js (wholePieces n js)) where
-    below-each : (is : List Item) → T (every (itemAllowed fractionKind) is) → PiecesOf x added below is (belowPieces (f .below) is)
+  module _ (x : Number) (added below exact : Bool)
+      (each : (n : ℕ) (js : List Item) → T (every (itemAllowed fractionKind) js) → PiecesOf x added below exact js (wholePieces n js)) where
+    below-each : (is : List Item) → T (every (itemAllowed fractionKind) is) → PiecesOf x added below exact is (belowPieces (f .below) is)
     below-each is held =
-        subst (λ (js : List Item). PiecesOf x added below js (belowPieces (f .below) is)) (start-joins is)
-        (pieces-join x added below
-        (places-pieces x added below _ (spare (f .below) (startPlaces is)) (spare-plain (f .below) (startPlaces is)) _ (startPlaces is) (start-places is))
+        subst (λ (js : List Item). PiecesOf x added below exact js (belowPieces (f .below) is)) (start-joins is)
+        (pieces-join x added below exact
+        (places-pieces x added below exact _ (spare (f .below) (startPlaces is)) (spare-plain (f .below) (startPlaces is)) _ (startPlaces is) (start-places is))
         (each 0 (behindStart is) (every-parts (itemAllowed fractionKind) (startPlaces is) (behindStart is) (start-joins is) held .1)))
 
-    written-each : PiecesOf x added below (mainItems is) (writtenPieces (f .above) (f .below) is)
+    written-each : PiecesOf x added below exact (mainItems is) (writtenPieces (f .above) (f .below) is)
     written-each =
         let b : List Item = r .parts .behind in
         let held = every-parts (itemAllowed fractionKind) (numeratorItems is) (solidus ∷ b) (sym (r .main)) (r .mainHeld) in
         rw (r .main, r .parts .from)
-        (pieces-join x added below (each (f .above) (numeratorItems is) (held .0))
+        (pieces-join x added below exact (each (f .above) (numeratorItems is) (held .0))
         (more solidus (47 ∷ []) b _ (ofSolidus false) (below-each b (every-tail (itemAllowed fractionKind) solidus b (held .1)))))
 
-    pub fraction-each : PiecesOf x added below is (fractionPieces f is)
+    pub fraction-each : PiecesOf x added below exact is (fractionPieces f is)
     fraction-each =
-        subst (λ (js : List Item). PiecesOf x added below js (fractionPieces f is)) (whole-joins is)
-        (pieces-join x added below
+        subst (λ (js : List Item). PiecesOf x added below exact js (fractionPieces f is)) (whole-joins is)
+        (pieces-join x added below exact
         (each (f .whole) (wholeItems is) (r .wholeHeld))
-        (cond-both (PiecesOf x added below (mainItems is)) (isParted is && eqb (f .above) 0) (blank-pieces x added below (mainItems is) (r .mainHeld)) written-each))
+        (cond-both (PiecesOf x added below exact (mainItems is)) (isParted is && eqb (f .above) 0) (blank-pieces x added below exact (mainItems is) (r .mainHeld)) written-each))

@@ -19,6 +19,7 @@ pub mod Cutting
 pub mod FigureItems
 pub mod ExponentUnits
 pub mod Pieces
+pub mod Exactness
 pub mod Scientific
 pub mod FractionParts
 pub mod FractionPieces

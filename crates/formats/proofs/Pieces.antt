@@ -31,10 +31,10 @@ unfolding flatten
 flatten-joins [] qs = refl
 flatten-joins (us ∷ ps) qs = rw (flatten-joins ps qs) (sym (append-assoc us (flatten ps) (flatten qs)))
 
-pub pieces-join : (x : Number) (added below : Bool) {is js : List Item} {ps qs : List (List ℕ)}
-    → PiecesOf x added below is ps → PiecesOf x added below js qs → PiecesOf x added below (is ++ js) (ps ++ qs)
-pieces-join x added below empty later = later
-pieces-join x added below (more i us is ps one rest) later = more i us _ _ one (pieces-join x added below rest later)
+pub pieces-join : (x : Number) (added below exact : Bool) {is js : List Item} {ps qs : List (List ℕ)}
+    → PiecesOf x added below exact is ps → PiecesOf x added below exact js qs → PiecesOf x added below exact (is ++ js) (ps ++ qs)
+pieces-join x added below exact empty later = later
+pieces-join x added below exact (more i us is ps one rest) later = more i us _ _ one (pieces-join x added below exact rest later)
 
 module _ (f : Item → Bool) where
   -- the units of items in front of others

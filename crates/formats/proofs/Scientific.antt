@@ -18,7 +18,7 @@ use Rattle.lists.proofs.Bools.{by-cases, and-left, and-right}
 use Rattle.figures.specs.Rounding.{Magnitude}
 use Rattle.figures.specs.Bounds.{Near}
 use Rattle.figures.proofs.Tens.{ten-pos, ten-le}
-use Rattle.exponents.specs.Exponent.{dividedBy, mantissaAt, exponentOf, mantissaOf}
+use Rattle.exponents.specs.Exponent.{dividedBy, mantissaAt, exponentOf, mantissaOf, mantissaExactly}
 use Rattle.exponents.specs.Least.{LeastExponent}
 use Rattle.exponents.proofs.Search.{exponent-least, mantissa-digits}
 use Rattle.exponents.proofs.Mantissa.{exponent-nought, mantissa-near, mantissa-small, exponent-most}
@@ -28,12 +28,13 @@ use Rattle.formats.specs.Limits.{sectionWithin}
 use Rattle.formats.specs.WellFormed.{sectionFormed, sectionFits}
 use Rattle.formats.specs.Choice.{numberExact}
 use Rattle.formats.specs.Text.{itemUnits, digitAfter, along, firstOf, itemPieces}
-use Rattle.formats.specs.Reading.{showsGeneral, sectionExponent, sectionRounded, numberContext, wholeContext, exponentContext, placesNought, showsNought}
+use Rattle.formats.specs.Reading.{showsGeneral, sectionExponent, sectionRounded, numberContext, wholeContext, exponentContext, placesNought, showsNought, numberExactly}
 use Rattle.formats.specs.Figures.{unitsRead, Counts, unitsOf, figurePieces, ScientificOf}
 use Rattle.formats.proofs.Cutting.{before-bare, cut-count, integers-before, decimals-before, Cut, cut, ExponentRules, exponent-rules, no-solidus, main-all, behind-bare, behind-pointless, behind-integers, scientific-some}
 use Rattle.formats.proofs.FigureItems.{figures-read, whole-read}
 use Rattle.formats.proofs.Pieces.{along-length, drop-front, units-front}
 use Rattle.formats.proofs.ExponentUnits.{items-digits}
+use Rattle.formats.proofs.Exactness.{read-exactly, exactly-scientific}
 
 -- where there is an integer place there is a place
 some-place : (is : List Item) → 1 ≤ integerPlaces is → any isPlace is ≡ true
@@ -168,8 +169,8 @@ module _ (s : Section) (x : Number) where
 
     -- what the pieces show, where nought has no added minus
     pub scientific-of : (added : Bool) → (sectionRounded s x ≡ 0 → added ≡ false)
-        → ScientificOf exact (s .items) added ((sectionExponent s x) .below) scientificPieces
-    unfolding numberExact sectionExponent mantissaOf mantissaAt
+        → ScientificOf exact (s .items) added ((sectionExponent s x) .below) (numberExactly s x) scientificPieces
+    unfolding numberExact sectionExponent mantissaOf mantissaAt mantissaExactly
     scientific-of added unsigned =
         let is : List Item = s .items in
         let ps : List (List ℕ) = itemPieces (exponentContext s x) (firstOf (placesBehind is)) (fromCut is) in
@@ -187,6 +188,7 @@ module _ (s : Section) (x : Number) where
             rounds = refl;
             near = near;
             noMinusAtNought = λ z. unsigned (rounded-mantissa ∙ z);
+            exactly = exactly-scientific s x kind ∙ read-exactly (dividedBy exact (sectionExponent s x)) d _ (rw front mantissa-read);
           };
           digits = digits;
           sign = refl;

@@ -1,4 +1,4 @@
--- What is promised of the units that a number is shown as holds.
+-- What is promised of the units that a number is shown as holds, and of when an instant and a text are exact.
 -- Assumes nothing.
 use mathlib.Core.Path.{_≡_, refl, sym, ap, subst, _∙_}
 use Prim.Native.Nat.{ℕ, _+_, _*_, _^_, _≤_, _<_}
@@ -11,15 +11,17 @@ use lib.Dec.{T, leb, eqb, leb→le, ltb→lt}
 use lib.IntN.{natAbs}
 use Rattle.answers.specs.declared.Answer.the-variants as answer
 use Rattle.values.specs.declared.Number.{Number}
+use Rattle.values.specs.declared.Day.{Day}
+use Rattle.values.specs.declared.Millisecond.{Millisecond}
 use Rattle.values.specs.declared.Value.the-variants as value
 use Rattle.values.specs.declared.Ask.{Ask}
-use Rattle.values.specs.Ranges.{numberInRange}
+use Rattle.values.specs.Ranges.{numberInRange, inRange}
 use Rattle.lists.specs.Lists.{every, any, count, isEmpty}
 use Rattle.lists.proofs.Bools.{no, by-cases, cond-both, cond-case, and-left, and-right, every-head, every-tail, true-T, not-false, or-false}
 use Rattle.lists.proofs.Counts.{any-either}
-use Rattle.figures.specs.Rounding.{Magnitude, scaled, rounded}
+use Rattle.figures.specs.Rounding.{Magnitude, scaled, rounded, roundsExactly}
 use Rattle.figures.specs.Powers.{powered}
-use Rattle.figures.specs.General.{generalDecimals, generalRounded, generalTooWide, generalUnits}
+use Rattle.figures.specs.General.{generalDecimals, generalRounded, generalExactly, generalTooWide, generalUnits}
 use Rattle.figures.proofs.Tens.{ten-pos}
 use Rattle.figures.proofs.Rounding.{half-unit, scaled-powered, scaled-small, rounded-small}
 use Rattle.calendar.specs.Names.{units}
@@ -27,16 +29,17 @@ use Rattle.fractions.specs.declared.Mixed.{Mixed}
 use Rattle.formats.specs.Items.{Item, isUnit, at, Section, Kind, showsPlaces, textKind, generalKind, dateKind, scientificKind, fractionKind, numberKind, sameKind, kindOf, itemAllowed, isPoint, isPercent, isExponent, isSolidus, isCut, itemsFit, mainItems, beforeCut, fromCut, integerPlaces, decimalPlaces, placesBehind}
 use Rattle.formats.specs.Limits.{sectionWithin}
 use Rattle.formats.specs.WellFormed.{sectionFormed, wellFormed, sectionFits}
-use Rattle.formats.specs.Choice.{Exact, numberExact, zeroExact, lessThan, counted, Reason, Choice, nothing, chosen, choose}
+use Rattle.formats.specs.Choice.{Exact, numberExact, instantExact, zeroExact, lessThan, counted, Reason, Choice, nothing, chosen, choose, TextChoice, itself, textIn, chooseText}
 use Rattle.formats.specs.Minus.{Sign, minus, notNegative, noItem, forNegatives, nought, isOwn, firstHasCondition, exceptionA, signFor, signUnits}
 use Rattle.formats.specs.Text.{Context, placeUnits, pointUnits, itemUnits, digitAfter, along, firstOf, itemPieces, itemsUnits, sectionUnits}
 use Rattle.formats.specs.Accept.{sectionsIn, Accepted, sections, refusal, accept}
-use Rattle.formats.specs.Reading.{Look, Reading, refused, shown, lookOf, within, takesNumber, showsGeneral, sectionExponent, sectionRounded, standingRounded, sectionFraction, numberContext, wholeContext, exponentContext, sectionText, placesNought, showsNought, numberSign, numberUnits, readNumber, readValue, reading, readAccepted, codeReading}
-use Rattle.formats.specs.Figures.{unitsRead, Counts, FiguresOf, GeneralFigures, PieceOf, ofLiteral, ofBlank, ofFill, ofPercent, ofPlace, ofPoint, ofGeneral, ofAt, ofExponent, ofSolidus, ofFixed, PiecesOf, empty, more, figurePieces, NumberShown}
+use Rattle.formats.specs.Reading.{Look, Reading, refused, shown, lookOf, within, takesNumber, takesInstant, showsGeneral, sectionExponent, sectionRounded, standingRounded, sectionFraction, numberContext, wholeContext, exponentContext, instantContext, textContext, sectionText, placesNought, showsNought, numberSign, numberUnits, numberExactly, finestSpan, instantExactly, readNumber, readInstant, readText, readValue, reading, readAccepted, codeReading}
+use Rattle.formats.specs.Figures.{unitsRead, Counts, FiguresOf, GeneralFigures, PieceOf, ofLiteral, ofBlank, ofFill, ofPercent, ofPlace, ofPoint, ofGeneral, ofAt, ofExponent, ofSolidus, ofFixed, PiecesOf, empty, more, figurePieces, NumberShown, InstantShown}
 use Rattle.formats.proofs.FigureUnits.{place-plain, beyond-plain}
 use Rattle.formats.proofs.FigureItems.{number-place, figures-read}
 use Rattle.formats.proofs.Cutting.{cut-joins, before-bare, every-before, every-from, main-all, no-solidus, held-bare}
 use Rattle.formats.proofs.Pieces.{flatten-joins, pieces-join}
+use Rattle.formats.proofs.Exactness.{read-exactly, exactly-number, exactly-general, exactly-fraction, exactly-literal, finest-of, cut-exactly}
 use Rattle.formats.proofs.Scientific.{scientificPieces, scientific-of}
 use Rattle.formats.proofs.FractionParts.{FractionItems, fraction-items}
 use Rattle.formats.proofs.FractionPieces.{fractionPieces, fraction-text, fraction-each}
@@ -94,10 +97,17 @@ nought-unsigned x s a =
     cond-both Unsigned (not (lessThan x zeroExact)) refl (cond-both Unsigned (isEmpty (s .items)) refl (cond-both Unsigned a refl refl))
 
 -- units that are read as the rounded number are its figures
-figures-of : (m : Magnitude) (d : ℕ) (added : Bool) (us : List ℕ) → 0 < m .below → d ≤ 15
-    → Counts (unitsRead us) (rounded m d) → (rounded m d ≡ 0 → added ≡ false) → FiguresOf m d added us
-figures-of m d added us pos most e unsigned =
-    record { number = rounded m d; read = e; rounds = refl; near = half-unit m d pos most; noMinusAtNought = unsigned }
+figures-of : (m : Magnitude) (d : ℕ) (added exact : Bool) (us : List ℕ) → 0 < m .below → d ≤ 15
+    → Counts (unitsRead us) (rounded m d) → (rounded m d ≡ 0 → added ≡ false) → exact ≡ roundsExactly m d → FiguresOf m d added exact us
+figures-of m d added exact us pos most e unsigned told =
+    record {
+      number = rounded m d;
+      read = e;
+      rounds = refl;
+      near = half-unit m d pos most;
+      noMinusAtNought = unsigned;
+      exactly = told ∙ read-exactly m d us e;
+    }
 
 -- General's rounded number has forty digits
 standing-fits : (x : Number) → T (numberInRange x) → standingRounded x < 10 ^ 40
@@ -136,6 +146,9 @@ module _ (ss : List Section) (i : ℕ) (s : Section) (why : Reason) (x : Number)
   abbrev added : Bool
   added = isMinus (numberSign ss i s why x)
 
+  abbrev exactly : Bool
+  exactly = numberExactly s x
+
   unsigned : showsNought s x ≡ true → added ≡ false
   unfolding numberSign
   unsigned e = rw e (nought-unsigned (numberExact x) s (exceptionA (counted ss) i (isOwn why) (firstHasCondition ss)))
@@ -154,7 +167,7 @@ module _ (ss : List Section) (i : ℕ) (s : Section) (why : Reason) (x : Number)
 
   section-figures : kindOf s ≡ numberKind
       → FiguresOf (scaled (natAbs (x .coefficient)) (x .scale) (count isPercent (s .items)) (s .thousands))
-      (decimalPlaces (s .items)) added (figurePieces (s .items) numberPieces)
+      (decimalPlaces (s .items)) added exactly (figurePieces (s .items) numberPieces)
   unfolding numberContext kindOf
   section-figures kind =
       let m : ℕ = natAbs (x .coefficient) in
@@ -166,22 +179,22 @@ module _ (ss : List Section) (i : ℕ) (s : Section) (why : Reason) (x : Number)
       let e : sectionRounded s x ≡ rounded exact d = rounded-scaled s x kind in
       let bare : any isCut (s .items) ≡ false = held-bare (kindOf s) (s .items) (rw kind refl) (rw kind refl) (r .allowed) in
       let integers : integerPlaces (s .items) ≤ 20 = rw (main-all (s .items) (no-solidus (kindOf s) (s .items) (rw kind refl) (r .allowed))) at (r .integers) in
-      figures-of exact d added (figurePieces (s .items) numberPieces) pos (r .decimals)
+      figures-of exact d added exactly (figurePieces (s .items) numberPieces) pos (r .decimals)
       (subst (Counts (unitsRead (figurePieces (s .items) numberPieces))) e
       (figures-read (numberContext s x) (s .items) (rw e (scaled-small m (x .scale) p (s .thousands) d small (r .percents) (r .decimals))) refl
       integers (r .decimals) (r .onePoint) bare (number-place (s .items) kind) (rw e (half-unit exact d pos (r .decimals) .whole))))
-      (λ z. unsigned-rounded (rw kind refl) (rw kind refl) (e ∙ z))
+      (λ z. unsigned-rounded (rw kind refl) (rw kind refl) (e ∙ z)) (exactly-number s x kind)
 
-  general-figures : showsGeneral (kindOf s) ≡ true → GeneralFigures x added (generalUnits (standingRounded x))
+  general-figures : showsGeneral (kindOf s) ≡ true → GeneralFigures x added exactly (generalUnits (standingRounded x))
   unfolding standingRounded generalRounded numberExact
   general-figures shows =
       let size : Magnitude = (numberExact x) .size in
       record {
         units = refl;
         figures =
-            figures-of size (generalDecimals size) added (generalUnits (standingRounded x)) (ten-pos (x .scale)) (unfold generalDecimals in omega arith)
+            figures-of size (generalDecimals size) added exactly (generalUnits (standingRounded x)) (ten-pos (x .scale)) (unfold generalDecimals in omega arith)
             (general-read (standingRounded x) (standing-fits x range))
-            (λ z. unsigned (unfold showsNought in rw (shows, eq-eqb (standingRounded x) 0 z, or-true)));
+            (λ z. unsigned (unfold showsNought in rw (shows, eq-eqb (standingRounded x) 0 z, or-true))) (unfold generalExactly in exactly-general s x shows);
       }
 
   dated : {P : Type 0} → T (sameKind dateKind (kindOf s)) → P
@@ -190,10 +203,10 @@ module _ (ss : List Section) (i : ℕ) (s : Section) (why : Reason) (x : Number)
   -- the pieces of items by a context that shows General's figures where the section shows them, and the exponent's sign where there is an E
   module _ (c : Context) (below : Bool) (standing : showsGeneral (kindOf s) ≡ true → c .standing ≡ generalUnits (standingRounded x)) where
     piece : (q : ℕ) (j : Item) → (isExponent j ≡ true → c .below ≡ below) → T (itemAllowed (kindOf s) j)
-        → PieceOf x added below j (itemUnits c q j)
+        → PieceOf x added below exactly j (itemUnits c q j)
     unfolding itemAllowed itemUnits pointUnits units
     piece q =
-        by-item (λ (j : Item). (isExponent j ≡ true → c .below ≡ below) → T (itemAllowed (kindOf s) j) → PieceOf x added below j (itemUnits c q j))
+        by-item (λ (j : Item). (isExponent j ≡ true → c .below ≡ below) → T (itemAllowed (kindOf s) j) → PieceOf x added below exactly j (itemUnits c q j))
         (λ u e a. ofLiteral u) (λ u e a. ofBlank u) (λ u e a. ofFill u) (λ p e a. ofPlace p (placeUnits c p q) (place-plain c p q))
         (λ e a. ofPoint _ (beyond-plain c (eqb (c .integerPlaces) 0) 14)) (λ e a. ofPercent)
         (λ e a. let shows = general-shown (kindOf s) a in rw (standing shows) (ofGeneral _ (general-figures shows)))
@@ -202,7 +215,7 @@ module _ (ss : List Section) (i : ℕ) (s : Section) (why : Reason) (x : Number)
         (λ m e a. rw (e refl) (ofExponent m)) (λ e a. ofSolidus false) (λ n e a. ofFixed false n)
 
     each-piece : (q : ℕ) (is : List Item) → (any isExponent is ≡ true → c .below ≡ below) → T (every (itemAllowed (kindOf s)) is)
-        → PiecesOf x added below is (itemPieces c q is)
+        → PiecesOf x added below exactly is (itemPieces c q is)
     unfolding along any
     each-piece q [] sign t = empty
     each-piece q (j ∷ is) sign t =
@@ -213,7 +226,7 @@ module _ (ss : List Section) (i : ℕ) (s : Section) (why : Reason) (x : Number)
 
   -- a section that is neither scientific nor a fraction
   plain-shown : sameKind (kindOf s) scientificKind ≡ false → sameKind (kindOf s) fractionKind ≡ false → choose ss (numberExact x) ≡ chosen i s why
-      → NumberShown ss x (lookOf (numberUnits ss i s why x) (s .colour) i)
+      → NumberShown ss x (lookOf (numberUnits ss i s why x) (s .colour) i exactly)
   unfolding numberUnits sectionText sectionUnits itemsUnits numberContext
   plain-shown other another e =
       record {
@@ -229,24 +242,25 @@ module _ (ss : List Section) (i : ℕ) (s : Section) (why : Reason) (x : Number)
         figures = section-figures;
         scientific = λ k. absurd (true≢false (rw k at other));
         fraction = λ k. absurd (true≢false (rw k at another));
+        literal = exactly-literal s x;
       }
 
   -- the pieces before the E are the mantissa's, those from it on the exponent's
-  scientific-pieces : kindOf s ≡ scientificKind → PiecesOf x added ((sectionExponent s x) .below) (s .items) (scientificPieces s x)
+  scientific-pieces : kindOf s ≡ scientificKind → PiecesOf x added ((sectionExponent s x) .below) exactly (s .items) (scientificPieces s x)
   unfolding showsGeneral exponentContext wholeContext numberContext
   scientific-pieces kind =
       let is : List Item = s .items in
       let below : Bool = (sectionExponent s x) .below in
       let allowed : Item → Bool = itemAllowed (kindOf s) in
-      subst (λ (js : List Item). PiecesOf x added below js (scientificPieces s x)) (cut-joins is)
-      (pieces-join x added below
+      subst (λ (js : List Item). PiecesOf x added below exactly js (scientificPieces s x)) (cut-joins is)
+      (pieces-join x added below exactly
       (each-piece (numberContext s x) below (λ h. refl) (firstOf (integerPlaces is)) (beforeCut is)
       (λ e. absurd (true≢false (sym e ∙ or-false _ _ (sym (any-either isExponent isSolidus (beforeCut is)) ∙ before-bare is) .0))) (every-before allowed is (r .allowed)))
       (each-piece (exponentContext s x) below (λ h. absurd (true≢false (sym (rw kind at h)))) (firstOf (placesBehind is)) (fromCut is)
       (λ e. refl) (every-from allowed is (r .allowed))))
 
   scientific-shown : sameKind (kindOf s) scientificKind ≡ true → choose ss (numberExact x) ≡ chosen i s why
-      → NumberShown ss x (lookOf (numberUnits ss i s why x) (s .colour) i)
+      → NumberShown ss x (lookOf (numberUnits ss i s why x) (s .colour) i exactly)
   unfolding numberUnits sectionText sectionUnits itemsUnits numberContext exponentContext wholeContext
   scientific-shown same e =
       let kind : kindOf s ≡ scientificKind = same-scientific (kindOf s) same in
@@ -265,10 +279,11 @@ module _ (ss : List Section) (i : ℕ) (s : Section) (why : Reason) (x : Number)
         figures = λ k. absurd (true≢false (sym (rw k at same)));
         scientific = λ k. scientific-of s x kind (r .formed) range added (unsigned-rounded (rw kind refl) (rw kind refl));
         fraction = λ k. absurd (true≢false (sym (rw k at same)));
+        literal = exactly-literal s x;
       }
 
   fraction-shown : sameKind (kindOf s) scientificKind ≡ false → sameKind (kindOf s) fractionKind ≡ true → choose ss (numberExact x) ≡ chosen i s why
-      → NumberShown ss x (lookOf (numberUnits ss i s why x) (s .colour) i)
+      → NumberShown ss x (lookOf (numberUnits ss i s why x) (s .colour) i exactly)
   unfolding numberUnits sectionText showsGeneral wholeContext placesNought
   fraction-shown other same e =
       let kind : kindOf s ≡ fractionKind = same-fraction (kindOf s) same in
@@ -283,16 +298,18 @@ module _ (ss : List Section) (i : ℕ) (s : Section) (why : Reason) (x : Number)
         goes = e;
         coloured = refl;
         text = rw (sign-units (numberSign ss i s why x), other, same, fraction-text f (s .items) rules);
-        each = fraction-each f (s .items) rules x added false
+        each = fraction-each f (s .items) rules x added false exactly
             (λ n js t.
             each-piece (wholeContext n (integerPlaces js) false) false (λ h. absurd (true≢false (sym (rw kind at h)))) (firstOf (integerPlaces js)) js (λ h. refl)
             (rw (sym kind) at t));
         figures = λ k. absurd (true≢false (sym (rw k at same)));
         scientific = λ k. absurd (true≢false (rw k at other));
-        fraction = λ k. fraction-of s x rules range added (λ w a. unsigned-places (rw kind refl) (rw (same, eq-eqb (f .whole) 0 w, eq-eqb (f .above) 0 a)));
+        fraction = λ k. rw (exactly-fraction s x kind)
+            (fraction-of s x rules range added (λ w a. unsigned-places (rw kind refl) (rw (same, eq-eqb (f .whole) 0 w, eq-eqb (f .above) 0 a))));
+        literal = exactly-literal s x;
       }
 
-  text-shown : choose ss (numberExact x) ≡ chosen i s why → NumberShown ss x (lookOf (numberUnits ss i s why x) (s .colour) i)
+  text-shown : choose ss (numberExact x) ≡ chosen i s why → NumberShown ss x (lookOf (numberUnits ss i s why x) (s .colour) i exactly)
   text-shown e =
       by-cases (sameKind (kindOf s) scientificKind) (λ h. scientific-shown h e)
       (λ h. by-cases (sameKind (kindOf s) fractionKind) (λ k. fraction-shown h k e) (λ k. plain-shown h k e))
@@ -321,12 +338,51 @@ reading-shown ss ask x text room formed isNumber =
     let P : Reading → Type 0 = WhereShown (NumberShown ss x) in
     rw isNumber (cond-case P (numberInRange x) (λ h. choice-shown ss x room formed (true-T h) (choose ss (numberExact x)) refl) (λ h. tt))
 
-accepted-shown : (code : List ℕ) (ask : Ask) (x : Number) (text : List ℕ) (room : ℕ) → T (every isUnit code) → ask .value ≡ value.Number x
-    → (a : Accepted) → accept code ≡ a → WhereShown (NumberShown (sectionsIn code) x) (readAccepted a ask text room)
+-- the section that an instant goes to, and when it is exact there
+dated-shown : (ss : List Section) (d : Day) (m : Millisecond) (room : ℕ) (c : Choice) → choose ss (instantExact d m) ≡ c
+    → WhereShown (InstantShown ss d m) (readInstant d m room c)
+unfolding readInstant within instantExactly
+dated-shown ss d m room nothing e = tt
+dated-shown ss d m room (chosen i s why) e =
+    let P : Reading → Type 0 = WhereShown (InstantShown ss d m) in
+    cond-both P (not (takesInstant (kindOf s))) tt
+    (cond-both P (leb (length (sectionUnits (instantContext s d m) (s .items))) room)
+    (record {
+      taker = s;
+      why = why;
+      goes = e;
+      span = finestSpan (s .items);
+      finest = finest-of (s .items);
+      dated = λ k. rw k (cut-exactly (m .0) (finestSpan (s .items)));
+      literal = λ k. rw k;
+    }) tt)
+
+instant-reading : (ss : List Section) (ask : Ask) (d : Day) (m : Millisecond) (text : List ℕ) (room : ℕ) → ask .value ≡ value.Instant d m
+    → WhereShown (InstantShown ss d m) (reading ss ask text room)
+unfolding reading readValue
+instant-reading ss ask d m text room isInstant =
+    cond-both (WhereShown (InstantShown ss d m)) (inRange ask text) (rw isInstant (dated-shown ss d m room (choose ss (instantExact d m)) refl)) tt
+
+abbrev IsExact : Look → Type 0
+IsExact look = look .exact ≡ true
+
+written-exact : (text : List ℕ) (room : ℕ) (c : TextChoice) → WhereShown IsExact (readText text room c)
+unfolding readText within
+written-exact text room itself = cond-both (WhereShown IsExact) (leb (length text) room) refl tt
+written-exact text room (textIn i s) = cond-both (WhereShown IsExact) (leb (length (sectionUnits (textContext text) (s .items))) room) refl tt
+
+text-reading : (ss : List Section) (ask : Ask) (text : List ℕ) (room : ℕ) → ask .value ≡ value.Text → WhereShown IsExact (reading ss ask text room)
+unfolding reading readValue
+text-reading ss ask text room isText =
+    cond-both (WhereShown IsExact) (inRange ask text) (rw isText (written-exact text room (chooseText ss))) tt
+
+-- what is seen of the sections of a code is seen of the code
+accepted-shown : (P : List Section → Look → Type 0) (code : List ℕ) (ask : Ask) (text : List ℕ) (room : ℕ)
+    → ((ss : List Section) → accept code ≡ sections ss → WhereShown (P ss) (reading ss ask text room))
+    → (a : Accepted) → accept code ≡ a → WhereShown (P (sectionsIn code)) (readAccepted a ask text room)
 unfolding readAccepted
-accepted-shown code ask x text room known isNumber (refusal a k) h = tt
-accepted-shown code ask x text room known isNumber (sections ss) h =
-    rw (accepted-sections code ss h .1) (reading-shown ss ask x text room (accepted-formed code ss known h) isNumber)
+accepted-shown P code ask text room law (refusal a k) h = tt
+accepted-shown P code ask text room law (sections ss) h = rw (accepted-sections code ss h .1) (law ss h)
 
 -- the law of a number that sections show
 pub number-shown : (ss : List Section) (ask : Ask) (x : Number) (text : List ℕ) (room : ℕ) (look : Look)
@@ -341,4 +397,36 @@ pub code-number-shown : (code : List ℕ) (ask : Ask) (x : Number) (text : List 
     → NumberShown (sectionsIn code) x look
 unfolding codeReading
 code-number-shown code ask x text room look known isNumber e =
-    subst (WhereShown (NumberShown (sectionsIn code) x)) e (accepted-shown code ask x text room known isNumber (accept code) refl)
+    subst (WhereShown (NumberShown (sectionsIn code) x)) e
+    (accepted-shown (λ (ss : List Section). NumberShown ss x) code ask text room
+    (λ ss h. reading-shown ss ask x text room (accepted-formed code ss known h) isNumber) (accept code) refl)
+
+-- the law of an instant that sections show
+pub instant-shown : (ss : List Section) (ask : Ask) (d : Day) (m : Millisecond) (text : List ℕ) (room : ℕ) (look : Look)
+    → ask .value ≡ value.Instant d m → reading ss ask text room ≡ shown look
+    → InstantShown ss d m look
+instant-shown ss ask d m text room look isInstant e =
+    subst (WhereShown (InstantShown ss d m)) e (instant-reading ss ask d m text room isInstant)
+
+-- and of one that a code shows
+pub code-instant-shown : (code : List ℕ) (ask : Ask) (d : Day) (m : Millisecond) (text : List ℕ) (room : ℕ) (look : Look)
+    → ask .value ≡ value.Instant d m → codeReading code ask text room ≡ shown look
+    → InstantShown (sectionsIn code) d m look
+unfolding codeReading
+code-instant-shown code ask d m text room look isInstant e =
+    subst (WhereShown (InstantShown (sectionsIn code) d m)) e
+    (accepted-shown (λ (ss : List Section). InstantShown ss d m) code ask text room (λ ss h. instant-reading ss ask d m text room isInstant) (accept code) refl)
+
+-- "Text values [..] are exact", by sections and by a code
+pub text-exact : (ss : List Section) (ask : Ask) (text : List ℕ) (room : ℕ) (look : Look)
+    → ask .value ≡ value.Text → reading ss ask text room ≡ shown look
+    → look .exact ≡ true
+text-exact ss ask text room look isText e = subst (WhereShown IsExact) e (text-reading ss ask text room isText)
+
+pub code-text-exact : (code : List ℕ) (ask : Ask) (text : List ℕ) (room : ℕ) (look : Look)
+    → ask .value ≡ value.Text → codeReading code ask text room ≡ shown look
+    → look .exact ≡ true
+unfolding codeReading
+code-text-exact code ask text room look isText e =
+    subst (WhereShown IsExact) e
+    (accepted-shown (λ (ss : List Section). IsExact) code ask text room (λ ss h. text-reading ss ask text room isText) (accept code) refl)

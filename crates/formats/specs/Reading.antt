@@ -1,9 +1,10 @@
--- The reading (R108, R109); what is left of choice and minus (R59, R61, R62, R65, R66); which figures are shown (R67, R68, R78, R79, R126, R128, R133, R135).
+-- The reading (R108, R109); what is left of choice and minus (R59, R61, R62, R65, R66); which figures are shown (R67, R68, R78, R79, R126, R128, R133, R135), and
+-- whether they are exact (R137, R138).
 -- "A reading of an accepted code, or of a table that passes, takes a value and the text room's length. It gives the first of
--- showing's refusals after 8 that applies, or 0 with text, colour and section."
+-- showing's refusals after 8 that applies, or 0 with text, colour and section." "A reading gives it too": whether what is shown is exact.
 -- Assumes nothing.
-use Prim.Native.Nat.{ℕ, _-_, _*_, _^_}
-use mathlib.Core.Bool.{Bool, false, cond, not, _&&_, _||_}
+use Prim.Native.Nat.{ℕ, _-_, _*_, _%_, _^_, min}
+use mathlib.Core.Bool.{Bool, true, false, cond, not, _&&_, _||_}
 use mathlib.Core.List.{List, [], _∷_, _++_, map, flatten}
 use lib.ListN.{length, take, drop, replicate}
 use lib.Dec.{leb, eqb}
@@ -19,33 +20,34 @@ use Rattle.values.specs.declared.Ask.{Ask}
 use Rattle.values.specs.Ranges.{inRange}
 use Rattle.lists.specs.Lists.{any, count}
 use Rattle.figures.specs.Digits.{width}
-use Rattle.figures.specs.Rounding.{Magnitude, scaled, rounded}
-use Rattle.figures.specs.General.{generalRounded, generalTooWide, generalUnits}
-use Rattle.exponents.specs.Exponent.{Exponent, exponentOf, mantissaOf}
+use Rattle.figures.specs.Rounding.{Magnitude, scaled, rounded, roundsExactly}
+use Rattle.figures.specs.General.{generalRounded, generalExactly, generalTooWide, generalUnits}
+use Rattle.exponents.specs.Exponent.{Exponent, exponentOf, mantissaOf, mantissaExactly}
 use Rattle.fractions.specs.declared.Fraction.{Fraction}
 use Rattle.fractions.specs.declared.Mixed.{Mixed}
-use Rattle.fractions.specs.Fractions.{over, nearestFraction, fractionOf}
+use Rattle.fractions.specs.Fractions.{over, nearestFraction, fractionOf, mixedExactly}
 use Rattle.calendar.specs.Date.{dateOf}
 use Rattle.calendar.specs.Clock.{clockOf, sinceDayZero}
-use Rattle.formats.specs.Tokens.{hashPlace}
-use Rattle.formats.specs.Items.{Item, itemRow, blank, place, Section, Kind, kindRow, showsPlaces, scientificKind, fractionKind, sameKind, kindOf, isPlace, isSpace, isPercent, isHalf, isSolidus, isFixed, beforeCut, fromCut, integerPlaces, decimalPlaces, placesBehind, startPlaces, behindStart, numeratorItems, wholeItems, mainItems}
+use Rattle.formats.specs.Tokens.{hours, minutes, seconds, hashPlace}
+use Rattle.formats.specs.Items.{Item, itemRow, blank, place, Section, Kind, kindRow, showsPlaces, dateKind, scientificKind, fractionKind, numberKind, sameKind, kindOf, isPlace, isSpace, isPercent, isHour, isMinute, isSecond, isPart, isElapsedOf, isHalf, isSolidus, isFixed, beforeCut, fromCut, integerPlaces, decimalPlaces, placesBehind, startPlaces, behindStart, numeratorItems, wholeItems, mainItems}
 use Rattle.formats.specs.Choice.{numberExact, instantExact, Choice, nothing, chosen, Reason, choose, counted, TextChoice, itself, textIn, chooseText}
 use Rattle.formats.specs.Minus.{Sign, isOwn, firstHasCondition, exceptionA, signFor, signUnits}
 use Rattle.formats.specs.Text.{Context, sectionUnits}
 use Rattle.formats.specs.Accept.{Accepted, sections, refusal, accept}
 
--- what is seen of a value: "text, colour and section"
+-- what is seen of a value: "text, colour and section", and whether it is exact
 pub record Look : Type 0 where
   pub text : List ℕ
   pub colour : ℕ
   pub section : ℕ
+  pub exact : Bool
 
 pub data Reading : Type 0 where
   refused : Answer → Reading
   shown : Look → Reading
 
-abbrev pub lookOf : List ℕ → ℕ → ℕ → Look
-lookOf text colour section = record { text = text; colour = colour; section = section }
+abbrev pub lookOf : List ℕ → ℕ → ℕ → Bool → Look
+lookOf text colour section exact = record { text = text; colour = colour; section = section; exact = exact }
 
 -- 13: "the text is longer than the room"
 unfoldable pub within : ℕ → Look → Reading
@@ -219,25 +221,58 @@ numberSign ss i s why x =
 unfoldable pub numberUnits : List Section → ℕ → Section → Reason → Number → List ℕ
 numberUnits ss i s why x = signUnits (numberSign ss i s why x) ++ sectionText s x
 
+-- ---- exact or not
+-- "whether the rounded number equals the exact one", "literal sections are exact; a fraction is exact when it and the integer part shown make up the
+-- number, sign aside" (R137)
+unfoldable pub numberExactly : Section → Number → Bool
+numberExactly s x =
+    cond (showsGeneral (kindOf s)) (generalExactly ((numberExact x) .size))
+    (cond (sameKind (kindOf s) scientificKind)
+    (mantissaExactly ((numberExact x) .size) (integerPlaces (s .items)) (decimalPlaces (s .items)))
+    (cond (sameKind (kindOf s) fractionKind) (mixedExactly ((numberExact x) .size) (sectionFraction s x))
+    (cond (sameKind (kindOf s) numberKind)
+    (roundsExactly (scaled (natAbs (x .coefficient)) (x .scale) (count isPercent (s .items)) (s .thousands)) (decimalPlaces (s .items)))
+    true)))
+
+-- the milliseconds of a day
+abbrev pub daySpan : ℕ
+daySpan = 86400000
+
+-- the milliseconds of the unit that an item shows: "hour, minute, second (elapsed or not) and its part"; of any other item those of the day (R138)
+unfoldable pub itemSpan : Item → ℕ
+itemSpan i =
+    cond (isHour i || isElapsedOf hours i) 3600000
+    (cond (isMinute i || isElapsedOf minutes i) 60000
+    (cond (isSecond i || isElapsedOf seconds i) 1000 (cond (isPart i) (10 ^ (3 - itemRow i .argument)) daySpan)))
+
+-- "the finest of [these] shown, or [..] the day where none is shown" (R138)
+unfoldable pub finestSpan : List Item → ℕ
+finestSpan [] = daySpan
+finestSpan (i ∷ is) = min (itemSpan i) (finestSpan is)
+
+-- "an instant is exact when no nonzero part finer than the finest [..] was cut" (R138); a literal section is exact
+unfoldable pub instantExactly : Section → Millisecond → Bool
+instantExactly s m = cond (sameKind (kindOf s) dateKind) (eqb (m .0 % finestSpan (s .items)) 0) true
+
 -- 10, 11, 12, 13 of a number (R62, R79)
 unfoldable pub readNumber : List Section → Number → ℕ → Choice → Reading
 readNumber ss x room nothing = refused answer.NoSection
 readNumber ss x room (chosen i s why) =
     cond (not (takesNumber (kindOf s))) (refused answer.Sort)
     (cond (showsGeneral (kindOf s) && generalTooWide ((numberExact x) .size)) (refused answer.General)
-    (within room (lookOf (numberUnits ss i s why x) (s .colour) i)))
+    (within room (lookOf (numberUnits ss i s why x) (s .colour) i (numberExactly s x))))
 
 -- 10, 11, 13 of an instant, which is never below 0 (R62, R66)
 unfoldable pub readInstant : Day → Millisecond → ℕ → Choice → Reading
 readInstant d m room nothing = refused answer.NoSection
 readInstant d m room (chosen i s why) =
     cond (not (takesInstant (kindOf s))) (refused answer.Sort)
-    (within room (lookOf (sectionUnits (instantContext s d m) (s .items)) (s .colour) i))
+    (within room (lookOf (sectionUnits (instantContext s d m) (s .items)) (s .colour) i (instantExactly s m)))
 
--- 13 of a text: "with no such section the text itself is shown, section 4, colour 0"
+-- 13 of a text: "with no such section the text itself is shown, section 4, colour 0"; "Text values [..] are exact" (R137)
 unfoldable pub readText : List ℕ → ℕ → TextChoice → Reading
-readText text room itself = within room (lookOf text 0 4)
-readText text room (textIn i s) = within room (lookOf (sectionUnits (textContext text) (s .items)) (s .colour) i)
+readText text room itself = within room (lookOf text 0 4 true)
+readText text room (textIn i s) = within room (lookOf (sectionUnits (textContext text) (s .items)) (s .colour) i true)
 
 unfoldable pub readValue : List Section → Value → List ℕ → ℕ → Reading
 readValue ss (value.Number x) text room = readNumber ss x room (choose ss (numberExact x))

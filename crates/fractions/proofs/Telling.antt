@@ -1,6 +1,6 @@
 -- The carry, and what the code tells of a whole number and the fraction behind the point.
 -- Assumes nothing.
-use mathlib.Core.Path.{_≡_, refl, sym, ap, _∙_}
+use mathlib.Core.Path.{_≡_, refl, sym, ap, ap₂, _∙_}
 use mathlib.Core.Bool.{Bool, true, false, cond}
 use Prim.Native.Nat.{ℕ, _+_, _-_, _*_, _/_, _%_, _^_, _≤_, _<_}
 use native.Mathlib.Nat.{div-add-mod', div-le-self, mod-lt, mul-le-mul}
@@ -10,10 +10,11 @@ use lib.Dec.{eqb}
 use Rattle.lists.proofs.Bools.{cond-both, cond-case}
 use Rattle.figures.specs.Rounding.{Magnitude, nearest}
 use Rattle.figures.proofs.Tens.{ten-pos, ten-le}
+use Rattle.figures.proofs.Exactly.{eqb-same}
 use Rattle.exponents.specs.Exponent.{decimal}
 use Rattle.fractions.specs.declared.Fraction.{Fraction}
 use Rattle.fractions.specs.declared.Mixed.{Mixed}
-use Rattle.fractions.specs.Fractions.{over, nearestUpTo, nearestFraction, behindPoint, carried, unparted, fractionOf}
+use Rattle.fractions.specs.Fractions.{over, nearestUpTo, nearestFraction, behindPoint, carried, unparted, fractionOf, mixedExactly}
 use Rattle.fractions.specs.Nearest.{Carried}
 use Rattle.fractions.specs.Moves.{shifted, toldOf}
 use Rattle.fractions.proofs.Scan.{over-shift, nearest-shift, nearest-fraction, over-within, nearest-within}
@@ -25,6 +26,16 @@ carry-keeps w f one h =
     cond-case (Carried w f) (eqb (f .above) (f .below))
     (λ t. let e = eqb-true (f .above) (f .below) t in record { kept = omega arith; same = refl; proper = omega arith })
     (λ t. let e = eqb-false (f .above) (f .below) t in record { kept = refl; same = refl; proper = omega arith })
+
+-- what is told is the amount of the whole number and the fraction, over the same denominator
+told-keeps : (parted : Bool) (w : ℕ) (f : Fraction)
+    → (toldOf parted w f .whole * toldOf parted w f .below + toldOf parted w f .above ≡ w * f .below + f .above) × (toldOf parted w f .below ≡ f .below)
+unfolding toldOf carried unparted shifted
+told-keeps true w f =
+    cond-case (λ (r : Mixed). (r .whole * r .below + r .above ≡ w * f .below + f .above) × (r .below ≡ f .below)) (eqb (f .above) (f .below))
+    (λ t. let e = eqb-true (f .above) (f .below) t in (omega arith, refl))
+    (λ t. (refl, refl))
+told-keeps false w f = (omega arith, refl)
 
 -- what the code tells of the fraction picked for the part, where a whole number more is a whole number more above
 told-picked : {r : Mixed} (parted : Bool) (part : Fraction) (pick : Magnitude → Fraction) (x : Magnitude)
@@ -59,6 +70,11 @@ module _ (m s : ℕ) {unit : ℕ} (u : unit ≡ 10 ^ s) where
       let within = over-within (record { above = m % unit; below = unit }) unit-pos (omega (arith, part-less)) d in
       omega (arith, ap (nearest (m % unit * d)) u)
 
+  -- the quotient that finds the numerator is exact where the fraction is the part
+  pub fixed-met : (d : ℕ) {a : ℕ} → a ≡ nearest (m % unit * d) (10 ^ s)
+      → eqb (nearest (m % unit * d) (10 ^ s) * 10 ^ s) (m % unit * d) ≡ eqb (a * unit) (m % unit * d)
+  fixed-met d e = ap₂ (λ (x y : ℕ). eqb (x * y) (m % unit * d)) (sym e) (sym u)
+
   module _ (parted : Bool) (part : Fraction) {r : Mixed} (told : r ≡ toldOf parted (m / unit) part) where
     pub told-nearest : (k : ℕ) {p : ℕ} → p ≡ 10 ^ k → part ≡ nearestUpTo (p - 1) (record { above = m % unit; below = unit })
         → r ≡ fractionOf parted (nearestFraction k) (decimal m s)
@@ -73,6 +89,16 @@ module _ (m s : ℕ) {unit : ℕ} (u : unit ≡ 10 ^ s) where
         let x : Magnitude = decimal m s in
         let e : part ≡ over (part .below) (behindPoint x) = ap (λ (a : ℕ). record { above = a; below = part .below }) (rw u at f) in
         told-picked parted part (over (part .below)) x (over-shift (m / 10 ^ s) (behindPoint x) (ten-pos s) (part .below)) e (rw u at told)
+
+    -- it is the number where the fraction is the part behind the point
+    pub told-exactly : eqb (part .above * unit) (m % unit * part .below) ≡ mixedExactly (decimal m s) r
+    unfolding mixedExactly
+    told-exactly =
+        let kept = told-keeps parted (m / unit) part in
+        let whole = ap (λ (x : ℕ). x * part .below) (div-add-mod' m unit) in
+        rw (told, ← u, kept .0, kept .1)
+        (eqb-same {a = part .above * unit} {b = m % unit * part .below} {c = (m / unit * part .below + part .above) * unit} {d = m * part .below}
+        (λ e. omega arith) (λ e. omega arith))
 
 -- how large what is told is
 pub record TellsSmall (r : Mixed) : Type 0 where

@@ -1,4 +1,4 @@
--- Fraction sections (R133): the nearest fraction, the nearest numerator over a fixed number, and the carry.
+-- Fraction sections (R133, R137): the nearest fraction, the nearest numerator over a fixed number, and the carry.
 -- Assumes nothing.
 use Prim.Native.Nat.{ℕ, zero, suc, _+_, _-_, _*_, _/_, _%_, _^_}
 use mathlib.Core.Bool.{Bool, cond}
@@ -46,3 +46,7 @@ unparted f = record { whole = 0; above = f .above; below = f .below }
 -- x as its whole number and the fraction picked for the part behind the point, or as the fraction picked for x whole
 unfoldable pub fractionOf : Bool → (Magnitude → Fraction) → Magnitude → Mixed
 fractionOf parted pick x = cond parted (carried (x .above / x .below) (pick (behindPoint x))) (unparted (pick x))
+
+-- "a fraction is exact when it and the integer part shown make up the number, sign aside" (R137)
+unfoldable pub mixedExactly : Magnitude → Mixed → Bool
+mixedExactly x f = eqb ((f .whole * f .below + f .above) * x .below) (x .above * f .below)

@@ -1,9 +1,10 @@
 // The nearest fraction of a number, and the nearest numerator over a fixed one, exactly.
 ghost use mathlib.Core.Path.{_≡_};
 ghost use Prim.Native.Nat.{ℕ, _+_, _*_, _/_, _^_, _≤_, _<_, min};
+ghost use lib.Dec.{eqb};
 ghost use Rattle.figures.specs.Rounding.{Magnitude};
 ghost use Rattle.exponents.specs.Exponent.{decimal};
-ghost use Rattle.fractions.specs.Fractions.{over, nearestUpTo, nearestFraction, fractionOf};
+ghost use Rattle.fractions.specs.Fractions.{over, nearestUpTo, nearestFraction, fractionOf, mixedExactly};
 ghost use Rattle.fractions.specs.Nearest.{NearestFraction};
 ghost use Rattle.fractions.specs.Moves.{toldOf, at, Between, movedTo, Movable};
 
@@ -18,6 +19,12 @@ pub struct Mixed {
     pub whole: u64,
     pub above: u64,
     pub below: u64,
+}
+
+// The nearest of the numbers allowed, and whether it is the number itself.
+pub struct Nearest {
+    pub mixed: Mixed,
+    pub exact: bool,
 }
 
 // A fraction on one side of a number, and how far it is from it, times both denominators.
@@ -143,29 +150,46 @@ fn told(whole: u64, part: Fraction, parted: bool) -> Mixed
     }
 }
 
+// Whether a fraction is rest / whole itself. Both products are below 10^18.
+fn is_met(part: Fraction, rest: u64, whole: u64) -> bool
+    requires { ⌜ (part .above ≤ 999) × (part .below ≤ 999) × (rest < whole) × (whole ≤ 10 ^ 15) ⌝ }
+    ensures { λ r. ⌜ r ≡ eqb (part .above * whole) (rest * part .below) ⌝ }
+{
+    let above = part.above;
+    let below = part.below;
+    above * whole == rest * below
+}
+
 // The nearest fraction of m / 10^scale with a denominator of so many digits at most.
-pub fn nearest_fraction(m: u64, scale: u32, parted: bool, places: u32) -> Mixed
+pub fn nearest_fraction(m: u64, scale: u32, parted: bool, places: u32) -> Nearest
     requires { ⌜ (m < 10 ^ 15) × (scale ≤ 15) × (1 ≤ places) × (places ≤ 3) ⌝ }
-    ensures { λ r. ⌜ r ≡ fractionOf parted (nearestFraction places) (decimal m scale) ⌝ }
+    ensures mixed { λ r. ⌜ r .mixed ≡ fractionOf parted (nearestFraction places) (decimal m scale) ⌝ }
+    ensures exact { λ r. ⌜ r .exact ≡ mixedExactly (decimal m scale) (r .mixed) ⌝ }
 {
     let unit = figures::power(scale);
-    told(
-        m / unit,
-        nearest_part(m % unit, unit, figures::power(places) - 1),
-        parted,
-    )
+    let rest = m % unit;
+    let part = nearest_part(rest, unit, figures::power(places) - 1);
+    Nearest {
+        mixed: told(m / unit, part, parted),
+        exact: is_met(part, rest, unit),
+    }
 }
 
 // The nearest fraction of m / 10^scale over a fixed number.
-pub fn fixed_fraction(m: u64, scale: u32, parted: bool, fixed: u32) -> Mixed
+pub fn fixed_fraction(m: u64, scale: u32, parted: bool, fixed: u32) -> Nearest
     requires { ⌜ (m < 10 ^ 15) × (scale ≤ 15) × (1 ≤ fixed) × (fixed ≤ 999) ⌝ }
-    ensures { λ r. ⌜ r ≡ fractionOf parted (over fixed) (decimal m scale) ⌝ }
+    ensures mixed { λ r. ⌜ r .mixed ≡ fractionOf parted (over fixed) (decimal m scale) ⌝ }
+    ensures exact { λ r. ⌜ r .exact ≡ mixedExactly (decimal m scale) (r .mixed) ⌝ }
 {
     let unit = figures::power(scale);
     let below = fixed as u64;
+    let q = figures::divided(m % unit * below, scale);
     let part = Fraction {
-        above: figures::divided(m % unit * below, scale),
+        above: q.nearest,
         below,
     };
-    told(m / unit, part, parted)
+    Nearest {
+        mixed: told(m / unit, part, parted),
+        exact: q.exact,
+    }
 }

@@ -5,6 +5,7 @@ use native.Mathlib.Omega.{arith}
 use native.Mathlib.Decide.{decLe}
 use native.Mathlib.Nat.{min-eq-left}
 use mathlib.Core.Path.{_≡_, refl, sym, ap, ap₂, subst, _∙_}
+use mathlib.Core.Bool.{false}
 use mathlib.Core.List.{List, [], map}
 use lib.ListN.{length, take, drop, length-append}
 use lib.Seq.{take-all, take-at, take-append-seam, length-take-le}
@@ -29,7 +30,7 @@ use Rattle.requests.specs.Reads.{partOf, Within, Reads}
 use Rattle.requests.proofs.Prefixes.{request-prefix}
 use Rattle.responding.specs.declared.Told.{Told}
 use Rattle.responding.specs.declared.Responded.{Responded}
-use Rattle.responding.specs.Respond.{fourLines, linesOf, sectionOf, responseOf, responded}
+use Rattle.responding.specs.Respond.{fiveLines, linesOf, sectionOf, responseOf, responded}
 use Rattle.responding.specs.Answers.{Answers}
 use Rattle.responding.proofs.Ascii.{response-bytes}
 
@@ -58,8 +59,8 @@ module _ (code : List ℕ) (ask : Ask) (text old : List ℕ) {room : List ℕ} (
   shown-text = rw (h, text-length) (take-append-seam (previewText code ask text n) _)
 
   -- and its lines are those of the request
-  pub preview-answered : {out before : List ℕ} (r : Told) → 4096 ≡ n → r .section ≡ p .shown .section → r .length ≤ 4203
-      → Put before 0 (fourLines (p .shown .answer) (p .place) (p .shown .colour) (take (p .shown .length) room)) (r .length) out
+  pub preview-answered : {out before : List ℕ} (r : Told) → 4096 ≡ n → r .section ≡ p .shown .section → r .length ≤ 4236
+      → Put before 0 (fiveLines (p .shown .answer) (p .place) (p .shown .colour) (p .shown .exact) (take (p .shown .length) room)) (r .length) out
       → Answers (request code ask text) before r out
   unfolding linesOf sectionOf
   preview-answered r m s l k =
@@ -82,16 +83,16 @@ module _ (input : List ℕ) (r : RequestRead) (x : Reads input (requestOf input)
   request-answered {old} {out} {t} code ask text e a =
       subst (λ (q : Request). Answers q old t out) (read-as (told.Request code ask text) e .same) a
 
-  pub malformed-answered : {old out : List ℕ} {n : ℕ} (line : ℕ) → r ≡ told.Malformed line → n ≤ 4203
-      → Put old 0 (fourLines answer.Line line 0 []) n out → Answers (requestOf input) old (record { length = n; section = 0 }) out
+  pub malformed-answered : {old out : List ℕ} {n : ℕ} (line : ℕ) → r ≡ told.Malformed line → n ≤ 4236
+      → Put old 0 (fiveLines answer.Line line 0 false []) n out → Answers (requestOf input) old (record { length = n; section = 0 }) out
   unfolding linesOf sectionOf
   malformed-answered {old} {out} {n} line e l p =
       subst (λ (q : Request). Answers q old (record { length = n; section = 0 }) out) (read-as (told.Malformed line) e .same)
       (record { short = l; shown = refl; put = p })
 
--- ---- bytes: the first of them in a room of 6,148 units, and their answer in a room of 4,203
+-- ---- bytes: the first of them in a room of 6,148 units, and their answer in a room of 4,236
 module _ (bytes wide old : List ℕ) {units room : List ℕ} {n m r : ℕ} (t : Told) (e : 6148 ≡ m) (f : m ≡ length wide) (g : n ≡ min (length bytes) m)
-    (p : Put wide 0 (take n bytes) r units) (size : 4203 ≡ length old) (a : Answers (requestOf (take n units)) old t room) where
+    (p : Put wide 0 (take n bytes) r units) (size : 4236 ≡ length old) (a : Answers (requestOf (take n units)) old t room) where
   front : take n units ≡ take n bytes
   unfolding overlay
   front =
@@ -113,7 +114,7 @@ module _ (bytes wide old : List ℕ) {units room : List ℕ} {n m r : ℕ} (t : 
   unfolding responseOf
   response-length = let h : t .length ≡ 0 + length (responseOf bytes) = answered .put .next in omega (arith, h)
 
-  pub response-short : length (responseOf bytes) ≤ 4203
+  pub response-short : length (responseOf bytes) ≤ 4236
   response-short = omega (arith, response-length, answered .short)
 
   pub response-taken : take (t .length) room ≡ responseOf bytes
@@ -126,7 +127,7 @@ module _ (bytes wide old : List ℕ) {units room : List ℕ} {n m r : ℕ} (t : 
   -- all of it is written, or nothing
   pub left-out : (out : List ℕ) → length out < t .length
       → (_≡_ {A = Responded} (record { answer = answer.TextRoom; length = 0; section = 0 }) (responded bytes (length out)))
-      × ((out ≡ written (responseOf bytes) out) × (length (responseOf bytes) ≤ 4203))
+      × ((out ≡ written (responseOf bytes) out) × (length (responseOf bytes) ≤ 4236))
   unfolding responded written
   left-out out h =
       let b = lt-leb (length (responseOf bytes)) (length out) (omega (arith, response-length)) in
@@ -134,7 +135,7 @@ module _ (bytes wide old : List ℕ) {units room : List ℕ} {n m r : ℕ} (t : 
 
   pub put-whole : (out : List ℕ) {k : ℕ} {new : List ℕ} → t .length ≤ length out → Put out 0 (map lowByte (take (t .length) room)) k new
       → (_≡_ {A = Responded} (record { answer = answer.Done; length = t .length; section = t .section }) (responded bytes (length out)))
-      × ((new ≡ written (responseOf bytes) out) × (length (responseOf bytes) ≤ 4203))
+      × ((new ≡ written (responseOf bytes) out) × (length (responseOf bytes) ≤ 4236))
   unfolding responded written
   put-whole out h q =
       let l : length (responseOf bytes) ≤ length out = omega (arith, response-length) in
@@ -147,9 +148,9 @@ module _ (bytes wide old : List ℕ) {units room : List ℕ} {n m r : ℕ} (t : 
       )
 
 -- the first `got` bytes of an input, in a room that takes every answer
-module _ (input out : List ℕ) (got : ℕ) {n : ℕ} {r : Responded} {new : List ℕ} (e : n ≡ min got (length input)) (size : 4203 ≤ length out)
+module _ (input out : List ℕ) (got : ℕ) {n : ℕ} {r : Responded} {new : List ℕ} (e : n ≡ min got (length input)) (size : 4236 ≤ length out)
     (a : r ≡ responded (take n input) (length out)) (b : new ≡ written (responseOf (take n input)) out)
-    (c : length (responseOf (take n input)) ≤ 4203) where
+    (c : length (responseOf (take n input)) ≤ 4236) where
   same-front : take n input ≡ take got input
   same-front =
       elim (decLe got (length input)) [

@@ -48,7 +48,7 @@ use Rattle.requests.specs.Bytes.{lowByte}
 use Rattle.requests.specs.Lines.{isAscii, isLine, Field, field, missing, fieldOf}
 use Rattle.requests.specs.Written.{sortOf, valueOf, textOf}
 use Rattle.requests.specs.Request.{Request, request, refused as unasked, fromEnd, fromValue, fromThird, fromKind, fromSecond, fromFirst, requestOf}
-use Rattle.responding.specs.Respond.{lineOf, fourLines, linesOf, responseOf}
+use Rattle.responding.specs.Respond.{lineOf, fiveLines, linesOf, responseOf}
 use Rattle.formats.specs.Minus.{Sign, minus, notNegative, noItem, forNegatives, nought, signUnits}
 use Rattle.formats.specs.Text.{Context, insignificant, idleUnits, endsGroup, withSeparator, figureUnits, extraUnits, placeUnits, pointUnits, yearUnits, namedUnits, partUnits, halfUnits, itemUnits, digitAfter, itemsUnits, sectionUnits, along, exponentUnits, firstOf}
 use Rattle.formats.proofs.TokenRanges.{tokenPasses, partsPass, parts-pass, items-pass}
@@ -414,14 +414,14 @@ line-ascii : (name content : List ℕ) → Ascii name → Ascii content → Asci
 unfolding lineOf every isAscii
 line-ascii name content n c = every-append isAscii (name ++ content) (10 ∷ []) (every-append isAscii name content n c) tt
 
-four-ascii : (a : Answer) (k colour : ℕ) (text : List ℕ) → Ascii text → Ascii (fourLines a k colour text)
-unfolding fourLines units every isAscii
-four-ascii a k colour text t = search (every-append isAscii, line-ascii, numeral-ascii) depth 16
+five-ascii : (a : Answer) (k colour : ℕ) (exact : Bool) (text : List ℕ) → Ascii text → Ascii (fiveLines a k colour exact text)
+unfolding fiveLines units every isAscii
+five-ascii a k colour exact text t = search (every-append isAscii, line-ascii, numeral-ascii) depth 16
 
 lines-ascii : (q : Request) → AsciiRequest q → Ascii (linesOf q)
 unfolding linesOf previewText every
-lines-ascii (unasked a k) t = four-ascii a k 0 [] tt
-lines-ascii (request code ask text) t = four-ascii _ _ _ _ (code-fine code ask text 4096 (t .0) (t .1) .1)
+lines-ascii (unasked a k) t = five-ascii a k 0 false [] tt
+lines-ascii (request code ask text) t = five-ascii _ _ _ _ _ (code-fine code ask text 4096 (t .0) (t .1) .1)
 
 response-ascii : (input : List ℕ) → Ascii (responseOf input)
 unfolding responseOf

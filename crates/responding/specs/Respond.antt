@@ -1,8 +1,8 @@
--- What the program answers (R122, R123): "It tests 14 first and lends 557 table words and 4,096 text units", and it writes four lines. The
+-- What the program answers (R122, R123): "It tests 14 first and lends 557 table words and 4,096 text units", and it writes five lines. The
 -- answer is read off the code itself.
 -- Assumes nothing.
 use Prim.Native.Nat.{ℕ}
-use mathlib.Core.Bool.{cond}
+use mathlib.Core.Bool.{Bool, false, cond}
 use mathlib.Core.List.{List, [], _∷_, _++_}
 use lib.ListN.{length}
 use lib.Dec.{leb}
@@ -20,19 +20,20 @@ use Rattle.responding.specs.declared.Responded.{Responded}
 unfoldable pub lineOf : List ℕ → List ℕ → List ℕ
 lineOf name content = name ++ content ++ (lineFeed ∷ [])
 
-unfoldable pub fourLines : Answer → ℕ → ℕ → List ℕ → List ℕ
-fourLines answer place colour text =
+unfoldable pub fiveLines : Answer → ℕ → ℕ → Bool → List ℕ → List ℕ
+fiveLines answer place colour exact text =
     lineOf (units "answer=") (numeral 1 (numberOf answer))
     ++ lineOf (units "place=") (numeral 1 place)
     ++ lineOf (units "colour=") (numeral 1 colour)
+    ++ lineOf (units "exact=") (numeral 1 (cond exact 1 0))
     ++ lineOf (units "text=") text
 
 -- a malformed line is told first; else what previewing in a room of 4,096 units gives
 unfoldable pub linesOf : Request → List ℕ
-linesOf (refused a k) = fourLines a k 0 []
+linesOf (refused a k) = fiveLines a k 0 false []
 linesOf (request code ask text) =
     let p = previewed code ask text 4096 in
-    fourLines (p .shown .answer) (p .place) (p .shown .colour) (previewText code ask text 4096)
+    fiveLines (p .shown .answer) (p .place) (p .shown .colour) (p .shown .exact) (previewText code ask text 4096)
 
 -- the section that showed the value, 0 where none did
 unfoldable pub sectionOf : Request → ℕ

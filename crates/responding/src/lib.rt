@@ -1,4 +1,4 @@
-// Answers the program's input: reads the request, previews it, and writes the four lines.
+// Answers the program's input: reads the request, previews it, and writes the five lines.
 mod lines;
 
 use answers::Answer;
@@ -50,7 +50,7 @@ fn respond_to(code: &[u16], ask: Ask, text: &[u16], out: &mut [u16]) -> Told
     let shown = p.shown;
     let answer = shown.answer;
     let n = shown.length as usize;
-    let length = put_lines(out, answer, p.place, shown.colour, &room[..n]);
+    let length = put_lines(out, answer, p.place, shown.colour, shown.exact, &room[..n]);
     Told {
         length,
         section: shown.section,
@@ -66,7 +66,7 @@ fn respond(input: &[u16], out: &mut [u16]) -> Told
             respond_to(part_of(input, code), ask, part_of(input, text), out)
         }
         RequestRead::Malformed(line) => {
-            let length = put_lines(out, Answer::Line, line, 0, &input[..0]);
+            let length = put_lines(out, Answer::Line, line, 0, false, &input[..0]);
             Told { length, section: 0 }
         }
     }
@@ -80,18 +80,18 @@ fn input_room() -> [u16; 6148]
 }
 
 // No answer is longer.
-fn output_room() -> [u16; 4203]
-    ensures { λ r. ⌜ 4203 ≡ length r ⌝ }
+fn output_room() -> [u16; 4236]
+    ensures { λ r. ⌜ 4236 ≡ length r ⌝ }
 {
-    [0; 4203]
+    [0; 4236]
 }
 
-// Writes what the input is answered, where the room takes it; 4,203 bytes always do. Of a longer input the first 6,148 bytes are
+// Writes what the input is answered, where the room takes it; 4,236 bytes always do. Of a longer input the first 6,148 bytes are
 // read: the rest changes no answer.
 pub fn respond_bytes(input: &[u8], out: &mut [u8]) -> Responded
     ensures result { λ r. ⌜ r ≡ responded (now (input .entry)) (length (now (out .entry))) ⌝ }
     ensures out { λ r. ⌜ now (out .exit) ≡ written (responseOf (now (input .entry))) (now (out .entry)) ⌝ }
-    ensures short { λ r. ⌜ length (responseOf (now (input .entry))) ≤ 4203 ⌝ }
+    ensures short { λ r. ⌜ length (responseOf (now (input .entry))) ≤ 4236 ⌝ }
 {
     let n = least(input.len(), 6148);
     let mut wide = input_room();
@@ -116,7 +116,7 @@ pub fn respond_bytes(input: &[u8], out: &mut [u8]) -> Responded
 
 // Answers the first `got` bytes.
 fn respond_front(input: &[u8], got: usize, out: &mut [u8]) -> usize
-    requires { ⌜ 4203 ≤ length (now out) ⌝ }
+    requires { ⌜ 4236 ≤ length (now out) ⌝ }
     ensures size { λ r. ⌜ r ≡ length (responseOf (take got (now (input .entry)))) ⌝ }
     ensures out { λ r. ⌜ now (out .exit) ≡ overlay (responseOf (take got (now (input .entry)))) (now (out .entry)) ⌝ }
 {
@@ -126,7 +126,7 @@ fn respond_front(input: &[u8], got: usize, out: &mut [u8]) -> usize
 }
 
 // For the program, which can lend rooms of these lengths and no others: the first `got` bytes are its input, and every answer fits.
-pub fn respond_input(input: &[u8; 6148], got: usize, out: &mut [u8; 4203]) -> usize
+pub fn respond_input(input: &[u8; 6148], got: usize, out: &mut [u8; 4236]) -> usize
     ensures size { λ r. ⌜ r ≡ length (responseOf (take got (now (input .entry)))) ⌝ }
     ensures out { λ r. ⌜ now (out .exit) ≡ overlay (responseOf (take got (now (input .entry)))) (now (out .entry)) ⌝ }
 {

@@ -1,9 +1,9 @@
-// The four lines of an answer, put into a lent room.
+// The five lines of an answer, put into a lent room.
 ghost use Prim.Native.Nat.{_+_, _≤_, _<_, _^_};
 ghost use lib.ListN.{length};
 ghost use Rattle.figures.specs.Digits.{numeral};
 ghost use Rattle.writing.specs.Put.{Put};
-ghost use Rattle.responding.specs.Respond.{lineOf, fourLines};
+ghost use Rattle.responding.specs.Respond.{lineOf, fiveLines};
 use answers::Answer;
 use answers::number;
 use requests::bytes::put_bytes;
@@ -35,14 +35,22 @@ fn put_text(room: &mut [u16], at: usize, name: &[u8], text: &[u16]) -> usize
     put_unit(room, b, LINE_FEED)
 }
 
-// Puts the four lines.
-pub fn put_lines(room: &mut [u16], answer: Answer, place: u32, colour: u16, text: &[u16]) -> usize
+// Puts the five lines.
+pub fn put_lines(
+    room: &mut [u16],
+    answer: Answer,
+    place: u32,
+    colour: u16,
+    exact: bool,
+    text: &[u16],
+) -> usize
     requires { ⌜ length (now text) ≤ 4096 ⌝ }
-    ensures within { λ r. ⌜ r ≤ 4203 ⌝ }
-    ensures put { λ r. ⌜ Put (now (room .entry)) 0 (fourLines answer place colour (now (text .entry))) r (now (room .exit)) ⌝ }
+    ensures within { λ r. ⌜ r ≤ 4236 ⌝ }
+    ensures put { λ r. ⌜ Put (now (room .entry)) 0 (fiveLines answer place colour exact (now (text .entry))) r (now (room .exit)) ⌝ }
 {
     let a = put_number(room, 0, b"answer=", number(answer) as u64);
     let b = put_number(room, a, b"place=", place as u64);
     let c = put_number(room, b, b"colour=", colour as u64);
-    put_text(room, c, b"text=", text)
+    let d = put_number(room, c, b"exact=", exact as u64);
+    put_text(room, d, b"text=", text)
 }

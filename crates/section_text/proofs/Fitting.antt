@@ -49,19 +49,20 @@ pub measured : {old out text : List ℕ} {n : ℕ} → Put old 0 text n out → 
 measured p = omega (arith, p .next)
 
 -- a text that a room does not take is refused, one that it takes is shown
-module _ (old text : List ℕ) (colour i : ℕ) where
-  pub shows-none : length old < length text → Shows (within (length old) (lookOf text colour i)) old (refusedShown answer.TextRoom) old
+module _ (old text : List ℕ) (colour i : ℕ) (exact : Bool) where
+  pub shows-none : length old < length text → Shows (within (length old) (lookOf text colour i exact)) old (refusedShown answer.TextRoom) old
   unfolding within
   shows-none h = rw (lt-leb (length text) (length old) h) (shows-refused old answer.TextRoom)
 
   pub shows-all : {n : ℕ} {out : List ℕ} → length text ≤ length old → Put old 0 text n out
-      → Shows (within (length old) (lookOf text colour i)) old (doneShown n colour i) out
+      → Shows (within (length old) (lookOf text colour i exact)) old (doneShown n colour i exact) out
   unfolding within shownAs textAs
   shows-all h p =
       rw (le-leb (length text) (length old) h) (record { result = rw (measured p); room = p .room ∙ sets-overlay old text h })
 
 -- no minus is no text
-pub unsigned : {old out : List ℕ} {r : Shown} (text : List ℕ) (colour i : ℕ) → Shows (within (length old) (lookOf text colour i)) old r out
-    → Shows (within (length old) (lookOf (signText false ++ text) colour i)) old r out
+pub unsigned : {old out : List ℕ} {r : Shown} (text : List ℕ) (colour i : ℕ) (exact : Bool)
+    → Shows (within (length old) (lookOf text colour i exact)) old r out
+    → Shows (within (length old) (lookOf (signText false ++ text) colour i exact)) old r out
 unfolding signText
-unsigned text colour i x = x
+unsigned text colour i exact x = x

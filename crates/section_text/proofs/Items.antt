@@ -3,15 +3,15 @@
 use Prim.Native.Nat.{ℕ, suc, _-_, _≤_, _<_}
 use native.Mathlib.Omega.{arith}
 use mathlib.Core.Path.{_≡_, refl, sym}
-use mathlib.Core.Bool.{Bool, true, false, true≢false, _||_}
+use mathlib.Core.Bool.{Bool, true, false, true≢false}
 use mathlib.Core.List.{List}
 use lib.Dec.{T, leb, eqb, eqb→eq}
 use borrow.Author.Tests.{le-leb, leb-false}
 use Rattle.lists.proofs.Bools.{no, by-cases}
 use Rattle.values.specs.Ranges.{between}
-use Rattle.formats.specs.Items.{Item, point, Kind, dateKind, scientificKind, fractionKind, sameKind, showsPlaces, itemAllowed, isCut, isFixed}
+use Rattle.formats.specs.Items.{point, Kind, dateKind, scientificKind, fractionKind, sameKind, showsPlaces, itemAllowed}
 use Rattle.formats.specs.Text.{Context, itemUnits, placeUnits, exponentUnits}
-use Rattle.formats.proofs.Each.{by-item, by-kind}
+use Rattle.formats.proofs.Each.{by-kind}
 use Rattle.tables.specs.Words.{Entry}
 use Rattle.tables.specs.Encode.{entry}
 use Rattle.tables.specs.Decode.{itemAt}
@@ -79,15 +79,6 @@ point-held = by-kind (λ (k : Kind). T (itemAllowed k point) → T (showsPlaces 
 pub dated-put : {m old out : List ℕ} {at r : ℕ} {dated : Bool} (e : Entry) → (datedEntry e ≡ true → dated ≡ true)
     → ItemPut (DatedIs m (datedEntry e)) e old at r out → ItemPut (DatedIs m dated) e old at r out
 dated-put e h p c k q i f = p c k q (i .0, record { clock = i .1 .clock; date = λ t. i .1 .date (h t) }) f
-
--- a date-time section holds no E, no solidus and no fixed number
-pub dated-bare : (k : Kind) (q : ℕ) (e : Entry) → k ≡ dateKind → EntryFits k q e → (isCut (itemAt e) || isFixed (itemAt e)) ≡ false
-unfolding itemAllowed
-dated-bare k q e d f =
-    by-item (λ (i : Item). T (itemAllowed dateKind i) → (isCut i || isFixed i) ≡ false)
-    (λ u t. refl) (λ u t. refl) (λ u t. refl) (λ p t. refl) (λ t. refl) (λ t. refl) (λ t. refl) (λ t. refl)
-    (λ n t. refl) (λ n t. refl) (λ n t. refl) (λ n t. refl) (λ n t. refl) (λ n t. refl) (λ n t. refl) (λ e n t. refl) (λ h t. refl)
-    (λ m. absurd) absurd (λ n. absurd) (itemAt e) (rw d at (f .allowed))
 
 -- of the tags from a fill's up to that of `@` a date-time section holds the fill's
 pub dated-fill : (k : Kind) (q tag a : ℕ) → k ≡ dateKind → 3 ≤ tag → tag ≤ 10 → EntryFits k q (entry tag a) → tag ≡ 3

@@ -1,6 +1,7 @@
 pub mod Items
 pub mod Lengths
 pub mod Walking
+pub mod FinestUnit
 pub mod Fitting
 pub mod Exponents
 pub mod Cuts

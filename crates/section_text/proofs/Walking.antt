@@ -77,12 +77,16 @@ walking-start {n = n} old start words e d h = record {
 
 module _ {P : Kind → Context → Type 0} {old : List ℕ} {start : ℕ} {words : List ℕ} {n k : ℕ} {room : List ℕ} {at : ℕ}
     (inv : Walking P old start words n k room at) where
-  known : Left old start (itemsUnits (inv .ready .context) (inv .ready .power) (itemsAt (entriesIn words))) (inv .ready .context) (inv .ready .kind)
+  pub known : Left old start (itemsUnits (inv .ready .context) (inv .ready .power) (itemsAt (entriesIn words))) (inv .ready .context) (inv .ready .kind)
       room at (entriesLeft words n k)
   known = let d = inv .ready in inv .left (d .context) (d .kind) (d .power) (d .subject) (d .fit)
 
   pub walking-in-range : k < n → T (entryInRange (entry (getD words (2 * k) 0) (getD words (2 * k + 1) 0)))
   walking-in-range h = first-in-range (inv .ready .kind) (inv .ready .context) (known .power) _ _ (rw (entries-front words n k h) at (known .fit))
+
+  -- the next item fits, in the context that is known to be there
+  pub walking-fits : k < n → EntryFits (inv .ready .kind) (known .power) (entry (getD words (2 * k) 0) (getD words (2 * k + 1) 0))
+  walking-fits h = first-fits (inv .ready .kind) (inv .ready .context) (known .power) _ _ (rw (entries-front words n k h) at (known .fit))
 
   pub walking-step : {r : ℕ} {out : List ℕ} → k < n → ItemPut P (entry (getD words (2 * k) 0) (getD words (2 * k + 1) 0)) room at r out
       → Walking P old start words n (k + 1) out r

@@ -16,18 +16,18 @@ use Rattle.tables.specs.Calls.{shownAs, textAs}
 unfoldable pub signText : Bool → List ℕ
 signText minus = cond minus (45 ∷ []) []
 
--- 13, or section i shown in a room of this size, with a minus in front or without
-unfoldable pub sectionReading : ℕ → Section → ℕ → Bool → Context → Reading
-sectionReading size s i minus c = within size (lookOf (signText minus ++ sectionUnits c (s .items)) (s .colour) i)
+-- 13, or section i shown in a room of this size, with a minus in front or without, exact or not
+unfoldable pub sectionReading : ℕ → Section → ℕ → Bool → Bool → Context → Reading
+sectionReading size s i minus exact c = within size (lookOf (signText minus ++ sectionUnits c (s .items)) (s .colour) i exact)
 
 -- the same of a scientific section, whose items before the E show one context, and those from the E on another
-unfoldable pub scientificReading : ℕ → Section → ℕ → Bool → Context → Context → Reading
-scientificReading size s i minus m e =
-    within size (lookOf (signText minus ++ (sectionUnits m (beforeCut (s .items)) ++ sectionUnits e (fromCut (s .items)))) (s .colour) i)
+unfoldable pub scientificReading : ℕ → Section → ℕ → Bool → Bool → Context → Context → Reading
+scientificReading size s i minus exact m e =
+    within size (lookOf (signText minus ++ (sectionUnits m (beforeCut (s .items)) ++ sectionUnits e (fromCut (s .items)))) (s .colour) i exact)
 
 -- and of a fraction section, which shows this fraction
-unfoldable pub fractionReading : ℕ → Section → ℕ → Bool → Mixed → Reading
-fractionReading size s i minus f = within size (lookOf (signText minus ++ fractionUnits f (s .items)) (s .colour) i)
+unfoldable pub fractionReading : ℕ → Section → ℕ → Bool → Bool → Mixed → Reading
+fractionReading size s i minus exact f = within size (lookOf (signText minus ++ fractionUnits f (s .items)) (s .colour) i exact)
 
 pub record Shows (reading : Reading) (old : List ℕ) (r : Shown) (out : List ℕ) : Type 0 where
   pub result : r ≡ shownAs reading

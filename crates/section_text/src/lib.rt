@@ -4,14 +4,14 @@ pub mod mixed;
 ghost use mathlib.Core.Path.{_≡_};
 ghost use mathlib.Core.Bool.{Bool, true, false, cond, _&&_};
 ghost use mathlib.Core.List.{List, [], _∷_, _++_};
-ghost use Prim.Native.Nat.{ℕ, suc, _+_, _-_, _*_, _/_, _%_, _≤_, _<_, _^_};
+ghost use Prim.Native.Nat.{ℕ, suc, _+_, _-_, _*_, _/_, _%_, _≤_, _<_, _^_, min};
 ghost use lib.Dec.{T, leb, ltb, eqb};
 ghost use lib.ListN.{length, getD};
 ghost use Rattle.values.specs.Ranges.{between};
 ghost use Rattle.lists.specs.Lists.{any, count};
 ghost use Rattle.figures.specs.Digits.{digitUnit};
 ghost use Rattle.formats.specs.Items.{Item, numberKind, dateKind, scientificKind, kindOf, beforeCut, fromCut, integerPlaces, placesBehind};
-ghost use Rattle.formats.specs.Reading.{lookOf, within};
+ghost use Rattle.formats.specs.Reading.{lookOf, within, daySpan, itemSpan, finestSpan, instantExactly};
 ghost use Rattle.formats.specs.Text.{Context, idleUnits, placeUnits, exponentUnits};
 ghost use Rattle.tables.specs.Words.{entriesIn};
 ghost use Rattle.tables.specs.Encode.{entry, entriesOf};
@@ -30,10 +30,12 @@ use answers::Answer;
 use answers::Shown;
 use answers::done_shown;
 use answers::refused_shown;
+use date_text::Written;
 use figure_text::Figures;
 use table_words::head_of;
 use table_words::items_of;
 use tables::tags;
+use values::Millisecond;
 use writing::digit_unit;
 use writing::put_unit;
 use writing::units;
@@ -186,6 +188,7 @@ fn write_items(
     digits: &[u8; 40],
     s: Subject,
     text: &[u16],
+    exact: bool,
     colour: u16,
     section: u16,
 ) -> Shown
@@ -193,10 +196,10 @@ fn write_items(
         × Ready (λ k. SubjectIs k (now digits) s (now text)) (now items) ⌝ }
     ensures { λ r. ⌜ OfText (λ k. SubjectIs k (now (digits .entry)) s (now (text .entry))) (now (items .entry))
         (λ us. length (signText minus ++ us) ≤ length (now (room .entry))
-        → Shows (within (length (now (room .entry))) (lookOf (signText minus ++ us) colour section)) (now (room .entry)) r (now (room .exit))) ⌝ }
+        → Shows (within (length (now (room .entry))) (lookOf (signText minus ++ us) colour section exact)) (now (room .entry)) r (now (room .exit))) ⌝ }
 {
     let n = put_text(room, minus, items, digits, s, text);
-    done_shown(n as u32, colour, section)
+    done_shown(n as u32, colour, section, exact)
 }
 
 // Shows a section's text where the room takes it. Only where it may not is the text measured.
@@ -207,54 +210,74 @@ fn show_items(
     digits: &[u8; 40],
     s: Subject,
     text: &[u16],
+    exact: bool,
     colour: u16,
     section: u16,
 ) -> Shown
     requires { ⌜ (s .figures .used ≤ 40) × (s .lent ≡ true → length (now text) ≤ 1024) × (length (now items) ≤ 508)
         × Ready (λ k. SubjectIs k (now digits) s (now text)) (now items) ⌝ }
     ensures { λ r. ⌜ OfText (λ k. SubjectIs k (now (digits .entry)) s (now (text .entry))) (now (items .entry))
-        (λ us. Shows (within (length (now (room .entry))) (lookOf (signText minus ++ us) colour section)) (now (room .entry)) r (now (room .exit))) ⌝ }
+        (λ us. Shows (within (length (now (room .entry))) (lookOf (signText minus ++ us) colour section exact)) (now (room .entry)) r (now (room .exit))) ⌝ }
 {
     if is_roomy(room.len(), items.len(), s.lent) {
-        return write_items(room, minus, items, digits, s, text, colour, section);
+        return write_items(room, minus, items, digits, s, text, exact, colour, section);
     }
     if room.len() < length_of(minus, items, digits, s, text) {
         return refused_shown(Answer::TextRoom);
     }
-    write_items(room, minus, items, digits, s, text, colour, section)
+    write_items(room, minus, items, digits, s, text, exact, colour, section)
 }
 
-// Puts the text of a date-time section's item. (Its walker is one of its own: in the other it would slow down numbers.)
-fn put_dated_item(room: &mut [u16], at: usize, tag: u16, word: u16, m: &[u64; 7]) -> usize
-    requires { ⌜ (at < 2 ^ 61) × T (entryInRange (entry tag word)) ⌝ }
-    ensures { λ r. ⌜ ItemPut (DatedIs (now (m .entry)) (datedEntry (entry tag word))) (entry tag word) (now (room .entry)) at r (now (room .exit)) ⌝ }
+// Puts the text of a date-time section's item, and keeps the finest unit shown. (Its walker is one of its own: in the other it would slow
+// down numbers.)
+fn put_dated_item(
+    room: &mut [u16],
+    at: usize,
+    tag: u16,
+    word: u16,
+    m: &[u64; 7],
+    finest: u32,
+) -> Written
+    requires { ⌜ (at < 2 ^ 61) × T (entryInRange (entry tag word)) × (tag < 22) × (finest ≤ daySpan) ⌝ }
+    ensures put { λ r. ⌜ ItemPut (DatedIs (now (m .entry)) (datedEntry (entry tag word))) (entry tag word) (now (room .entry)) at (r .end) (now (room .exit)) ⌝ }
+    ensures finest { λ r. ⌜ r .finest ≡ min finest (itemSpan (itemAt (entry tag word))) ⌝ }
 {
     if tags::AT < tag {
-        return date_text::put_moment_item(room, at, tag, word, m);
+        return date_text::put_moment_item(room, at, tag, word, m, finest);
     }
     match tag {
-        tags::LITERAL => put_unit(room, at, word),
-        tags::BLANK => put_unit(room, at, units::SPACE),
-        _ => at,
+        tags::LITERAL => Written {
+            end: put_unit(room, at, word),
+            finest,
+        },
+        tags::BLANK => Written {
+            end: put_unit(room, at, units::SPACE),
+            finest,
+        },
+        _ => Written { end: at, finest },
     }
 }
 
-// Puts the text of a date-time section's items, whose words these are.
-fn put_dated_items(room: &mut [u16], items: &[u16], m: &[u64; 7]) -> usize
+// Puts the text of a date-time section's items, whose words these are, and tells the finest unit that they show.
+fn put_dated_items(room: &mut [u16], items: &[u16], m: &[u64; 7]) -> Written
     requires { ⌜ (length (now items) ≤ 508) × Ready (DatedIs (now m) (any datedEntry (entriesIn (now items)))) (now items) ⌝ }
-    ensures within { λ r. ⌜ r ≤ 260096 ⌝ }
-    ensures put { λ r. ⌜ OfText (DatedIs (now (m .entry)) (any datedEntry (entriesIn (now (items .entry))))) (now (items .entry)) (λ us. Put (now (room .entry)) 0 us r (now (room .exit))) ⌝ }
+    ensures within { λ r. ⌜ r .end ≤ 260096 ⌝ }
+    ensures put { λ r. ⌜ OfText (DatedIs (now (m .entry)) (any datedEntry (entriesIn (now (items .entry))))) (now (items .entry)) (λ us. Put (now (room .entry)) 0 us (r .end) (now (room .exit))) ⌝ }
+    ensures finest { λ r. ⌜ r .finest ≡ finestSpan (itemsIn (now (items .entry))) ⌝ }
 {
     let n = items.len() / 2;
     let mut k: usize = 0;
     let mut o: usize = 0;
+    let mut finest: u32 = 86400000;
     while k < n {
         let i = 2 * k;
         let j = i + 1;
-        o = put_dated_item(room, o, items[i], items[j], m);
+        let w = put_dated_item(room, o, items[i], items[j], m, finest);
+        o = w.end;
+        finest = w.finest;
         k += 1;
     }
-    o
+    Written { end: o, finest }
 }
 
 // Whether a room of this size takes a date-time section's text.
@@ -266,24 +289,27 @@ fn takes_dated(size: usize, items: &[u16], m: &[u64; 7]) -> bool
         return true;
     }
     let mut none = [0; 1];
-    put_dated_items(&mut none[..0], items, m) <= size
+    let w = put_dated_items(&mut none[..0], items, m);
+    w.end <= size
 }
 
-// Shows a date-time section's text where the room takes it.
+// Shows a date-time section's text where the room takes it. It is exact where the millisecond is a multiple of the finest unit shown.
 fn show_dated_items(
     room: &mut [u16],
     items: &[u16],
     m: &[u64; 7],
+    ms: Millisecond,
     colour: u16,
     section: u16,
 ) -> Shown
     requires { ⌜ (length (now items) ≤ 508) × Ready (DatedIs (now m) (any datedEntry (entriesIn (now items)))) (now items) ⌝ }
     ensures { λ r. ⌜ OfText (DatedIs (now (m .entry)) (any datedEntry (entriesIn (now (items .entry))))) (now (items .entry))
-        (λ us. Shows (within (length (now (room .entry))) (lookOf us colour section)) (now (room .entry)) r (now (room .exit))) ⌝ }
+        (λ us. Shows (within (length (now (room .entry))) (lookOf us colour section (eqb (ms .0 % finestSpan (itemsIn (now (items .entry)))) 0)))
+        (now (room .entry)) r (now (room .exit))) ⌝ }
 {
     if takes_dated(room.len(), items, m) {
-        let end = put_dated_items(room, items, m);
-        return done_shown(end as u32, colour, section);
+        let w = put_dated_items(room, items, m);
+        return done_shown(w.end as u32, colour, section, ms.0 % w.finest == 0);
     }
     refused_shown(Answer::TextRoom)
 }
@@ -471,21 +497,22 @@ fn show_scientific_items(
     digits: &[u8; 40],
     s: Subject,
     p: Power,
+    exact: bool,
     colour: u16,
     section: u16,
 ) -> Shown
     requires { ⌜ ScientificReady (now digits) s p (now before) (now from) ⌝ }
     ensures { λ r. ⌜ OfScientific (now (digits .entry)) s p (now (before .entry)) (now (from .entry))
-        (λ us. Shows (within (length (now (room .entry))) (lookOf (signText minus ++ us) colour section)) (now (room .entry)) r (now (room .exit))) ⌝ }
+        (λ us. Shows (within (length (now (room .entry))) (lookOf (signText minus ++ us) colour section exact)) (now (room .entry)) r (now (room .exit))) ⌝ }
 {
     if takes_scientific(room.len(), minus, before, from, digits, s, p) {
         let n = put_scientific(room, minus, before, from, digits, s, p);
-        return done_shown(n as u32, colour, section);
+        return done_shown(n as u32, colour, section, exact);
     }
     refused_shown(Answer::TextRoom)
 }
 
-// Shows section i, which is a scientific section: the digits and the subject are those of the mantissa.
+// Shows section i, which is a scientific section: the digits and the subject are those of the mantissa, exact or not.
 pub fn show_scientific_section(
     room: &mut [u16],
     table: &[u16],
@@ -495,13 +522,14 @@ pub fn show_scientific_section(
     s: Subject,
     exponent: u32,
     below: bool,
+    exact: bool,
 ) -> Shown
     requires { ⌜ T (passes (now table)) × (i < getD (now table) 0 0) × (kindOf (sectionIn (now table) i) ≡ scientificKind)
         × (s .figures .used ≤ 40) × (s .lent ≡ false) × (exponent < 100) × Known numberKind (now digits) s [] ⌝ }
     ensures { λ r. ⌜ ((m e : Context) → SubjectIs numberKind (now (digits .entry)) s [] m
         → m .integerPlaces ≡ integerPlaces (sectionIn (now (table .entry)) i .items)
         → ExponentIs exponent below e → e .integerPlaces ≡ placesBehind (sectionIn (now (table .entry)) i .items)
-        → Shows (scientificReading (length (now (room .entry))) (sectionIn (now (table .entry)) i) i minus m e) (now (room .entry)) r (now (room .exit))) ⌝ }
+        → Shows (scientificReading (length (now (room .entry))) (sectionIn (now (table .entry)) i) i minus exact m e) (now (room .entry)) r (now (room .exit))) ⌝ }
 {
     let h = head_of(table, i as usize);
     let items = items_of(table, i as usize);
@@ -520,25 +548,33 @@ pub fn show_scientific_section(
         digits,
         s,
         p,
+        exact,
         h.colour,
         i,
     )
 }
 
-// Shows section i, which is a date-time section.
-pub fn show_dated_section(room: &mut [u16], table: &[u16], i: u16, m: &[u64; 7]) -> Shown
+// Shows section i, which is a date-time section: the moment is that of an instant with this millisecond.
+pub fn show_dated_section(
+    room: &mut [u16],
+    table: &[u16],
+    i: u16,
+    m: &[u64; 7],
+    ms: Millisecond,
+) -> Shown
     requires { ⌜ T (passes (now table)) × (i < getD (now table) 0 0) × (kindOf (sectionIn (now table) i) ≡ dateKind)
         × DatedKnown (now m) (any datedEntry (entriesOf (sectionIn (now table) i .items))) ⌝ }
     ensures { λ r. ⌜ ((c : Context) → MomentIs (now (m .entry)) (any datedEntry (entriesOf (sectionIn (now (table .entry)) i .items))) c
         → c .integerPlaces ≡ integerPlaces (sectionIn (now (table .entry)) i .items)
-        → Shows (sectionReading (length (now (room .entry))) (sectionIn (now (table .entry)) i) i false c) (now (room .entry)) r (now (room .exit))) ⌝ }
+        → Shows (sectionReading (length (now (room .entry))) (sectionIn (now (table .entry)) i) i false (instantExactly (sectionIn (now (table .entry)) i) ms) c)
+        (now (room .entry)) r (now (room .exit))) ⌝ }
 {
     let h = head_of(table, i as usize);
     let items = items_of(table, i as usize);
-    show_dated_items(room, items, m, h.colour, i)
+    show_dated_items(room, items, m, ms, h.colour, i)
 }
 
-// Shows section i, which is no date-time section.
+// Shows section i, which is no date-time section; `exact`: what it shows is.
 pub fn show_section(
     room: &mut [u16],
     table: &[u16],
@@ -547,14 +583,15 @@ pub fn show_section(
     digits: &[u8; 40],
     s: Subject,
     text: &[u16],
+    exact: bool,
 ) -> Shown
     requires { ⌜ T (passes (now table)) × (i < getD (now table) 0 0) × (s .figures .used ≤ 40) × (s .lent ≡ true → length (now text) ≤ 1024)
         × Known (kindOf (sectionIn (now table) i)) (now digits) s (now text) ⌝ }
     ensures { λ r. ⌜ ((c : Context) → SubjectIs (kindOf (sectionIn (now (table .entry)) i)) (now (digits .entry)) s (now (text .entry)) c
         → c .integerPlaces ≡ integerPlaces (sectionIn (now (table .entry)) i .items)
-        → Shows (sectionReading (length (now (room .entry))) (sectionIn (now (table .entry)) i) i minus c) (now (room .entry)) r (now (room .exit))) ⌝ }
+        → Shows (sectionReading (length (now (room .entry))) (sectionIn (now (table .entry)) i) i minus exact c) (now (room .entry)) r (now (room .exit))) ⌝ }
 {
     let h = head_of(table, i as usize);
     let items = items_of(table, i as usize);
-    show_items(room, minus, items, digits, s, text, h.colour, i)
+    show_items(room, minus, items, digits, s, text, exact, h.colour, i)
 }

@@ -45,7 +45,8 @@ fn put_whole(room: &mut [u16], at: usize, items: &[u16], n: u64) -> usize
     ensures within { λ r. ⌜ r ≤ at + 260096 ⌝ }
     ensures put { λ r. ⌜ Put (now (room .entry)) at (wholeText n (itemsIn (now (items .entry)))) r (now (room .exit)) ⌝ }
 {
-    let digits = figures::round([0; 40], n, 0, 0, 0);
+    let mut exact = true;
+    let digits = figures::round([0; 40], n, 0, 0, 0, &mut exact);
     let places = count_between(items, tags::ZERO_PLACE, tags::SPACE_PLACE);
     let s = Subject {
         figures: figure_text::figures_of(digits, places as u32, false),
@@ -240,32 +241,34 @@ fn show_mixed(
     numerator: &[u16],
     from: &[u16],
     f: Mixed,
+    exact: bool,
     colour: u16,
     section: u16,
 ) -> Shown
     requires { ⌜ FractionReady (now whole) (now numerator) (now from) ⌝ }
     ensures { λ r. ⌜ Shows (within (length (now (room .entry))) (lookOf (signText minus
-        ++ mixedText f (itemsIn (now (whole .entry))) (itemsIn (now (numerator .entry))) (itemsIn (now (from .entry)))) colour section))
+        ++ mixedText f (itemsIn (now (whole .entry))) (itemsIn (now (numerator .entry))) (itemsIn (now (from .entry)))) colour section exact))
         (now (room .entry)) r (now (room .exit)) ⌝ }
 {
     if takes_mixed(room.len(), minus, whole, numerator, from, f) {
         let n = put_mixed(room, minus, whole, numerator, from, f);
-        return done_shown(n as u32, colour, section);
+        return done_shown(n as u32, colour, section, exact);
     }
     refused_shown(Answer::TextRoom)
 }
 
-// Shows section i, which is a fraction section.
+// Shows section i, which is a fraction section; `exact`: the fraction is the number itself.
 pub fn show_fraction_section(
     room: &mut [u16],
     table: &[u16],
     i: u16,
     minus: bool,
     f: Mixed,
+    exact: bool,
 ) -> Shown
     requires { ⌜ T (passes (now table)) × (i < getD (now table) 0 0) × (kindOf (sectionIn (now table) i) ≡ fractionKind)
         × (f .whole ≤ 10 ^ 15) × (f .above < 10 ^ 19) × (1 ≤ f .below) × (f .below ≤ 999) ⌝ }
-    ensures { λ r. ⌜ Shows (fractionReading (length (now (room .entry))) (sectionIn (now (table .entry)) i) i minus f) (now (room .entry)) r (now (room .exit)) ⌝ }
+    ensures { λ r. ⌜ Shows (fractionReading (length (now (room .entry))) (sectionIn (now (table .entry)) i) i minus exact f) (now (room .entry)) r (now (room .exit)) ⌝ }
 {
     let h = head_of(table, i as usize);
     let items = items_of(table, i as usize);
@@ -279,6 +282,7 @@ pub fn show_fraction_section(
         &before[above..],
         &items[start..],
         f,
+        exact,
         h.colour,
         i,
     )

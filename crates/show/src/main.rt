@@ -13,10 +13,10 @@ fn input_bytes() -> [u8; 6148]
     [0; 6148]
 }
 
-fn output_bytes() -> [u8; 4203]
-    ensures { λ r. ⌜ 4203 ≡ length r ⌝ }
+fn output_bytes() -> [u8; 4236]
+    ensures { λ r. ⌜ 4236 ≡ length r ⌝ }
 {
-    [0; 4203]
+    [0; 4236]
 }
 
 fn main() {

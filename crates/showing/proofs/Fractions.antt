@@ -17,10 +17,10 @@ use Rattle.figures.specs.declared.Signed.{Signed}
 use Rattle.figures.specs.Sign.{signedOf}
 use Rattle.exponents.specs.Exponent.{decimal}
 use Rattle.fractions.specs.declared.Mixed.{Mixed}
-use Rattle.fractions.specs.Fractions.{over, nearestFraction, fractionOf}
+use Rattle.fractions.specs.Fractions.{over, nearestFraction, fractionOf, mixedExactly}
 use Rattle.fractions.proofs.Telling.{TellsSmall, nearest-tells-small, over-tells-small}
 use Rattle.formats.specs.Items.{Item, solidus, fixed, half, itemInRange, Section, fractionKind, kindOf, isPlace, isSolidus, isFixed, beforeCut, fromCut, beforeEnd, placesBehind, denominatorFits, wholeItems}
-use Rattle.formats.specs.Reading.{fixedIn, fractionFor, isParted, sectionFraction, placesNought}
+use Rattle.formats.specs.Reading.{fixedIn, fractionFor, isParted, sectionFraction, placesNought, numberExactly}
 use Rattle.formats.proofs.ByNumber.{by-number}
 use Rattle.formats.proofs.Cutting.{cut-joins, cut-any, every-from, no-exponent, solidus-cut}
 use Rattle.tables.specs.Words.{entriesAt, entriesIn}
@@ -31,6 +31,7 @@ use Rattle.tables.proofs.BackEntries.{between-facts, items-ranged}
 use Rattle.table_words.specs.Sections.{sectionIn, ItemsOf}
 use Rattle.table_words.proofs.Bodies.{section-allowed, section-limits}
 use Rattle.table_words.specs.Runs.{itemsIn, CutAt}
+use Rattle.formats.proofs.Exactness.{exactly-fraction}
 use Rattle.section_text.specs.Show.{fractionReading}
 use Rattle.table_words.proofs.Cuts.{rest-all}
 use Rattle.section_text.proofs.Parts.{section-rules}
@@ -182,10 +183,15 @@ module _ {s : Section} {words : List ℕ} {start : ℕ} (w : FractionWords s wor
         tells-small er (nearest-tells-small parted (v .magnitude) (v .scale) h places (n .0) (n .1)),
       )
 
+-- it is the number itself where the section is exact
+pub fraction-exactly : {f : Mixed} {b : Bool} (s : Section) (v : Signed) (x : Number) → v ≡ signedOf x → kindOf s ≡ fractionKind → f ≡ sectionFraction s x
+    → b ≡ mixedExactly (decimal (v .magnitude) (v .scale)) f → b ≡ numberExactly s x
+fraction-exactly s v x ev k ef e = e ∙ rw (exact v x ev, ef) (sym (exactly-fraction s x k))
+
 -- the reading, with the minus as the code finds it: what is shown is nought where the whole number and the numerator are
-pub fraction-minus : (ws : List ℕ) (i : ℕ) (negative : Bool) (x : Number) {minus : Bool} {f : Mixed}
+pub fraction-minus : (ws : List ℕ) (i : ℕ) (negative : Bool) (x : Number) {minus b : Bool} {f : Mixed}
     → minus ≡ minusIn ws i negative (eqb (f .whole) 0 && eqb (f .above) 0) → kindOf (sectionIn ws i) ≡ fractionKind
-    → f ≡ sectionFraction (sectionIn ws i) x → (size : ℕ)
-    → fractionShown ws i negative x size ≡ fractionReading size (sectionIn ws i) i minus f
+    → f ≡ sectionFraction (sectionIn ws i) x → b ≡ numberExactly (sectionIn ws i) x → (size : ℕ)
+    → fractionShown ws i negative x size ≡ fractionReading size (sectionIn ws i) i minus b f
 unfolding placesNought
-fraction-minus ws i negative x em k ef size = rw (em, ef, k)
+fraction-minus ws i negative x em k ef ee size = rw (em, ee, ef, k)

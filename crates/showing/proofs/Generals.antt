@@ -17,7 +17,7 @@ use Rattle.figures.specs.declared.Signed.{Signed}
 use Rattle.figures.specs.Digits.{figures}
 use Rattle.figures.specs.Places.{placesUsed}
 use Rattle.figures.specs.Powers.{powered}
-use Rattle.figures.specs.General.{generalDecimals, generalRounded, generalTooWide}
+use Rattle.figures.specs.General.{generalDecimals, generalRounded, generalExactly, generalTooWide}
 use Rattle.figures.specs.Sign.{signedOf}
 use Rattle.figures.proofs.Rounding.{rounded-small}
 use Rattle.figures.proofs.General.{decimals-most}
@@ -25,7 +25,8 @@ use Rattle.figures.proofs.Places.{used-test}
 use Rattle.formats.specs.Items.{Kind, textKind, generalKind, dateKind, numberKind, scientificKind, fractionKind, literalKind, kindOf, Section}
 use Rattle.formats.specs.Choice.{numberExact, Reason, chosen}
 use Rattle.formats.specs.Text.{Context}
-use Rattle.formats.specs.Reading.{refused, numberContext, takesNumber, showsGeneral, standingRounded, showsNought, readNumber}
+use Rattle.formats.specs.Reading.{refused, numberContext, takesNumber, showsGeneral, standingRounded, showsNought, numberExactly, readNumber}
+use Rattle.formats.proofs.Exactness.{exactly-general}
 use Rattle.figure_text.specs.declared.Figures.{Figures}
 use Rattle.figure_text.specs.Shown.{FiguresAre, figuresWith}
 use Rattle.figure_text.proofs.Digits.{figures-are}
@@ -84,6 +85,10 @@ module _ (v : Signed) (x : Number) (ev : v ≡ signedOf x) where
 
   pub wide-is : {b : Bool} → b ≡ generalTooWide (powered (v .magnitude) 0 (v .scale)) → generalTooWide (numberExact x .size) ≡ b
   wide-is e = sym (e ∙ ap generalTooWide exact-is)
+
+  pub general-exactly : {b : Bool} (z : Section) → T (showsGeneral (kindOf z)) → b ≡ generalExactly (powered (v .magnitude) 0 (v .scale))
+      → b ≡ numberExactly z x
+  general-exactly z t e = e ∙ ap generalExactly exact-is ∙ sym (exactly-general z x (T-true (showsGeneral (kindOf z)) t))
 
   pub general-figures : {digits : List ℕ} → v .magnitude < 10 ^ 15 → digits ≡ figures (generalRounded (powered (v .magnitude) 0 (v .scale)))
       → FiguresAre digits (figuresWith digits 0 false) (generalContext (standingRounded x))

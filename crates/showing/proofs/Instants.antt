@@ -13,7 +13,7 @@ use Rattle.lists.specs.Lists.{any}
 use Rattle.formats.specs.Items.{Section, Kind, dateKind, literalKind, showsPlaces, kindOf, integerPlaces}
 use Rattle.calendar.specs.Clock.{sinceDayZero}
 use Rattle.formats.specs.Choice.{instantExact, Reason, chosen, choose}
-use Rattle.formats.specs.Reading.{refused, takesInstant, instantContext, readInstant}
+use Rattle.formats.specs.Reading.{refused, takesInstant, instantContext, instantExactly, readInstant}
 use Rattle.tables.specs.Words.{entriesIn}
 use Rattle.tables.specs.Encode.{hasHalf, entriesOf}
 use Rattle.tables.specs.Decode.{decode}
@@ -41,6 +41,10 @@ literal-takes : (k : Kind) → k ≡ literalKind → TakesInstant k
 unfolding takesInstant
 literal-takes k e = rw e (refl, refl)
 
+literal-exactly : (s : Section) (m : Millisecond) → kindOf s ≡ literalKind → instantExactly s m ≡ true
+unfolding instantExactly
+literal-exactly s m e = rw e
+
 module _ (ws : List ℕ) (i : ℕ) (t : T (passes ws)) (h : i < getD ws 0 0) (d : Day) (m : Millisecond) where
   pub instant-places : TakesInstant (kindOf (sectionIn ws i)) → instantContext (sectionIn ws i) d m .integerPlaces ≡ integerPlaces (sectionIn ws i .items)
   unfolding instantContext
@@ -54,12 +58,12 @@ module _ (ws : List ℕ) (i : ℕ) (t : T (passes ws)) (h : i < getD ws 0 0) (d 
     instant-refused e size = rw (eo, e)
 
     pub instant-reads : TakesInstant (kindOf (sectionIn ws i)) → (size : ℕ) → readInstant d m size (choose (decode ws) (instantExact d m))
-        ≡ sectionReading size (sectionIn ws i) i false (instantContext (sectionIn ws i) d m)
+        ≡ sectionReading size (sectionIn ws i) i false (instantExactly (sectionIn ws i) m) (instantContext (sectionIn ws i) d m)
     unfolding readInstant sectionReading signText
     instant-reads e size = rw (eo, e .0)
 
     pub instant-literal : {digits text : List ℕ} {f : Figures} → f .used ≤ 40 → kindOf (sectionIn ws i) ≡ literalKind
-        → SectionIs i false (record { figures = f; lent = false }) digits ws text (λ size. readInstant d m size (choose (decode ws) (instantExact d m)))
+        → SectionIs i false (record { figures = f; lent = false }) digits true ws text (λ size. readInstant d m size (choose (decode ws) (instantExact d m)))
     instant-literal u e =
         let k = literal-takes (kindOf (sectionIn ws i)) e in
         record {
@@ -68,16 +72,16 @@ module _ (ws : List ℕ) (i : ℕ) (t : T (passes ws)) (h : i < getD ws 0 0) (d 
           short = λ l. absurd (true≢false (sym l));
           known = record { context = instantContext (sectionIn ws i) d m; is = literal-subject (instantContext (sectionIn ws i) d m) e };
           places = instant-places k;
-          reads = instant-reads k;
+          reads = λ size. instant-reads k size ∙ ap (λ (b : Bool). sectionReading size (sectionIn ws i) i false b (instantContext (sectionIn ws i) d m)) (literal-exactly (sectionIn ws i) m e);
         }
 
 -- the moment is that of the section's context, its date where an item shows it
 module _ {s : Section} {words : List ℕ} (o : ItemsOf s words) {w : List ℕ} {twelve dated : Bool} (d : Day) (m : Millisecond)
-    (et : twelve ≡ hasHalf (s .items)) (ed : dated ≡ any datedEntry (entriesIn words)) (ew : w ≡ momentOf twelve dated d m) where
+    (small : m .0 < 4294967296) (et : twelve ≡ hasHalf (s .items)) (ed : dated ≡ any datedEntry (entriesIn words)) (ew : w ≡ momentOf twelve dated d m) where
   pub instant-moment : MomentIs w (any datedEntry (entriesOf (s .items))) (instantContext s d m)
   unfolding hasHalf
   instant-moment = record {
-    clock = clock-instant twelve dated s d m w ew et;
+    clock = clock-instant twelve dated s d m w ew small et;
     date = λ f. date-instant twelve dated s d m w ew (ed ∙ ap (any datedEntry) (items-entries o) ∙ f);
   }
 

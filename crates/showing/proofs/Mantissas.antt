@@ -3,7 +3,7 @@
 use Prim.Native.Nat.{ℕ, _^_, _≤_, _<_}
 use native.Mathlib.Nat.{lt-of-lt-of-le}
 use native.Mathlib.Omega.{arith}
-use mathlib.Core.Path.{_≡_, refl, ap, _∙_}
+use mathlib.Core.Path.{_≡_, refl, sym, ap, _∙_}
 use mathlib.Core.Bool.{Bool, false}
 use mathlib.Core.List.{List, []}
 use lib.Dec.{T, eqb}
@@ -14,13 +14,14 @@ use Rattle.figures.specs.declared.Signed.{Signed}
 use Rattle.figures.specs.Digits.{figures}
 use Rattle.figures.specs.Sign.{signedOf}
 use Rattle.figures.proofs.Tens.{ten-le}
-use Rattle.exponents.specs.Exponent.{decimal, exponentOf, mantissaOf}
+use Rattle.exponents.specs.Exponent.{decimal, exponentOf, mantissaOf, mantissaExactly}
 use Rattle.exponents.proofs.Mantissa.{mantissa-small}
 use Rattle.exponents.proofs.Small.{exponent-small}
 use Rattle.formats.specs.Items.{Section, numberKind, scientificKind, kindOf, integerPlaces, decimalPlaces}
 use Rattle.formats.specs.WellFormed.{groupingFits}
-use Rattle.formats.specs.Reading.{sectionExponent, sectionRounded, numberContext, wholeContext, exponentContext}
+use Rattle.formats.specs.Reading.{sectionExponent, sectionRounded, numberContext, wholeContext, exponentContext, numberExactly}
 use Rattle.formats.proofs.Cutting.{scientific-some}
+use Rattle.formats.proofs.Exactness.{exactly-scientific}
 use Rattle.tables.specs.Words.{Head}
 use Rattle.tables.specs.Encode.{decimalsWord, headOf}
 use Rattle.tables.specs.Rules.{passes}
@@ -93,6 +94,9 @@ module _ {integers decimals : ℕ} {s : Section} (w : ScientificWords integers d
     unfolding numberContext
     mantissa-nought = figures-nought (numberContext s x) mantissa-figures
 
+  pub mantissa-exactly : {b : Bool} → b ≡ mantissaExactly (decimal (v .magnitude) (v .scale)) integers decimals → b ≡ numberExactly s x
+  mantissa-exactly e = e ∙ rw (exact v x ev, w .places, w .decimals-are) (sym (exactly-scientific s x k))
+
   exponent-is : exponentOf (decimal (v .magnitude) (v .scale)) integers decimals ≡ sectionExponent s x
   unfolding sectionExponent
   exponent-is = rw (exact v x ev, w .places, w .decimals-are)
@@ -107,8 +111,8 @@ pub exponent-most : {integers decimals m scale size : ℕ} {s : Section} → Sci
     → size ≡ exponentOf (decimal m scale) integers decimals .size → size ≤ 34
 exponent-most {integers} {decimals} {m} {scale} w hm hs e = rw e (exponent-small m scale integers decimals hm hs (w .least) (w .most) (w .decimalsMost))
 
--- the reading, with the minus as the code finds it
-pub scientific-minus : (ws : List ℕ) (i : ℕ) (negative : Bool) (x : Number) {minus held : Bool} → minus ≡ minusIn ws i negative held
-    → held ≡ eqb (sectionRounded (sectionIn ws i) x) 0 → (size : ℕ)
-    → scientificOf ws i negative x size ≡ scientificReading size (sectionIn ws i) i minus (numberContext (sectionIn ws i) x) (exponentContext (sectionIn ws i) x)
-scientific-minus ws i negative x em eh size = rw (em, eh)
+-- the reading, with the minus as the code finds it, and exact where it finds that
+pub scientific-minus : (ws : List ℕ) (i : ℕ) (negative : Bool) (x : Number) {minus held b : Bool} → minus ≡ minusIn ws i negative held
+    → held ≡ eqb (sectionRounded (sectionIn ws i) x) 0 → b ≡ numberExactly (sectionIn ws i) x → (size : ℕ)
+    → scientificOf ws i negative x size ≡ scientificReading size (sectionIn ws i) i minus b (numberContext (sectionIn ws i) x) (exponentContext (sectionIn ws i) x)
+scientific-minus ws i negative x em eh ee size = rw (em, eh, ee)

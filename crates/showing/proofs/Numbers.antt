@@ -15,7 +15,7 @@ use Rattle.formats.specs.Items.{Section, scientificKind, fractionKind, literalK
 use Rattle.formats.specs.Where.{hasCondition}
 use Rattle.formats.specs.Choice.{numberExact, Reason, counted, chosen, choose}
 use Rattle.formats.specs.Minus.{isOwn, firstHasCondition, exceptionA, signUnits}
-use Rattle.formats.specs.Reading.{lookOf, within, numberContext, takesNumber, showsGeneral, showsNought, sectionText, exponentContext, sectionFraction, numberSign, numberUnits, readNumber}
+use Rattle.formats.specs.Reading.{lookOf, within, numberContext, takesNumber, showsGeneral, showsNought, sectionText, exponentContext, sectionFraction, numberSign, numberUnits, numberExactly, readNumber}
 use Rattle.tables.specs.Words.{Head}
 use Rattle.tables.specs.Encode.{headOf}
 use Rattle.tables.specs.Decode.{decode}
@@ -64,44 +64,46 @@ module _ (ws : List ℕ) (i : ℕ) (v : Signed) (x : Number) (why : Reason) (ev 
 
   number-reads : (size : ℕ)
       → readNumber (decode ws) x size (choose (decode ws) (numberExact x))
-      ≡ within size (lookOf (signText (minusIn ws i (v .negative) held) ++ sectionText (sectionIn ws i) x) (sectionIn ws i .colour) i)
+      ≡ within size (lookOf (signText (minusIn ws i (v .negative) held) ++ sectionText (sectionIn ws i) x) (sectionIn ws i .colour) i (numberExactly (sectionIn ws i) x))
   unfolding readNumber numberUnits
   number-reads size =
       let s : Section = sectionIn ws i in
       ap (readNumber (decode ws) x size) eo ∙ rw (t .number, t .narrow)
-      (ap (λ (us : List ℕ). within size (lookOf (us ++ sectionText s x) (s .colour) i)) number-sign)
+      (ap (λ (us : List ℕ). within size (lookOf (us ++ sectionText s x) (s .colour) i (numberExactly s x))) number-sign)
 
   -- in a section with no E and no solidus
   plain-reads : sameKind (kindOf (sectionIn ws i)) scientificKind ≡ false → sameKind (kindOf (sectionIn ws i)) fractionKind ≡ false → (size : ℕ)
       → readNumber (decode ws) x size (choose (decode ws) (numberExact x))
-      ≡ sectionReading size (sectionIn ws i) i (minusIn ws i (v .negative) held) (numberContext (sectionIn ws i) x)
+      ≡ sectionReading size (sectionIn ws i) i (minusIn ws i (v .negative) held) (numberExactly (sectionIn ws i) x) (numberContext (sectionIn ws i) x)
   unfolding sectionReading sectionText
   plain-reads e f size = number-reads size ∙ rw (e, f)
 
-  pub number-section : {digits text : List ℕ} {f : Figures} → i < getD ws 0 0 → f .used ≤ 40
+  pub number-section : {digits text : List ℕ} {f : Figures} {exact : Bool} → exact ≡ numberExactly (sectionIn ws i) x → i < getD ws 0 0 → f .used ≤ 40
       → SubjectIs (kindOf (sectionIn ws i)) digits (record { figures = f; lent = false }) text (numberContext (sectionIn ws i) x)
-      → SectionIs i (minusIn ws i (v .negative) held) (record { figures = f; lent = false }) digits ws text
+      → SectionIs i (minusIn ws i (v .negative) held) (record { figures = f; lent = false }) digits exact ws text
       (λ size. readNumber (decode ws) x size (choose (decode ws) (numberExact x)))
   unfolding numberContext
-  number-section h u is = record {
+  number-section ee h u is = record {
     inside = h;
     used = u;
     short = λ e. absurd (true≢false (sym e));
     known = record { context = numberContext (sectionIn ws i) x; is = is };
     places = refl;
-    reads = plain-reads (other-kind scientificKind (kindOf (sectionIn ws i)) (is .unscientific)) (other-kind fractionKind (kindOf (sectionIn ws i)) (is .unfractional));
+    reads =
+        λ size.
+        rw ee (plain-reads (other-kind scientificKind (kindOf (sectionIn ws i)) (is .unscientific)) (other-kind fractionKind (kindOf (sectionIn ws i)) (is .unfractional)) size);
   }
 
   -- in a scientific section
   pub scientific-reads : kindOf (sectionIn ws i) ≡ scientificKind → (size : ℕ)
       → readNumber (decode ws) x size (choose (decode ws) (numberExact x))
-      ≡ scientificReading size (sectionIn ws i) i (minusIn ws i (v .negative) held) (numberContext (sectionIn ws i) x) (exponentContext (sectionIn ws i) x)
+      ≡ scientificReading size (sectionIn ws i) i (minusIn ws i (v .negative) held) (numberExactly (sectionIn ws i) x) (numberContext (sectionIn ws i) x) (exponentContext (sectionIn ws i) x)
   unfolding scientificReading sectionText
   scientific-reads k size = number-reads size ∙ rw k
 
   -- in a fraction
   pub fraction-reads : kindOf (sectionIn ws i) ≡ fractionKind → (size : ℕ)
       → readNumber (decode ws) x size (choose (decode ws) (numberExact x))
-      ≡ fractionReading size (sectionIn ws i) i (minusIn ws i (v .negative) held) (sectionFraction (sectionIn ws i) x)
+      ≡ fractionReading size (sectionIn ws i) i (minusIn ws i (v .negative) held) (numberExactly (sectionIn ws i) x) (sectionFraction (sectionIn ws i) x)
   unfolding fractionReading sectionText
   fraction-reads k size = number-reads size ∙ rw k

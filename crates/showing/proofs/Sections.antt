@@ -13,12 +13,14 @@ use Rattle.lists.specs.Lists.{count}
 use Rattle.figures.specs.declared.Signed.{Signed}
 use Rattle.figures.specs.Digits.{figures}
 use Rattle.figures.specs.Powers.{powered}
-use Rattle.figures.specs.Rounding.{scaled, rounded}
+use Rattle.figures.specs.Rounding.{scaled, rounded, roundsExactly}
 use Rattle.figures.specs.Rounder.{Roundable}
 use Rattle.figures.specs.Sign.{signedOf}
 use Rattle.figures.proofs.Rounding.{powered-net, scaled-powered, scaled-small, roundable}
+use Rattle.figures.proofs.Exactly.{exactly-net}
 use Rattle.formats.specs.Items.{Section, Kind, numberKind, scientificKind, fractionKind, showsPlaces, kindOf, isPercent, integerPlaces, decimalPlaces}
-use Rattle.formats.specs.Reading.{takesNumber, showsGeneral, sectionRounded, numberContext, placesNought, showsNought}
+use Rattle.formats.specs.Reading.{takesNumber, showsGeneral, sectionRounded, numberContext, placesNought, showsNought, numberExactly}
+use Rattle.formats.proofs.Exactness.{exactly-number}
 use Rattle.tables.specs.Words.{Head}
 use Rattle.tables.specs.Encode.{shiftWord, decimalsWord, headOf}
 use Rattle.tables.specs.Rules.{passes}
@@ -79,6 +81,17 @@ module _ {shift decimals : ℕ} {s : Section} (w : NumberWords shift decimals s)
   pub number-digits : {r : List ℕ} {up down : ℕ} → up ≡ shift - 15 → down ≡ 15 - shift
       → r ≡ figures (rounded (powered (v .magnitude) up (v .scale + down)) decimals) → r ≡ figures (sectionRounded s x)
   number-digits eu ed e = e ∙ rw (eu, ed) (ap figures number-net)
+
+  pub number-exactly : {b : Bool} {up down : ℕ} → up ≡ shift - 15 → down ≡ 15 - shift
+      → b ≡ roundsExactly (powered (v .magnitude) up (v .scale + down)) decimals → b ≡ numberExactly s x
+  unfolding signedOf
+  number-exactly eu ed e =
+      let p : ℕ = count isPercent (s .items) in
+      let t : ℕ = s .thousands in
+      e ∙ rw (eu, ed) (exactly-net (v .magnitude) (shift - 15) (v .scale + (15 - shift)) (2 * p) (v .scale + 3 * t) decimals (omega (arith, w .net)))
+      ∙ ap (λ x. roundsExactly x decimals) (sym (scaled-powered (v .magnitude) (v .scale) p t))
+      ∙ ap₂ (λ (u : Signed). roundsExactly (scaled (u .magnitude) (u .scale) p t)) ev (w .places)
+      ∙ sym (exactly-number s x k)
 
 or-none : (b : Bool) → b ≡ b || false
 or-none true = refl

@@ -75,12 +75,12 @@ module _ (ws : List ℕ) (i : ℕ) (t : T (passes ws)) (e : found.At i ≡ textF
       (λ f. text-plain (kindOf (sectionIn ws i)) (goes (decode ws) i (sectionIn ws i) (text-at ws i e .0) f))
 
   text-reads : (text : List ℕ) → length text ≤ 1024
-      → (size : ℕ) → valueReading ws value.Text text size ≡ sectionReading size (sectionIn ws i) i false (textContext text)
+      → (size : ℕ) → valueReading ws value.Text text size ≡ sectionReading size (sectionIn ws i) i false true (textContext text)
   unfolding readValue readText sectionReading signText
   text-reads text h size = rw (le-leb (length text) 1024 h, text-at ws i e .0)
 
   pub text-section : {digits text : List ℕ} {f : Figures} → f .used ≤ 40 → length text ≤ 1024
-      → SectionIs i false (record { figures = f; lent = true }) digits ws text (valueReading ws value.Text text)
+      → SectionIs i false (record { figures = f; lent = true }) digits true ws text (valueReading ws value.Text text)
   unfolding textContext
   text-section {digits} {text} u h =
       let k = plain-kind (kindOf (sectionIn ws i)) section-plain in
@@ -94,6 +94,6 @@ module _ (ws : List ℕ) (i : ℕ) (t : T (passes ws)) (e : found.At i ≡ textF
       }
 
 pub itself-reads : (ws text : List ℕ) → length text ≤ 1024 → found.Itself ≡ textFoundOf (chooseText (decode ws))
-    → (size : ℕ) → valueReading ws value.Text text size ≡ within size (lookOf text 0 4)
+    → (size : ℕ) → valueReading ws value.Text text size ≡ within size (lookOf text 0 4 true)
 unfolding readValue readText
 itself-reads ws text h e size = rw (le-leb (length text) 1024 h, text-itself ws e)

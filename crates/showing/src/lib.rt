@@ -8,7 +8,7 @@ ghost use lib.ListN.{length, getD};
 ghost use Rattle.lists.specs.Lists.{any};
 ghost use Rattle.formats.specs.Items.{numberKind, dateKind, scientificKind, fractionKind, sameKind, kindOf, isPlace, integerPlaces, beforeEnd};
 ghost use Rattle.formats.specs.Choice.{instantExact, Reason, chosen, choose};
-ghost use Rattle.formats.specs.Reading.{lookOf, within, instantContext, readInstant, showsGeneral, sectionRounded, sectionFraction, readValue, reading};
+ghost use Rattle.formats.specs.Reading.{lookOf, within, instantContext, readInstant, showsGeneral, sectionRounded, sectionFraction, numberExactly, instantExactly, readValue, reading};
 ghost use Rattle.figures.specs.Digits.{figures};
 ghost use Rattle.figures.specs.Sign.{signedOf};
 ghost use Rattle.values.specs.declared.Number.{Number};
@@ -36,7 +36,7 @@ use figure_text::Figures;
 use figure_text::figures_of;
 use figures::Signed;
 use figures::Taken;
-use fractions::Mixed;
+use fractions::Nearest;
 use fractions::fixed_fraction;
 use fractions::nearest_fraction;
 use section_text::Subject;
@@ -72,19 +72,22 @@ enum Plan {
     Section(u16, bool, Subject),
 }
 
-// A plan, and the digits of the segment that a section has.
+// A plan, the digits of the segment that a section has, and whether what it shows is exact. (Beside the plan: in a section's subject it
+// would be passed on to every item.)
 struct Planned {
     plan: Plan,
     digits: [u8; 40],
+    exact: bool,
 }
 
-// A plan that needs no digits.
+// A plan that needs no digits: a section that is so planned is exact.
 fn without_digits(plan: Plan) -> Planned
-    ensures { λ r. ⌜ r .plan ≡ plan ⌝ }
+    ensures { λ r. ⌜ (r .plan ≡ plan) × (r .exact ≡ true) ⌝ }
 {
     Planned {
         plan,
         digits: [0; 40],
+        exact: true,
     }
 }
 
@@ -110,7 +113,7 @@ fn bare(i: u16, minus: bool, lent: bool) -> Plan
 fn instant_in(table: &[u16], i: u16, d: Day, m: Millisecond) -> Plan
     requires { ⌜ T (passes (now table)) × (i < getD (now table) 0 0) ⌝ }
     ensures { λ r. ⌜ ((digits text : List ℕ) (why : Reason) → choose (decode (now (table .entry))) (instantExact d m) ≡ chosen i (sectionIn (now (table .entry)) i) why
-        → PlanIs r digits (now (table .entry)) text (λ size. readInstant d m size (choose (decode (now (table .entry))) (instantExact d m)))) ⌝ }
+        → PlanIs r digits true (now (table .entry)) text (λ size. readInstant d m size (choose (decode (now (table .entry))) (instantExact d m)))) ⌝ }
 {
     let h = head_of(table, i as usize);
     let kind = h.kind;
@@ -138,7 +141,7 @@ fn instant_sought(d: Day, m: Millisecond) -> Sought
 // The plan of an instant; one out of range is refused.
 fn instant_plan(table: &[u16], d: Day, m: Millisecond) -> Plan
     requires { ⌜ T (passes (now table)) ⌝ }
-    ensures { λ r. ⌜ ((digits text : List ℕ) → PlanIs r digits (now (table .entry)) text (valueReading (now (table .entry)) (value.Instant d m) text)) ⌝ }
+    ensures { λ r. ⌜ ((digits text : List ℕ) → PlanIs r digits true (now (table .entry)) text (valueReading (now (table .entry)) (value.Instant d m) text)) ⌝ }
 {
     if Day::GREATEST < d.0 {
         return Plan::Refused(Answer::Range);
@@ -155,7 +158,7 @@ fn instant_plan(table: &[u16], d: Day, m: Millisecond) -> Plan
 // The plan of a text; one that is too long is refused.
 fn text_plan(table: &[u16], text: &[u16]) -> Plan
     requires { ⌜ T (passes (now table)) ⌝ }
-    ensures { λ r. ⌜ ((digits : List ℕ) → PlanIs r digits (now (table .entry)) (now (text .entry)) (valueReading (now (table .entry)) value.Text (now (text .entry)))) ⌝ }
+    ensures { λ r. ⌜ ((digits : List ℕ) → PlanIs r digits true (now (table .entry)) (now (text .entry)) (valueReading (now (table .entry)) value.Text (now (text .entry)))) ⌝ }
 {
     if 1024 < text.len() {
         return Plan::Refused(Answer::Range);
@@ -191,17 +194,18 @@ fn added_minus(table: &[u16], i: u16, negative: bool, nought: bool) -> bool
     has_minus(negative, h.items, no_minus(table, i as usize), nought)
 }
 
-// Section i with the digits of a number.
+// Section i with the digits of a rounded number, which is exact or not.
 fn with_digits(
     table: &[u16],
     i: u16,
     negative: bool,
     digits: [u8; 40],
+    exact: bool,
     integers: u32,
     grouped: bool,
 ) -> Planned
     requires { ⌜ T (passes (now table)) × (i < getD (now table) 0 0) ⌝ }
-    ensures { λ r. ⌜ (r .plan ≡ digitsPlan (now (table .entry)) i negative (figuresWith digits integers grouped)) × (r .digits ≡ digits) ⌝ }
+    ensures { λ r. ⌜ (r .plan ≡ digitsPlan (now (table .entry)) i negative (figuresWith digits integers grouped)) × (r .digits ≡ digits) × (r .exact ≡ exact) ⌝ }
 {
     let figures = figures_of(digits, integers, grouped);
     let minus = added_minus(table, i, negative, figures.used == 0);
@@ -215,6 +219,7 @@ fn with_digits(
             },
         ),
         digits,
+        exact,
     }
 }
 
@@ -227,8 +232,9 @@ fn general_plan(table: &[u16], i: u16, v: Signed) -> Planned
     if figures::general_too_wide(v.magnitude, v.scale) {
         return without_digits(Plan::Refused(Answer::General));
     }
-    let digits = figures::round_general([0; 40], v.magnitude, v.scale);
-    with_digits(table, i, v.negative, digits, 0, false)
+    let mut exact = true;
+    let digits = figures::round_general([0; 40], v.magnitude, v.scale, &mut exact);
+    with_digits(table, i, v.negative, digits, exact, 0, false)
 }
 
 // The argument of the first place among item words; 15 where there is none.
@@ -257,18 +263,19 @@ fn integer_places(table: &[u16], i: usize) -> u32
     first_argument(items_of(table, i)) as u32 - 15
 }
 
-// The digits of a number in section i, which is a number section: a shift above 15 multiplies, one below 15 divides.
-fn number_digits(table: &[u16], i: usize, v: Signed) -> [u8; 40]
+// A number rounded as section i shows it, which is a number section: a shift above 15 multiplies, one below 15 divides.
+fn number_digits(table: &[u16], i: usize, v: Signed, exact: &mut bool) -> [u8; 40]
     requires { ⌜ T (passes (now table)) × (i < getD (now table) 0 0) × (v .magnitude < 10 ^ 15) × (v .scale ≤ 15)
         × (kindOf (sectionIn (now table) i) ≡ numberKind) ⌝ }
-    ensures { λ r. ⌜ ((x : Number) → v ≡ signedOf x → r ≡ figures (sectionRounded (sectionIn (now (table .entry)) i) x)) ⌝ }
+    ensures digits { λ r. ⌜ ((x : Number) → v ≡ signedOf x → r ≡ figures (sectionRounded (sectionIn (now (table .entry)) i) x)) ⌝ }
+    ensures exact { λ r. ⌜ ((x : Number) → v ≡ signedOf x → now (exact .exit) ≡ numberExactly (sectionIn (now (table .entry)) i) x) ⌝ }
 {
     let h = head_of(table, i);
     let shift = h.shift as u32;
     let decimals = h.decimals as u32;
     let up = excess(shift, 15);
     let down = v.scale + excess(15, shift);
-    figures::round([0; 40], v.magnitude, up, down, decimals)
+    figures::round([0; 40], v.magnitude, up, down, decimals, exact)
 }
 
 // The plan of a number in section i, which is a number section.
@@ -277,13 +284,15 @@ fn figures_plan(table: &[u16], i: u16, v: Signed) -> Planned
         × (kindOf (sectionIn (now table) i) ≡ numberKind) ⌝ }
     ensures { λ r. ⌜ PlansNumber (now (table .entry)) i v r ⌝ }
 {
-    let digits = number_digits(table, i as usize, v);
+    let mut exact = true;
+    let digits = number_digits(table, i as usize, v, &mut exact);
     let integers = integer_places(table, i as usize);
     with_digits(
         table,
         i,
         v.negative,
         digits,
+        exact,
         integers,
         is_grouped(table, i as usize),
     )
@@ -322,7 +331,7 @@ fn number_sought(v: Signed) -> Sought
 fn number_in_range(table: &[u16], v: Signed) -> Planned
     requires { ⌜ T (passes (now table)) × (v .magnitude < 10 ^ 15) × (v .scale ≤ 15) ⌝ }
     ensures { λ r. ⌜ ((text : List ℕ) (x : Number) → v ≡ signedOf x
-        → PlanIs (r .plan) (r .digits) (now (table .entry)) text (readValue (decode (now (table .entry))) (value.Number x) text)) ⌝ }
+        → PlanIs (r .plan) (r .digits) (r .exact) (now (table .entry)) text (readValue (decode (now (table .entry))) (value.Number x) text)) ⌝ }
 {
     match choosing::choose(table, number_sought(v)) {
         Found::Nothing => without_digits(Plan::Refused(Answer::NoSection)),
@@ -333,7 +342,7 @@ fn number_in_range(table: &[u16], v: Signed) -> Planned
 // The plan of a number; one out of range is refused.
 fn number_plan(table: &[u16], x: Number) -> Planned
     requires { ⌜ T (passes (now table)) ⌝ }
-    ensures { λ r. ⌜ ((text : List ℕ) → PlanIs (r .plan) (r .digits) (now (table .entry)) text (valueReading (now (table .entry)) (value.Number x) text)) ⌝ }
+    ensures { λ r. ⌜ ((text : List ℕ) → PlanIs (r .plan) (r .digits) (r .exact) (now (table .entry)) text (valueReading (now (table .entry)) (value.Number x) text)) ⌝ }
 {
     match figures::take_number(x) {
         Taken::OutOfRange => without_digits(Plan::Refused(Answer::Range)),
@@ -344,7 +353,7 @@ fn number_plan(table: &[u16], x: Number) -> Planned
 // The plan of what is asked for: no room is needed to make it.
 fn plan_of(table: &[u16], ask: Ask, text: &[u16]) -> Planned
     requires { ⌜ T (passes (now table)) ⌝ }
-    ensures { λ r. ⌜ PlanIs (r .plan) (r .digits) (now (table .entry)) (now (text .entry)) (reading (decode (now (table .entry))) ask (now (text .entry))) ⌝ }
+    ensures { λ r. ⌜ PlanIs (r .plan) (r .digits) (r .exact) (now (table .entry)) (now (text .entry)) (reading (decode (now (table .entry))) ask (now (text .entry))) ⌝ }
 {
     let value = ask.value;
     match value {
@@ -357,24 +366,24 @@ fn plan_of(table: &[u16], ask: Ask, text: &[u16]) -> Planned
 // Shows a text by itself.
 fn show_plain(room: &mut [u16], text: &[u16]) -> Shown
     requires { ⌜ length (now text) ≤ 1024 ⌝ }
-    ensures { λ r. ⌜ Shows (within (length (now (room .entry))) (lookOf (now (text .entry)) 0 4)) (now (room .entry)) r (now (room .exit)) ⌝ }
+    ensures { λ r. ⌜ Shows (within (length (now (room .entry))) (lookOf (now (text .entry)) 0 4 true)) (now (room .entry)) r (now (room .exit)) ⌝ }
 {
     if room.len() < text.len() {
         return refused_shown(Answer::TextRoom);
     }
     let end = writing::put_units(room, 0, text);
-    done_shown(end as u32, 0, 4)
+    done_shown(end as u32, 0, 4, true)
 }
 
 // Shows an instant in section i, which is a date-time section.
 fn show_dated(room: &mut [u16], table: &[u16], i: u16, d: Day, m: Millisecond) -> Shown
     requires { ⌜ T (passes (now table)) × (i < getD (now table) 0 0) × (kindOf (sectionIn (now table) i) ≡ dateKind) ⌝ }
     ensures { λ r. ⌜ Shows (sectionReading (length (now (room .entry))) (sectionIn (now (table .entry)) i) i false
-        (instantContext (sectionIn (now (table .entry)) i) d m)) (now (room .entry)) r (now (room .exit)) ⌝ }
+        (instantExactly (sectionIn (now (table .entry)) i) m) (instantContext (sectionIn (now (table .entry)) i) d m)) (now (room .entry)) r (now (room .exit)) ⌝ }
 {
     let dated = date_text::shows_date(items_of(table, i as usize));
     let moment = date_text::moment_of(is_twelve_hour(table, i as usize), dated, d, m);
-    show_dated_section(room, table, i, &moment)
+    show_dated_section(room, table, i, &moment, m)
 }
 
 // Shows a number in section i, which is a scientific section. (The plan has the number alone: the mantissa's digits and the exponent
@@ -404,6 +413,7 @@ fn show_scientific(room: &mut [u16], table: &[u16], i: u16, v: Signed) -> Shown
         mantissa,
         x.exponent,
         x.below,
+        x.exact,
     )
 }
 
@@ -417,11 +427,12 @@ fn is_parted(before: &[u16]) -> bool
 }
 
 // The fraction of a number in section i, which is a fraction section. Directly behind its solidus stands the fixed number or a place.
-fn section_fraction(table: &[u16], i: usize, v: Signed) -> Mixed
+fn section_fraction(table: &[u16], i: usize, v: Signed) -> Nearest
     requires { ⌜ T (passes (now table)) × (i < getD (now table) 0 0) × (kindOf (sectionIn (now table) i) ≡ fractionKind)
         × (v .magnitude < 10 ^ 15) × (v .scale ≤ 15) ⌝ }
-    ensures is { λ r. ⌜ ((x : Number) → v ≡ signedOf x → r ≡ sectionFraction (sectionIn (now (table .entry)) i) x) ⌝ }
-    ensures small { λ r. ⌜ (r .whole ≤ 10 ^ 15) × (r .above < 10 ^ 19) × (1 ≤ r .below) × (r .below ≤ 999) ⌝ }
+    ensures is { λ r. ⌜ ((x : Number) → v ≡ signedOf x → r .mixed ≡ sectionFraction (sectionIn (now (table .entry)) i) x) ⌝ }
+    ensures exact { λ r. ⌜ ((x : Number) → v ≡ signedOf x → r .exact ≡ numberExactly (sectionIn (now (table .entry)) i) x) ⌝ }
+    ensures small { λ r. ⌜ (r .mixed .whole ≤ 10 ^ 15) × (r .mixed .above < 10 ^ 19) × (1 ≤ r .mixed .below) × (r .mixed .below ≤ 999) ⌝ }
 {
     let items = items_of(table, i);
     let start = cut_start(items);
@@ -442,10 +453,11 @@ fn show_fraction(room: &mut [u16], table: &[u16], i: u16, v: Signed) -> Shown
     ensures { λ r. ⌜ ((x : Number) → v ≡ signedOf x
         → Shows (fractionShown (now (table .entry)) i (v .negative) x (length (now (room .entry)))) (now (room .entry)) r (now (room .exit))) ⌝ }
 {
-    let f = section_fraction(table, i as usize, v);
+    let x = section_fraction(table, i as usize, v);
+    let f = x.mixed;
     let nought = (f.whole == 0) & (f.above == 0);
     let minus = added_minus(table, i, v.negative, nought);
-    show_fraction_section(room, table, i, minus, f)
+    show_fraction_section(room, table, i, minus, f, x.exact)
 }
 
 // Shows a value through a table that passes.
@@ -463,7 +475,16 @@ fn show_value(room: &mut [u16], table: &[u16], ask: Ask, text: &[u16]) -> Shown
         Plan::Dated(i, d, m) => show_dated(room, table, i, d, m),
         Plan::Scientific(i, v) => show_scientific(room, table, i, v),
         Plan::Fraction(i, v) => show_fraction(room, table, i, v),
-        Plan::Section(i, minus, s) => show_section(room, table, i, minus, &digits, s, text),
+        Plan::Section(i, minus, s) => show_section(
+            room,
+            table,
+            i,
+            minus,
+            &digits,
+            s,
+            text,
+            p.exact,
+        ),
     }
 }
 

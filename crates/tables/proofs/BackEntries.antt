@@ -3,17 +3,17 @@
 use Prim.Native.Nat.{ℕ, zero, suc, _+_, _≤_, _<_}
 use native.Mathlib.Omega.{arith}
 use mathlib.Core.Path.{_≡_, refl, sym, _∙_, ap, subst}
-use mathlib.Core.Bool.{true, false, _||_, true≢false}
+use mathlib.Core.Bool.{false}
 use mathlib.Core.List.{List, [], _∷_}
 use lib.ListN.{length, take, drop, length-map, take-append-drop, List·getD-eq-default}
 use lib.Seq.{take-append-seam, drop-append-seam}
-use lib.Dec.{T, leb, eqb, leb→le, eqb→eq}
-use borrow.Author.Tests.{eqb-true, eqb-false, leb-true, leb-false, le-leb, lt-leb}
+use lib.Dec.{T, eqb, leb→le, eqb→eq}
+use borrow.Author.Tests.{eqb-true, eqb-false, le-leb, lt-leb}
 use Rattle.values.specs.Ranges.{between}
 use Rattle.lists.specs.Lists.{every, any}
 use Rattle.lists.proofs.Bools.{and-left, and-right, by-cases, every-head, every-tail, every-cons, every-take, every-drop}
 use Rattle.formats.specs.Tokens.{halfIndex}
-use Rattle.formats.specs.Items.{isPlace, Item, place, elapsed, half, itemInRange, exponent, isCut, isSolidus, isFixed, integerPlaces, placesBehind, wholeItems, mainItems}
+use Rattle.formats.specs.Items.{isPlace, Item, place, elapsed, half, itemInRange, exponent, isSolidus, integerPlaces, placesBehind, wholeItems, mainItems}
 use Rattle.formats.proofs.Cutting.{whole-joins, whole-none}
 use Rattle.formats.proofs.Each.{by-item, by-place, by-elapsed, by-exponent}
 use Rattle.formats.proofs.ByNumber.{by-number}
@@ -48,16 +48,6 @@ between-facts least greatest n t = search (and-left, and-right, leb→le)
 pub late-tag : (t a : ℕ) → 25 < t → itemAt (entry t a) ≡ half (halfAt a)
 unfolding itemAt
 late-tag t a h = List·getD-eq-default (itemsByTag a) (half (halfAt a)) h
-
--- a number from 21 on that is no E's, no solidus' and no fixed number's is read as a half-day mark
-pub half-tag : (t a : ℕ) → 21 ≤ t → (isCut (itemAt (entry t a)) || isFixed (itemAt (entry t a))) ≡ false → itemAt (entry t a) ≡ half (halfAt a)
-unfolding itemAt
-half-tag t a h e =
-    by-cases (leb 26 t) (λ f. late-tag t a (leb-true 26 t f))
-    (λ f.
-    span-at (λ n. (isCut (itemAt (entry n a)) || isFixed (itemAt (entry n a))) ≡ false → itemAt (entry n a) ≡ half (halfAt a)) 21 5 t
-    ((λ e. refl), ((λ e. absurd (true≢false e)), ((λ e. absurd (true≢false e)), ((λ e. absurd (true≢false e)), ((λ e. absurd (true≢false e)), tt)))))
-    h (omega (arith, leb-false 26 t f)) e)
 
 pub place-tag : (t a : ℕ) → isPlace (itemAt (entry t a)) ≡ between 4 6 t
 unfolding itemAt

@@ -48,10 +48,10 @@ unfoldable pub tableReading : List ℕ → Ask → List ℕ → ℕ → Reading
 tableReading table ask text room = cond (passes table) (reading (decode table) ask text room) (refused answer.Table)
 
 -- "Showing a table that passes returns its reading's answer; with 0 also its colour, section and text length, and the room
--- begins with its text."
+-- begins with its text." "showing passes it up": whether what is shown is exact (R6)
 unfoldable pub shownAs : Reading → Shown
 shownAs (refused a) = refusedShown a
-shownAs (shown look) = doneShown (length (look .text)) (look .colour) (look .section)
+shownAs (shown look) = doneShown (length (look .text)) (look .colour) (look .section) (look .exact)
 
 unfoldable pub textAs : Reading → List ℕ
 textAs (refused a) = []

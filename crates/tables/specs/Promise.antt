@@ -17,8 +17,8 @@ use Rattle.tables.specs.Rules.{passes}
 use Rattle.tables.specs.Calls.{tableOf, tableReading}
 
 -- The table of a code that is accepted as these sections passes the rules and stands for those sections; so for every value, in
--- range or not, and every length of room, it gives the same answer, text, colour and section as the code itself. It has at most
--- 557 words, each of 16 bits.
+-- range or not, and every length of room, it gives the same answer, text, colour and section as the code itself, and is exact where the
+-- code is. It has at most 557 words, each of 16 bits.
 pub record TableOfCode (code : List ℕ) (ss : List Section) : Type 0 where
   pub passed : passes (tableOf code) ≡ true
   pub decoded : decode (tableOf code) ≡ ss

@@ -1,5 +1,5 @@
 // Answers many requests on standard input, three lines each: the examples of document 01 and of the papers that it names, as far
-// as they fall inside its narrowing, and others. Behind the four lines of each stands the section that showed the value. The file
+// as they fall inside its narrowing, and others. Behind the five lines of each stands the section that showed the value. The file
 // stdout has what another implementation of document 01 gives.
 use libc::STDIN_FILENO;
 use libc::STDOUT_FILENO;
@@ -15,10 +15,10 @@ fn input_bytes() -> [u8; 131073]
     [0; 131073]
 }
 
-fn output_bytes() -> [u8; 4203]
-    ensures { λ r. ⌜ 4203 ≡ length r ⌝ }
+fn output_bytes() -> [u8; 4236]
+    ensures { λ r. ⌜ 4236 ≡ length r ⌝ }
 {
-    [0; 4203]
+    [0; 4236]
 }
 
 // The place behind the line that starts at `at`, with its line feed where it has one.

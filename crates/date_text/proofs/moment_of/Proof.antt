@@ -2,6 +2,7 @@
 -- Assumes nothing.
 use mathlib.Core.Path.{_≡_, refl}
 use mathlib.Core.Bool.{Bool, true, false, cond}
+use native.Mathlib.Omega.{arith}
 use mir.Val.{boolByte}
 use borrow.Author.Needs.{needs}
 use Rattle.date_text.proofs.moment_of.Statement.{statement}
@@ -14,7 +15,7 @@ as-number false = refl
 returns : tie.Need-returns
 returns c =
     let s = c .before .before .before .before .before .before in
-    rw (c .since-day-zero .ensures, s .date-shown .ensures, as-number (s .before .args .twelve))
+    (rw (c .since-day-zero .ensures, s .date-shown .ensures, as-number (s .before .args .twelve)), omega arith)
 
 pub moment-of-spec : {M : Type 1} → statement M
 moment-of-spec =

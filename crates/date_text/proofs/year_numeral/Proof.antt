@@ -1,6 +1,6 @@
 -- `date_text::year_numeral` meets its contract.
 -- Assumes nothing.
-use mathlib.Core.Path.{_≡_}
+use mathlib.Core.Path.{_≡_, refl}
 use native.Mathlib.Omega.{arith}
 use borrow.Author.Tests.{eq-eqb, ne-eqb}
 use Rattle.formats.specs.Text.{yearUnits}
@@ -12,5 +12,5 @@ unfolding yearUnits
 year-numeral-spec =
     tie.close
     (tie.spec
-    (λ c. let h : c .before .args .n ≡ 2 = omega arith in rw (eq-eqb _ 2 h))
-    (λ c. rw (ne-eqb _ 2 (c .if1 .left))))
+    (λ c. let h : c .before .args .n ≡ 2 = omega arith in (rw (eq-eqb _ 2 h), refl))
+    (λ c. (rw (ne-eqb _ 2 (c .if1 .left)), refl)))

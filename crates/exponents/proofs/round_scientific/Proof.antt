@@ -15,30 +15,33 @@ returns c = nought-tells _ _ _ (c .if1 .taken) refl
 
 rounded-by-requires : tie.Need-rounded-by-requires
 rounded-by-requires c κs =
-    let pre = c .before .before .before .pre in
-    leading-roundable (c .before .leading-multiple .ensures) (pre .0) (pre .3) (pre .4)
+    let b = c .before .before in
+    let pre = b .before .before .pre in
+    leading-roundable (b .leading-multiple .ensures) (pre .0) (pre .3) (pre .4)
 
 returns-2 : tie.Need-returns-2
 returns-2 c =
     let k = c .before .before .before .before in
-    let b = k .before .before .before in
+    let g = k .before in
+    let b = g .before .before .before in
     let a = b .before in
     let l = b .leading-multiple .ensures in
     let pre = a .before .pre in
-    let told = k .carries .ensures _ (leading-within l (pre .4)) (k .before .rounded-by .ensures) in
+    let carry = k .carries .ensures _ (leading-within l (pre .4)) (g .rounded-by .ensures .0) in
     carried-tells l (pre .4) (omega arith) (pre .0) (pre .1) (pre .2) (c .before .next-multiple .ensures) (c .before .before .one .ensures)
-    (sym told ∙ c .before .before .before .if2 .taken) (c .told .ensures)
+    (sym carry ∙ c .before .before .before .if2 .taken) (c .told .ensures) refl
 
 returns-3 : tie.Need-returns-3
 returns-3 c =
     let k = c .before .before in
-    let b = k .before .before .before in
+    let g = k .before in
+    let b = g .before .before .before in
     let a = b .before in
     let l = b .leading-multiple .ensures in
     let pre = a .before .pre in
-    let told = k .carries .ensures _ (leading-within l (pre .4)) (k .before .rounded-by .ensures) in
-    found-tells l (pre .4) (omega arith) (pre .0) (pre .1) (pre .2) (k .before .rounded-by .ensures)
-    (sym told ∙ c .before .if2 .left) (c .told2 .ensures)
+    let carry = k .carries .ensures _ (leading-within l (pre .4)) (g .rounded-by .ensures .0) in
+    found-tells l (pre .4) (omega arith) (pre .0) (pre .1) (pre .2) (g .rounded-by .ensures .0) (g .rounded-by .ensures .1)
+    (sym carry ∙ c .before .if2 .left) (c .told2 .ensures)
 
 pub round-scientific-spec : {M : Type 1} → statement M
 round-scientific-spec =

@@ -13,7 +13,9 @@ returns : tie.Need-returns
 returns c = narrow-powered (c .before .args .m) (c .before .args .scale) (omega arith)
 
 returns-2 : tie.Need-returns-2
-returns-2 c = ap (leb (10 ^ 11)) (c .divided .ensures) ∙ sym (wide-powered (c .before .before .args .m) (c .before .before .args .scale))
+returns-2 c =
+    let a = c .before .before .before .args in
+    ap (leb (10 ^ 11)) (c .before .divided .ensures .0) ∙ sym (wide-powered (a .m) (a .scale))
 
 pub general-too-wide-spec : {M : Type 1} → statement M
 general-too-wide-spec = tie.close (tie.spec returns (λ c κs. search needs) returns-2)

@@ -6,6 +6,7 @@ use native.Mathlib.Omega.{arith}
 use borrow.Author.Needs.{needs}
 use Rattle.figures.specs.Digits.{figures}
 use Rattle.figures.proofs.Rounding.{rounded-divided, rounded-exact, rounded-within}
+use Rattle.figures.proofs.Exactly.{exactly-divided, exactly-kept}
 use Rattle.figures.proofs.round.Statement.{statement}
 use Rattle.figures.proofs.round.Tie as tie
 
@@ -13,13 +14,16 @@ spread-requires : tie.Need-spread-requires
 spread-requires c κs =
     let b = c .before .before in
     let a = b .before .args in
-    (b .cleared .ensures, rw (c .divided .ensures, ← rounded-divided (a .m) (a .up) (a .down) (a .decimals) (omega arith) (omega arith)) (rounded-within (a .down) (b .before .pre)))
+    (b .cleared .ensures, rw (c .divided .ensures .0, ← rounded-divided (a .m) (a .up) (a .down) (a .decimals) (omega arith) (omega arith)) (rounded-within (a .down) (b .before .pre)))
 
 returns : tie.Need-returns
 returns c =
     let a = c .before .before .before .before .args in
-    c .spread .ensures
-    ∙ ap figures (ap (λ (x : ℕ). x * 10 ^ (15 - a .decimals)) (c .before .divided .ensures) ∙ sym (rounded-divided (a .m) (a .up) (a .down) (a .decimals) (omega arith) (omega arith)))
+    let q = c .before .divided .ensures in (
+      c .spread .ensures
+          ∙ ap figures (ap (λ (x : ℕ). x * 10 ^ (15 - a .decimals)) (q .0) ∙ sym (rounded-divided (a .m) (a .up) (a .down) (a .decimals) (omega arith) (omega arith))),
+      q .1 ∙ exactly-divided (a .m) (a .up) (a .down) (a .decimals) (omega arith) (omega arith),
+    )
 
 spread-requires-2 : tie.Need-spread-requires-2
 spread-requires-2 c κs =
@@ -29,8 +33,10 @@ spread-requires-2 c κs =
 
 returns-2 : tie.Need-returns-2
 returns-2 c =
-    let a = c .before .before .before .args in
-    c .spread2 .ensures ∙ ap figures (sym (rounded-exact (a .m) (a .up) (a .down) (a .decimals) (omega arith) (omega arith)))
+    let a = c .before .before .before .args in (
+      c .spread2 .ensures ∙ ap figures (sym (rounded-exact (a .m) (a .up) (a .down) (a .decimals) (omega arith) (omega arith))),
+      exactly-kept (a .m) (a .up) (a .down) (a .decimals) (omega arith) (omega arith),
+    )
 
 pub round-spec : {M : Type 1} → statement M
 round-spec =

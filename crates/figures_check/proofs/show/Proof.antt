@@ -14,8 +14,8 @@ show-spec =
     (λ c κs. search needs)
     (λ c. search needs)
     (λ c κs.
-    let t = c .before .before .before in
-    let l = in-says _ _ (sym (t .take-number .ensures) ∙ c .before .s .given .1) in
+    let t = c .before .before .before .before in
+    let l = in-says _ _ (sym (t .take-number .ensures) ∙ c .before .before .s .given .1) in
     roundable (rw (l .1) (range-says _ (l .0) .0)) (t .before .pre .0) (t .before .pre .1))
     (λ c κs. search needs)
     (λ c. search needs)

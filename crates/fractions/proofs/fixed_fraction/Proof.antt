@@ -1,11 +1,12 @@
 -- `fractions::fixed_fraction` meets its contract.
 -- Assumes nothing.
+use mathlib.Core.Path.{_∙_}
 use Prim.Native.Nat.{_%_, _^_}
 use native.Mathlib.Nat.{div-le-self, mul-le-mul}
 use native.Mathlib.Omega.{arith}
 use borrow.Author.Needs.{needs}
 use Rattle.figures.proofs.Tens.{ten-le}
-use Rattle.fractions.proofs.Telling.{unit-pos, part-less, fixed-small, told-over}
+use Rattle.fractions.proofs.Telling.{unit-pos, part-less, fixed-small, told-over, fixed-met, told-exactly}
 use Rattle.fractions.proofs.fixed_fraction.Statement.{statement}
 use Rattle.fractions.proofs.fixed_fraction.Tie as tie
 
@@ -18,12 +19,16 @@ mul-divided c =
 told-requires : tie.Need-told-requires
 told-requires c κs =
     let a = c .before .before .args in
-    omega (arith, fixed-small (a .m) (a .scale) (c .before .power .ensures) (c .before .before .pre .3) (c .divided .ensures), div-le-self (a .m) (c .before .power .result))
+    omega (arith, fixed-small (a .m) (a .scale) (c .before .power .ensures) (c .before .before .pre .3) (c .divided .ensures .0), div-le-self (a .m) (c .before .power .result))
 
 returns : tie.Need-returns
 returns c =
-    let a = c .before .before in
-    told-over (a .before .args .m) (a .before .args .scale) (a .power .ensures) _ _ (c .told .ensures) (c .before .divided .ensures)
+    let p = c .before .before in
+    let a = p .before .args in
+    let q = c .before .divided .ensures in (
+      told-over (a .m) (a .scale) (p .power .ensures) _ _ (c .told .ensures) (q .0),
+      q .1 ∙ fixed-met (a .m) (a .scale) (p .power .ensures) _ (q .0) ∙ told-exactly (a .m) (a .scale) (p .power .ensures) _ _ (c .told .ensures),
+    )
 
 pub fixed-fraction-spec : {M : Type 1} → statement M
 fixed-fraction-spec =

@@ -4,6 +4,7 @@ use mathlib.Core.Path.{ap}
 use Rattle.tables.specs.Words.{Head}
 use Rattle.tables.specs.Encode.{headOf}
 use mathlib.Core.Bool.{false}
+use Rattle.section_text.proofs.FinestUnit.{dated-exactly}
 use Rattle.section_text.proofs.Fitting.{unsigned}
 use Rattle.section_text.proofs.Bodies.{date-uncut, items-fit, items-moment, dated-ready, items-shows}
 use borrow.Author.Needs.{needs}
@@ -25,8 +26,9 @@ returns c =
     let e = o .items-of .ensures in
     let k = o .before .before .before .before .pre .2 in
     λ x is places.
-    items-shows e _ false x (ap (λ (h : Head). h .colour) (o .before .head-of .ensures .0)) places
-    (unsigned _ _ _ (s .show-dated-items .ensures x _ _ (items-moment e k is) (items-fit e x (date-uncut _ k))))
+    rw (← dated-exactly _ k e)
+    (items-shows e _ false _ x (ap (λ (h : Head). h .colour) (o .before .head-of .ensures .0)) places
+    (unsigned _ _ _ _ (s .show-dated-items .ensures x _ _ (items-moment e k is) (items-fit e x (date-uncut _ k)))))
 
 pub show-dated-section-spec : {M : Type 1} → statement M
 show-dated-section-spec =

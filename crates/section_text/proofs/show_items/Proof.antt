@@ -23,7 +23,7 @@ returns c =
 returns-2 : tie.Need-returns-2
 returns-2 c =
     let t = c .before in
-    λ x k q i f. rw (c .refused-shown .ensures) (shows-none _ _ _ _ (omega (arith, t .before .length-of .ensures x k q i f, t .if2 .taken)))
+    λ x k q i f. rw (c .refused-shown .ensures) (shows-none _ _ _ _ _ (omega (arith, t .before .length-of .ensures x k q i f, t .if2 .taken)))
 
 returns-3 : tie.Need-returns-3
 returns-3 c =

@@ -13,14 +13,14 @@ returns c =
     let t = p .before .before in
     λ m k q i f x j r l g.
     rw (c .done-shown .ensures)
-    (shows-all _ _ _ _ (leb-true _ _ (sym (t .before .takes-scientific .ensures m k q i f x j r l g) ∙ t .if1 .taken)) (p .put-scientific .ensures .1 m k q i f x j r l g))
+    (shows-all _ _ _ _ _ (leb-true _ _ (sym (t .before .takes-scientific .ensures m k q i f x j r l g) ∙ t .if1 .taken)) (p .put-scientific .ensures .1 m k q i f x j r l g))
 
 returns-2 : tie.Need-returns-2
 returns-2 c =
     let t = c .before in
     λ m k q i f x j r l g.
     rw (c .refused-shown .ensures)
-    (shows-none _ _ _ _ (leb-false _ _ (sym (t .before .takes-scientific .ensures m k q i f x j r l g) ∙ t .if1 .left)))
+    (shows-none _ _ _ _ _ (leb-false _ _ (sym (t .before .takes-scientific .ensures m k q i f x j r l g) ∙ t .if1 .left)))
 
 pub show-scientific-items-spec : {M : Type 1} → statement M
 show-scientific-items-spec =

@@ -17,7 +17,7 @@ returns c =
     λ x k q i f. let h = dated-short 82 (now (a .items)) (omega arith) x k q i f in sym (le-leb _ (a .size) (omega (arith, e .1, h)))
 
 returns-2 : tie.Need-returns-2
-returns-2 c = λ x k q i f. rw (measured (c .before .put-dated-items .ensures .1 x k q i f))
+returns-2 c = λ x k q i f. rw (measured (c .before .before .put-dated-items .ensures .1 .0 x k q i f))
 
 pub takes-dated-spec : {M : Type 1} → statement M
 takes-dated-spec =

@@ -15,18 +15,18 @@ returns c =
     let w = c .before in
     let g = w .before in
     let n = g .before in
-    let p = n .before .before .pre in
+    let p = n .before .before .before .pre in
     λ text x why ev eo.
-    let are = number-figures _ x (p .4) (section-limits _ _ (p .0) (p .1)) (integers-most _ _ (p .0) (p .1) (rw (p .4))) (rw ev at (p .2)) (n .number-digits .ensures x ev) (g .integer-places .ensures) (w .is-grouped .ensures) in
-    rw (c .with-digits .ensures .0, c .with-digits .ensures .1)
-    (number-section _ _ _ x why ev eo (number-takes _ x (p .4) are) (p .1) (figures-used are) (number-subject _ (p .4) are))
+    let are = number-figures _ x (p .4) (section-limits _ _ (p .0) (p .1)) (integers-most _ _ (p .0) (p .1) (rw (p .4))) (rw ev at (p .2)) (n .number-digits .ensures .0 x ev) (g .integer-places .ensures) (w .is-grouped .ensures) in
+    rw (c .with-digits .ensures .0, c .with-digits .ensures .1, c .with-digits .ensures .2)
+    (number-section _ _ _ x why ev eo (number-takes _ x (p .4) are) (n .number-digits .ensures .1 x ev) (p .1) (figures-used are) (number-subject _ (p .4) are))
 
 pub figures-plan-spec : {M : Type 1} → statement M
 figures-plan-spec =
     tie.close
     (tie.spec
     (λ c κs. search needs)
-    (λ c κs. let p = c .before .before .pre in (p .0, p .1, rw (p .4)))
+    (λ c κs. let p = c .before .before .before .pre in (p .0, p .1, rw (p .4)))
     (λ c κs. search needs)
     (λ c κs. search needs)
     returns)

@@ -3,7 +3,7 @@
 use mathlib.Core.Path.{_∙_}
 use Rattle.figure_text.proofs.Digits.{figures-used}
 use Rattle.showing.proofs.Numbers.{number-section}
-use Rattle.showing.proofs.Generals.{wide-is, general-figures, general-wide, general-takes, general-subject}
+use Rattle.showing.proofs.Generals.{wide-is, general-exactly, general-figures, general-wide, general-takes, general-subject}
 use borrow.Author.Needs.{needs}
 use Rattle.showing.proofs.general_plan.Statement.{statement}
 use Rattle.showing.proofs.general_plan.Tie as tie
@@ -13,18 +13,19 @@ returns c =
     let g = c .before .before in
     let p = g .before .before .pre in
     λ text x why ev eo.
-    rw (c .without-digits .ensures, eo) (general-wide _ (p .3) x (wide-is _ x ev (g .general-too-wide .ensures) ∙ c .before .if1 .taken) _ _ why)
+    rw (c .without-digits .ensures .0, eo) (general-wide _ (p .3) x (wide-is _ x ev (g .general-too-wide .ensures) ∙ c .before .if1 .taken) _ _ why)
 
 returns-2 : tie.Need-returns-2
 returns-2 c =
     let r = c .before in
-    let g = r .before .before in
+    let l = r .before .before in
+    let g = l .before in
     let p = g .before .before .pre in
     λ text x why ev eo.
-    let are = general-figures _ x ev (p .2) (r .round-general .ensures) in
-    rw (c .with-digits .ensures .0, c .with-digits .ensures .1)
-    (number-section _ _ _ x why ev eo (general-takes _ (p .3) x are (wide-is _ x ev (g .general-too-wide .ensures) ∙ r .before .if1 .left))
-    (p .1) (figures-used are) (general-subject _ (p .3) x are))
+    let are = general-figures _ x ev (p .2) (r .round-general .ensures .0) in
+    rw (c .with-digits .ensures .0, c .with-digits .ensures .1, c .with-digits .ensures .2)
+    (number-section _ _ _ x why ev eo (general-takes _ (p .3) x are (wide-is _ x ev (g .general-too-wide .ensures) ∙ l .if1 .left))
+    (general-exactly _ x ev _ (p .3) (r .round-general .ensures .1)) (p .1) (figures-used are) (general-subject _ (p .3) x are))
 
 pub general-plan-spec : {M : Type 1} → statement M
 general-plan-spec =

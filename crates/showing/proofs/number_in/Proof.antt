@@ -1,6 +1,8 @@
 -- `showing::number_in` meets its contract.
 -- Assumes nothing.
 use native.Mathlib.Omega.{arith}
+use mathlib.Core.Path.{sym}
+use Rattle.formats.proofs.Exactness.{exactly-literal}
 use Rattle.showing.proofs.Subjects.{literal-subject}
 use Rattle.showing.proofs.Numbers.{literal-takes, number-section, scientific-reads, fraction-reads}
 use Rattle.showing.proofs.Sections.{scientific-takes, fraction-takes}
@@ -31,15 +33,15 @@ returns c =
     let p = w .before .before .pre in
     let e = kind-with _ _ (w .head-of .ensures .0) 0 (m .match .keys1) in
     λ text x why ev eo.
-    rw (c .without-digits .ensures, b .bare .ensures, a .added-minus .ensures)
-    (number-section _ _ _ x why ev eo (literal-takes _ x e) (p .1) (omega arith) (literal-subject _ e))
+    rw (c .without-digits .ensures .0, c .without-digits .ensures .1, b .bare .ensures, a .added-minus .ensures)
+    (number-section _ _ _ x why ev eo (literal-takes _ x e) (sym (exactly-literal _ x e)) (p .1) (omega arith) (literal-subject _ e))
 
 returns-3 : tie.Need-returns-3
 returns-3 c =
     let m = c .before in
     let w = m .before in
     λ text x why ev eo.
-    rw (c .without-digits2 .ensures, eo) (date-refused _ _ _ why x (kind-with _ _ (w .head-of .ensures .0) 4 (m .match .keys3)))
+    rw (c .without-digits2 .ensures .0, eo) (date-refused _ _ _ why x (kind-with _ _ (w .head-of .ensures .0) 4 (m .match .keys3)))
 
 returns-4 : tie.Need-returns-4
 returns-4 c =
@@ -48,7 +50,7 @@ returns-4 c =
     let p = w .before .before .pre in
     let e = kind-with _ _ (w .head-of .ensures .0) 5 (omega (arith, m .match .keys4)) in
     λ text x why ev eo.
-    rw (c .without-digits3 .ensures)
+    rw (c .without-digits3 .ensures .0)
     (record {
       inside = p .1;
       kind = e;
@@ -65,7 +67,7 @@ returns-5 c =
     let p = w .before .before .pre in
     let e = kind-with _ _ (w .head-of .ensures .0) 6 (omega (arith, m .match .keys5)) in
     λ text x why ev eo.
-    rw (c .without-digits4 .ensures)
+    rw (c .without-digits4 .ensures .0)
     (record {
       inside = p .1;
       kind = e;

@@ -21,7 +21,7 @@ unfolding readValue readNumber
 returns c =
     let h = c .before .before .before in
     λ text x ev.
-    rw (c .without-digits .ensures)
+    rw (c .without-digits .ensures .0)
     (λ size. rw (none-found _ (number-exact _ x (h .before .number-sought .ensures) ev) (sym (c .before .enum-told .given .1) ∙ h .choose .ensures)))
 
 returns-2 : tie.Need-returns-2

@@ -17,7 +17,7 @@ number-in-range-requires c κs =
 returns : tie.Need-returns
 returns c =
     let h = c .before .before .before in
-    λ text. rw (c .without-digits .ensures) (λ size. rw (out-says _ (sym (h .take-number .ensures) ∙ c .before .enum-told .given .1)))
+    λ text. rw (c .without-digits .ensures .0) (λ size. rw (out-says _ (sym (h .take-number .ensures) ∙ c .before .enum-told .given .1)))
 
 returns-2 : tie.Need-returns-2
 returns-2 c =

@@ -19,5 +19,5 @@ plan-of-spec =
     (λ c κs. search needs)
     (λ c. rw (value-reading _ _ _ _ (c .before .before .value .given .1)) (c .number-plan .ensures _))
     (λ c.
-    rw (value-reading _ _ _ _ (c .before .before .before .value2 .given .1), c .without-digits .ensures) (c .before .instant-plan .ensures _ _))
-    (λ c. rw (value-reading _ _ _ _ (c .before .before .enum-told .given .1), c .without-digits2 .ensures) (c .before .text-plan .ensures _)))
+    rw (value-reading _ _ _ _ (c .before .before .before .value2 .given .1), c .without-digits .ensures .0, c .without-digits .ensures .1) (c .before .instant-plan .ensures _ _))
+    (λ c. rw (value-reading _ _ _ _ (c .before .before .enum-told .given .1), c .without-digits2 .ensures .0, c .without-digits2 .ensures .1) (c .before .text-plan .ensures _)))

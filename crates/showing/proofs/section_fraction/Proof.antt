@@ -5,7 +5,7 @@ use mathlib.Core.Path.{sym}
 use lib.Seq.{length-take-le}
 use Rattle.formats.specs.Items.{isPlace}
 use Rattle.tables.proofs.BackEntries.{place-tag}
-use Rattle.showing.proofs.Fractions.{fraction-words, fixed-is, places-range, places-is}
+use Rattle.showing.proofs.Fractions.{fraction-words, fixed-is, places-range, places-is, fraction-exactly}
 use borrow.Author.Needs.{needs}
 use Rattle.showing.proofs.section_fraction.Statement.{statement}
 use Rattle.showing.proofs.section_fraction.Tie as tie
@@ -48,8 +48,9 @@ returns c =
     let u = q .before .before in
     let o = u .before in
     let p = o .before .before .pre in
-    fixed-is (fraction-words _ _ (p .0) (p .1) (p .2) (o .items-of .ensures) (u .cut-start .ensures)) _ (p .3) (q .is-parted .ensures) (d .if1 .taken)
-    (c .fixed-fraction .ensures)
+    let e = c .fixed-fraction .ensures in
+    let f = fixed-is (fraction-words _ _ (p .0) (p .1) (p .2) (o .items-of .ensures) (u .cut-start .ensures)) _ (p .3) (q .is-parted .ensures) (d .if1 .taken) (e .0) in
+    (f .0, (λ x ev. fraction-exactly _ _ x ev (p .2) (f .0 x ev) (e .1), f .1))
 
 places-fit : tie.Need-cast-nearest-fraction
 places-fit c =
@@ -78,8 +79,11 @@ returns-2 c =
     let u = q .before .before in
     let o = u .before in
     let p = o .before .before .pre in
+    let e = c .nearest-fraction .ensures in
+    let f =
     places-is (fraction-words _ _ (p .0) (p .1) (p .2) (o .items-of .ensures) (u .cut-start .ensures)) _ (p .3) (q .is-parted .ensures) (d .if1 .left)
-    (n .count-between .ensures isPlace place-tag) (c .nearest-fraction .ensures)
+    (n .count-between .ensures isPlace place-tag) (e .0) in
+    (f .0, (λ x ev. fraction-exactly _ _ x ev (p .2) (f .0 x ev) (e .1), f .1))
 
 pub section-fraction-spec : {M : Type 1} → statement M
 section-fraction-spec =

@@ -10,8 +10,9 @@ show-dated-section-requires c κs =
     let n = c .before .before in
     let t = n .before in
     let s = t .before in
+    let e = n .moment-of .ensures in
     let p = s .before .before .before .before .pre in
-    (p .0, p .1, p .2, instant-known (s .before .items-of .ensures) _ _ (t .is-twelve-hour .ensures) (s .shows-date .ensures) (n .moment-of .ensures))
+    (p .0, p .1, p .2, instant-known (s .before .items-of .ensures) _ _ (e .1) (t .is-twelve-hour .ensures) (s .shows-date .ensures) (e .0))
 
 returns : tie.Need-returns
 returns c =
@@ -19,9 +20,10 @@ returns c =
     let n = f .before .before .before in
     let t = n .before in
     let s = t .before in
+    let e = n .moment-of .ensures in
     let p = s .before .before .before .before .pre in
     f .show-dated-section .ensures _
-    (instant-moment (s .before .items-of .ensures) _ _ (t .is-twelve-hour .ensures) (s .shows-date .ensures) (n .moment-of .ensures))
+    (instant-moment (s .before .items-of .ensures) _ _ (e .1) (t .is-twelve-hour .ensures) (s .shows-date .ensures) (e .0))
     (instant-places _ _ (p .0) (p .1) _ _ (date-takes _ (p .2)))
 
 pub show-dated-spec : {M : Type 1} → statement M

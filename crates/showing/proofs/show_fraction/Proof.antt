@@ -10,9 +10,9 @@ returns : tie.Need-returns
 returns c =
     let y = c .before .before in
     let m = y .before .before in
-    let s = m .before .before .before in
+    let s = m .before .before .before .before in
     let p = s .before .before .before .pre in
-    λ x ev. shows-as (fraction-minus _ _ _ x (m .added-minus .ensures) (p .2) (s .section-fraction .ensures .0 x ev) _) (y .show-fraction-section .ensures)
+    λ x ev. shows-as (fraction-minus _ _ _ x (m .added-minus .ensures) (p .2) (s .section-fraction .ensures .0 x ev) (s .section-fraction .ensures .1 .0 x ev) _) (y .show-fraction-section .ensures)
 
 pub show-fraction-spec : {M : Type 1} → statement M
 show-fraction-spec =

@@ -3,7 +3,7 @@
 use native.Mathlib.Omega.{arith}
 use mathlib.Core.Path.{refl}
 use Rattle.formats.specs.Reading.{numberContext, wholeContext, exponentContext}
-use Rattle.showing.proofs.Mantissas.{scientific-words, mantissa-subject, mantissa-nought, exponent-shows, exponent-most, scientific-minus}
+use Rattle.showing.proofs.Mantissas.{scientific-words, mantissa-subject, mantissa-nought, mantissa-exactly, exponent-shows, exponent-most, scientific-minus}
 use Rattle.showing.proofs.Values.{shows-as}
 use borrow.Author.Needs.{needs}
 use Rattle.showing.proofs.show_scientific.Statement.{statement}
@@ -32,7 +32,7 @@ show-scientific-section-requires c κs =
       p .2,
       f .figures-of .ensures .1,
       refl,
-      omega (arith, exponent-most w (p .3) (p .4) (e .1 .0)),
+      omega (arith, exponent-most w (p .3) (p .4) (e .1 .1 .0)),
       record { context = _; is = mantissa-subject w (p .2) _ (n .number) (n .is) (p .3) (p .4) (e .0) (f .figures-of .ensures .0) },
     )
 
@@ -49,9 +49,10 @@ returns c =
     let e = r .round-scientific .ensures in
     let w = scientific-words _ _ (p .0) (p .1) (p .2) (h .head-of .ensures .0) (g .integer-places .ensures) in
     λ x ev.
-    shows-as (scientific-minus _ _ _ x (m .added-minus .ensures) (mantissa-nought w (p .2) _ x ev (p .3) (p .4) (e .0) (f .figures-of .ensures .0)) _)
+    shows-as (scientific-minus _ _ _ x (m .added-minus .ensures) (mantissa-nought w (p .2) _ x ev (p .3) (p .4) (e .0) (f .figures-of .ensures .0))
+    (mantissa-exactly w (p .2) _ x ev (p .3) (p .4) (e .1 .0)) _)
     (y .show-scientific-section .ensures _ _ (mantissa-subject w (p .2) _ x ev (p .3) (p .4) (e .0) (f .figures-of .ensures .0)) refl
-    (exponent-shows w (p .2) _ x ev (p .3) (p .4) (e .1 .0) (e .1 .1)) refl)
+    (exponent-shows w (p .2) _ x ev (p .3) (p .4) (e .1 .1 .0) (e .1 .1 .1)) refl)
 
 pub show-scientific-spec : {M : Type 1} → statement M
 show-scientific-spec =

@@ -11,4 +11,4 @@ with-digits-spec =
     (tie.spec
     (λ c κs. search needs)
     (λ c κs. search needs)
-    (λ c. (rw (c .added-minus .ensures, c .before .before .figures-of .ensures .0), refl)))
+    (λ c. (rw (c .added-minus .ensures, c .before .before .figures-of .ensures .0), refl, refl)))

@@ -12,12 +12,12 @@ returns c =
     let p = c .before .before .before in
     let t = p .before .before in
     rw (c .done-shown .ensures)
-    (shows-all _ _ _ _ (leb-true _ _ (sym (t .before .takes-mixed .ensures) ∙ t .if1 .taken)) (p .put-mixed .ensures .1))
+    (shows-all _ _ _ _ _ (leb-true _ _ (sym (t .before .takes-mixed .ensures) ∙ t .if1 .taken)) (p .put-mixed .ensures .1))
 
 returns-2 : tie.Need-returns-2
 returns-2 c =
     let t = c .before in
-    rw (c .refused-shown .ensures) (shows-none _ _ _ _ (leb-false _ _ (sym (t .before .takes-mixed .ensures) ∙ t .if1 .left)))
+    rw (c .refused-shown .ensures) (shows-none _ _ _ _ _ (leb-false _ _ (sym (t .before .takes-mixed .ensures) ∙ t .if1 .left)))
 
 pub show-mixed-spec : {M : Type 1} → statement M
 show-mixed-spec =
