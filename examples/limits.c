@@ -59,10 +59,10 @@ static void make_names(void)
 }
 
 /* The text just fits the room that is named for it, and not one unit less. */
-static int fits(const char *what, numfmt_shown exact, numfmt_shown less, unsigned long named)
+static int fits(const char *what, numfmt_shown just, numfmt_shown less, unsigned long named)
 {
-    return told(what, exact.length, named,
-                exact.answer == NUMFMT_ANSWER_DONE && exact.length == named && less.answer == NUMFMT_ANSWER_TEXT_ROOM);
+    return told(what, just.length, named,
+                just.answer == NUMFMT_ANSWER_DONE && just.length == named && less.answer == NUMFMT_ANSWER_TEXT_ROOM);
 }
 
 static int widest_texts(void)

@@ -81,7 +81,7 @@ static inline numfmt_shown show_text(const uint16_t *table, size_t words, const 
 /* A value that could not be converted is refused as the library refuses one out of range. */
 static inline numfmt_shown show_value(const uint16_t *table, size_t words, const value *asked, uint16_t *room)
 {
-    numfmt_shown refused = {NUMFMT_ANSWER_RANGE, 0, 0, 0};
+    numfmt_shown refused = {NUMFMT_ANSWER_RANGE, 0, 0, 0, 0};
 
     switch (asked->kind) {
     case NUMBER:
@@ -114,7 +114,10 @@ static inline void put_refusal(uint16_t answer, uint32_t place)
     putchar('\n');
 }
 
-/* The rest of a row: the value through the table in its colour, or the refusal. 1 when it is shown. */
+/*
+ * The rest of a row: the value through the table in its colour, and a mark when
+ * it was rounded or cut; or the refusal. 1 when it is shown.
+ */
 static inline int put_value(const uint16_t *table, size_t words, const value *asked)
 {
     uint16_t room[ROW_UNITS];
@@ -126,7 +129,7 @@ static inline int put_value(const uint16_t *table, size_t words, const value *as
     }
     printf("\033[%dm", terminal_colour(shown.colour));
     put_units(room, shown.length);
-    printf("\033[0m\n");
+    printf("\033[0m%s\n", shown.exact ? "" : " (about)");
     return 1;
 }
 

@@ -1,8 +1,9 @@
 /*
  * A river wall: each row's code is prepared, and its value shown through the
- * table, in the code's colour. A row that is refused says why in its place, and
- * the wall goes on. With arguments the rows are theirs: a code and a value
- * each, the value `@SECONDS` since 1970, a number, or else a text.
+ * table, in the code's colour. A value that was rounded or cut is marked. A row
+ * that is refused says why in its place, and the wall goes on. With arguments
+ * the rows are theirs: a code and a value each, the value `@SECONDS` since
+ * 1970, a number, or else a text.
  *
  *   rt staticlib c_api
  *   cc -std=c99 -Iinclude examples/wall.c target/staticlib/libc_api.a -o target/wall && target/wall

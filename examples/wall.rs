@@ -1,5 +1,5 @@
-//! A river wall: each row's code is prepared, and its value shown through the table, in the code's colour. A row whose code or
-//! value is refused says so in its place.
+//! A river wall: each row's code is prepared, and its value shown through the table, in the code's colour. A value that was
+//! rounded or cut is marked. A row whose code or value is refused says so in its place.
 //!
 //!     rt staticlib c_api
 //!     cargo run --manifest-path rust/Cargo.toml --example wall
@@ -47,21 +47,23 @@ fn show(code: &str, value: &Value) -> Result<Shown, Refusal> {
     Table::prepare(code)?.show(value)
 }
 
+/// A text that no section shows was not meant by the code; a value that is not exact was rounded or cut.
+fn mark(shown: &Shown) -> &'static str {
+    match shown {
+        Shown { section: 4, .. } => " (as it is)",
+        Shown { exact: false, .. } => " (about)",
+        _ => "",
+    }
+}
+
 fn row(code: &str, value: &Value) -> String {
     match show(code, value) {
-        Ok(shown) => {
-            // A text that no section shows was not meant by the code: the row is marked.
-            let mark = if shown.section == 4 {
-                " (as it is)"
-            } else {
-                ""
-            };
-            format!(
-                "\x1b[{}m{}\x1b[0m{mark}",
-                terminal_colour(shown.colour),
-                shown.text
-            )
-        }
+        Ok(shown) => format!(
+            "\x1b[{}m{}\x1b[0m{}",
+            terminal_colour(shown.colour),
+            shown.text,
+            mark(&shown)
+        ),
         Err(refusal) => format!("refused: {refusal}"),
     }
 }

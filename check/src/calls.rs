@@ -15,6 +15,7 @@ pub struct Shown {
     pub length: u32,
     pub colour: u16,
     pub section: u16,
+    pub exact: u16,
 }
 
 #[derive(Clone, Copy, Debug, PartialEq, Eq)]
@@ -67,6 +68,7 @@ impl Calls for Oracle {
                     length: reading.text.len() as u32,
                     colour: reading.colour,
                     section: reading.section,
+                    exact: u16::from(reading.exact),
                 }
             }
             Err(answer) => refused(answer),
@@ -81,5 +83,6 @@ pub fn refused(answer: u16) -> Shown {
         length: 0,
         colour: 0,
         section: 0,
+        exact: 0,
     }
 }

@@ -208,5 +208,6 @@ fn shown(reading: &Reading) -> Shown {
         length: reading.text.len() as u32,
         colour: reading.colour,
         section: reading.section,
+        exact: u16::from(reading.exact),
     }
 }

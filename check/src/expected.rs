@@ -18,7 +18,7 @@ pub fn prepare() -> ExitCode {
     )
 }
 
-/// Four lines for each request of three, and its section.
+/// Five lines for each request of three, and its section.
 pub fn show() -> ExitCode {
     each(requests, answer_lines_and_section)
 }

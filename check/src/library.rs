@@ -43,6 +43,7 @@ impl Calls for Linked {
             length: given.length,
             colour: given.colour,
             section: given.section,
+            exact: given.exact,
         }
     }
 }

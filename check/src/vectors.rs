@@ -1,8 +1,8 @@
 //! Compares the oracle with lists of known rows, whose paths the caller gives.
 //!
-//! A row of values is `code kind value answer place section colour text`, a row of tables is its words
-//! and what they are: `made from` a code, `passes`, or `8`. Fields are parted by tabs; a line names the
-//! columns, and lines before it that begin with `//` are remarks.
+//! A row of values is `code kind value answer place section colour exact text`, or the same without
+//! `exact`, a row of tables is its words and what they are: `made from` a code, `passes`, or `8`. Fields
+//! are parted by tabs; a line names the columns, and lines before it that begin with `//` are remarks.
 
 use std::process::ExitCode;
 
@@ -12,6 +12,9 @@ use crate::oracle::{
 };
 
 const ROOM: usize = 4096;
+
+/// Where `exact` stands in a row that has it.
+const EXACT: usize = 7;
 
 pub fn run(values: &str, tables: &str) -> ExitCode {
     let counted = check_rows(values, value_row).and_then(|values| {
@@ -62,37 +65,48 @@ fn parsed<T: std::str::FromStr>(field: &str) -> Result<T, String> {
 }
 
 fn value_row(fields: &[&str]) -> Result<(), String> {
-    let [code, kind, value, answer, place, section, colour, text] = fields else {
-        return Err("a row has eight fields".to_string());
+    let (fields, exact) = without_exact(fields);
+    let [code, kind, value, answer, place, section, colour, text] = fields[..] else {
+        return Err("a row has eight fields, or nine with exact".to_string());
     };
-    let expected_answer: u16 = parsed(answer)?;
     let request = format!("code={code}\nkind={kind}\nvalue={value}\n");
-    let lines = format!("answer={answer}\nplace={place}\ncolour={colour}\ntext={text}\n");
+    let (code, value) = (units(code), value_of(kind, value)?);
+    let read = read(&code, &value, ROOM);
+    let exact: u16 = match exact {
+        Some(exact) => parsed(exact)?,
+        None => read.as_ref().map_or(0, |reading| reading.exact.into()),
+    };
+    let lines =
+        format!("answer={answer}\nplace={place}\ncolour={colour}\nexact={exact}\ntext={text}\n");
     let written = answer_lines(request.as_bytes());
     agree(
         "program",
         String::from_utf8_lossy(&written).into_owned(),
         lines,
     )?;
-    let expected = if expected_answer == answer::DONE {
-        Ok(Reading {
+    let expected = match parsed(answer)? {
+        answer::DONE => Ok(Reading {
             text: units(text),
             colour: parsed(colour)?,
             section: parsed(section)?,
-        })
-    } else {
-        Err(expected_answer)
+            exact: exact == 1,
+        }),
+        refusal => Err(refusal),
     };
-    let value = value_of(kind, value)?;
-    let prepared = prepare(&units(code), PROGRAM_TABLE_WORDS);
+    let prepared = prepare(&code, PROGRAM_TABLE_WORDS);
     if prepared.answer == answer::DONE {
-        agree(
-            "table",
-            show(&prepared.words, &value, ROOM),
-            expected.clone(),
-        )?;
+        let shown = show(&prepared.words, &value, ROOM);
+        agree("table", shown, expected.clone())?;
     }
-    agree("code", read(&units(code), &value, ROOM), expected)
+    agree("code", read, expected)
+}
+
+/// The other fields, and `exact`, which lists older than 02's P10 do not tell: there it has to be what
+/// the reading off the code tells.
+fn without_exact<'a>(fields: &[&'a str]) -> (Vec<&'a str>, Option<&'a str>) {
+    let mut others = fields.to_vec();
+    let exact = (fields.len() == 9).then(|| others.remove(EXACT));
+    (others, exact)
 }
 
 fn value_of(kind: &str, value: &str) -> Result<Value, String> {

@@ -4,10 +4,12 @@
 
 use super::code::code;
 use super::table::table;
-use crate::oracle::{answer, check_table, prepare, units};
+use super::value::{instant, number};
+use crate::oracle::{answer, check_table, prepare, read, units, Value};
 use crate::random::Random;
 
 const CODES: u64 = 100_000;
+const VALUES: u64 = 10_000;
 const TABLES: u64 = 200_000;
 const HEAD_WORDS: usize = 12;
 const LONGEST_CODE: usize = 254;
@@ -69,6 +71,33 @@ fn assert_drawn(has: impl Fn(&[u16]) -> bool) {
         accepted + refused > CODES / 10 && accepted > CODES / 20 && refused > CODES / 50,
         "{accepted} {refused}"
     );
+}
+
+/// Through each of these codes one number or instant in twenty at least is told exactly, and one in
+/// twenty not.
+#[test]
+fn values_are_exact_and_not() {
+    for code in [
+        "0", "0.00", "0,", "0%", "General", "@", "0.0E+0", "# ?/?", "?/16",
+    ] {
+        assert_both_told(code, number);
+    }
+    for code in [
+        "d", "d AM/PM", "h", "[h]", "h:mm", "[m]", "s", "s.0", "[s].00",
+    ] {
+        assert_both_told(code, instant);
+    }
+}
+
+fn assert_both_told(code: &str, drawn: fn(&mut Random) -> Value) {
+    let told = |index| {
+        let value = drawn(&mut Random::for_case(5, index));
+        read(&units(code), &value, usize::MAX).map(|reading| reading.exact)
+    };
+    let told: Vec<bool> = (0..VALUES).flat_map(told).collect();
+    let exact = told.iter().filter(|exact| **exact).count();
+    let about = told.len() - exact;
+    assert!(exact.min(about) > told.len() / 20, "{code} {exact} {about}");
 }
 
 /// Each section's head and items, if the words are as many as their counts say.

@@ -1,5 +1,5 @@
-//! Values: at the edges of their ranges, beside what conditions name, at halves, midway between
-//! fractions, and at random.
+//! Values: at the edges of their ranges, beside what conditions name, round ones, at halves, midway
+//! between fractions, and at random.
 
 use crate::generate::LANDMARKS;
 use crate::oracle::Value;
@@ -56,6 +56,22 @@ const MILLISECONDS: [u32; 13] = [
     u32::MAX,
 ];
 
+/// A day, an hour, a minute, a second and the parts of one that a code can show.
+const UNITS: [u32; 6] = [86_400_000, 3_600_000, 60_000, 1000, 100, 10];
+
+/// Thousands, ones, and parts of few decimals down to sixteenths.
+const STEPS: [(i64, u32); 9] = [
+    (1_000_000, 0),
+    (1000, 0),
+    (1, 0),
+    (5, 1),
+    (2, 1),
+    (25, 2),
+    (1, 2),
+    (125, 3),
+    (625, 4),
+];
+
 const TEXT_LENGTHS: [usize; 5] = [0, 1, 1023, 1024, 1025];
 
 /// Numbers to which two fractions are equally near: 3/8 and 2/5, 145/512 and 177/625, and what is left
@@ -76,13 +92,14 @@ pub fn value(random: &mut Random) -> Value {
 }
 
 pub fn number(random: &mut Random) -> Value {
-    let (coefficient, scale) = match random.weighted(&[14, 20, 20, 25, 9, 9, 3]) {
+    let (coefficient, scale) = match random.weighted(&[12, 16, 16, 20, 16, 9, 9, 2]) {
         0 => (random.pick(&COEFFICIENTS), random.between(0, 16) as u32),
         1 => beside_landmark(random),
         2 => half(random),
         3 => (digits(random, 15), random.between(0, 15) as u32),
-        4 => nines(random),
-        5 => between_fractions(random),
+        4 => round(random),
+        5 => nines(random),
+        6 => between_fractions(random),
         _ => (
             random.next() as i64,
             random.pick(&[0, 15, 16, 17, 100, u32::MAX]),
@@ -105,15 +122,28 @@ fn digits(random: &mut Random, most: usize) -> i64 {
     (random.next() % 10u64.pow(length)) as i64
 }
 
-/// A number that conditions name, perhaps written with more decimals, perhaps one unit off.
-fn beside_landmark(random: &mut Random) -> (i64, u32) {
-    let (mut coefficient, mut scale) = random.pick(&LANDMARKS);
+/// The same number, perhaps written with more decimals.
+fn lengthened(random: &mut Random, (mut coefficient, mut scale): (i64, u32)) -> (i64, u32) {
     while scale < 15 && coefficient <= GREATEST / 10 && random.chance(60) {
         coefficient *= 10;
         scale += 1;
     }
+    (coefficient, scale)
+}
+
+/// A number that conditions name, perhaps written with more decimals, perhaps one unit off.
+fn beside_landmark(random: &mut Random) -> (i64, u32) {
+    let landmark = random.pick(&LANDMARKS);
+    let (coefficient, scale) = lengthened(random, landmark);
     let off = random.pick(&[0, 0, 1, -1]);
     (coefficient + off, scale)
+}
+
+/// Some steps of one size, which many codes show exactly, perhaps written with more decimals.
+fn round(random: &mut Random) -> (i64, u32) {
+    let (step, scale) = random.pick(&STEPS);
+    let steps = digits(random, 6);
+    lengthened(random, (steps * step, scale))
 }
 
 /// Figures that end on a half, just under one, or on nines that carry.
@@ -137,15 +167,12 @@ fn nines(random: &mut Random) -> (i64, u32) {
 
 /// A number at or beside the middle between two fractions, perhaps with a whole part.
 fn between_fractions(random: &mut Random) -> (i64, u32) {
-    let (mut coefficient, mut scale) = if random.chance(25) {
+    let between = if random.chance(25) {
         random.pick(&TIES)
     } else {
         near_middle(random)
     };
-    while scale < 15 && random.chance(60) {
-        coefficient *= 10;
-        scale += 1;
-    }
+    let (coefficient, scale) = lengthened(random, between);
     let whole = digits(random, 15 - scale as usize);
     let off = random.pick(&[0, 0, 1, -1]);
     (whole * 10i64.pow(scale) + coefficient + off, scale)
@@ -179,17 +206,24 @@ fn neighbours(random: &mut Random) -> ((usize, usize), (usize, usize)) {
     (low, high)
 }
 
-fn instant(random: &mut Random) -> Value {
+pub fn instant(random: &mut Random) -> Value {
     let day = match random.weighted(&[40, 30, 30]) {
         0 => random.pick(&DAYS),
         1 => random.below(2_958_466) as u32,
         _ => year_edge(random),
     };
-    let ms = match random.weighted(&[45, 55]) {
+    let ms = match random.weighted(&[30, 35, 35]) {
         0 => random.pick(&MILLISECONDS),
+        1 => full_units(random),
         _ => random.below(86_400_000) as u32,
     };
     Value::Instant { day, ms }
+}
+
+/// Midnight, a full hour, minute, second, tenth or hundredth.
+fn full_units(random: &mut Random) -> u32 {
+    let unit = random.pick(&UNITS);
+    unit * random.below((86_400_000 / unit) as usize) as u32
 }
 
 /// A day around a turn of the year or the end of a February.

@@ -7,6 +7,8 @@ use super::fraction::Denominator;
 pub struct Decimal {
     pub integer: Vec<u8>,
     pub decimals: Vec<u8>,
+    /// Nothing but zeros was cut.
+    pub exact: bool,
 }
 
 impl Decimal {
@@ -26,6 +28,7 @@ pub fn rounded(coefficient: i64, scale: i32, decimals: usize) -> Decimal {
     Decimal {
         integer: without_leading_zeros(&digits[..point]),
         decimals: digits[point..].to_vec(),
+        exact: fraction.iter().skip(decimals).all(|digit| *digit == 0),
     }
 }
 
@@ -88,6 +91,8 @@ pub struct Mixed {
     pub integer: Vec<u8>,
     pub numerator: Vec<u8>,
     pub denominator: Vec<u8>,
+    /// Integer part and fraction make up the magnitude.
+    pub exact: bool,
 }
 
 impl Mixed {
@@ -106,15 +111,16 @@ pub fn mixed(coefficient: i64, scale: u32, with_integer: bool, below: Denominato
     let part = part
         .iter()
         .fold(0, |sum, digit| sum * 10 + u64::from(*digit));
-    let (mut numerator, denominator) = match below {
+    let (mut numerator, denominator, exact) = match below {
         Denominator::Fixed(number) => {
             let product = part * u64::from(number);
-            let top = rounded(product as i64, scale as i32, 0).integer;
-            (top, digits(u64::from(number)))
+            let top = rounded(product as i64, scale as i32, 0);
+            (top.integer, digits(u64::from(number)), top.exact)
         }
         Denominator::Places(places) => {
-            let (top, bottom) = nearest(part, 10u64.pow(scale), 10u64.pow(places as u32) - 1);
-            (digits(top), digits(bottom))
+            let most = 10u64.pow(places as u32) - 1;
+            let (top, bottom, miss) = nearest(part, 10u64.pow(scale), most);
+            (digits(top), digits(bottom), miss == 0)
         }
     };
     if with_integer && numerator == denominator {
@@ -125,6 +131,7 @@ pub fn mixed(coefficient: i64, scale: u32, with_integer: bool, below: Denominato
         integer: without_leading_zeros(&integer),
         numerator,
         denominator,
+        exact,
     }
 }
 
@@ -132,11 +139,11 @@ fn digits(number: u64) -> Vec<u8> {
     without_leading_zeros(&spelled(number))
 }
 
-/// The fraction nearest to top / unit: every denominator is tried upward with its nearest numerator,
-/// and a later one is taken only where it comes strictly closer.
-fn nearest(top: u64, unit: u64, most: u64) -> (u64, u64) {
+/// The fraction nearest to top / unit, and how far off it is, times unit and the denominator: every
+/// denominator is tried upward with its nearest numerator, and a later one is taken only where it
+/// comes strictly closer.
+fn nearest(top: u64, unit: u64, most: u64) -> (u64, u64, u64) {
     let numerator = |denominator: u64| (2 * top * denominator + unit) / (2 * unit);
-    // How far off the fraction is, times unit and the denominator.
     let miss = |denominator: u64| (top * denominator).abs_diff(numerator(denominator) * unit);
     let mut best = 1;
     for denominator in 2..=most {
@@ -144,7 +151,7 @@ fn nearest(top: u64, unit: u64, most: u64) -> (u64, u64) {
             best = denominator;
         }
     }
-    (numerator(best), best)
+    (numerator(best), best, miss(best))
 }
 
 /// General's text for the magnitude without its sign, or none where it reaches 10^11.

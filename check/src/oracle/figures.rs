@@ -6,10 +6,12 @@ use super::fraction::Denominator;
 
 const DECIMALS: u32 = 15;
 
-/// A rounded magnitude: its whole part, and its fraction in units of 10^-15.
+/// A rounded magnitude: its whole part, its fraction in units of 10^-15, and whether it equals the
+/// exact one.
 pub struct Figures {
     whole: i128,
     fraction: i128,
+    pub exact: bool,
 }
 
 /// |coefficient| * 10^exponent rounded to `decimals` decimals, halves away from zero.
@@ -22,12 +24,17 @@ pub fn rounded(coefficient: i64, exponent: i32, decimals: u32) -> Figures {
     let rest = magnitude * above % below;
     let unit = 10i128.pow(decimals);
     let mut fraction = (2 * rest * unit + below) / (2 * below);
+    let exact = fraction * below == rest * unit;
     if fraction == unit {
         whole += 1;
         fraction = 0;
     }
     fraction *= 10i128.pow(DECIMALS - decimals);
-    Figures { whole, fraction }
+    Figures {
+        whole,
+        fraction,
+        exact,
+    }
 }
 
 /// The exponent of a scientific section with `places` integer places, found from above: from a
@@ -87,7 +94,11 @@ fn nearest(part: i128, unit: i128, most: i128) -> (i128, i128) {
 
 impl Figures {
     pub fn of_whole(whole: i128) -> Figures {
-        Figures { whole, fraction: 0 }
+        Figures {
+            whole,
+            fraction: 0,
+            exact: true,
+        }
     }
 
     pub fn is_zero(&self) -> bool {
@@ -124,8 +135,8 @@ impl Figures {
     }
 }
 
-/// General's text without a sign, and whether it is zero; none where it reaches 10^11.
-pub fn general(coefficient: i64, scale: u32) -> Option<(String, bool)> {
+/// General's text without a sign, and its figures; none where it reaches 10^11.
+pub fn general(coefficient: i64, scale: u32) -> Option<(String, Figures)> {
     let exponent = -(scale as i32);
     if rounded(coefficient, exponent, 0).integer_digits() > 11 {
         return None;
@@ -136,5 +147,5 @@ pub fn general(coefficient: i64, scale: u32) -> Option<(String, bool)> {
     let figures = rounded(coefficient, exponent, decimals);
     let all = format!("{}.{:015}", figures.whole, figures.fraction);
     let text = all.trim_end_matches('0').trim_end_matches('.');
-    Some((text.to_string(), figures.is_zero()))
+    Some((text.to_string(), figures))
 }

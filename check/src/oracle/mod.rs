@@ -4,8 +4,8 @@
 //! It shares no code with the library. Clarity goes before speed: vectors, 128-bit numbers, one
 //! function to a rule. A code is read in two ways: straight off its own tokens (`reading`) and
 //! through the table prepared from it (`prepare`, then `show`). Both start from the same parsed
-//! sections (`code`) and use the same calendar (`days`); choice, rounding, exponents,
-//! fractions and figures are separate.
+//! sections (`code`) and use the same calendar (`days`); choice, rounding, whether it was exact,
+//! exponents, fractions and figures are separate.
 
 mod code;
 mod days;

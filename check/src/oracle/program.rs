@@ -1,4 +1,4 @@
-//! Document 01's program: three lines in, four lines out.
+//! Document 01's program: three lines in, and since 02's P10 five lines out.
 
 use super::answer;
 use super::prepare::prepare;
@@ -55,6 +55,7 @@ fn refused(answer: u16, place: u32) -> Outcome {
         text: Vec::new(),
         colour: 0,
         section: 0,
+        exact: false,
     };
     Outcome {
         answer,
@@ -64,13 +65,21 @@ fn refused(answer: u16, place: u32) -> Outcome {
 }
 
 fn lines(outcome: &Outcome) -> Vec<u8> {
+    let Reading {
+        text,
+        colour,
+        exact,
+        ..
+    } = &outcome.reading;
     let mut out = format!(
-        "answer={}\nplace={}\ncolour={}\ntext=",
-        outcome.answer, outcome.place, outcome.reading.colour
+        "answer={}\nplace={}\ncolour={colour}\nexact={}\ntext=",
+        outcome.answer,
+        outcome.place,
+        u16::from(*exact)
     )
     .into_bytes();
     let ascii = |unit: &u16| u8::try_from(*unit).expect("ASCII in, ASCII out");
-    out.extend(outcome.reading.text.iter().map(ascii));
+    out.extend(text.iter().map(ascii));
     out.push(b'\n');
     out
 }

@@ -38,6 +38,7 @@ fn text_reading(sections: &[Section], text: &[u16]) -> Reading {
             text: text.to_vec(),
             colour: 0,
             section: 4,
+            exact: true,
         };
     }
     let mut shown = Vec::new();
@@ -51,6 +52,7 @@ fn text_reading(sections: &[Section], text: &[u16]) -> Reading {
         text: shown,
         colour: sections[last].colour,
         section: last as u16,
+        exact: true,
     }
 }
 
@@ -87,6 +89,7 @@ fn value_reading(sections: &[Section], value: &Value) -> Result<Reading, u16> {
         text,
         colour: section.colour,
         section: index as u16,
+        exact: figure.exact,
     })
 }
 
@@ -156,10 +159,12 @@ fn compare(value: &Value, condition: &Condition) -> Ordering {
     (top * unit).cmp(&(signed * bottom))
 }
 
-/// What a section shows without the added minus, and whether exception (b) holds the minus back.
+/// What a section shows without the added minus, whether exception (b) holds the minus back, and
+/// whether the text tells the value exactly.
 struct Figure {
     text: Vec<u16>,
     rounds_to_zero: bool,
+    exact: bool,
 }
 
 fn put(out: &mut Vec<u16>, text: &str) {
@@ -190,6 +195,7 @@ fn literal_figure(section: &Section) -> Figure {
     Figure {
         text,
         rounds_to_zero: false,
+        exact: true,
     }
 }
 
@@ -207,6 +213,7 @@ fn general_figure(section: &Section, coefficient: i64, scale: u32) -> Result<Fig
     Ok(Figure {
         text,
         rounds_to_zero: number.is_zero(),
+        exact: number.exact,
     })
 }
 
@@ -246,6 +253,7 @@ fn number_figure(section: &Section, coefficient: i64, scale: u32) -> Figure {
     Figure {
         text,
         rounds_to_zero: number.is_zero(),
+        exact: number.exact,
     }
 }
 
@@ -285,6 +293,7 @@ fn scientific_figure(section: &Section, coefficient: i64, scale: u32) -> Figure 
     Figure {
         text,
         rounds_to_zero: number.is_zero(),
+        exact: number.exact,
     }
 }
 
@@ -322,6 +331,7 @@ fn fraction_figure(section: &Section, coefficient: i64, scale: u32) -> Figure {
     Figure {
         text,
         rounds_to_zero: number.is_zero(),
+        exact: number.exact,
     }
 }
 
@@ -448,5 +458,41 @@ fn date_figure(section: &Section, day: u32, ms: u32) -> Figure {
     Figure {
         text,
         rounds_to_zero: false,
+        exact: cuts_only_zeros(body, ms),
+    }
+}
+
+/// Of the clock's digits hhmmssfff those behind the finest that the section shows are zeros.
+fn cuts_only_zeros(body: &[Token], ms: u32) -> bool {
+    let (minutes, seconds) = (ms / 60_000, ms / 1000);
+    let clock = format!(
+        "{:02}{:02}{:02}{:03}",
+        minutes / 60,
+        minutes % 60,
+        seconds % 60,
+        ms % 1000
+    );
+    let reach = (0..body.len()).map(|at| clock_digits(body, at)).max();
+    clock
+        .bytes()
+        .skip(reach.unwrap_or(0))
+        .all(|digit| digit == b'0')
+}
+
+/// How far into the clock's digits hhmmssfff a token reaches; dates and half-day marks do not.
+fn clock_digits(body: &[Token], at: usize) -> usize {
+    match body[at] {
+        Token::Run { letter: b'm', .. } if !means_minutes(body, at) => 0,
+        Token::Run { letter, .. } | Token::Elapsed { letter, .. } => match letter {
+            b'h' => 2,
+            b'm' => 4,
+            b's' => 6,
+            _ => 0,
+        },
+        Token::Point => match part_of_second(body, at) {
+            0 => 0,
+            digits => 6 + digits,
+        },
+        _ => 0,
     }
 }

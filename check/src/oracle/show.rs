@@ -19,6 +19,9 @@ const DATE_TIME: u16 = Kind::DateTime as u16;
 const SCIENTIFIC: u16 = Kind::Scientific as u16;
 const FRACTION: u16 = Kind::Fraction as u16;
 
+/// In milliseconds.
+const DAY: u32 = 86_400_000;
+
 /// Shows a value through the words lent as a table, in a room of that length.
 pub fn show(table: &[u16], value: &Value, room_length: usize) -> Result<Reading, u16> {
     if !check_table(table) {
@@ -49,17 +52,35 @@ fn show_text(entries: &[Entry], text: &[u16]) -> Reading {
             text: text.to_vec(),
             colour: 0,
             section: 4,
+            exact: true,
         };
     };
     let shown = spelled(&entries[index].items, |_| text.to_vec());
-    reading(entries, index, shown)
+    reading(entries, index, shown, true)
 }
 
-fn reading(entries: &[Entry], index: usize, text: Vec<u16>) -> Reading {
+fn reading(entries: &[Entry], index: usize, text: Vec<u16>, exact: bool) -> Reading {
     Reading {
         text,
         colour: entries[index].colour,
         section: index as u16,
+        exact,
+    }
+}
+
+/// What a section shows of a number without a minus, whether that is zero after rounding, and whether
+/// it equals the number.
+struct Unsigned {
+    text: Vec<u16>,
+    rounds_to_zero: bool,
+    exact: bool,
+}
+
+fn unsigned(text: Vec<u16>, figures: &Figures) -> Unsigned {
+    Unsigned {
+        text,
+        rounds_to_zero: figures.is_zero(),
+        exact: figures.exact,
     }
 }
 
@@ -85,42 +106,59 @@ fn show_number(entries: &[Entry], coefficient: i64, scale: u32) -> Result<Readin
         choose(entries, i128::from(coefficient), 10i128.pow(scale))?
     };
     let entry = &entries[index];
-    let (shown, rounds_to_zero) = match entry.kind {
-        LITERAL => (spelled(&entry.items, |_| vec![]), false),
+    let shown = match entry.kind {
+        LITERAL => Unsigned {
+            text: spelled(&entry.items, |_| vec![]),
+            rounds_to_zero: false,
+            exact: true,
+        },
         NUMBER => number_text(entry, coefficient, scale),
         SCIENTIFIC => scientific_text(entry, coefficient, scale),
         FRACTION => fraction_text(entry, coefficient, scale),
         GENERAL | TEXT => {
-            let (text, zero) = general(coefficient, scale).ok_or(answer::GENERAL)?;
-            (spelled(&entry.items, |_| units(&text)), zero)
+            let (text, figures) = general(coefficient, scale).ok_or(answer::GENERAL)?;
+            unsigned(spelled(&entry.items, |_| units(&text)), &figures)
         }
         _ => return Err(answer::SORT),
     };
     let has_item = !entry.items.is_empty();
-    let minus = coefficient < 0 && has_item && entry.flags & NO_MINUS == 0 && !rounds_to_zero;
+    let minus = coefficient < 0 && has_item && entry.flags & NO_MINUS == 0 && !shown.rounds_to_zero;
     let mut text = units(if minus { "-" } else { "" });
-    text.extend(shown);
-    Ok(reading(entries, index, text))
+    text.extend(shown.text);
+    Ok(reading(entries, index, text, shown.exact))
 }
 
 fn show_instant(entries: &[Entry], day: u32, ms: u32) -> Result<Reading, u16> {
     if counted(entries) == 0 {
         return Err(answer::SORT);
     }
-    let since = i128::from(day) * 86_400_000 + i128::from(ms);
-    let index = choose(entries, since, 86_400_000)?;
+    let since = i128::from(day) * i128::from(DAY) + i128::from(ms);
+    let index = choose(entries, since, i128::from(DAY))?;
     let entry = &entries[index];
-    let text = match entry.kind {
-        LITERAL => spelled(&entry.items, |_| vec![]),
+    let (text, exact) = match entry.kind {
+        LITERAL => (spelled(&entry.items, |_| vec![]), true),
         DATE_TIME => {
             let twelve = entry.flags & TWELVE_HOUR != 0;
-            spelled(&entry.items, |one| {
+            let text = spelled(&entry.items, |one| {
                 units(&instant_piece(one, day, ms, twelve))
-            })
+            });
+            (text, ms.is_multiple_of(finest_unit(&entry.items)))
         }
         _ => return Err(answer::SORT),
     };
-    Ok(reading(entries, index, text))
+    Ok(reading(entries, index, text, exact))
+}
+
+/// In milliseconds; a day where no item shows less.
+fn finest_unit(items: &[Item]) -> u32 {
+    let unit = |one: &Item| match one.number {
+        item::HOUR | item::ELAPSED_HOURS => 3_600_000,
+        item::MINUTE | item::ELAPSED_MINUTES => 60_000,
+        item::SECOND | item::ELAPSED_SECONDS => 1000,
+        item::PART_OF_SECOND => 10u32.pow(3 - u32::from(one.operand)),
+        _ => DAY,
+    };
+    items.iter().map(unit).min().unwrap_or(DAY)
 }
 
 /// The first section that takes top / bottom.
@@ -176,17 +214,16 @@ fn instant_piece(one: Item, day: u32, ms: u32, twelve: bool) -> String {
     }
 }
 
-/// A number section's text without a minus, and whether its figures round to zero.
-fn number_text(entry: &Entry, coefficient: i64, scale: u32) -> (Vec<u16>, bool) {
+fn number_text(entry: &Entry, coefficient: i64, scale: u32) -> Unsigned {
     let exponent = i32::from(entry.shift) - 15 - scale as i32;
     let figures = rounded(coefficient, exponent, u32::from(entry.decimals));
     let grouping = entry.flags & GROUPING != 0;
     let text = figures_text(&entry.items, &figures, grouping);
-    (text, figures.is_zero())
+    unsigned(text, &figures)
 }
 
-/// A scientific section's text without a minus, and whether its mantissa rounds to zero.
-fn scientific_text(entry: &Entry, coefficient: i64, scale: u32) -> (Vec<u16>, bool) {
+/// The mantissa's figures, and the exponent's, which are never rounded.
+fn scientific_text(entry: &Entry, coefficient: i64, scale: u32) -> Unsigned {
     let mut parts = entry.items.splitn(2, |one| item::is_exponent(one.number));
     let mantissa = parts.next().unwrap_or_default();
     let behind = parts.next().unwrap_or_default();
@@ -205,11 +242,12 @@ fn scientific_text(entry: &Entry, coefficient: i64, scale: u32) -> (Vec<u16>, bo
         units(mark),
         figures_text(behind, &size, false),
     ];
-    (text.concat(), figures.is_zero())
+    unsigned(text.concat(), &figures)
 }
 
-/// A fraction section's text without a minus, and whether integer part and numerator are both zero.
-fn fraction_text(entry: &Entry, coefficient: i64, scale: u32) -> (Vec<u16>, bool) {
+/// An integer part, if there are places for it, and a fraction. They are zero when both are, and exact
+/// when together they are the number.
+fn fraction_text(entry: &Entry, coefficient: i64, scale: u32) -> Unsigned {
     let [front, above, below, rest] =
         fraction_parts(&entry.items).expect("a table that passes has a fraction's parts");
     let (denominator, width) = match below[0].number {
@@ -240,7 +278,11 @@ fn fraction_text(entry: &Entry, coefficient: i64, scale: u32) -> (Vec<u16>, bool
         middle,
         spelled(rest, |_| vec![]),
     ];
-    (text.concat(), integer == 0 && numerator == 0)
+    Unsigned {
+        text: text.concat(),
+        rounds_to_zero: integer == 0 && numerator == 0,
+        exact: (integer * over + numerator) * unit == magnitude * over,
+    }
 }
 
 /// Each spare place gives a 0 in front, a space behind or nothing.

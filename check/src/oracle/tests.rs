@@ -1,6 +1,7 @@
+mod exact;
 mod fractions;
 
-use super::{answer, check_table, prepare, read, section, show, units, Value};
+use super::{answer, check_table, prepare, read, section, show, units, Reading, Value};
 
 const ROOM: usize = 4096;
 
@@ -9,11 +10,16 @@ fn number(coefficient: i64, scale: u32) -> Value {
 }
 
 fn both_ways(code: &str, value: &Value) -> Result<String, u16> {
+    let text = |reading: Reading| String::from_utf16(&reading.text).expect("plain text");
+    reading_both_ways(code, value).map(text)
+}
+
+fn reading_both_ways(code: &str, value: &Value) -> Result<Reading, u16> {
     let prepared = prepare(&units(code), 557);
     assert_eq!(prepared.answer, answer::DONE, "{code}");
     let through_table = show(&prepared.words, value, ROOM);
     assert_eq!(through_table, read(&units(code), value, ROOM), "{code}");
-    through_table.map(|reading| String::from_utf16(&reading.text).expect("plain text"))
+    through_table
 }
 
 #[test]
@@ -109,21 +115,29 @@ fn sections_respect_quotes() {
 }
 
 #[test]
-fn the_program_writes_four_lines() {
-    let written = super::answer_lines(b"code=#,##0\nkind=number\nvalue=12000\n");
-    assert_eq!(
-        written,
-        b"answer=0\nplace=0\ncolour=0\ntext=12,000\n".to_vec()
-    );
+fn the_program_writes_five_lines() {
+    let written = |value: &str| {
+        let request = format!("code=#,##0\nkind=number\nvalue={value}\n");
+        String::from_utf8(super::answer_lines(request.as_bytes())).expect("plain text")
+    };
+    let exact = "answer=0\nplace=0\ncolour=0\nexact=1\ntext=12,000\n";
+    assert_eq!(written("12000"), exact);
+    let about = "answer=0\nplace=0\ncolour=0\nexact=0\ntext=12,000\n";
+    assert_eq!(written("12000.1"), about);
+    let refused = "answer=9\nplace=0\ncolour=0\nexact=0\ntext=\n";
+    assert_eq!(written("1000000000000000"), refused);
 }
 
 #[test]
-fn the_section_is_told_behind_the_four_lines() {
+fn the_section_is_told_behind_the_five_lines() {
     let told = |request: &[u8]| {
         String::from_utf8(super::answer_lines_and_section(request)).expect("plain text")
     };
     let plain = told(b"code=0\nkind=text\nvalue=me\n");
-    assert_eq!(plain, "answer=0\nplace=0\ncolour=0\ntext=me\nsection=4\n");
+    assert_eq!(
+        plain,
+        "answer=0\nplace=0\ncolour=0\nexact=1\ntext=me\nsection=4\n"
+    );
     assert!(told(b"code=0;0\nkind=number\nvalue=-1\n").ends_with("section=1\n"));
     assert!(told(b"code=0;\nkind=none\nvalue=-1\n").ends_with("section=0\n"));
 }
@@ -146,7 +160,7 @@ fn the_first_malformed_line_is_told() {
         (b"code=0\nkind=number\nvalue=1\n\n", 4),
     ];
     for (request, line) in requests {
-        let told = format!("answer=14\nplace={line}\ncolour=0\ntext=\n");
+        let told = format!("answer=14\nplace={line}\ncolour=0\nexact=0\ntext=\n");
         assert_eq!(super::answer_lines(request), told.into_bytes());
     }
 }

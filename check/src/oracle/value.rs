@@ -31,10 +31,12 @@ impl Value {
     }
 }
 
-/// A done showing: the text, the colour and the section (4 for text shown by no section).
+/// A done showing: the text, the colour, the section (4 for text shown by no section), and whether the
+/// text tells the value exactly, its sign aside.
 #[derive(Clone, Debug, PartialEq, Eq)]
 pub struct Reading {
     pub text: Vec<u16>,
     pub colour: u16,
     pub section: u16,
+    pub exact: bool,
 }

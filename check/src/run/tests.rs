@@ -28,6 +28,7 @@ enum Fault {
     Part,
     Check,
     Colour,
+    Exact,
     PastRoom,
 }
 
@@ -72,6 +73,7 @@ impl Calls for Double {
                 room[0] = u16::from(b'0');
             }
             Fault::Colour if given.answer != 0 => given.colour = 1,
+            Fault::Exact if given.answer == 0 => given.exact = 1,
             Fault::PastRoom if given.answer == answer::TEXT_ROOM => write_past(room),
             _ => {}
         }
@@ -100,5 +102,6 @@ fn every_fault_is_found() {
     assert!(found(&Double(Fault::Part)));
     assert!(found(&Double(Fault::Check)));
     assert!(found(&Double(Fault::Colour)));
+    assert!(found(&Double(Fault::Exact)));
     assert!(found(&Double(Fault::PastRoom)));
 }

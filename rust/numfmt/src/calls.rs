@@ -15,6 +15,8 @@
 //! let table = &table[..prepared.words as usize];
 //! let shown = calls::show_number(table, 12000, 0, &mut room);
 //! assert_eq!(String::from_utf16_lossy(&room[..shown.length as usize]), "12,000");
+//! assert_eq!(shown.exact, 1);
+//! assert_eq!(calls::show_number(table, 120004, 1, &mut room).exact, 0);
 //!
 //! // A room that is too short is refused, and keeps its contents.
 //! let mut short = [7; 5];
@@ -39,6 +41,8 @@ pub struct Shown {
     pub length: u32,
     pub colour: u16,
     pub section: u16,
+    /// 1 where the text tells the value exactly, 0 where it was rounded or cut.
+    pub exact: u16,
 }
 
 /// A part of a code: `length` units from unit `start` on.

@@ -24,6 +24,9 @@ pub struct Shown {
     pub colour: u16,
     /// 0 to 3, or 4 for a text that no section shows.
     pub section: u16,
+    /// Whether the value is shown exactly, its sign aside: nothing was rounded or cut. So is every text, and every value in a section
+    /// of literals.
+    pub exact: bool,
 }
 
 /// Words that keep the table rules: made from a code, or checked.
@@ -34,6 +37,7 @@ pub struct Shown {
 /// let table = Table::prepare("#,##0.00;[Red](#,##0.00)")?;
 /// let shown = table.show(&Value::Number { coefficient: -1234565, scale: 3 })?;
 /// assert_eq!((shown.text.as_str(), shown.colour, shown.section), ("(1,234.57)", 3, 1));
+/// assert!(!shown.exact && table.show_number(-123457, 2)?.exact);
 /// # Ok::<(), numfmt::Refusal>(())
 /// ```
 #[derive(Clone, Debug, PartialEq, Eq)]
@@ -127,6 +131,7 @@ fn in_room(show: impl Fn(&mut [u16]) -> calls::Shown) -> Result<Shown, Refusal> 
         text: String::from_utf16_lossy(&room[..shown.length as usize]),
         colour: shown.colour,
         section: shown.section,
+        exact: shown.exact == 1,
     })
 }
 

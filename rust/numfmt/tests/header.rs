@@ -30,6 +30,23 @@ fn header_name(answer: Answer) -> String {
     name
 }
 
+/// The header's number and text, the crate and the newest entry of CHANGELOG.md have one version.
+#[test]
+fn version_is_that_of_the_header() {
+    let version = env!("CARGO_PKG_VERSION");
+    let text = format!("#define NUMFMT_VERSION_TEXT \"{version}\"");
+    assert!(header().lines().any(|line| line == text), "{text}");
+    let number = version
+        .split('.')
+        .map(|part| part.parse::<usize>().expect("a part of a version"))
+        .fold(0, |number, part| 100 * number + part);
+    assert_eq!(macros()["VERSION"], number);
+    let changes = concat!(env!("CARGO_MANIFEST_DIR"), "/../../CHANGELOG.md");
+    let changes = std::fs::read_to_string(changes).expect("the changes can be read");
+    let newest = changes.lines().find_map(|line| line.strip_prefix("## "));
+    assert_eq!(newest, Some(version));
+}
+
 #[test]
 fn sizes_are_those_of_the_header() {
     let macros = macros();

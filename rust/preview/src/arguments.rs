@@ -12,8 +12,8 @@ usage: ./preview [--plain] CODE [number|instant|text] VALUE..
 
 pub const HELP: &str = r#"
 Shows each value through a number format code, a row each: the value, and the text that the wall shows. A note in brackets
-tells the colour, that the text is empty [nothing], or that no section of the code shows texts [as it is]. A refused code is
-printed with a mark under the sign or section that is at fault.
+tells the colour, that the text is empty [nothing], that no section of the code shows texts [as it is], or that the value was
+rounded or cut [about]. A refused code is printed with a mark under the sign or section that is at fault.
 
   ./preview '#,##0;[Red]-#,##0' 12000 -1317
   ./preview 'd-mmm-yy h:mm' '2024-10-14 16:36'
@@ -26,8 +26,8 @@ Without a kind a value is what it reads as:
               (day 1 is 1900-01-01, day 60 is 1900-02-29)
   a text      anything else; but digits with signs that no number has, as .5 or 1,000 or +5, are refused
 
-  --plain      prints four lines for each value, answer=, place=, colour= and text=, as the program show does. Behind a
-               kind a value is read as that program reads it: an instant is day/millisecond.
+  --plain      prints five lines for each value, answer=, place=, colour=, exact= and text=, as the program show does.
+               Behind a kind a value is read as that program reads it: an instant is day/millisecond.
   --file LIST  takes lines of a code, a tab and values with tabs between (or a kind and values) from a file in UTF-8.
                Each line is reported with its number, and a bad line does not stop the others. Lines may end in LF or
                CR LF, the last in nothing; empty lines are passed over.

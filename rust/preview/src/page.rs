@@ -105,5 +105,8 @@ fn notes(shown: &Shown) -> String {
     if shown.section == NO_SECTION {
         notes.push("as it is".to_string());
     }
+    if !shown.exact {
+        notes.push("about".to_string());
+    }
     notes.join(", ")
 }

@@ -1,4 +1,4 @@
-//! The four lines of document 01's program `show`, for codes and values in UTF-8. A request of ASCII gets the bytes that the
+//! The five lines of document 01's program `show`, for codes and values in UTF-8. A request of ASCII gets the bytes that the
 //! program writes for it.
 
 use std::io::{self, Write};
@@ -17,6 +17,7 @@ struct Outcome {
     answer: u16,
     place: u32,
     colour: u16,
+    exact: u16,
     text: String,
 }
 
@@ -28,11 +29,12 @@ pub fn write(request: &Request, out: &mut impl Write) -> io::Result<bool> {
             answer,
             place,
             colour,
+            exact,
             text,
         } = outcome(&input(request, written));
         writeln!(
             out,
-            "answer={answer}\nplace={place}\ncolour={colour}\ntext={text}"
+            "answer={answer}\nplace={place}\ncolour={colour}\nexact={exact}\ntext={text}"
         )?;
         refused |= answer != 0;
     }
@@ -118,6 +120,7 @@ fn shown(code: &str, value: &Value) -> Outcome {
         answer: shown.answer,
         place: 0,
         colour: shown.colour,
+        exact: shown.exact,
         text,
     }
 }
@@ -127,6 +130,7 @@ fn refused(answer: u16, place: u32) -> Outcome {
         answer,
         place,
         colour: 0,
+        exact: 0,
         text: String::new(),
     }
 }

@@ -7,16 +7,16 @@ const NUMBER: &str = "refused: No number. A number is an optional minus, digits,
 
 #[test]
 fn utf_8_goes_in_and_comes_out() {
-    assert_eq!(shown(&["0.0\" °C\"", "11.25"]), "11.25  11.3 °C\n");
+    assert_eq!(shown(&["0.0\" °C\"", "11.5"]), "11.5  11.5 °C\n");
     assert_eq!(shown(&["\"£\"0", "5"]), "5  £5\n");
     assert_eq!(shown(&["\"🐟 \"@", "café"]), "café  🐟 café\n");
 }
 
 #[test]
 fn each_value_has_a_row() {
-    let rows = "12000      12,000.00\n-1234.565  (1,234.57)  [in red]\n鮭         鮭  [as it is]\n";
+    let rows = "12000     12,000.00\n-1234.56  (1,234.56)  [in red]\n鮭        鮭  [as it is]\n";
     assert_eq!(
-        shown(&["#,##0.00;[Red](#,##0.00)", "12000", "-1234.565", "鮭"]),
+        shown(&["#,##0.00;[Red](#,##0.00)", "12000", "-1234.56", "鮭"]),
         rows
     );
 }
@@ -29,14 +29,29 @@ fn notes_tell_colours_and_empty_texts() {
 }
 
 #[test]
+fn what_was_rounded_or_cut_is_told() {
+    let rows = "11.3   11.3 °C\n11.25  11.3 °C  [about]\n-0.01  0.0 °C  [about]\n";
+    assert_eq!(shown(&["0.0\" °C\"", "11.3", "11.25", "-0.01"]), rows);
+    let rows = "3.5  3 1/2\n3.6  3 3/5\n3.7  3 5/7  [about]\n";
+    assert_eq!(shown(&["# ?/?", "3.5", "3.6", "3.7"]), rows);
+    let rows = "2024-10-14 16:00     16\n2024-10-14 16:00:01  16  [about]\n";
+    assert_eq!(
+        shown(&["h", "2024-10-14 16:00", "2024-10-14 16:00:01"]),
+        rows
+    );
+    assert_eq!(shown(&["0;[Red]0", "-0.4"]), "-0.4  0  [in red, about]\n");
+    assert_eq!(shown(&["#", "0.4"]), "0.4  [nothing, about]\n");
+}
+
+#[test]
 fn a_kind_may_be_named() {
     assert_eq!(
         shown(&["h:mm AM/PM", "2024-10-14 16:36"]),
         "2024-10-14 16:36  4:36 PM\n"
     );
     assert_eq!(
-        shown(&["h:mm AM/PM", "instant", "45579/59763750"]),
-        "45579/59763750  4:36 PM\n"
+        shown(&["h:mm AM/PM", "instant", "45579/59760000"]),
+        "45579/59760000  4:36 PM\n"
     );
     assert_eq!(
         shown(&["\"to \"@", "text", "5", "text"]),

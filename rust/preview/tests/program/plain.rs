@@ -1,4 +1,4 @@
-//! Four lines a value, as the program `show` prints them.
+//! Five lines a value, as the program `show` prints them.
 
 use std::fs;
 use std::io::Write;
@@ -22,7 +22,7 @@ fn request<'a>(lines: &[&'a str]) -> Option<[&'a str; 3]> {
     (named && lines.concat().is_ascii()).then_some(request)
 }
 
-/// Those of the program `vectors`, which tells the section too, in a fifth line. The last has no line end, which no argument can
+/// Those of the program `vectors`, which tells the section too, in a sixth line. The last has no line end, which no argument can
 /// lack.
 #[test]
 fn known_requests_get_their_known_lines() {
@@ -33,12 +33,12 @@ fn known_requests_get_their_known_lines() {
         .collect();
     let told: Vec<&str> = told.lines().collect();
     let mut compared = 0;
-    for (lines, answer) in asked.chunks_exact(3).zip(told.chunks(5)) {
+    for (lines, answer) in asked.chunks_exact(3).zip(told.chunks(6)) {
         let Some([code, kind, value]) = request(lines) else {
             continue;
         };
         let (status, out, _) = run(&["--plain", "--", code, kind, value]);
-        assert_eq!(out, answer[..4].join("\n") + "\n", "{code} {kind} {value}");
+        assert_eq!(out, answer[..5].join("\n") + "\n", "{code} {kind} {value}");
         assert_eq!(
             status == 0,
             answer[0] == "answer=0",
@@ -95,33 +95,36 @@ fn odd_requests_get_what_show_writes() {
 fn utf_8_is_taken_too() {
     assert_eq!(
         shown(&["--plain", "0.0\" °C\"", "number", "11.25"]),
-        "answer=0\nplace=0\ncolour=0\ntext=11.3 °C\n"
+        "answer=0\nplace=0\ncolour=0\nexact=0\ntext=11.3 °C\n"
     );
     assert_eq!(
         refused(&["--plain", "0°", "number", "1"]),
-        "answer=2\nplace=1\ncolour=0\ntext=\n"
+        "answer=2\nplace=1\ncolour=0\nexact=0\ntext=\n"
     );
     let text = "é".repeat(1024);
     assert_eq!(
         shown(&["--plain", "@", "text", &text]),
-        format!("answer=0\nplace=0\ncolour=0\ntext={text}\n")
+        format!("answer=0\nplace=0\ncolour=0\nexact=1\ntext={text}\n")
     );
 }
 
 #[test]
-fn values_without_a_kind_have_four_lines_each() {
+fn values_without_a_kind_have_five_lines_each() {
     let lines = "\
 answer=0
 place=0
 colour=3
+exact=1
 text=14
 answer=14
 place=3
 colour=0
+exact=0
 text=
 answer=0
 place=0
 colour=0
+exact=1
 text=café
 ";
     assert_eq!(

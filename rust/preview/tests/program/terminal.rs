@@ -40,6 +40,6 @@ fn no_color_and_plain_paint_nothing() {
     );
     assert_eq!(
         on_a_terminal(None, &["--plain", "[Red]0", "5"]),
-        "answer=0\nplace=0\ncolour=3\ntext=5\n"
+        "answer=0\nplace=0\ncolour=3\nexact=1\ntext=5\n"
     );
 }
