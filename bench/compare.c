@@ -40,6 +40,7 @@ static int same(const outcome *one, const outcome *other)
 {
     return one->shown.answer == other->shown.answer && one->shown.length == other->shown.length &&
            one->shown.colour == other->shown.colour && one->shown.section == other->shown.section &&
+           one->shown.exact == other->shown.exact &&
            memcmp(one->units, other->units, sizeof one->units) == 0;
 }
 
@@ -60,8 +61,9 @@ static void print_outcome(const char *who, const outcome *of)
 {
     size_t at;
 
-    fprintf(stderr, "%s: answer %u, length %" PRIu32 ", colour %u, section %u, units", who, (unsigned)of->shown.answer,
-            of->shown.length, (unsigned)of->shown.colour, (unsigned)of->shown.section);
+    fprintf(stderr, "%s: answer %u, length %" PRIu32 ", colour %u, section %u, exact %u, units", who,
+            (unsigned)of->shown.answer, of->shown.length, (unsigned)of->shown.colour, (unsigned)of->shown.section,
+            (unsigned)of->shown.exact);
     for (at = 0; at < of->shown.length && at < ROOM; at++)
         fprintf(stderr, " %u", (unsigned)of->units[at]);
     fprintf(stderr, "\n");

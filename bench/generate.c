@@ -343,15 +343,24 @@ static void make_number(uint64_t *state, random_value *made)
         made->coefficient = INT64_MIN;
 }
 
+/* At an edge, or anywhere, mostly at a whole hour, minute, second or part of one. */
+static uint32_t make_millisecond(uint64_t *state)
+{
+    static const uint32_t milliseconds[] = {0, 1, 999, 43199999, 43200000, 86399999};
+    static const uint32_t spans[] = {1, 1, 10, 100, 500, 1000, 30000, 60000, 1800000, 3600000};
+    uint32_t span = spans[random_below(state, COUNT(spans))];
+
+    return random_chance(state, 50) ? milliseconds[random_below(state, COUNT(milliseconds))]
+                                    : (uint32_t)random_below(state, 86400000 / span) * span;
+}
+
 static void make_instant(uint64_t *state, random_value *made)
 {
     static const uint32_t days[] = {0, 1, 2, 3, 31, 32, 59, 60, 61, 366, 367, 36584, 36585, 36586, 2958465};
-    static const uint32_t milliseconds[] = {0, 1, 999, 43199999, 43200000, 86399999};
 
     made->day = random_chance(state, 50) ? days[random_below(state, random_chance(state, 50) ? 4 : COUNT(days))]
                                          : (uint32_t)random_below(state, 2958466);
-    made->millisecond = random_chance(state, 50) ? milliseconds[random_below(state, COUNT(milliseconds))]
-                                                 : (uint32_t)random_below(state, 86400000);
+    made->millisecond = make_millisecond(state);
     if (random_chance(state, 2))
         made->day = random_chance(state, 50) ? 2958466 : UINT32_MAX;
     if (random_chance(state, 2))

@@ -26,14 +26,14 @@ typedef struct {
 
 static numfmt_shown refused(uint16_t answer)
 {
-    numfmt_shown shown = {answer, 0, 0, 0};
+    numfmt_shown shown = {answer, 0, 0, 0, 0};
 
     return shown;
 }
 
-static numfmt_shown done(size_t length, const section *by)
+static numfmt_shown done(size_t length, const section *by, bool exact)
 {
-    numfmt_shown shown = {ANSWER_DONE, (uint32_t)length, by->head[COLOUR], (uint16_t)by->number};
+    numfmt_shown shown = {ANSWER_DONE, (uint32_t)length, by->head[COLOUR], (uint16_t)by->number, exact};
 
     return shown;
 }
@@ -137,7 +137,8 @@ static bool takes_any(const section *by, size_t room_len)
     return units_most[by->head[KIND]].an_item * (size_t)by->head[ITEMS] + units_most[by->head[KIND]].more <= room_len;
 }
 
-static numfmt_shown kept(const section *by, const uint16_t *start, const uint16_t *end, uint16_t *room, size_t room_len)
+static numfmt_shown kept(const section *by, bool exact, const uint16_t *start, const uint16_t *end, uint16_t *room,
+                         size_t room_len)
 {
     size_t length = (size_t)(end - start);
 
@@ -146,7 +147,7 @@ static numfmt_shown kept(const section *by, const uint16_t *start, const uint16_
             return refused(ANSWER_ROOM);
         memcpy(room, start, length * sizeof *room);
     }
-    return done(length, by);
+    return done(length, by, exact);
 }
 
 /* Figures */
@@ -157,27 +158,33 @@ enum { DIGITS = 40, UNITS_DIGIT = 15 };
 typedef struct {
     uint8_t digit[DIGITS];
     int highest, lowest;
-    bool nought;
+    bool nought, exact;
 } figures;
 
-/* The number times 10^power, halves away from zero; where the power is above 0, its zeros are left to the caller. */
-static uint64_t rounded(uint64_t magnitude, int power)
+/*
+ * The number times 10^power, halves away from zero, and whether that is exact;
+ * where the power is above 0, its zeros are left to the caller.
+ */
+static uint64_t rounded(uint64_t magnitude, int power, bool *exact)
 {
-    uint64_t unit;
+    uint64_t unit, number;
 
+    *exact = power >= 0 || magnitude == 0;
     if (power >= 0)
         return magnitude;
     if (power < -SCALE_MOST)
         return 0;
     unit = power_of_ten[-power];
-    return (magnitude + unit / 2) / unit;
+    number = (magnitude + unit / 2) / unit;
+    *exact = number * unit == magnitude;
+    return number;
 }
 
 static void find_figures(figures *found, const value *of, const uint16_t *head)
 {
     int power = head[SHIFT] - 15 - (int)of->scale + head[DECIMALS];
     int last = UNITS_DIGIT - head[DECIMALS];
-    uint64_t number = rounded(of->magnitude, power);
+    uint64_t number = rounded(of->magnitude, power, &found->exact);
 
     memset(found->digit, 0, sizeof found->digit);
     found->nought = number == 0;
@@ -263,7 +270,7 @@ static uint16_t *put_number(uint16_t *out, const section *by, const figures *of)
 typedef struct {
     uint16_t units[GENERAL_UNITS + 1];
     unsigned first;
-    bool nought, too_large;
+    bool nought, too_large, exact;
 } general;
 
 static int count_digits(uint64_t number)
@@ -298,7 +305,7 @@ static void find_general(general *found, const value *of)
         decimals = 0;
     if (decimals > (int)of->scale)
         decimals = (int)of->scale;
-    number = rounded(of->magnitude, decimals - (int)of->scale);
+    number = rounded(of->magnitude, decimals - (int)of->scale, &found->exact);
     found->nought = number == 0;
     found->too_large = decimals == 0 && number >= UINT64_C(100000000000);
     for (; decimals > 0 && number % 10 == 0; decimals--)
@@ -440,9 +447,18 @@ static uint16_t *put_time(uint16_t *out, const value *of, unsigned tag, unsigned
     }
 }
 
-/* The date is found where the first item asks for it. */
-static uint16_t *put_date(uint16_t *out, const section *by, const value *of)
+/* The milliseconds of what an item of the time shows. A half-day mark is no hour: like a date it leaves the day. */
+static uint32_t span_of(unsigned tag, unsigned run)
 {
+    static const uint32_t spans[] = {3600000, 60000, 1000, 0, 3600000, 60000, 1000, MILLISECOND_MOST + 1};
+
+    return tag == PART ? (uint32_t)power_of_ten[3 - run] : spans[tag - HOUR];
+}
+
+/* The date is found where the first item asks for it. It is exact where the finest span shown leaves nothing. */
+static uint16_t *put_date(uint16_t *out, const section *by, const value *of, bool *exact)
+{
+    uint32_t finest = MILLISECOND_MOST + 1;
     const uint16_t *item;
     date on = {0, 0, 0};
 
@@ -464,8 +480,11 @@ static uint16_t *put_date(uint16_t *out, const section *by, const value *of)
             out = put_calendar(out, of, &on, item[0], item[1]);
             break;
         default:
+            if (span_of(item[0], item[1]) < finest)
+                finest = span_of(item[0], item[1]);
             out = put_time(out, of, item[0], item[1], by->head[FLAGS]);
         }
+    *exact = of->millisecond % finest == 0;
     return out;
 }
 
@@ -487,7 +506,7 @@ static numfmt_shown show_figures(const section *by, const value *of, uint16_t *r
     find_figures(&found, of, by->head);
     if (!found.nought)
         out = put_minus(out, by, of);
-    return kept(by, start, put_number(out, by, &found), room, room_len);
+    return kept(by, found.exact, start, put_number(out, by, &found), room, room_len);
 }
 
 static numfmt_shown show_general(const section *by, const value *of, uint16_t *room, size_t room_len)
@@ -502,17 +521,18 @@ static numfmt_shown show_general(const section *by, const value *of, uint16_t *r
     if (!found.nought)
         out = put_minus(out, by, of);
     out = put_items(out, by, found.units + found.first, GENERAL_UNITS + 1 - found.first);
-    return kept(by, start, out, room, room_len);
+    return kept(by, found.exact, start, out, room, room_len);
 }
 
-/* A section of literals, or a date for an instant. */
+/* A section of literals, which is exact, or a date for an instant. */
 static numfmt_shown show_unrounded(const section *by, const value *of, uint16_t *room, size_t room_len)
 {
     uint16_t scratch[SCRATCH];
     uint16_t *start = takes_any(by, room_len) ? room : scratch, *out = put_minus(start, by, of);
+    bool exact = true;
 
-    out = by->head[KIND] == DATE_KIND ? put_date(out, by, of) : put_items(out, by, NULL, 0);
-    return kept(by, start, out, room, room_len);
+    out = by->head[KIND] == DATE_KIND ? put_date(out, by, of, &exact) : put_items(out, by, NULL, 0);
+    return kept(by, exact, start, out, room, room_len);
 }
 
 static numfmt_shown show_value(const uint16_t *table, const value *of, uint16_t *room, size_t room_len)
@@ -577,7 +597,7 @@ static size_t text_length(const section *by, size_t text_len)
 
 static numfmt_shown show_text_itself(const uint16_t *text, size_t text_len, uint16_t *room, size_t room_len)
 {
-    numfmt_shown shown = {ANSWER_DONE, (uint32_t)text_len, 0, SECTIONS_MOST};
+    numfmt_shown shown = {ANSWER_DONE, (uint32_t)text_len, 0, SECTIONS_MOST, true};
 
     if (text_len > room_len)
         return refused(ANSWER_ROOM);
@@ -598,5 +618,5 @@ numfmt_shown walker_show_text(const uint16_t *table, size_t table_len, const uin
         return show_text_itself(text, text_len, room, room_len);
     if (text_length(&by, text_len) > room_len)
         return refused(ANSWER_ROOM);
-    return done((size_t)(put_items(room, &by, text, text_len) - room), &by);
+    return done((size_t)(put_items(room, &by, text, text_len) - room), &by, true);
 }
