@@ -14,10 +14,16 @@ use Rattle.values.specs.declared.Ask.{Ask}
 use Rattle.formats.specs.Accept.{Verdict, fine, refused, verdict, Span, spanBy, sectionSpan}
 use Rattle.formats.proofs.First.{verdict-fine, length-bounds}
 use Rattle.tables.specs.Calls.{showing, roomAfter}
+use Rattle.boards.specs.declared.Board.{Board}
+use Rattle.boards.specs.declared.PutRow.{PutRow}
+use Rattle.boards.specs.declared.ClearedRow.{ClearedRow}
+use Rattle.boards.specs.Boards.{putRow, roomPut}
 use Rattle.c_api.specs.declared.PreparedNumbers.{PreparedNumbers}
 use Rattle.c_api.specs.declared.PartNumbers.{PartNumbers}
 use Rattle.c_api.specs.declared.ShownNumbers.{ShownNumbers}
-use Rattle.c_api.specs.Numbers.{preparedNumbers, partNumbers, shownNumbers}
+use Rattle.c_api.specs.declared.PutNumbers.{PutNumbers}
+use Rattle.c_api.specs.declared.ClearedNumbers.{ClearedNumbers}
+use Rattle.c_api.specs.Numbers.{preparedNumbers, partNumbers, shownNumbers, putNumbers, clearedNumbers}
 
 pub prepared-told : {n : ℕ} {p q : Prepared} → n ≡ numberOf (p .answer) → p ≡ q
     → _≡_ {A = PreparedNumbers} (record { answer = n; place = p .place; words = p .words }) (preparedNumbers q)
@@ -55,3 +61,17 @@ module _ {ask asked : Ask} (same : ask ≡ asked) (table text : List ℕ) where
 
   pub room-asked : {out : List ℕ} (old : List ℕ) → out ≡ roomAfter table ask text old → out ≡ roomAfter table asked text old
   room-asked old h = h ∙ ap (λ (a : Ask). roomAfter table a text old) same
+
+-- ---- boards
+pub cleared-told : {n : ℕ} {r q : ClearedRow} → n ≡ numberOf (r .answer) → r ≡ q
+    → _≡_ {A = ClearedNumbers} (record { board = r .board; answer = n }) (clearedNumbers q)
+cleared-told {n} {r} {q} e h = (λ j. record { board = r .board; answer = e j }) ∙ ap clearedNumbers h
+
+-- what is put of a question is put of an equal one
+module _ {ask asked : Ask} (same : ask ≡ asked) (row : ℕ) (table text : List ℕ) where
+  pub put-asked : (board : Board) {n : PutNumbers} {p : PutRow} (size : ℕ) → n ≡ putNumbers p → p ≡ putRow board row table ask text size
+      → n ≡ putNumbers (putRow board row table asked text size)
+  put-asked board size e h = e ∙ ap putNumbers (h ∙ ap (λ (a : Ask). putRow board row table a text size) same)
+
+  pub room-put : {out : List ℕ} (old : List ℕ) → out ≡ roomPut row table ask text old → out ≡ roomPut row table asked text old
+  room-put old h = h ∙ ap (λ (a : Ask). roomPut row table a text old) same

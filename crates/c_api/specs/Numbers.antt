@@ -15,9 +15,13 @@ use Rattle.values.specs.declared.Value.the-variants as value
 use Rattle.values.specs.declared.Ask.{Ask}
 use Rattle.values.specs.Ranges.{asked}
 use Rattle.formats.specs.Accept.{Span}
+use Rattle.boards.specs.declared.PutRow.{PutRow}
+use Rattle.boards.specs.declared.ClearedRow.{ClearedRow}
 use Rattle.c_api.specs.declared.PreparedNumbers.{PreparedNumbers}
 use Rattle.c_api.specs.declared.PartNumbers.{PartNumbers}
 use Rattle.c_api.specs.declared.ShownNumbers.{ShownNumbers}
+use Rattle.c_api.specs.declared.PutNumbers.{PutNumbers}
+use Rattle.c_api.specs.declared.ClearedNumbers.{ClearedNumbers}
 
 abbrev pub preparedNumbers : Prepared → PreparedNumbers
 preparedNumbers p = record { answer = numberOf (p .answer); place = p .place; words = p .words }
@@ -32,6 +36,13 @@ checkNumber passed = cond passed (numberOf answer.Done) (numberOf answer.Table)
 abbrev pub shownNumbers : Shown → ShownNumbers
 shownNumbers s =
     record { answer = numberOf (s .answer); length = s .length; colour = s .colour; section = s .section; exact = cond (s .exact) 1 0 }
+
+-- the board itself is lent and handed back by value
+abbrev pub putNumbers : PutRow → PutNumbers
+putNumbers p = record { board = p .board; shown = shownNumbers (p .shown) }
+
+abbrev pub clearedNumbers : ClearedRow → ClearedNumbers
+clearedNumbers c = record { board = c .board; answer = numberOf (c .answer) }
 
 -- what is asked for: a number, an instant, a text
 abbrev pub numberAsk : ℤ → ℕ → Ask
