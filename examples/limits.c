@@ -87,6 +87,15 @@ static int widest_texts(void)
 
 static void *do_nothing(void *unused) { return unused; }
 static void *do_prepare(void *unused) { prepare(); return unused; }
+
+static void *do_stream(void *unused)
+{
+    numfmt_stream stream = numfmt_stream_feed(numfmt_stream_start(), code, code_length).stream;
+
+    numfmt_stream_end(stream, table, NUMFMT_TABLE_WORDS);
+    return unused;
+}
+
 static void *do_section(void *unused) { numfmt_section(code, code_length, 3); return unused; }
 static void *do_check(void *unused) { numfmt_check(table, made.words); return unused; }
 
@@ -155,6 +164,7 @@ static int stacks(void)
     if (posix_memalign(&stack, 4096, STACK) != 0)
         return 0;
     all &= stack_told("stack of numfmt_prepare", do_prepare, (unsigned char *)stack);
+    all &= stack_told("stack of a stream", do_stream, (unsigned char *)stack);
     all &= stack_told("stack of numfmt_section", do_section, (unsigned char *)stack);
     all &= stack_told("stack of numfmt_check", do_check, (unsigned char *)stack);
     all &= stack_told("stack of numfmt_show_number", do_number, (unsigned char *)stack);

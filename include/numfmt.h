@@ -13,8 +13,9 @@
  *     be null: lend a unit of your own with length 0 instead,
  *         static const uint16_t none = 0;
  *         numfmt_show_text(table, words, &none, 0, room, room_len);
- *   - memory that a call may write (the table of numfmt_prepare, the room of
- *     the others) overlaps nothing else lent in the same call;
+ *   - memory that a call may write (the table of numfmt_prepare and of
+ *     numfmt_stream_end, the room of the others) overlaps nothing else lent in
+ *     the same call;
  *   - NUMFMT_STACK_BYTES of stack are free.
  * All else is checked by the call: any units at all may be lent as a code, a
  * table or a text, and any number may be given as a value.
@@ -60,9 +61,10 @@ extern "C" {
 
 /*
  * Stack that is enough for each call, whatever is lent: none of them recurses.
- * Measured on x86-64: some 3,300 bytes for numfmt_prepare, 3,200 for
- * numfmt_section, 2,500 for the calls that show and 200 for numfmt_check, and
- * 2,400 more where the loader first looks up the C library's memset.
+ * Measured on x86-64: some 3,300 bytes for numfmt_prepare, 4,400 for
+ * numfmt_stream_end, its argument and result of 1,040 bytes not counted, 3,200
+ * for numfmt_section, 2,500 for the calls that show and 200 for numfmt_check,
+ * and 2,800 more where the loader first looks up the C library's memset.
  */
 #define NUMFMT_STACK_BYTES 8192
 
@@ -84,6 +86,8 @@ extern "C" {
 #define NUMFMT_ANSWER_SORT 11         /* the section chosen can't show that sort of value */
 #define NUMFMT_ANSWER_GENERAL 12      /* General, rounded to a whole number, reaches 10^11 */
 #define NUMFMT_ANSWER_TEXT_ROOM 13    /* the text is longer than the room */
+#define NUMFMT_ANSWER_LINE 14         /* of the program alone: a line of its input is malformed; place: the line, from 1 */
+#define NUMFMT_ANSWER_ENDED 15        /* the stream has ended; tested before all others */
 
 /* An answer in words, for people. */
 static inline const char *numfmt_answer_text(uint16_t answer)
@@ -102,7 +106,9 @@ static inline const char *numfmt_answer_text(uint16_t answer)
         "No section takes this value.",
         "The section that takes this value cannot show its kind.",
         "The number is too large for General.",
-        "The text is too long for the room."
+        "The text is too long for the room.",
+        "A line of the input is malformed.",
+        "The code has ended already."
     };
 
     return answer < sizeof texts / sizeof texts[0] ? texts[answer] : "No call gives this answer.";
@@ -142,6 +148,32 @@ typedef struct {
 } numfmt_part;
 
 /*
+ * A code that arrives in parts. It is a plain value that the caller owns and
+ * that every call takes and gives back: `count` units have come, of which
+ * `units` begins with the first 254 (more are counted as 255), and `ended` is 0
+ * until the end. Any numbers may be in it: a count above 254 is a code that is
+ * too long, and any `ended` but 0 is a stream that has ended.
+ */
+typedef struct {
+    uint16_t units[NUMFMT_CODE_MOST];
+    uint16_t count;
+    uint16_t ended;
+} numfmt_stream;
+
+/* What feeding a stream returns. */
+typedef struct {
+    numfmt_stream stream;
+    uint16_t answer;
+    uint32_t place;
+} numfmt_fed;
+
+/* What ending a stream returns. */
+typedef struct {
+    numfmt_stream stream;
+    numfmt_prepared prepared;
+} numfmt_finished;
+
+/*
  * Writes the table of a code in front of the table room, and tells how many
  * words it has. Those words, and no more, are the table to lend to the calls
  * that show. Refuses with 1 to 7; a room of NUMFMT_TABLE_WORDS is never
@@ -150,6 +182,23 @@ typedef struct {
  */
 numfmt_prepared numfmt_prepare(const uint16_t *code, size_t code_len,
                                uint16_t *table, size_t table_len);
+
+/*
+ * For a code that arrives in parts, of any length, cut anywhere: start, feed
+ * each part, and end, going on with the stream that each call gives back.
+ *     numfmt_stream code = numfmt_stream_start();
+ *     code = numfmt_stream_feed(code, part, part_len).stream;
+ *     numfmt_finished f = numfmt_stream_end(code, table, table_len);
+ * Feeding answers 0 however long the code grows. The end gives what
+ * numfmt_prepare gives for the joined code in that room, and is final, even
+ * where it is refused: feeding after it, or ending again, is refused with 15
+ * and writes nothing. A stream can be copied, and its copies go their own ways.
+ */
+numfmt_stream numfmt_stream_start(void);
+numfmt_fed numfmt_stream_feed(numfmt_stream stream, const uint16_t *part,
+                              size_t part_len);
+numfmt_finished numfmt_stream_end(numfmt_stream stream, uint16_t *table,
+                                  size_t table_len);
 
 /*
  * Where section n of a code stands, without semicolons. A section that is there

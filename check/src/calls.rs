@@ -24,7 +24,17 @@ pub struct Part {
     pub length: u32,
 }
 
+/// A code that comes in parts.
+pub trait Stream {
+    /// Answer and place.
+    fn feed(&mut self, part: &[u16]) -> (u16, u32);
+    fn end(&mut self, table: &mut [u16]) -> Prepared;
+    /// All that it holds, to see whether a refused call changed it.
+    fn held(&self) -> Vec<u16>;
+}
+
 pub trait Calls {
+    fn stream(&self) -> Box<dyn Stream>;
     fn prepare(&self, code: &[u16], table: &mut [u16]) -> Prepared;
     fn section(&self, code: &[u16], n: u32) -> Part;
     fn check(&self, table: &[u16]) -> u16;
@@ -35,7 +45,46 @@ pub trait Calls {
 /// reading of tables against its reading off codes.
 pub struct Oracle;
 
+/// The oracle's stream keeps the whole code, however long it grows.
+#[derive(Default)]
+struct Joined {
+    code: Vec<u16>,
+    ended: bool,
+}
+
+impl Stream for Joined {
+    fn feed(&mut self, part: &[u16]) -> (u16, u32) {
+        if self.ended {
+            return (answer::ENDED, 0);
+        }
+        self.code.extend(part);
+        (answer::DONE, 0)
+    }
+
+    fn end(&mut self, table: &mut [u16]) -> Prepared {
+        if self.ended {
+            return Prepared {
+                answer: answer::ENDED,
+                place: 0,
+                words: 0,
+            };
+        }
+        self.ended = true;
+        Oracle.prepare(&self.code, table)
+    }
+
+    fn held(&self) -> Vec<u16> {
+        let mut held = self.code.clone();
+        held.push(u16::from(self.ended));
+        held
+    }
+}
+
 impl Calls for Oracle {
+    fn stream(&self) -> Box<dyn Stream> {
+        Box::<Joined>::default()
+    }
+
     fn prepare(&self, code: &[u16], table: &mut [u16]) -> Prepared {
         let prepared = oracle::prepare(code, table.len());
         table[..prepared.words.len()].copy_from_slice(&prepared.words);

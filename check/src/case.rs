@@ -1,13 +1,23 @@
 //! One comparison: what is asked, what the oracle gives for it, and whether the library agrees.
 
-use crate::calls::{refused, Calls, Oracle, Part, Prepared, Shown};
+use crate::calls::{refused, Calls, Oracle, Part, Prepared, Shown, Stream};
 use crate::oracle::{self, answer, Reading, Value, PROGRAM_TABLE_WORDS};
 
 /// Units in front of and behind a lent room, which nothing may touch.
 const GUARD: usize = 8;
 
+/// A step of a stream: a part is fed, or it is ended in a room of so many words.
+#[derive(Clone, Debug)]
+pub enum Step {
+    Feed(Vec<u16>),
+    End(usize),
+}
+
 #[derive(Clone, Debug)]
 pub enum Case {
+    Stream {
+        steps: Vec<Step>,
+    },
     Prepare {
         code: Vec<u16>,
         room: usize,
@@ -32,17 +42,18 @@ pub enum Case {
 /// Requests by call and by answer.
 #[derive(Default)]
 pub struct Counts {
+    pub stream: u64,
     pub prepare: u64,
     pub section: u64,
     pub number: u64,
     pub instant: u64,
     pub text: u64,
-    pub answers: [u64; 14],
+    pub answers: [u64; 16],
 }
 
 impl Counts {
     pub fn requests(&self) -> u64 {
-        self.prepare + self.section + self.number + self.instant + self.text
+        self.stream + self.prepare + self.section + self.number + self.instant + self.text
     }
 
     fn answer(&mut self, answer: u16) {
@@ -62,6 +73,7 @@ impl Case {
     /// Asks the library and compares. The error says what differs, its first line in short.
     pub fn check(&self, calls: &dyn Calls, counts: &mut Counts) -> Result<(), String> {
         match self {
+            Case::Stream { steps } => stream(calls, counts, steps),
             Case::Prepare { code, room } => prepare(calls, counts, code, *room).map(|_| ()),
             Case::Section { code, n } => section(calls, counts, code, *n),
             Case::ShowCode { code, value, room } => {
@@ -135,6 +147,41 @@ impl Room {
             )),
         }
     }
+}
+
+/// Each step gives what the oracle gives for it; a refused stream holds what it held.
+fn stream(calls: &dyn Calls, counts: &mut Counts, steps: &[Step]) -> Result<(), String> {
+    let (mut found, mut expected) = (calls.stream(), Oracle.stream());
+    for step in steps {
+        let held = found.held();
+        let told = match step {
+            Step::Feed(part) => feed(found.as_mut(), expected.as_mut(), part)?,
+            Step::End(room) => end(found.as_mut(), expected.as_mut(), *room)?,
+        };
+        if told == answer::ENDED {
+            same("the stream after its end", &found.held(), &held)?;
+        }
+        counts.answer(told);
+    }
+    counts.stream += 1;
+    Ok(())
+}
+
+fn feed(found: &mut dyn Stream, expected: &mut dyn Stream, part: &[u16]) -> Result<u16, String> {
+    let lent = part.to_vec();
+    let (found, wanted) = (found.feed(&lent), expected.feed(part));
+    same(&headline("feeding", (found.0, wanted.0)), &found, &wanted)?;
+    same("the part lent", &lent.as_slice(), &part)?;
+    Ok(found.0)
+}
+
+fn end(found: &mut dyn Stream, expected: &mut dyn Stream, room: usize) -> Result<u16, String> {
+    let (mut table, mut words) = (Room::new(room), vec![0; room]);
+    let (found, wanted) = (found.end(table.lent()), expected.end(&mut words));
+    let answers = (found.answer, wanted.answer);
+    same(&headline("ending", answers), &found, &wanted)?;
+    table.holds(&words[..wanted.words as usize])?;
+    Ok(found.answer)
 }
 
 /// Gives the words written, none on a refusal.

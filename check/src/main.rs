@@ -10,24 +10,33 @@ mod oracle;
 mod random;
 mod run;
 mod shrink;
+mod streams;
 mod vectors;
 
 use std::process::ExitCode;
 
 const USAGE: &str = "usage:
-  check run [--count N] [--seed S] [--trace]    compare the library with the oracle
-  check self [--count N] [--seed S] [--trace]   compare the oracle's two readings
+  check run [OPTIONS]                           compare the library with the oracle
+  check self [OPTIONS]                          compare the oracle's two readings
   check vectors VALUES TABLES                   compare the oracle with lists of known rows
+  check streams RUNS                            compare the library with a list of known streams
   check expected-prepare < codes                what preparing gives for each line
-  check expected-show < requests                what the program gives for each three lines, and the section";
+  check expected-show < requests                what the program gives for each three lines, and the section
+options:
+  --count N, --seed S                           so many requests, drawn by this seed
+  --streams                                     draw nothing but streams
+  --trace                                       tell each case before it is run";
 
 fn main() -> ExitCode {
     let arguments: Vec<String> = std::env::args().skip(1).collect();
     let words: Vec<&str> = arguments.iter().map(String::as_str).collect();
     match words.as_slice() {
-        ["run", options @ ..] => with_options(options, run_library),
+        ["run", options @ ..] => {
+            with_options(options, |o| with_library(|calls| run::run(calls, o)))
+        }
         ["self", options @ ..] => with_options(options, |o| run::run(&calls::Oracle, o)),
         ["vectors", values, tables] => vectors::run(values, tables),
+        ["streams", runs] => with_library(|calls| streams::run(calls, runs)),
         ["expected-prepare"] => expected::prepare(),
         ["expected-show"] => expected::show(),
         _ => misused(USAGE),
@@ -47,11 +56,11 @@ fn with_options(words: &[&str], run: impl Fn(&run::Options) -> ExitCode) -> Exit
 }
 
 #[cfg(feature = "library")]
-fn run_library(options: &run::Options) -> ExitCode {
-    run::run(&library::Linked, options)
+fn with_library(run: impl Fn(&dyn calls::Calls) -> ExitCode) -> ExitCode {
+    run(&library::Linked)
 }
 
 #[cfg(not(feature = "library"))]
-fn run_library(_: &run::Options) -> ExitCode {
+fn with_library(_: impl Fn(&dyn calls::Calls) -> ExitCode) -> ExitCode {
     misused("built without the library (see README.md)")
 }

@@ -6,7 +6,7 @@ use std::time::{Duration, Instant, SystemTime, UNIX_EPOCH};
 
 use crate::calls::Calls;
 use crate::case::{Case, Counts};
-use crate::generate::{code, room, table, value};
+use crate::generate::{code, room, stream, table, value};
 use crate::oracle::{self, answer, Reading, Value};
 use crate::random::Random;
 use crate::shrink::shrink;
@@ -21,15 +21,18 @@ pub struct Options {
     pub seed: u64,
     /// Tells every case before it is run, to find one that ends the process.
     pub trace: bool,
+    /// Draws nothing but streams.
+    pub streams: bool,
 }
 
 impl Options {
-    /// From `--count N`, `--seed S` and `--trace`; without a seed the clock gives one.
+    /// From `--count N`, `--seed S`, `--trace` and `--streams`; without a seed the clock gives one.
     pub fn from_words(words: &[&str]) -> Result<Options, String> {
         let mut options = Options {
             count: DEFAULT_COUNT,
             seed: clock_seed(),
             trace: false,
+            streams: false,
         };
         let mut rest = words.iter();
         while let Some(word) = rest.next() {
@@ -43,6 +46,7 @@ impl Options {
                 "--count" => options.count = number()?,
                 "--seed" => options.seed = number()?,
                 "--trace" => options.trace = true,
+                "--streams" => options.streams = true,
                 other => return Err(format!("unknown option `{other}`")),
             }
         }
@@ -62,7 +66,11 @@ pub fn run(calls: &dyn Calls, options: &Options) -> ExitCode {
     let mut counts = Counts::default();
     let mut index = 0;
     while counts.requests() < options.count {
-        let case = make(&mut Random::for_case(options.seed, index));
+        let mut random = Random::for_case(options.seed, index);
+        let case = match options.streams {
+            true => streamed(&mut random),
+            false => make(&mut random),
+        };
         if options.trace {
             eprintln!("case {index}:\n{}", describe(&case));
         }
@@ -83,7 +91,7 @@ pub fn run(calls: &dyn Calls, options: &Options) -> ExitCode {
 
 /// Makes one case.
 pub fn make(random: &mut Random) -> Case {
-    match random.weighted(&[22, 6, 42, 30]) {
+    match random.weighted(&[22, 6, 42, 30, 8]) {
         0 => {
             let code = code::code(random);
             let words = oracle::prepare(&code, usize::MAX).words.len();
@@ -107,12 +115,19 @@ pub fn make(random: &mut Random) -> Case {
             let (value, room) = value_and_room(random, read);
             Case::ShowCode { code, value, room }
         }
-        _ => {
+        3 => {
             let table = table::table(random);
             let show = |value: &Value| oracle::show(&table, value, usize::MAX);
             let (value, room) = value_and_room(random, show);
             Case::ShowTable { table, value, room }
         }
+        _ => streamed(random),
+    }
+}
+
+fn streamed(random: &mut Random) -> Case {
+    Case::Stream {
+        steps: stream::steps(random),
     }
 }
 
@@ -144,6 +159,7 @@ fn tell_failure(calls: &dyn Calls, seed: u64, index: u64, case: Case) {
 
 fn describe(case: &Case) -> String {
     match case {
+        Case::Stream { steps } => format!("stream\n  steps {steps:?}"),
         Case::Prepare { code, room } => {
             format!("prepare, {room} words lent\n{}", spelled("code", code))
         }
@@ -180,8 +196,9 @@ fn summary(counts: &Counts, time: Duration) -> String {
         .map(|(answer, count)| format!("{answer}: {count}"))
         .collect();
     format!(
-        "{} requests agree; prepare {}, section {}, number {}, instant {}, text {}; answers {}; {:.1} s",
+        "{} requests agree; stream {}, prepare {}, section {}, number {}, instant {}, text {}; answers {}; {:.1} s",
         counts.requests(),
+        counts.stream,
         counts.prepare,
         counts.section,
         counts.number,

@@ -1,6 +1,6 @@
 //! Makes a failing case small: takes away and simplifies what it can while the case still fails.
 
-use crate::case::Case;
+use crate::case::{Case, Step};
 use crate::oracle::Value;
 
 const MOST_TRIES: usize = 200_000;
@@ -31,6 +31,7 @@ pub fn shrink(case: Case, fails: impl Fn(&Case) -> bool) -> Case {
 /// Simpler cases, each nearer to an end that is reached in finitely many steps.
 fn candidates(case: &Case) -> Vec<Case> {
     match case {
+        Case::Stream { steps } => streams(steps),
         Case::Prepare { code, room } => {
             sized(code, *room, |code, room| Case::Prepare { code, room })
         }
@@ -47,6 +48,25 @@ fn candidates(case: &Case) -> Vec<Case> {
             shows(tables(table), table, value, *room, make)
         }
     }
+}
+
+/// A stream without a step, or with one that is smaller.
+fn streams(steps: &[Step]) -> Vec<Case> {
+    let mut found = Vec::new();
+    for at in 0..steps.len() {
+        let smaller: Vec<Step> = match &steps[at] {
+            Step::Feed(part) => runs(part).into_iter().map(Step::Feed).collect(),
+            Step::End(room) => rooms(*room).into_iter().map(Step::End).collect(),
+        };
+        let with = |step: Option<Step>| {
+            let mut steps = steps.to_vec();
+            steps.splice(at..=at, step);
+            Case::Stream { steps }
+        };
+        found.push(with(None));
+        found.extend(smaller.into_iter().map(|step| with(Some(step))));
+    }
+    found
 }
 
 /// A code and a number beside it, each made smaller in turn.

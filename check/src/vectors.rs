@@ -33,7 +33,10 @@ pub fn run(values: &str, tables: &str) -> ExitCode {
     }
 }
 
-fn check_rows(path: &str, check: impl Fn(&[&str]) -> Result<(), String>) -> Result<usize, String> {
+pub fn check_rows(
+    path: &str,
+    mut check: impl FnMut(&[&str]) -> Result<(), String>,
+) -> Result<usize, String> {
     let text = std::fs::read_to_string(path).map_err(|error| format!("{path}: {error}"))?;
     let mut failures = Vec::new();
     let mut rows = 0;
@@ -52,7 +55,11 @@ fn check_rows(path: &str, check: impl Fn(&[&str]) -> Result<(), String>) -> Resu
     }
 }
 
-fn agree<T: PartialEq + std::fmt::Debug>(what: &str, found: T, expected: T) -> Result<(), String> {
+pub fn agree<T: PartialEq + std::fmt::Debug>(
+    what: &str,
+    found: T,
+    expected: T,
+) -> Result<(), String> {
     if found == expected {
         Ok(())
     } else {
@@ -60,7 +67,7 @@ fn agree<T: PartialEq + std::fmt::Debug>(what: &str, found: T, expected: T) -> R
     }
 }
 
-fn parsed<T: std::str::FromStr>(field: &str) -> Result<T, String> {
+pub fn parsed<T: std::str::FromStr>(field: &str) -> Result<T, String> {
     field.parse().map_err(|_| format!("`{field}` is no number"))
 }
 

@@ -1,6 +1,7 @@
 //! Codes, tables, values and rooms to compare on.
 
 pub mod code;
+pub mod stream;
 pub mod table;
 pub mod value;
 

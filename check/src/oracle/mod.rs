@@ -50,6 +50,7 @@ pub mod answer {
     pub const GENERAL: u16 = 12;
     pub const TEXT_ROOM: u16 = 13;
     pub const LINE: u16 = 14;
+    pub const ENDED: u16 = 15;
 }
 
 /// The units of an ASCII text.

@@ -1,7 +1,7 @@
 //! The comparison has to find faults: each double below is the oracle with one fault.
 
 use super::make;
-use crate::calls::{Calls, Oracle, Part, Prepared, Shown};
+use crate::calls::{Calls, Oracle, Part, Prepared, Shown, Stream};
 use crate::case::Counts;
 use crate::oracle::{answer, Value};
 use crate::random::Random;
@@ -30,11 +30,66 @@ enum Fault {
     Colour,
     Exact,
     PastRoom,
+    ToldWhileFeeding,
+    SecondEnd,
+    LostUnit,
+    FedAfterTheEnd,
+}
+
+/// A stream with one fault.
+struct Faulty {
+    fault: Fault,
+    stream: Box<dyn Stream>,
+    fed: usize,
+    ends: usize,
+}
+
+impl Stream for Faulty {
+    fn feed(&mut self, part: &[u16]) -> (u16, u32) {
+        self.fed += part.len();
+        if self.fault == Fault::LostUnit && self.fed > 20 && !part.is_empty() {
+            return self.stream.feed(&part[1..]);
+        }
+        match self.stream.feed(part) {
+            (0, 0) if self.fault == Fault::ToldWhileFeeding && self.fed > 254 => {
+                (answer::CODE_LENGTH, 0)
+            }
+            given => given,
+        }
+    }
+
+    fn end(&mut self, table: &mut [u16]) -> Prepared {
+        self.ends += 1;
+        match self.stream.end(table) {
+            given if self.fault == Fault::SecondEnd && self.ends == 2 => Prepared {
+                answer: answer::TABLE_ROOM,
+                ..given
+            },
+            given => given,
+        }
+    }
+
+    fn held(&self) -> Vec<u16> {
+        let mut held = self.stream.held();
+        if self.fault == Fault::FedAfterTheEnd {
+            held.push(self.fed as u16);
+        }
+        held
+    }
 }
 
 struct Double(Fault);
 
 impl Calls for Double {
+    fn stream(&self) -> Box<dyn Stream> {
+        Box::new(Faulty {
+            fault: self.0,
+            stream: Oracle.stream(),
+            fed: 0,
+            ends: 0,
+        })
+    }
+
     fn prepare(&self, code: &[u16], table: &mut [u16]) -> Prepared {
         let mut given = Oracle.prepare(code, table);
         let words = given.words as usize;
@@ -104,4 +159,8 @@ fn every_fault_is_found() {
     assert!(found(&Double(Fault::Colour)));
     assert!(found(&Double(Fault::Exact)));
     assert!(found(&Double(Fault::PastRoom)));
+    assert!(found(&Double(Fault::ToldWhileFeeding)));
+    assert!(found(&Double(Fault::SecondEnd)));
+    assert!(found(&Double(Fault::LostUnit)));
+    assert!(found(&Double(Fault::FedAfterTheEnd)));
 }

@@ -19,11 +19,11 @@ use Rattle.c_api.specs.declared.PartNumbers.{PartNumbers}
 use Rattle.c_api.specs.declared.ShownNumbers.{ShownNumbers}
 use Rattle.c_api.specs.Numbers.{preparedNumbers, partNumbers, shownNumbers}
 
-pub prepared-told : {n : ℕ} {p q : Prepared} → n ≡ numberOf (p .answer) → p ≡ q
-    → _≡_ {A = PreparedNumbers} (record { answer = n; place = p .place; words = p .words }) (preparedNumbers q)
-prepared-told {n} {p} {q} e h = (λ j. record { answer = e j; place = p .place; words = p .words }) ∙ ap preparedNumbers h
+pub prepared-told : (p : Prepared) {n : ℕ} → n ≡ numberOf (p .answer)
+    → _≡_ {A = PreparedNumbers} (record { answer = n; place = p .place; words = p .words }) (preparedNumbers p)
+prepared-told p e = λ j. record { answer = e j; place = p .place; words = p .words }
 
-as-number : (b : Bool) → boolByte b ≡ cond b 1 0
+pub as-number : (b : Bool) → boolByte b ≡ cond b 1 0
 as-number true = refl
 as-number false = refl
 

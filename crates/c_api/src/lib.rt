@@ -1,18 +1,22 @@
 // The calls for C and Rust, as include/numfmt.h declares them. Each is the Rattle call with the answer as its number; a slice
-// is a pointer and a length.
+// is a pointer and a length, and a stream goes in and comes back by value.
 ghost use mathlib.Core.Path.{_≡_};
 ghost use lib.ListN.{length};
 ghost use mathlib.Core.List.{[]};
 ghost use Rattle.formats.specs.Accept.{sectionSpan};
 ghost use Rattle.tables.specs.Rules.{passes};
 ghost use Rattle.tables.specs.Calls.{prepared, tableAfter, showing, roomAfter};
+ghost use Rattle.streams.specs.Streams.{started, feeding, ending, endingRoom};
 ghost use Rattle.c_api.specs.Numbers.{preparedNumbers, partNumbers, checkNumber, shownNumbers, numberAsk, instantAsk, textAsk};
+ghost use Rattle.c_api.specs.StreamNumbers.{streamOf, streamNumbers, fedNumbers, finishedNumbers};
 use answers::Answer;
+use answers::Prepared;
 use answers::Shown;
 use answers::number;
 use checking::check;
 use showing::show;
 use spans::section_span;
+use streams::Stream;
 use values::Ask;
 use values::Day;
 use values::Millisecond;
@@ -45,17 +49,105 @@ pub struct ShownNumbers {
     pub exact: u16,
 }
 
-#[no_mangle]
-pub extern "C" fn numfmt_prepare(code: &[u16], table: &mut [u16]) -> PreparedNumbers
-    ensures answer { λ r. ⌜ r ≡ preparedNumbers (prepared (now (code .entry)) (length (now (table .entry)))) ⌝ }
-    ensures table { λ r. ⌜ now (table .exit) ≡ tableAfter (now (code .entry)) (now (table .entry)) ⌝ }
+// numfmt_stream. `ended` is 0 until the end.
+#[repr(C)]
+pub struct StreamNumbers {
+    pub units: [u16; 254],
+    pub count: u16,
+    pub ended: u16,
+}
+
+// numfmt_fed
+#[repr(C)]
+pub struct FedNumbers {
+    pub stream: StreamNumbers,
+    pub answer: u16,
+    pub place: u32,
+}
+
+// numfmt_finished
+#[repr(C)]
+pub struct FinishedNumbers {
+    pub stream: StreamNumbers,
+    pub prepared: PreparedNumbers,
+}
+
+fn prepared_numbers(p: Prepared) -> PreparedNumbers
+    ensures { λ r. ⌜ r ≡ preparedNumbers p ⌝ }
 {
-    let p = preparing::prepare(code, table);
     let answer = p.answer;
     PreparedNumbers {
         answer: number(answer),
         place: p.place,
         words: p.words,
+    }
+}
+
+#[no_mangle]
+pub extern "C" fn numfmt_prepare(code: &[u16], table: &mut [u16]) -> PreparedNumbers
+    ensures answer { λ r. ⌜ r ≡ preparedNumbers (prepared (now (code .entry)) (length (now (table .entry)))) ⌝ }
+    ensures table { λ r. ⌜ now (table .exit) ≡ tableAfter (now (code .entry)) (now (table .entry)) ⌝ }
+{
+    prepared_numbers(preparing::prepare(code, table))
+}
+
+fn stream_of(s: StreamNumbers) -> Stream
+    ensures { λ r. ⌜ r ≡ streamOf s ⌝ }
+{
+    let units = s.units;
+    Stream {
+        units,
+        count: s.count,
+        ended: s.ended != 0,
+    }
+}
+
+fn stream_numbers(s: Stream) -> StreamNumbers
+    ensures { λ r. ⌜ r ≡ streamNumbers s ⌝ }
+{
+    let units = s.units;
+    StreamNumbers {
+        units,
+        count: s.count,
+        ended: s.ended as u16,
+    }
+}
+
+// A stream to which nothing has come.
+#[no_mangle]
+pub extern "C" fn numfmt_stream_start() -> StreamNumbers
+    ensures { λ r. ⌜ r ≡ streamNumbers started ⌝ }
+{
+    stream_numbers(Stream::start())
+}
+
+// The stream with a part of a code behind what has come.
+#[no_mangle]
+pub extern "C" fn numfmt_stream_feed(stream: StreamNumbers, part: &[u16]) -> FedNumbers
+    ensures { λ r. ⌜ r ≡ fedNumbers (feeding (streamOf stream) (now (part .entry))) ⌝ }
+{
+    let f = stream_of(stream).feed(part);
+    let answer = f.answer;
+    let s = f.stream;
+    FedNumbers {
+        stream: stream_numbers(s),
+        answer: number(answer),
+        place: f.place,
+    }
+}
+
+// The stream when it has ended, and its code prepared.
+#[no_mangle]
+pub extern "C" fn numfmt_stream_end(stream: StreamNumbers, table: &mut [u16]) -> FinishedNumbers
+    ensures result { λ r. ⌜ r ≡ finishedNumbers (ending (streamOf stream) (length (now (table .entry)))) ⌝ }
+    ensures table { λ r. ⌜ now (table .exit) ≡ endingRoom (streamOf stream) (now (table .entry)) ⌝ }
+{
+    let f = stream_of(stream).end(table);
+    let s = f.stream;
+    let p = f.prepared;
+    FinishedNumbers {
+        stream: stream_numbers(s),
+        prepared: prepared_numbers(p),
     }
 }
 

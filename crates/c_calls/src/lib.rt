@@ -1,16 +1,34 @@
-// Each call for C, called with lent slices and numbers and nothing required: none of them asks anything of its caller.
+// Each call for C, called with lent slices, streams and numbers and nothing required: none of them asks anything of its caller.
+use c_api::FedNumbers;
+use c_api::FinishedNumbers;
 use c_api::PartNumbers;
 use c_api::PreparedNumbers;
 use c_api::ShownNumbers;
+use c_api::StreamNumbers;
 use c_api::numfmt_check;
 use c_api::numfmt_prepare;
 use c_api::numfmt_section;
 use c_api::numfmt_show_instant;
 use c_api::numfmt_show_number;
 use c_api::numfmt_show_text;
+use c_api::numfmt_stream_end;
+use c_api::numfmt_stream_feed;
+use c_api::numfmt_stream_start;
 
 fn prepare(code: &[u16], table: &mut [u16]) -> PreparedNumbers {
     numfmt_prepare(code, table)
+}
+
+fn stream_start() -> StreamNumbers {
+    numfmt_stream_start()
+}
+
+fn stream_feed(stream: StreamNumbers, part: &[u16]) -> FedNumbers {
+    numfmt_stream_feed(stream, part)
+}
+
+fn stream_end(stream: StreamNumbers, table: &mut [u16]) -> FinishedNumbers {
+    numfmt_stream_end(stream, table)
 }
 
 fn section(code: &[u16], n: u32) -> PartNumbers {

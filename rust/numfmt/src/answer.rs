@@ -2,7 +2,8 @@
 
 use std::fmt;
 
-/// An answer, with its number. Preparing tests 1 to 7 in that order, showing 8 to 13; the first that applies is given.
+/// An answer, with its number. Preparing tests 1 to 7 in that order, showing 8 to 13; a stream is tested for 15 before all others. The
+/// first that applies is given.
 #[repr(u16)]
 #[derive(Clone, Copy, Debug, PartialEq, Eq)]
 pub enum Answer {
@@ -33,11 +34,15 @@ pub enum Answer {
     General = 12,
     /// The text is longer than the room.
     TextRoom = 13,
+    /// A line of the program's input is malformed; place: the line, from 1. No call gives it.
+    Line = 14,
+    /// The stream has ended; tested before all others.
+    Ended = 15,
 }
 
 impl Answer {
     /// Every answer, at the place of its number.
-    pub const ALL: [Answer; 14] = [
+    pub const ALL: [Answer; 16] = [
         Answer::Done,
         Answer::CodeLength,
         Answer::Token,
@@ -52,6 +57,8 @@ impl Answer {
         Answer::Sort,
         Answer::General,
         Answer::TextRoom,
+        Answer::Line,
+        Answer::Ended,
     ];
 
     /// The number that the C calls return for it.
@@ -80,6 +87,8 @@ impl Answer {
             Answer::Sort => "The section that takes this value cannot show its kind.",
             Answer::General => "The number is too large for General.",
             Answer::TextRoom => "The text is too long for the room.",
+            Answer::Line => "A line of the input is malformed.",
+            Answer::Ended => "The code has ended already.",
         }
     }
 }

@@ -16,9 +16,11 @@
 
 mod answer;
 pub mod calls;
+mod stream;
 mod table;
 
 pub use answer::{Answer, Refusal};
+pub use stream::Stream;
 pub use table::{byte_of_unit, section, Shown, Table, Value};
 
 /// Words of table room that hold the table of every accepted code.

@@ -3,13 +3,11 @@
 
 use std::io::{self, Write};
 
-use numfmt::{calls, Value, TABLE_WORDS};
+use numfmt::{calls, Answer, Value, TABLE_WORDS};
 
 use crate::arguments::Request;
 use crate::value::{self, Kind};
 
-/// The answer for a malformed line, whose number is the place.
-const LINE: u16 = 14;
 const LONGEST_LINE: usize = 2048;
 const TEXT_UNITS: usize = 4096;
 
@@ -61,7 +59,7 @@ fn input(request: &Request, written: &str) -> String {
 fn outcome(input: &str) -> Outcome {
     match read(input) {
         Ok((code, value)) => shown(code, &value),
-        Err(line) => refused(LINE, line),
+        Err(line) => refused(Answer::Line.number(), line),
     }
 }
 
