@@ -24,14 +24,14 @@ use Rattle.tables.proofs.Ranges.{HeadRanges, head-ranges, head-in-ranges}
 use Rattle.tables.proofs.Back.{RowFacts, row-facts}
 use Rattle.tables.proofs.BackEntries.{items-ranged, span-at}
 use Rattle.tables.proofs.Standing.{number-word}
-use Rattle.rows.specs.declared.date_rows.DatedRow.{DatedRow}
-use Rattle.rows.specs.declared.number_rows.NumberRow.{NumberRow}
-use Rattle.rows.specs.declared.scientific_rows.ScientificRow.{ScientificRow}
+use Rattle.date_rows.specs.declared.DatedRow.{DatedRow}
+use Rattle.number_rows.specs.declared.NumberRow.{NumberRow}
+use Rattle.scientific_rows.specs.declared.ScientificRow.{ScientificRow}
 use Rattle.tallies.specs.Tally.{makesFraction, soundEntries, itemsOf}
-use Rattle.rows.specs.DateRows.{DateTold}
-use Rattle.rows.specs.NumberRows.{numberItems, NumberTold}
-use Rattle.rows.specs.ScientificRows.{scientificItems, ScientificTold}
-use Rattle.rows.specs.FractionRows.{fractionItems}
+use Rattle.date_rows.specs.DateRows.{DateTold}
+use Rattle.number_rows.specs.NumberRows.{numberItems, NumberTold}
+use Rattle.scientific_rows.specs.ScientificRows.{scientificItems, ScientificTold}
+use Rattle.fraction_rows.specs.FractionRows.{fractionItems}
 use Rattle.tallies.proofs.Places.{places-counted}
 use Rattle.tallies.proofs.Held.{takesPoint, Apart, apart, no-dates, no-solidi, uncut}
 use Rattle.tallies.proofs.Told.{places-word}

@@ -15,8 +15,8 @@ use Rattle.tables.specs.Standing.{headStands, countedKinds}
 use Rattle.tables.specs.Decode.{wholeAt, millionthsAt, itemsAt, groupedAt}
 use Rattle.tables.specs.Rules.{shiftTells, rowFits}
 use Rattle.tallies.specs.Tally.{itemsOf}
-use Rattle.rows.specs.ScientificRows.{scientificItems}
-use Rattle.rows.specs.FractionRows.{fractionItems}
+use Rattle.scientific_rows.specs.ScientificRows.{scientificItems}
+use Rattle.fraction_rows.specs.FractionRows.{fractionItems}
 
 -- both or neither
 abbrev pub agree : Bool → Bool → Bool

@@ -1,0 +1,3 @@
+pub mod Runs
+pub mod DateSteps
+pub mod DateRows

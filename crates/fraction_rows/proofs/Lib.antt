@@ -1,0 +1,3 @@
+pub mod FractionLoops
+pub mod FractionParts
+pub mod FractionRows

@@ -1,0 +1,2 @@
+pub mod NumberRows
+pub mod Parts
