@@ -95,6 +95,53 @@ static inline numfmt_shown show_value(const uint16_t *table, size_t words, const
     }
 }
 
+static inline numfmt_reason why_text(const uint16_t *table, size_t words, const char *text)
+{
+    uint16_t units[NUMFMT_TEXT_MOST + 1];
+    size_t length = to_units(text, strlen(text), units, NUMFMT_TEXT_MOST + 1);
+
+    return numfmt_why_text(table, words, units, length, ROW_UNITS);
+}
+
+static inline numfmt_reason why_value(const uint16_t *table, size_t words, const value *asked)
+{
+    numfmt_reason refused = {NUMFMT_ANSWER_RANGE, 0, 0, 0, 0, 0, 0};
+
+    switch (asked->kind) {
+    case NUMBER:
+        return numfmt_why_number(table, words, asked->coefficient, asked->scale, ROW_UNITS);
+    case INSTANT:
+        return numfmt_why_instant(table, words, asked->day, asked->millisecond, ROW_UNITS);
+    case TEXT:
+        return why_text(table, words, asked->text);
+    default:
+        return refused;
+    }
+}
+
+/* Why a row shows what it does, behind `lead`; nothing for a row that is refused. */
+static inline void put_reason(const char *lead, numfmt_reason why)
+{
+    static const char *const choices[] = {
+        "its own condition", "all values", "at least 0", "the rest of two", "above 0",
+        "below 0", "the rest of three", "General", "a text section", "no section"
+    };
+    static const char *const tried[] = {"", "its own condition is false", "its fallback is false"};
+    static const char *const minus[] = {
+        "added", "none of a text", "none at or above 0", "none of an empty section",
+        "none of a section for negative values", "none of nought"
+    };
+
+    if (why.answer != NUMFMT_ANSWER_DONE)
+        return;
+    printf("%ssection %u: %s", lead, why.section, choices[why.choice]);
+    if (why.first != NUMFMT_TRIED_NOT)
+        printf("; section 0: %s", tried[why.first]);
+    if (why.second != NUMFMT_TRIED_NOT)
+        printf("; section 1: %s", tried[why.second]);
+    printf("; minus: %s; decimals cut: %u\n", minus[why.minus], why.cut);
+}
+
 /* The terminal's colours for 0 to 8: none, black, white, red, green, blue, yellow, magenta, cyan. */
 static inline int terminal_colour(uint16_t colour)
 {

@@ -3,7 +3,8 @@
  * table, in the code's colour. A value that was rounded or cut is marked. A row
  * that is refused says why in its place, and the wall goes on. With arguments
  * the rows are theirs: a code and a value each, the value `@SECONDS` since
- * 1970, a number, or else a text.
+ * 1970, a number, or else a text. After `--why` each row is followed by the
+ * reason for what it shows.
  *
  *   rt staticlib c_api
  *   cc -std=c99 -Iinclude examples/wall.c target/staticlib/libc_api.a -o target/wall && target/wall
@@ -30,8 +31,9 @@ static const row rows[] = {
 };
 
 /* 1 when the row is shown, 0 when it is refused. */
-static int put_row(const char *label, const char *code, const char *written)
+static int put_row(const char *label, const char *code, const char *written, int why)
 {
+    int shown;
     uint16_t table[NUMFMT_TABLE_WORDS];
     numfmt_prepared made = prepare_code(code, table);
     value asked = value_of(written);
@@ -41,27 +43,30 @@ static int put_row(const char *label, const char *code, const char *written)
         put_refusal(made.answer, made.place);
         return 0;
     }
-    return put_value(table, made.words, &asked);
+    shown = put_value(table, made.words, &asked);
+    if (why)
+        put_reason("                   ", why_value(table, made.words, &asked));
+    return shown;
 }
 
-static int put_wall(void)
+static int put_wall(int why)
 {
     size_t at;
     int all = 1;
 
     for (at = 0; at < sizeof rows / sizeof rows[0]; at++)
-        all &= put_row(rows[at].label, rows[at].code, rows[at].value);
+        all &= put_row(rows[at].label, rows[at].code, rows[at].value, why);
     return all;
 }
 
-static int put_arguments(int count, char **arguments)
+static int put_arguments(int count, char **arguments, int why)
 {
     char label[32];
     int at, all = 1;
 
     for (at = 0; at + 1 < count; at += 2) {
         snprintf(label, sizeof label, "Row %d", at / 2 + 1);
-        all &= put_row(label, arguments[at], arguments[at + 1]);
+        all &= put_row(label, arguments[at], arguments[at + 1], why);
     }
     return all;
 }
@@ -69,9 +74,13 @@ static int put_arguments(int count, char **arguments)
 /* Exit status 0 when every row was shown, 1 when one was refused, 2 for a wrong use. */
 int main(int count, char **arguments)
 {
-    if (count % 2 == 0) {
-        fprintf(stderr, "usage: wall [CODE VALUE]...\n");
+    int why = count > 1 && strcmp(arguments[1], "--why") == 0;
+
+    count -= 1 + why;
+    arguments += 1 + why;
+    if (count % 2 != 0) {
+        fprintf(stderr, "usage: wall [--why] [CODE VALUE]...\n");
         return 2;
     }
-    return (count == 1 ? put_wall() : put_arguments(count - 1, arguments + 1)) ? 0 : 1;
+    return (count == 0 ? put_wall(why) : put_arguments(count, arguments, why)) ? 0 : 1;
 }

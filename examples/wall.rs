@@ -1,5 +1,6 @@
 //! A river wall: each row's code is prepared, and its value shown through the table, in the code's colour. A value that was
-//! rounded or cut is marked. A row whose code or value is refused says so in its place.
+//! rounded or cut is marked. A row whose code or value is refused says so in its place. After `--why` each row is followed by the
+//! numbers of its reason.
 //!
 //!     rt staticlib c_api
 //!     cargo run --manifest-path rust/Cargo.toml --example wall
@@ -68,8 +69,21 @@ fn row(code: &str, value: &Value) -> String {
     }
 }
 
+/// The numbers of include/numfmt.h.
+fn reason(code: &str, value: &Value) -> Result<String, Refusal> {
+    let why = Table::prepare(code)?.why(value)?;
+    Ok(format!(
+        "section {}, choice {}, tried {} {}, minus {}, cut {}",
+        why.section, why.choice, why.first, why.second, why.minus, why.cut
+    ))
+}
+
 fn main() {
+    let with_reasons = std::env::args().nth(1).is_some_and(|word| word == "--why");
     for (label, code, value) in ROWS {
         println!("{label:18} {}", row(code, value));
+        if with_reasons {
+            println!("{:18} {}", "", reason(code, value).unwrap_or_default());
+        }
     }
 }

@@ -135,6 +135,52 @@ typedef struct {
     uint16_t exact;
 } numfmt_shown;
 
+/*
+ * How a section was chosen: by its own condition; by its fallback, where one,
+ * two, three or no sections count (those that are neither text nor fourth); or
+ * for a text.
+ */
+#define NUMFMT_CHOICE_OWN_CONDITION 0
+#define NUMFMT_CHOICE_ALL_VALUES 1    /* one section counts */
+#define NUMFMT_CHOICE_FIRST_OF_TWO 2  /* at least 0 */
+#define NUMFMT_CHOICE_REST_OF_TWO 3
+#define NUMFMT_CHOICE_ABOVE_ZERO 4    /* three sections count */
+#define NUMFMT_CHOICE_BELOW_ZERO 5
+#define NUMFMT_CHOICE_REST_OF_THREE 6
+#define NUMFMT_CHOICE_GENERAL 7       /* no section counts: as General where @ stands */
+#define NUMFMT_CHOICE_TEXT_SECTION 8  /* a text, by the fourth or a text section */
+#define NUMFMT_CHOICE_NO_SECTION 9    /* a text, by no section */
+
+/* What is said of a section before the chosen one. */
+#define NUMFMT_TRIED_NOT 0
+#define NUMFMT_TRIED_OWN_FALSE 1      /* its own condition is false */
+#define NUMFMT_TRIED_FALLBACK_FALSE 2 /* it has none, and its fallback is false */
+
+/* Whether a minus was added, or what held it back: the first that applies. */
+#define NUMFMT_MINUS_ADDED 0
+#define NUMFMT_MINUS_TEXT 1
+#define NUMFMT_MINUS_NOT_BELOW 2      /* the value is not below 0 */
+#define NUMFMT_MINUS_NO_ITEM 3        /* the section is empty */
+#define NUMFMT_MINUS_FOR_NEGATIVES 4  /* the section is for values below 0 */
+#define NUMFMT_MINUS_NOUGHT 5         /* what is shown is nought */
+
+/*
+ * Why a value is shown as it is. `section` is as in numfmt_shown; `first` and
+ * `second` are of the sections 0 and 1 where they stand before it; `cut` is how
+ * many decimals were cut, at most 30: those of the exact number, after percents
+ * and dividing commas and without zeros at its end, that the section does not
+ * show. On a refusal every number but the answer is 0.
+ */
+typedef struct {
+    uint16_t answer;
+    uint16_t section;
+    uint16_t choice;
+    uint16_t first;
+    uint16_t second;
+    uint16_t minus;
+    uint16_t cut;
+} numfmt_reason;
+
 /* A part of a code: `length` units from unit `start` on. */
 typedef struct {
     uint32_t start;
@@ -188,6 +234,22 @@ numfmt_shown numfmt_show_instant(const uint16_t *table, size_t table_len,
 numfmt_shown numfmt_show_text(const uint16_t *table, size_t table_len,
                               const uint16_t *text, size_t text_len,
                               uint16_t *room, size_t room_len);
+
+/*
+ * Why a value is shown as it is in a room of room_len units, of which none is
+ * lent: nothing is written. Each refuses as the call that shows does.
+ */
+numfmt_reason numfmt_why_number(const uint16_t *table, size_t table_len,
+                                int64_t coefficient, uint32_t scale,
+                                size_t room_len);
+
+numfmt_reason numfmt_why_instant(const uint16_t *table, size_t table_len,
+                                 uint32_t day, uint32_t millisecond,
+                                 size_t room_len);
+
+numfmt_reason numfmt_why_text(const uint16_t *table, size_t table_len,
+                              const uint16_t *text, size_t text_len,
+                              size_t room_len);
 
 #ifdef __cplusplus
 }

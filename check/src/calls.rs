@@ -1,6 +1,6 @@
 //! The library's calls as the comparison sees them: lent slices in, plain results out.
 
-use crate::oracle::{self, answer, Value};
+use crate::oracle::{self, answer, Reason, Value};
 
 #[derive(Clone, Copy, Debug, PartialEq, Eq)]
 pub struct Prepared {
@@ -18,6 +18,17 @@ pub struct Shown {
     pub exact: u16,
 }
 
+/// Why a showing gives what it does; on a refusal every number but the answer is 0.
+#[derive(Clone, Copy, Debug, PartialEq, Eq)]
+pub struct Why {
+    pub answer: u16,
+    pub section: u16,
+    pub choice: u16,
+    pub tried: [u16; 2],
+    pub minus: u16,
+    pub cut: u16,
+}
+
 #[derive(Clone, Copy, Debug, PartialEq, Eq)]
 pub struct Part {
     pub start: u32,
@@ -29,6 +40,7 @@ pub trait Calls {
     fn section(&self, code: &[u16], n: u32) -> Part;
     fn check(&self, table: &[u16]) -> u16;
     fn show(&self, table: &[u16], value: &Value, room: &mut [u16]) -> Shown;
+    fn why(&self, table: &[u16], value: &Value, room_length: usize) -> Why;
 }
 
 /// The oracle behind the same calls. Run against it, the comparison checks itself, and the oracle's
@@ -73,6 +85,32 @@ impl Calls for Oracle {
             }
             Err(answer) => refused(answer),
         }
+    }
+
+    fn why(&self, table: &[u16], value: &Value, room_length: usize) -> Why {
+        told(&oracle::show_why(table, value, room_length))
+    }
+}
+
+/// A reason as the call returns it.
+pub fn told(why: &Result<Reason, u16>) -> Why {
+    match why {
+        Ok(reason) => Why {
+            answer: answer::DONE,
+            section: reason.section,
+            choice: reason.choice,
+            tried: reason.tried,
+            minus: reason.minus,
+            cut: reason.cut,
+        },
+        Err(answer) => Why {
+            answer: *answer,
+            section: 0,
+            choice: 0,
+            tried: [0, 0],
+            minus: 0,
+            cut: 0,
+        },
     }
 }
 

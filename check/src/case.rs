@@ -1,7 +1,7 @@
 //! One comparison: what is asked, what the oracle gives for it, and whether the library agrees.
 
-use crate::calls::{refused, Calls, Oracle, Part, Prepared, Shown};
-use crate::oracle::{self, answer, Reading, Value, PROGRAM_TABLE_WORDS};
+use crate::calls::{refused, told, Calls, Oracle, Part, Prepared, Shown};
+use crate::oracle::{self, answer, Reading, Reason, Value, PROGRAM_TABLE_WORDS};
 
 /// Units in front of and behind a lent room, which nothing may touch.
 const GUARD: usize = 8;
@@ -37,12 +37,13 @@ pub struct Counts {
     pub number: u64,
     pub instant: u64,
     pub text: u64,
+    pub why: u64,
     pub answers: [u64; 14],
 }
 
 impl Counts {
     pub fn requests(&self) -> u64 {
-        self.prepare + self.section + self.number + self.instant + self.text
+        self.prepare + self.section + self.number + self.instant + self.text + self.why
     }
 
     fn answer(&mut self, answer: u16) {
@@ -72,11 +73,17 @@ impl Case {
                 let expected = oracle::read(code, value, *room);
                 let through_table = oracle::show(&table, value, *room);
                 same("the oracle's own two readings", &through_table, &expected)?;
-                show(calls, counts, &table, value, *room, &expected)
+                let reason = oracle::read_why(code, value, *room);
+                let through_table = oracle::show_why(&table, value, *room);
+                same("the oracle's own two reasons", &through_table, &reason)?;
+                show(calls, counts, &table, value, *room, &expected)?;
+                why(calls, counts, &table, value, *room, &reason)
             }
             Case::ShowTable { table, value, room } => {
                 let expected = oracle::show(table, value, *room);
-                show(calls, counts, table, value, *room, &expected)
+                let reason = oracle::show_why(table, value, *room);
+                show(calls, counts, table, value, *room, &expected)?;
+                why(calls, counts, table, value, *room, &reason)
             }
         }
     }
@@ -199,6 +206,21 @@ fn show(
     same("the value lent", &&lent.1, &value)?;
     counts.show(value);
     counts.answer(found.answer);
+    Ok(())
+}
+
+fn why(
+    calls: &dyn Calls,
+    counts: &mut Counts,
+    table: &[u16],
+    value: &Value,
+    room: usize,
+    expected: &Result<Reason, u16>,
+) -> Result<(), String> {
+    let (found, wanted) = (calls.why(table, value, room), told(expected));
+    let answers = (found.answer, wanted.answer);
+    same(&headline("asking why", answers), &found, &wanted)?;
+    counts.why += 1;
     Ok(())
 }
 

@@ -2,7 +2,7 @@
 
 use numfmt::calls;
 
-use crate::calls::{Calls, Part, Prepared, Shown};
+use crate::calls::{Calls, Part, Prepared, Shown, Why};
 use crate::oracle::Value;
 
 /// The linked library.
@@ -44,6 +44,24 @@ impl Calls for Linked {
             colour: given.colour,
             section: given.section,
             exact: given.exact,
+        }
+    }
+
+    fn why(&self, table: &[u16], value: &Value, room_length: usize) -> Why {
+        let given = match value {
+            Value::Number { coefficient, scale } => {
+                calls::why_number(table, *coefficient, *scale, room_length)
+            }
+            Value::Instant { day, ms } => calls::why_instant(table, *day, *ms, room_length),
+            Value::Text(text) => calls::why_text(table, text, room_length),
+        };
+        Why {
+            answer: given.answer,
+            section: given.section,
+            choice: given.choice,
+            tried: [given.first, given.second],
+            minus: given.minus,
+            cut: given.cut,
         }
     }
 }

@@ -180,13 +180,14 @@ fn summary(counts: &Counts, time: Duration) -> String {
         .map(|(answer, count)| format!("{answer}: {count}"))
         .collect();
     format!(
-        "{} requests agree; prepare {}, section {}, number {}, instant {}, text {}; answers {}; {:.1} s",
+        "{} requests agree; prepare {}, section {}, number {}, instant {}, text {}, why {}; answers {}; {:.1} s",
         counts.requests(),
         counts.prepare,
         counts.section,
         counts.number,
         counts.instant,
         counts.text,
+        counts.why,
         answers.join(", "),
         time.as_secs_f64()
     )

@@ -9,6 +9,8 @@ pub struct Decimal {
     pub decimals: Vec<u8>,
     /// Nothing but zeros was cut.
     pub exact: bool,
+    /// How many decimals were cut, but for zeros at the end.
+    pub cut: usize,
 }
 
 impl Decimal {
@@ -29,6 +31,10 @@ pub fn rounded(coefficient: i64, scale: i32, decimals: usize) -> Decimal {
         integer: without_leading_zeros(&digits[..point]),
         decimals: digits[point..].to_vec(),
         exact: fraction.iter().skip(decimals).all(|digit| *digit == 0),
+        cut: fraction
+            .iter()
+            .rposition(|digit| *digit != 0)
+            .map_or(0, |last| (last + 1).saturating_sub(decimals)),
     }
 }
 

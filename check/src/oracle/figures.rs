@@ -6,12 +6,13 @@ use super::fraction::Denominator;
 
 const DECIMALS: u32 = 15;
 
-/// A rounded magnitude: its whole part, its fraction in units of 10^-15, and whether it equals the
-/// exact one.
+/// A rounded magnitude: its whole part, its fraction in units of 10^-15, whether it equals the exact
+/// one, and how many decimals it lacks to do so.
 pub struct Figures {
     whole: i128,
     fraction: i128,
     pub exact: bool,
+    pub cut: u16,
 }
 
 /// |coefficient| * 10^exponent rounded to `decimals` decimals, halves away from zero.
@@ -25,6 +26,7 @@ pub fn rounded(coefficient: i64, exponent: i32, decimals: u32) -> Figures {
     let unit = 10i128.pow(decimals);
     let mut fraction = (2 * rest * unit + below) / (2 * below);
     let exact = fraction * below == rest * unit;
+    let cut = missing(rest * unit % below, below);
     if fraction == unit {
         whole += 1;
         fraction = 0;
@@ -34,7 +36,18 @@ pub fn rounded(coefficient: i64, exponent: i32, decimals: u32) -> Figures {
         whole,
         fraction,
         exact,
+        cut,
     }
+}
+
+/// How many decimals rest / below has, which is below 1: tens are taken until nothing is left.
+fn missing(mut rest: i128, below: i128) -> u16 {
+    let mut count = 0;
+    while rest > 0 {
+        rest = rest * 10 % below;
+        count += 1;
+    }
+    count
 }
 
 /// The exponent of a scientific section with `places` integer places, found from above: from a
@@ -98,6 +111,7 @@ impl Figures {
             whole,
             fraction: 0,
             exact: true,
+            cut: 0,
         }
     }
 

@@ -28,10 +28,10 @@ mod tests;
 pub use code::section;
 pub use prepare::{prepare, Prepared};
 pub use program::{answer_lines, answer_lines_and_section, PROGRAM_TABLE_WORDS};
-pub use reading::read;
+pub use reading::{read, read_why};
 pub use rules::check_table;
-pub use show::show;
-pub use value::{Reading, Value};
+pub use show::{show, show_why};
+pub use value::{Reading, Reason, Value};
 
 /// The paper's answer numbers.
 pub mod answer {

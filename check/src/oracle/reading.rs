@@ -11,23 +11,36 @@ use super::days;
 use super::decimal::{exponent, general, mixed, rounded, Decimal};
 use super::fraction::fraction_shape;
 use super::token::{Condition, Operator, Token};
-use super::value::{Reading, Value};
+use super::value::{Reading, Reason, Value};
 
 /// What the code shows for the value in a room of that length, or the refusal.
 /// A refused code gives its own answer.
 pub fn read(code: &[u16], value: &Value, room_length: usize) -> Result<Reading, u16> {
+    reasoned(code, value, room_length).map(|(reading, _)| reading)
+}
+
+/// Why it shows that.
+pub fn read_why(code: &[u16], value: &Value, room_length: usize) -> Result<Reason, u16> {
+    reasoned(code, value, room_length).map(|(_, reason)| reason)
+}
+
+fn reasoned(code: &[u16], value: &Value, room_length: usize) -> Result<(Reading, Reason), u16> {
     let sections = sections(code).map_err(|refusal| refusal.answer)?;
     if !value.in_range() {
         return Err(answer::RANGE);
     }
-    let reading = match value {
-        Value::Text(text) => text_reading(&sections, text),
+    let (reading, reason) = match value {
+        Value::Text(text) => {
+            let reading = text_reading(&sections, text);
+            let reason = Reason::of_text(reading.section);
+            (reading, reason)
+        }
         _ => value_reading(&sections, value)?,
     };
     if reading.text.len() > room_length {
         return Err(answer::TEXT_ROOM);
     }
-    Ok(reading)
+    Ok((reading, reason))
 }
 
 /// Text goes to the fourth section, else to a text section, else it shows itself.
@@ -56,7 +69,7 @@ fn text_reading(sections: &[Section], text: &[u16]) -> Reading {
     }
 }
 
-fn value_reading(sections: &[Section], value: &Value) -> Result<Reading, u16> {
+fn value_reading(sections: &[Section], value: &Value) -> Result<(Reading, Reason), u16> {
     let index = choose(sections, value)?;
     let section = &sections[index];
     let figure = match (section.kind, value) {
@@ -76,21 +89,57 @@ fn value_reading(sections: &[Section], value: &Value) -> Result<Reading, u16> {
         (Kind::DateTime, Value::Instant { day, ms }) => date_figure(section, *day, *ms),
         _ => return Err(answer::SORT),
     };
-    let minus = value.is_negative()
-        && !section.body.is_empty()
-        && !takes_negatives_by_fallback(sections, index)
-        && !figure.rounds_to_zero;
+    let minus = if !value.is_negative() {
+        2
+    } else if section.body.is_empty() {
+        3
+    } else if takes_negatives_by_fallback(sections, index) {
+        4
+    } else if figure.rounds_to_zero {
+        5
+    } else {
+        0
+    };
     let mut text = Vec::new();
-    if minus {
+    if minus == 0 {
         text.push(u16::from(b'-'));
     }
     text.extend(figure.text);
-    Ok(Reading {
+    let reading = Reading {
         text,
         colour: section.colour,
         section: index as u16,
         exact: figure.exact,
-    })
+    };
+    let reason = Reason {
+        section: index as u16,
+        choice: choice(sections, index),
+        tried: [0, 1].map(|at| tried(sections, at, index)),
+        minus,
+        cut: figure.cut as u16,
+    };
+    Ok((reading, reason))
+}
+
+/// The number of what names the chosen section.
+fn choice(sections: &[Section], index: usize) -> u16 {
+    let has_own = sections[index].condition.is_some();
+    match (counted(sections), index) {
+        (0, _) => 7,
+        _ if has_own => 0,
+        (1, _) => 1,
+        (2, 0) => 2,
+        (2, _) => 3,
+        (_, at) => 4 + at as u16,
+    }
+}
+
+fn tried(sections: &[Section], at: usize, index: usize) -> u16 {
+    match sections[..index].get(at) {
+        None => 0,
+        Some(section) if section.condition.is_some() => 1,
+        Some(_) => 2,
+    }
 }
 
 /// The first section that holds. With N = 0 a number goes to the one text section.
@@ -159,12 +208,13 @@ fn compare(value: &Value, condition: &Condition) -> Ordering {
     (top * unit).cmp(&(signed * bottom))
 }
 
-/// What a section shows without the added minus, whether exception (b) holds the minus back, and
-/// whether the text tells the value exactly.
+/// What a section shows without the added minus, whether exception (b) holds the minus back, whether
+/// the text tells the value exactly, and how many decimals were cut.
 struct Figure {
     text: Vec<u16>,
     rounds_to_zero: bool,
     exact: bool,
+    cut: usize,
 }
 
 fn put(out: &mut Vec<u16>, text: &str) {
@@ -196,6 +246,7 @@ fn literal_figure(section: &Section) -> Figure {
         text,
         rounds_to_zero: false,
         exact: true,
+        cut: 0,
     }
 }
 
@@ -214,6 +265,7 @@ fn general_figure(section: &Section, coefficient: i64, scale: u32) -> Result<Fig
         text,
         rounds_to_zero: number.is_zero(),
         exact: number.exact,
+        cut: number.cut,
     })
 }
 
@@ -254,6 +306,7 @@ fn number_figure(section: &Section, coefficient: i64, scale: u32) -> Figure {
         text,
         rounds_to_zero: number.is_zero(),
         exact: number.exact,
+        cut: number.cut,
     }
 }
 
@@ -294,6 +347,7 @@ fn scientific_figure(section: &Section, coefficient: i64, scale: u32) -> Figure 
         text,
         rounds_to_zero: number.is_zero(),
         exact: number.exact,
+        cut: number.cut,
     }
 }
 
@@ -332,6 +386,7 @@ fn fraction_figure(section: &Section, coefficient: i64, scale: u32) -> Figure {
         text,
         rounds_to_zero: number.is_zero(),
         exact: number.exact,
+        cut: 0,
     }
 }
 
@@ -459,6 +514,7 @@ fn date_figure(section: &Section, day: u32, ms: u32) -> Figure {
         text,
         rounds_to_zero: false,
         exact: cuts_only_zeros(body, ms),
+        cut: 0,
     }
 }
 

@@ -9,7 +9,7 @@ use super::figures::{exponent, fraction, general, rounded, Figures};
 use super::fraction::Denominator;
 use super::rules::{check_table, counted, fraction_parts};
 use super::table::{entries, item, Entry, Item, GROUPING, NO_MINUS, TWELVE_HOUR};
-use super::value::{Reading, Value};
+use super::value::{Reading, Reason, Value};
 
 const LITERAL: u16 = Kind::Literal as u16;
 const GENERAL: u16 = Kind::General as u16;
@@ -24,6 +24,15 @@ const DAY: u32 = 86_400_000;
 
 /// Shows a value through the words lent as a table, in a room of that length.
 pub fn show(table: &[u16], value: &Value, room_length: usize) -> Result<Reading, u16> {
+    reasoned(table, value, room_length).map(|(reading, _)| reading)
+}
+
+/// Why it is shown so.
+pub fn show_why(table: &[u16], value: &Value, room_length: usize) -> Result<Reason, u16> {
+    reasoned(table, value, room_length).map(|(_, reason)| reason)
+}
+
+fn reasoned(table: &[u16], value: &Value, room_length: usize) -> Result<(Reading, Reason), u16> {
     if !check_table(table) {
         return Err(answer::TABLE);
     }
@@ -31,15 +40,39 @@ pub fn show(table: &[u16], value: &Value, room_length: usize) -> Result<Reading,
     if !value.in_range() {
         return Err(answer::RANGE);
     }
-    let reading = match value {
-        Value::Text(text) => show_text(&entries, text),
+    let (reading, reason) = match value {
+        Value::Text(text) => {
+            let reading = show_text(&entries, text);
+            let reason = Reason::of_text(reading.section);
+            (reading, reason)
+        }
         Value::Number { coefficient, scale } => show_number(&entries, *coefficient, *scale)?,
         Value::Instant { day, ms } => show_instant(&entries, *day, *ms)?,
     };
     if reading.text.len() > room_length {
         return Err(answer::TEXT_ROOM);
     }
-    Ok(reading)
+    Ok((reading, reason))
+}
+
+/// The reason for a section that a number or an instant goes to, by the first of the sections that
+/// takes it: those before it were tried.
+fn reason(entries: &[Entry], index: usize, minus: u16, cut: u16) -> Reason {
+    const FALLBACKS: [[u16; 3]; 4] = [[7, 7, 7], [1, 1, 1], [2, 3, 3], [4, 5, 6]];
+    let said = |at: usize| match entries[at].operator {
+        _ if at >= index => 0,
+        0 => 2,
+        _ => 1,
+    };
+    let n = counted(entries);
+    let by_own = n > 0 && entries[index].operator != 0;
+    Reason {
+        section: index as u16,
+        choice: if by_own { 0 } else { FALLBACKS[n][index] },
+        tried: [said(0), if entries.len() > 1 { said(1) } else { 0 }],
+        minus,
+        cut,
+    }
 }
 
 fn show_text(entries: &[Entry], text: &[u16]) -> Reading {
@@ -68,12 +101,13 @@ fn reading(entries: &[Entry], index: usize, text: Vec<u16>, exact: bool) -> Read
     }
 }
 
-/// What a section shows of a number without a minus, whether that is zero after rounding, and whether
-/// it equals the number.
+/// What a section shows of a number without a minus, whether that is zero after rounding, whether it
+/// equals the number, and how many decimals were cut.
 struct Unsigned {
     text: Vec<u16>,
     rounds_to_zero: bool,
     exact: bool,
+    cut: u16,
 }
 
 fn unsigned(text: Vec<u16>, figures: &Figures) -> Unsigned {
@@ -81,6 +115,7 @@ fn unsigned(text: Vec<u16>, figures: &Figures) -> Unsigned {
         text,
         rounds_to_zero: figures.is_zero(),
         exact: figures.exact,
+        cut: figures.cut,
     }
 }
 
@@ -99,7 +134,7 @@ fn units(text: &str) -> Vec<u16> {
     text.bytes().map(u16::from).collect()
 }
 
-fn show_number(entries: &[Entry], coefficient: i64, scale: u32) -> Result<Reading, u16> {
+fn show_number(entries: &[Entry], coefficient: i64, scale: u32) -> Result<(Reading, Reason), u16> {
     let index = if counted(entries) == 0 {
         0
     } else {
@@ -111,6 +146,7 @@ fn show_number(entries: &[Entry], coefficient: i64, scale: u32) -> Result<Readin
             text: spelled(&entry.items, |_| vec![]),
             rounds_to_zero: false,
             exact: true,
+            cut: 0,
         },
         NUMBER => number_text(entry, coefficient, scale),
         SCIENTIFIC => scientific_text(entry, coefficient, scale),
@@ -121,14 +157,23 @@ fn show_number(entries: &[Entry], coefficient: i64, scale: u32) -> Result<Readin
         }
         _ => return Err(answer::SORT),
     };
-    let has_item = !entry.items.is_empty();
-    let minus = coefficient < 0 && has_item && entry.flags & NO_MINUS == 0 && !shown.rounds_to_zero;
-    let mut text = units(if minus { "-" } else { "" });
+    let held_back = [
+        (2, coefficient >= 0),
+        (3, entry.items.is_empty()),
+        (4, entry.flags & NO_MINUS != 0),
+        (5, shown.rounds_to_zero),
+    ];
+    let minus = held_back
+        .iter()
+        .find(|(_, applies)| *applies)
+        .map_or(0, |(number, _)| *number);
+    let mut text = units(if minus == 0 { "-" } else { "" });
     text.extend(shown.text);
-    Ok(reading(entries, index, text, shown.exact))
+    let reason = reason(entries, index, minus, shown.cut);
+    Ok((reading(entries, index, text, shown.exact), reason))
 }
 
-fn show_instant(entries: &[Entry], day: u32, ms: u32) -> Result<Reading, u16> {
+fn show_instant(entries: &[Entry], day: u32, ms: u32) -> Result<(Reading, Reason), u16> {
     if counted(entries) == 0 {
         return Err(answer::SORT);
     }
@@ -146,7 +191,8 @@ fn show_instant(entries: &[Entry], day: u32, ms: u32) -> Result<Reading, u16> {
         }
         _ => return Err(answer::SORT),
     };
-    Ok(reading(entries, index, text, exact))
+    let reason = reason(entries, index, 2, 0);
+    Ok((reading(entries, index, text, exact), reason))
 }
 
 /// In milliseconds; a day where no item shows less.
@@ -282,6 +328,7 @@ fn fraction_text(entry: &Entry, coefficient: i64, scale: u32) -> Unsigned {
         text: text.concat(),
         rounds_to_zero: integer == 0 && numerator == 0,
         exact: (integer * over + numerator) * unit == magnitude * over,
+        cut: 0,
     }
 }
 

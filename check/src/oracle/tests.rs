@@ -1,5 +1,6 @@
 mod exact;
 mod fractions;
+mod reasons;
 
 use super::{answer, check_table, prepare, read, section, show, units, Reading, Value};
 

@@ -40,3 +40,27 @@ pub struct Reading {
     pub section: u16,
     pub exact: bool,
 }
+
+/// Why a done showing gives what it does, with the numbers of 02's P6: the section, by what it was chosen, what is said of
+/// the first two sections where they stand before it, the minus, and the decimals cut.
+#[derive(Clone, Copy, Debug, PartialEq, Eq)]
+pub struct Reason {
+    pub section: u16,
+    pub choice: u16,
+    pub tried: [u16; 2],
+    pub minus: u16,
+    pub cut: u16,
+}
+
+impl Reason {
+    /// A text by section `section`, or by none where that is 4: nothing is tried for it.
+    pub fn of_text(section: u16) -> Reason {
+        Reason {
+            section,
+            choice: if section == 4 { 9 } else { 8 },
+            tried: [0, 0],
+            minus: 1,
+            cut: 0,
+        }
+    }
+}

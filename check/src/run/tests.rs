@@ -1,7 +1,7 @@
 //! The comparison has to find faults: each double below is the oracle with one fault.
 
 use super::make;
-use crate::calls::{Calls, Oracle, Part, Prepared, Shown};
+use crate::calls::{Calls, Oracle, Part, Prepared, Shown, Why};
 use crate::case::Counts;
 use crate::oracle::{answer, Value};
 use crate::random::Random;
@@ -30,6 +30,11 @@ enum Fault {
     Colour,
     Exact,
     PastRoom,
+    Choice,
+    Tried,
+    Minus,
+    Cut,
+    RefusedReason,
 }
 
 struct Double(Fault);
@@ -79,6 +84,26 @@ impl Calls for Double {
         }
         given
     }
+
+    fn why(&self, table: &[u16], value: &Value, room_length: usize) -> Why {
+        let mut given = Oracle.why(table, value, room_length);
+        match self.0 {
+            // The rest of two for the rest of three.
+            Fault::Choice if given.choice == 6 => given.choice = 3,
+            Fault::Tried if given.tried[1] != 0 => given.tried[1] = 0,
+            // (a) for an empty section.
+            Fault::Minus if given.minus == 3 && given.section == 1 => given.minus = 4,
+            // By the coefficient's scale.
+            Fault::Cut => {
+                if let Value::Number { scale, .. } = value {
+                    given.cut = given.cut.max((*scale as u16).min(given.cut + 1));
+                }
+            }
+            Fault::RefusedReason if given.answer != 0 => given.section = 1,
+            _ => {}
+        }
+        given
+    }
 }
 
 /// One unit behind the room, as a library in another language could.
@@ -104,4 +129,9 @@ fn every_fault_is_found() {
     assert!(found(&Double(Fault::Colour)));
     assert!(found(&Double(Fault::Exact)));
     assert!(found(&Double(Fault::PastRoom)));
+    assert!(found(&Double(Fault::Choice)));
+    assert!(found(&Double(Fault::Tried)));
+    assert!(found(&Double(Fault::Minus)));
+    assert!(found(&Double(Fault::Cut)));
+    assert!(found(&Double(Fault::RefusedReason)));
 }

@@ -17,7 +17,11 @@ use Rattle.values.specs.Ranges.{asked}
 use Rattle.formats.specs.Accept.{Span}
 use Rattle.c_api.specs.declared.PreparedNumbers.{PreparedNumbers}
 use Rattle.c_api.specs.declared.PartNumbers.{PartNumbers}
+use Rattle.grounds.specs.declared.Why.{Why}
+use Rattle.grounds.specs.declared.Why.the-variants as why
+use Rattle.grounds.specs.Numbers.{choiceNumber, triedNumber, minusNumber}
 use Rattle.c_api.specs.declared.ShownNumbers.{ShownNumbers}
+use Rattle.c_api.specs.declared.WhyNumbers.{WhyNumbers}
 
 abbrev pub preparedNumbers : Prepared → PreparedNumbers
 preparedNumbers p = record { answer = numberOf (p .answer); place = p .place; words = p .words }
@@ -32,6 +36,21 @@ checkNumber passed = cond passed (numberOf answer.Done) (numberOf answer.Table)
 abbrev pub shownNumbers : Shown → ShownNumbers
 shownNumbers s =
     record { answer = numberOf (s .answer); length = s .length; colour = s .colour; section = s .section; exact = cond (s .exact) 1 0 }
+
+-- a refusal has its answer alone, a reason the answer 0
+abbrev pub whyNumbers : Why → WhyNumbers
+whyNumbers (why.Refused a) =
+    record { answer = numberOf a; section = 0; choice = 0; first = 0; second = 0; minus = 0; cut = 0 }
+whyNumbers (why.Because g) =
+    record {
+      answer = numberOf answer.Done;
+      section = g .section;
+      choice = choiceNumber (g .choice);
+      first = triedNumber (g .first);
+      second = triedNumber (g .second);
+      minus = minusNumber (g .minus);
+      cut = g .cut;
+    }
 
 -- what is asked for: a number, an instant, a text
 abbrev pub numberAsk : ℤ → ℕ → Ask

@@ -6,11 +6,19 @@ ghost use mathlib.Core.List.{[]};
 ghost use Rattle.formats.specs.Accept.{sectionSpan};
 ghost use Rattle.tables.specs.Rules.{passes};
 ghost use Rattle.tables.specs.Calls.{prepared, tableAfter, showing, roomAfter};
-ghost use Rattle.c_api.specs.Numbers.{preparedNumbers, partNumbers, checkNumber, shownNumbers, numberAsk, instantAsk, textAsk};
+ghost use Rattle.grounds.specs.declared.Why.the-variants as why;
+ghost use Rattle.reasons.specs.Table.{tableWhy};
+ghost use Rattle.c_api.specs.Numbers.{preparedNumbers, partNumbers, checkNumber, shownNumbers, whyNumbers, numberAsk, instantAsk, textAsk};
 use answers::Answer;
 use answers::Shown;
 use answers::number;
 use checking::check;
+use grounds::Grounds;
+use grounds::Why;
+use grounds::choice_number;
+use grounds::minus_number;
+use grounds::tried_number;
+use reasons::why;
 use showing::show;
 use spans::section_span;
 use values::Ask;
@@ -43,6 +51,18 @@ pub struct ShownNumbers {
     pub colour: u16,
     pub section: u16,
     pub exact: u16,
+}
+
+// numfmt_reason
+#[repr(C)]
+pub struct WhyNumbers {
+    pub answer: u16,
+    pub section: u16,
+    pub choice: u16,
+    pub first: u16,
+    pub second: u16,
+    pub minus: u16,
+    pub cut: u16,
 }
 
 #[no_mangle]
@@ -135,4 +155,78 @@ pub extern "C" fn numfmt_show_text(table: &[u16], text: &[u16], room: &mut [u16]
     ensures room { λ r. ⌜ now (room .exit) ≡ roomAfter (now (table .entry)) textAsk (now (text .entry)) (now (room .entry)) ⌝ }
 {
     shown_numbers(show(table, asked(Value::Text), text, room))
+}
+
+// Of a refused show the answer alone is told.
+fn refused_numbers(answer: Answer) -> WhyNumbers
+    ensures { λ r. ⌜ r ≡ whyNumbers (why.Refused answer) ⌝ }
+{
+    WhyNumbers {
+        answer: number(answer),
+        section: 0,
+        choice: 0,
+        first: 0,
+        second: 0,
+        minus: 0,
+        cut: 0,
+    }
+}
+
+fn because_numbers(g: Grounds) -> WhyNumbers
+    ensures { λ r. ⌜ r ≡ whyNumbers (why.Because g) ⌝ }
+{
+    let choice = g.choice;
+    let first = g.first;
+    let second = g.second;
+    let minus = g.minus;
+    WhyNumbers {
+        answer: number(Answer::Done),
+        section: g.section,
+        choice: choice_number(choice),
+        first: tried_number(first),
+        second: tried_number(second),
+        minus: minus_number(minus),
+        cut: g.cut,
+    }
+}
+
+fn why_numbers(w: Why) -> WhyNumbers
+    ensures { λ r. ⌜ r ≡ whyNumbers w ⌝ }
+{
+    match w {
+        Why::Refused(answer) => refused_numbers(answer),
+        Why::Because(g) => because_numbers(g),
+    }
+}
+
+#[no_mangle]
+pub extern "C" fn numfmt_why_number(
+    table: &[u16],
+    coefficient: i64,
+    scale: u32,
+    size: usize,
+) -> WhyNumbers
+    ensures { λ r. ⌜ r ≡ whyNumbers (tableWhy (now (table .entry)) (numberAsk coefficient scale) [] size) ⌝ }
+{
+    why_numbers(why(table, number_ask(coefficient, scale), &table[..0], size))
+}
+
+#[no_mangle]
+pub extern "C" fn numfmt_why_instant(
+    table: &[u16],
+    day: u32,
+    millisecond: u32,
+    size: usize,
+) -> WhyNumbers
+    ensures { λ r. ⌜ r ≡ whyNumbers (tableWhy (now (table .entry)) (instantAsk day millisecond) [] size) ⌝ }
+{
+    let ask = asked(Value::Instant(Day(day), Millisecond(millisecond)));
+    why_numbers(why(table, ask, &table[..0], size))
+}
+
+#[no_mangle]
+pub extern "C" fn numfmt_why_text(table: &[u16], text: &[u16], size: usize) -> WhyNumbers
+    ensures { λ r. ⌜ r ≡ whyNumbers (tableWhy (now (table .entry)) textAsk (now (text .entry)) size) ⌝ }
+{
+    why_numbers(why(table, asked(Value::Text), text, size))
 }

@@ -2,12 +2,16 @@
 use c_api::PartNumbers;
 use c_api::PreparedNumbers;
 use c_api::ShownNumbers;
+use c_api::WhyNumbers;
 use c_api::numfmt_check;
 use c_api::numfmt_prepare;
 use c_api::numfmt_section;
 use c_api::numfmt_show_instant;
 use c_api::numfmt_show_number;
 use c_api::numfmt_show_text;
+use c_api::numfmt_why_instant;
+use c_api::numfmt_why_number;
+use c_api::numfmt_why_text;
 
 fn prepare(code: &[u16], table: &mut [u16]) -> PreparedNumbers {
     numfmt_prepare(code, table)
@@ -31,4 +35,16 @@ fn show_instant(table: &[u16], day: u32, millisecond: u32, room: &mut [u16]) -> 
 
 fn show_text(table: &[u16], text: &[u16], room: &mut [u16]) -> ShownNumbers {
     numfmt_show_text(table, text, room)
+}
+
+fn why_number(table: &[u16], coefficient: i64, scale: u32, size: usize) -> WhyNumbers {
+    numfmt_why_number(table, coefficient, scale, size)
+}
+
+fn why_instant(table: &[u16], day: u32, millisecond: u32, size: usize) -> WhyNumbers {
+    numfmt_why_instant(table, day, millisecond, size)
+}
+
+fn why_text(table: &[u16], text: &[u16], size: usize) -> WhyNumbers {
+    numfmt_why_text(table, text, size)
 }

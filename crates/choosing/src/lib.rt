@@ -243,7 +243,7 @@ fn takes(table: &[u16], counted: u16, i: usize, v: Sought) -> bool
 }
 
 // N: how many sections are neither text nor fourth. A text section stands last.
-fn counted(table: &[u16], n: usize) -> u16
+pub fn counted(table: &[u16], n: usize) -> u16
     requires { ⌜ T (passes (now table)) × (n ≡ getD (now table) 0 0) ⌝ }
     ensures { λ r. ⌜ r ≡ counted (decode (now (table .entry))) ⌝ }
 {

@@ -78,16 +78,16 @@ module _ {z : Section} {words : List ℕ} (o : ItemsOf z words) where
   }
 
   -- what is shown of the words is what is shown of the section
-  pub items-shows : {old out : List ℕ} {r : Shown} {colour : ℕ} (i : ℕ) (minus exact : Bool) (c : Context)
+  pub items-shows : {old out : List ℕ} {r : Shown} {colour : ℕ} (size i : ℕ) (minus exact : Bool) (c : Context)
       → colour ≡ z .colour → c .integerPlaces ≡ integerPlaces (z .items)
-      → Shows (within (length old) (lookOf (signText minus ++ itemsUnits c (firstOf (integerPlaces (z .items))) (itemsAt (entriesIn words))) colour i exact)) old r out
-      → Shows (sectionReading (length old) z i minus exact c) old r out
+      → Shows (within size (lookOf (signText minus ++ itemsUnits c (firstOf (integerPlaces (z .items))) (itemsAt (entriesIn words))) colour i exact)) old r out
+      → Shows (sectionReading size z i minus exact c) old r out
   unfolding sectionReading sectionUnits
-  items-shows {old} {out} {r} {colour} i minus exact c ec ei x =
+  items-shows {old} {out} {r} {colour} size i minus exact c ec ei x =
       let q : ℕ = firstOf (integerPlaces (z .items)) in
-      let g : sectionReading (length old) z i minus exact c
-      ≡ within (length old) (lookOf (signText minus ++ itemsUnits c q (itemsAt (entriesIn words))) colour i exact) =
-      ap (λ (n : ℕ). within (length old) (lookOf (signText minus ++ itemsUnits c (firstOf n) (z .items)) (z .colour) i exact)) ei
-      ∙ ap (λ (is : List Item). within (length old) (lookOf (signText minus ++ itemsUnits c q is) (z .colour) i exact)) (o .items)
-      ∙ ap (λ (n : ℕ). within (length old) (lookOf (signText minus ++ itemsUnits c q (itemsAt (entriesIn words))) n i exact)) (sym ec) in
+      let g : sectionReading size z i minus exact c
+      ≡ within size (lookOf (signText minus ++ itemsUnits c q (itemsAt (entriesIn words))) colour i exact) =
+      ap (λ (n : ℕ). within size (lookOf (signText minus ++ itemsUnits c (firstOf n) (z .items)) (z .colour) i exact)) ei
+      ∙ ap (λ (is : List Item). within size (lookOf (signText minus ++ itemsUnits c q is) (z .colour) i exact)) (o .items)
+      ∙ ap (λ (n : ℕ). within size (lookOf (signText minus ++ itemsUnits c q (itemsAt (entriesIn words))) n i exact)) (sym ec) in
       subst (λ (d : Reading). Shows d old r out) (sym g) x

@@ -324,10 +324,10 @@ module _ {z : Section} {words : List ℕ} {s n : ℕ} (o : ItemsOf z words) (k :
   shown-text f = rw (← whole-items, ← main-items, ← numerator-items, ← from-items)
 
   -- what is shown of the words is what is shown of the section
-  pub fraction-shows : {old out : List ℕ} {t : Shown} {colour : ℕ} (i : ℕ) (minus exact : Bool) (f : Mixed) → colour ≡ z .colour
-      → Shows (within (length old) (lookOf (signText minus ++ mixedText f (itemsIn whole) (itemsIn numerator) (itemsIn from)) colour i exact)) old t out
-      → Shows (fractionReading (length old) z i minus exact f) old t out
+  pub fraction-shows : {old out : List ℕ} {t : Shown} {colour : ℕ} (size i : ℕ) (minus exact : Bool) (f : Mixed) → colour ≡ z .colour
+      → Shows (within size (lookOf (signText minus ++ mixedText f (itemsIn whole) (itemsIn numerator) (itemsIn from)) colour i exact)) old t out
+      → Shows (fractionReading size z i minus exact f) old t out
   unfolding fractionReading
-  fraction-shows i minus exact f ec h =
+  fraction-shows size i minus exact f ec h =
       let text : fractionUnits f is ≡ mixedText f (itemsIn whole) (itemsIn numerator) (itemsIn from) = shown-text f in
       rw (text, ← ec) h

@@ -161,13 +161,13 @@ module _ {z : Section} {words : List ℕ} {start : ℕ} (o : ItemsOf z words) (k
       }
 
   -- what is shown of the words is what is shown of the section
-  pub scientific-shows : {old out : List ℕ} {r : Shown} {colour : ℕ} (i : ℕ) (minus exact : Bool) (m c : Context)
+  pub scientific-shows : {old out : List ℕ} {r : Shown} {colour : ℕ} (size i : ℕ) (minus exact : Bool) (m c : Context)
       → colour ≡ z .colour → m .integerPlaces ≡ integerPlaces (z .items) → c .integerPlaces ≡ placesBehind (z .items)
-      → Shows (within (length old) (lookOf (signText minus ++ (itemsUnits m (firstOf (integerPlaces (z .items))) (itemsAt (entriesIn before))
+      → Shows (within size (lookOf (signText minus ++ (itemsUnits m (firstOf (integerPlaces (z .items))) (itemsAt (entriesIn before))
       ++ itemsUnits c (firstOf (placesBehind (z .items))) (itemsAt (entriesIn from)))) colour i exact)) old r out
-      → Shows (scientificReading (length old) z i minus exact m c) old r out
+      → Shows (scientificReading size z i minus exact m c) old r out
   unfolding scientificReading sectionUnits
-  scientific-shows {old} {out} {r} {colour} i minus exact m c ec em ee h =
+  scientific-shows {old} {out} {r} {colour} size i minus exact m c ec em ee h =
       let front : sectionUnits m (beforeCut (z .items)) ≡ itemsUnits m (firstOf (integerPlaces (z .items))) (itemsAt (entriesIn before)) =
       ap (λ (n : ℕ). itemsUnits m (firstOf n) (beforeCut (z .items))) em ∙ ap (itemsUnits m (firstOf (integerPlaces (z .items)))) (sym before-items) in
       let back : sectionUnits c (fromCut (z .items)) ≡ itemsUnits c (firstOf (placesBehind (z .items))) (itemsAt (entriesIn from)) =

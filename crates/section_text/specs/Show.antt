@@ -4,8 +4,8 @@ use mathlib.Core.Path.{_≡_}
 use mathlib.Core.Bool.{Bool, cond}
 use mathlib.Core.List.{List, [], _∷_, _++_}
 use Prim.Native.Nat.{ℕ}
+use lib.Seq.{sets}
 use Rattle.answers.specs.declared.Shown.{Shown}
-use Rattle.lists.specs.Lists.{overlay}
 use Rattle.fractions.specs.declared.Mixed.{Mixed}
 use Rattle.formats.specs.Items.{Section, beforeCut, fromCut}
 use Rattle.formats.specs.Text.{Context, sectionUnits}
@@ -29,6 +29,7 @@ scientificReading size s i minus exact m e =
 unfoldable pub fractionReading : ℕ → Section → ℕ → Bool → Bool → Mixed → Reading
 fractionReading size s i minus exact f = within size (lookOf (signText minus ++ fractionUnits f (s .items)) (s .colour) i exact)
 
+-- `old` is what is lent of a room, from its front: what would lie past that is left out
 pub record Shows (reading : Reading) (old : List ℕ) (r : Shown) (out : List ℕ) : Type 0 where
   pub result : r ≡ shownAs reading
-  pub room : out ≡ overlay (textAs reading) old
+  pub room : out ≡ sets old 0 (textAs reading)

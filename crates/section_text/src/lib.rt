@@ -1,4 +1,5 @@
-// The text of a section's items, shown whole in a lent room or not at all.
+// The text of a section's items, shown whole in a room or not at all. A room has `size` units, of which those in front are lent: all of
+// them to show a text, none to ask whether it would be shown.
 pub mod mixed;
 
 ghost use mathlib.Core.Path.{_≡_};
@@ -11,7 +12,7 @@ ghost use Rattle.values.specs.Ranges.{between};
 ghost use Rattle.lists.specs.Lists.{any, count};
 ghost use Rattle.figures.specs.Digits.{digitUnit};
 ghost use Rattle.formats.specs.Items.{Item, numberKind, dateKind, scientificKind, kindOf, beforeCut, fromCut, integerPlaces, placesBehind};
-ghost use Rattle.formats.specs.Reading.{lookOf, within, daySpan, itemSpan, finestSpan, instantExactly};
+ghost use Rattle.formats.specs.Reading.{shown, lookOf, within, daySpan, itemSpan, finestSpan, instantExactly};
 ghost use Rattle.formats.specs.Text.{Context, idleUnits, placeUnits, exponentUnits};
 ghost use Rattle.tables.specs.Words.{entriesIn};
 ghost use Rattle.tables.specs.Encode.{entry, entriesOf};
@@ -180,7 +181,7 @@ fn length_of(minus: bool, items: &[u16], digits: &[u8; 40], s: Subject, text: &[
     put_text(&mut none[..0], minus, items, digits, s, text)
 }
 
-// Writes a section's text into a room that takes it.
+// Writes a section's text.
 fn write_items(
     room: &mut [u16],
     minus: bool,
@@ -195,8 +196,7 @@ fn write_items(
     requires { ⌜ (s .figures .used ≤ 40) × (s .lent ≡ true → length (now text) ≤ 1024) × (length (now items) ≤ 508)
         × Ready (λ k. SubjectIs k (now digits) s (now text)) (now items) ⌝ }
     ensures { λ r. ⌜ OfText (λ k. SubjectIs k (now (digits .entry)) s (now (text .entry))) (now (items .entry))
-        (λ us. length (signText minus ++ us) ≤ length (now (room .entry))
-        → Shows (within (length (now (room .entry))) (lookOf (signText minus ++ us) colour section exact)) (now (room .entry)) r (now (room .exit))) ⌝ }
+        (λ us. Shows (shown (lookOf (signText minus ++ us) colour section exact)) (now (room .entry)) r (now (room .exit))) ⌝ }
 {
     let n = put_text(room, minus, items, digits, s, text);
     done_shown(n as u32, colour, section, exact)
@@ -205,6 +205,7 @@ fn write_items(
 // Shows a section's text where the room takes it. Only where it may not is the text measured.
 fn show_items(
     room: &mut [u16],
+    size: usize,
     minus: bool,
     items: &[u16],
     digits: &[u8; 40],
@@ -217,12 +218,12 @@ fn show_items(
     requires { ⌜ (s .figures .used ≤ 40) × (s .lent ≡ true → length (now text) ≤ 1024) × (length (now items) ≤ 508)
         × Ready (λ k. SubjectIs k (now digits) s (now text)) (now items) ⌝ }
     ensures { λ r. ⌜ OfText (λ k. SubjectIs k (now (digits .entry)) s (now (text .entry))) (now (items .entry))
-        (λ us. Shows (within (length (now (room .entry))) (lookOf (signText minus ++ us) colour section exact)) (now (room .entry)) r (now (room .exit))) ⌝ }
+        (λ us. Shows (within size (lookOf (signText minus ++ us) colour section exact)) (now (room .entry)) r (now (room .exit))) ⌝ }
 {
-    if is_roomy(room.len(), items.len(), s.lent) {
+    if is_roomy(size, items.len(), s.lent) {
         return write_items(room, minus, items, digits, s, text, exact, colour, section);
     }
-    if room.len() < length_of(minus, items, digits, s, text) {
+    if size < length_of(minus, items, digits, s, text) {
         return refused_shown(Answer::TextRoom);
     }
     write_items(room, minus, items, digits, s, text, exact, colour, section)
@@ -296,6 +297,7 @@ fn takes_dated(size: usize, items: &[u16], m: &[u64; 7]) -> bool
 // Shows a date-time section's text where the room takes it. It is exact where the millisecond is a multiple of the finest unit shown.
 fn show_dated_items(
     room: &mut [u16],
+    size: usize,
     items: &[u16],
     m: &[u64; 7],
     ms: Millisecond,
@@ -304,10 +306,10 @@ fn show_dated_items(
 ) -> Shown
     requires { ⌜ (length (now items) ≤ 508) × Ready (DatedIs (now m) (any datedEntry (entriesIn (now items)))) (now items) ⌝ }
     ensures { λ r. ⌜ OfText (DatedIs (now (m .entry)) (any datedEntry (entriesIn (now (items .entry))))) (now (items .entry))
-        (λ us. Shows (within (length (now (room .entry))) (lookOf us colour section (eqb (ms .0 % finestSpan (itemsIn (now (items .entry)))) 0)))
+        (λ us. Shows (within size (lookOf us colour section (eqb (ms .0 % finestSpan (itemsIn (now (items .entry)))) 0)))
         (now (room .entry)) r (now (room .exit))) ⌝ }
 {
-    if takes_dated(room.len(), items, m) {
+    if takes_dated(size, items, m) {
         let w = put_dated_items(room, items, m);
         return done_shown(w.end as u32, colour, section, ms.0 % w.finest == 0);
     }
@@ -491,6 +493,7 @@ fn takes_scientific(
 // Shows a scientific section's text where the room takes it.
 fn show_scientific_items(
     room: &mut [u16],
+    size: usize,
     minus: bool,
     before: &[u16],
     from: &[u16],
@@ -503,9 +506,9 @@ fn show_scientific_items(
 ) -> Shown
     requires { ⌜ ScientificReady (now digits) s p (now before) (now from) ⌝ }
     ensures { λ r. ⌜ OfScientific (now (digits .entry)) s p (now (before .entry)) (now (from .entry))
-        (λ us. Shows (within (length (now (room .entry))) (lookOf (signText minus ++ us) colour section exact)) (now (room .entry)) r (now (room .exit))) ⌝ }
+        (λ us. Shows (within size (lookOf (signText minus ++ us) colour section exact)) (now (room .entry)) r (now (room .exit))) ⌝ }
 {
-    if takes_scientific(room.len(), minus, before, from, digits, s, p) {
+    if takes_scientific(size, minus, before, from, digits, s, p) {
         let n = put_scientific(room, minus, before, from, digits, s, p);
         return done_shown(n as u32, colour, section, exact);
     }
@@ -515,6 +518,7 @@ fn show_scientific_items(
 // Shows section i, which is a scientific section: the digits and the subject are those of the mantissa, exact or not.
 pub fn show_scientific_section(
     room: &mut [u16],
+    size: usize,
     table: &[u16],
     i: u16,
     minus: bool,
@@ -529,7 +533,7 @@ pub fn show_scientific_section(
     ensures { λ r. ⌜ ((m e : Context) → SubjectIs numberKind (now (digits .entry)) s [] m
         → m .integerPlaces ≡ integerPlaces (sectionIn (now (table .entry)) i .items)
         → ExponentIs exponent below e → e .integerPlaces ≡ placesBehind (sectionIn (now (table .entry)) i .items)
-        → Shows (scientificReading (length (now (room .entry))) (sectionIn (now (table .entry)) i) i minus exact m e) (now (room .entry)) r (now (room .exit))) ⌝ }
+        → Shows (scientificReading size (sectionIn (now (table .entry)) i) i minus exact m e) (now (room .entry)) r (now (room .exit))) ⌝ }
 {
     let h = head_of(table, i as usize);
     let items = items_of(table, i as usize);
@@ -542,6 +546,7 @@ pub fn show_scientific_section(
     };
     show_scientific_items(
         room,
+        size,
         minus,
         &items[..start],
         from,
@@ -557,6 +562,7 @@ pub fn show_scientific_section(
 // Shows section i, which is a date-time section: the moment is that of an instant with this millisecond.
 pub fn show_dated_section(
     room: &mut [u16],
+    size: usize,
     table: &[u16],
     i: u16,
     m: &[u64; 7],
@@ -566,17 +572,18 @@ pub fn show_dated_section(
         × DatedKnown (now m) (any datedEntry (entriesOf (sectionIn (now table) i .items))) ⌝ }
     ensures { λ r. ⌜ ((c : Context) → MomentIs (now (m .entry)) (any datedEntry (entriesOf (sectionIn (now (table .entry)) i .items))) c
         → c .integerPlaces ≡ integerPlaces (sectionIn (now (table .entry)) i .items)
-        → Shows (sectionReading (length (now (room .entry))) (sectionIn (now (table .entry)) i) i false (instantExactly (sectionIn (now (table .entry)) i) ms) c)
+        → Shows (sectionReading size (sectionIn (now (table .entry)) i) i false (instantExactly (sectionIn (now (table .entry)) i) ms) c)
         (now (room .entry)) r (now (room .exit))) ⌝ }
 {
     let h = head_of(table, i as usize);
     let items = items_of(table, i as usize);
-    show_dated_items(room, items, m, ms, h.colour, i)
+    show_dated_items(room, size, items, m, ms, h.colour, i)
 }
 
 // Shows section i, which is no date-time section; `exact`: what it shows is.
 pub fn show_section(
     room: &mut [u16],
+    size: usize,
     table: &[u16],
     i: u16,
     minus: bool,
@@ -589,9 +596,20 @@ pub fn show_section(
         × Known (kindOf (sectionIn (now table) i)) (now digits) s (now text) ⌝ }
     ensures { λ r. ⌜ ((c : Context) → SubjectIs (kindOf (sectionIn (now (table .entry)) i)) (now (digits .entry)) s (now (text .entry)) c
         → c .integerPlaces ≡ integerPlaces (sectionIn (now (table .entry)) i .items)
-        → Shows (sectionReading (length (now (room .entry))) (sectionIn (now (table .entry)) i) i minus exact c) (now (room .entry)) r (now (room .exit))) ⌝ }
+        → Shows (sectionReading size (sectionIn (now (table .entry)) i) i minus exact c) (now (room .entry)) r (now (room .exit))) ⌝ }
 {
     let h = head_of(table, i as usize);
     let items = items_of(table, i as usize);
-    show_items(room, minus, items, digits, s, text, exact, h.colour, i)
+    show_items(
+        room,
+        size,
+        minus,
+        items,
+        digits,
+        s,
+        text,
+        exact,
+        h.colour,
+        i,
+    )
 }

@@ -236,6 +236,7 @@ fn takes_mixed(
 // Shows a fraction section's text where the room takes it.
 fn show_mixed(
     room: &mut [u16],
+    size: usize,
     minus: bool,
     whole: &[u16],
     numerator: &[u16],
@@ -246,11 +247,11 @@ fn show_mixed(
     section: u16,
 ) -> Shown
     requires { ⌜ FractionReady (now whole) (now numerator) (now from) ⌝ }
-    ensures { λ r. ⌜ Shows (within (length (now (room .entry))) (lookOf (signText minus
+    ensures { λ r. ⌜ Shows (within size (lookOf (signText minus
         ++ mixedText f (itemsIn (now (whole .entry))) (itemsIn (now (numerator .entry))) (itemsIn (now (from .entry)))) colour section exact))
         (now (room .entry)) r (now (room .exit)) ⌝ }
 {
-    if takes_mixed(room.len(), minus, whole, numerator, from, f) {
+    if takes_mixed(size, minus, whole, numerator, from, f) {
         let n = put_mixed(room, minus, whole, numerator, from, f);
         return done_shown(n as u32, colour, section, exact);
     }
@@ -260,6 +261,7 @@ fn show_mixed(
 // Shows section i, which is a fraction section; `exact`: the fraction is the number itself.
 pub fn show_fraction_section(
     room: &mut [u16],
+    size: usize,
     table: &[u16],
     i: u16,
     minus: bool,
@@ -268,7 +270,7 @@ pub fn show_fraction_section(
 ) -> Shown
     requires { ⌜ T (passes (now table)) × (i < getD (now table) 0 0) × (kindOf (sectionIn (now table) i) ≡ fractionKind)
         × (f .whole ≤ 10 ^ 15) × (f .above < 10 ^ 19) × (1 ≤ f .below) × (f .below ≤ 999) ⌝ }
-    ensures { λ r. ⌜ Shows (fractionReading (length (now (room .entry))) (sectionIn (now (table .entry)) i) i minus exact f) (now (room .entry)) r (now (room .exit)) ⌝ }
+    ensures { λ r. ⌜ Shows (fractionReading size (sectionIn (now (table .entry)) i) i minus exact f) (now (room .entry)) r (now (room .exit)) ⌝ }
 {
     let h = head_of(table, i as usize);
     let items = items_of(table, i as usize);
@@ -277,6 +279,7 @@ pub fn show_fraction_section(
     let above = run_start(before);
     show_mixed(
         room,
+        size,
         minus,
         &before[..above],
         &before[above..],

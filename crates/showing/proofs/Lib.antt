@@ -10,3 +10,4 @@ pub mod Fractions
 pub mod Instants
 pub mod Texts
 pub mod Values
+pub mod Rooms

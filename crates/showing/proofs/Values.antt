@@ -24,7 +24,7 @@ use Rattle.formats.specs.Choice.{Exact, numberExact, instantExact, Reason, noth
 use Rattle.formats.specs.Reading.{Reading, reading}
 use Rattle.tables.specs.Decode.{decode}
 use Rattle.tables.specs.Rules.{passes}
-use Rattle.tables.specs.Calls.{tableReading, showing, roomAfter}
+use Rattle.tables.specs.Calls.{tableReading}
 use Rattle.table_words.specs.Sections.{sectionIn}
 use Rattle.choosing.specs.declared.Sought.{Sought}
 use Rattle.choosing.specs.declared.Found.the-variants as found
@@ -81,13 +81,12 @@ pub shows-as : {old out : List ℕ} {r : Shown} {y z : Reading} → z ≡ y → 
 shows-as {old} {out} {r} e x = subst (λ (z : Reading). Shows z old r out) (sym e) x
 
 -- the call, by the table's check
-module _ (ws : List ℕ) (ask : Ask) (text : List ℕ) {b : Bool} (e : b ≡ passes ws) where
-  pub table-shows : {old out : List ℕ} {r : Shown} → b ≡ true → Shows (reading (decode ws) ask text (length old)) old r out
-      → (r ≡ showing ws ask text (length old)) × (out ≡ roomAfter ws ask text old)
-  unfolding showing roomAfter tableReading
-  table-shows f y = rw (sym e ∙ f) (y .result, y .room)
+module _ (ws : List ℕ) (ask : Ask) (text : List ℕ) (size : ℕ) {b : Bool} (e : b ≡ passes ws) where
+  pub table-shows : {old out : List ℕ} {r : Shown} → b ≡ true → Shows (reading (decode ws) ask text size) old r out
+      → Shows (tableReading ws ask text size) old r out
+  unfolding tableReading
+  table-shows f y = rw (sym e ∙ f) y
 
-  pub table-refused : (old : List ℕ) → b ≡ false
-      → (refusedShown answer.Table ≡ showing ws ask text (length old)) × (old ≡ roomAfter ws ask text old)
-  unfolding showing roomAfter tableReading
-  table-refused old f = let y = shows-refused old answer.Table in rw (sym e ∙ f) (y .result, y .room)
+  pub table-refused : (old : List ℕ) → b ≡ false → Shows (tableReading ws ask text size) old (refusedShown answer.Table) old
+  unfolding tableReading
+  table-refused old f = rw (sym e ∙ f) (shows-refused old answer.Table)

@@ -1,4 +1,5 @@
-// Shows a value through a table: one call makes a plan of what is to be shown, and one writes it.
+// Shows a value through a table: one call makes a plan of what is to be shown, and one writes it. What is written goes into a room of `size`
+// units, of which those in front are lent: all of them to show a value, none to ask what would be answered.
 ghost use mathlib.Core.Path.{_≡_};
 ghost use mathlib.Core.Bool.{true, false};
 ghost use mathlib.Core.List.{List};
@@ -16,7 +17,7 @@ ghost use Rattle.values.specs.declared.Value.the-variants as value;
 ghost use Rattle.tables.specs.Words.{entriesIn};
 ghost use Rattle.tables.specs.Decode.{decode};
 ghost use Rattle.tables.specs.Rules.{passes};
-ghost use Rattle.tables.specs.Calls.{showing, roomAfter};
+ghost use Rattle.tables.specs.Calls.{tableReading, showing, roomAfter};
 ghost use Rattle.table_words.specs.Sections.{sectionIn};
 ghost use Rattle.choosing.specs.Seeking.{instantSought};
 ghost use Rattle.figure_text.specs.Shown.{figuresWith};
@@ -127,7 +128,7 @@ fn instant_in(table: &[u16], i: u16, d: Day, m: Millisecond) -> Plan
 }
 
 // An instant as the chooser is asked for it.
-fn instant_sought(d: Day, m: Millisecond) -> Sought
+pub fn instant_sought(d: Day, m: Millisecond) -> Sought
     ensures { λ r. ⌜ r ≡ instantSought d m ⌝ }
 {
     Sought {
@@ -256,7 +257,7 @@ fn first_argument(items: &[u16]) -> u16
 
 // How many integer places section i has, which is no fraction: powers run down by one from the first place, whose argument is 16 more
 // than its power.
-fn integer_places(table: &[u16], i: usize) -> u32
+pub fn integer_places(table: &[u16], i: usize) -> u32
     requires { ⌜ T (passes (now table)) × (i < getD (now table) 0 0) × (sameKind (kindOf (sectionIn (now table) i)) fractionKind ≡ false) ⌝ }
     ensures { λ r. ⌜ r ≡ integerPlaces (sectionIn (now (table .entry)) i .items) ⌝ }
 {
@@ -316,7 +317,7 @@ fn number_in(table: &[u16], i: u16, v: Signed) -> Planned
 }
 
 // A number as the chooser is asked for it.
-fn number_sought(v: Signed) -> Sought
+pub fn number_sought(v: Signed) -> Sought
     ensures { λ r. ⌜ r ≡ signedSought v ⌝ }
 {
     Sought {
@@ -364,11 +365,11 @@ fn plan_of(table: &[u16], ask: Ask, text: &[u16]) -> Planned
 }
 
 // Shows a text by itself.
-fn show_plain(room: &mut [u16], text: &[u16]) -> Shown
+fn show_plain(room: &mut [u16], size: usize, text: &[u16]) -> Shown
     requires { ⌜ length (now text) ≤ 1024 ⌝ }
-    ensures { λ r. ⌜ Shows (within (length (now (room .entry))) (lookOf (now (text .entry)) 0 4 true)) (now (room .entry)) r (now (room .exit)) ⌝ }
+    ensures { λ r. ⌜ Shows (within size (lookOf (now (text .entry)) 0 4 true)) (now (room .entry)) r (now (room .exit)) ⌝ }
 {
-    if room.len() < text.len() {
+    if size < text.len() {
         return refused_shown(Answer::TextRoom);
     }
     let end = writing::put_units(room, 0, text);
@@ -376,23 +377,23 @@ fn show_plain(room: &mut [u16], text: &[u16]) -> Shown
 }
 
 // Shows an instant in section i, which is a date-time section.
-fn show_dated(room: &mut [u16], table: &[u16], i: u16, d: Day, m: Millisecond) -> Shown
+fn show_dated(room: &mut [u16], size: usize, table: &[u16], i: u16, d: Day, m: Millisecond) -> Shown
     requires { ⌜ T (passes (now table)) × (i < getD (now table) 0 0) × (kindOf (sectionIn (now table) i) ≡ dateKind) ⌝ }
-    ensures { λ r. ⌜ Shows (sectionReading (length (now (room .entry))) (sectionIn (now (table .entry)) i) i false
+    ensures { λ r. ⌜ Shows (sectionReading size (sectionIn (now (table .entry)) i) i false
         (instantExactly (sectionIn (now (table .entry)) i) m) (instantContext (sectionIn (now (table .entry)) i) d m)) (now (room .entry)) r (now (room .exit)) ⌝ }
 {
     let dated = date_text::shows_date(items_of(table, i as usize));
     let moment = date_text::moment_of(is_twelve_hour(table, i as usize), dated, d, m);
-    show_dated_section(room, table, i, &moment, m)
+    show_dated_section(room, size, table, i, &moment, m)
 }
 
 // Shows a number in section i, which is a scientific section. (The plan has the number alone: the mantissa's digits and the exponent
 // would be carried through it by every value.)
-fn show_scientific(room: &mut [u16], table: &[u16], i: u16, v: Signed) -> Shown
+fn show_scientific(room: &mut [u16], size: usize, table: &[u16], i: u16, v: Signed) -> Shown
     requires { ⌜ T (passes (now table)) × (i < getD (now table) 0 0) × (kindOf (sectionIn (now table) i) ≡ scientificKind)
         × (v .magnitude < 10 ^ 15) × (v .scale ≤ 15) × NumberOf v ⌝ }
     ensures { λ r. ⌜ ((x : Number) → v ≡ signedOf x
-        → Shows (scientificOf (now (table .entry)) i (v .negative) x (length (now (room .entry)))) (now (room .entry)) r (now (room .exit))) ⌝ }
+        → Shows (scientificOf (now (table .entry)) i (v .negative) x size) (now (room .entry)) r (now (room .exit))) ⌝ }
 {
     let h = head_of(table, i as usize);
     let integers = integer_places(table, i as usize);
@@ -406,6 +407,7 @@ fn show_scientific(room: &mut [u16], table: &[u16], i: u16, v: Signed) -> Shown
     };
     show_scientific_section(
         room,
+        size,
         table,
         i,
         minus,
@@ -427,7 +429,7 @@ fn is_parted(before: &[u16]) -> bool
 }
 
 // The fraction of a number in section i, which is a fraction section. Directly behind its solidus stands the fixed number or a place.
-fn section_fraction(table: &[u16], i: usize, v: Signed) -> Nearest
+pub fn section_fraction(table: &[u16], i: usize, v: Signed) -> Nearest
     requires { ⌜ T (passes (now table)) × (i < getD (now table) 0 0) × (kindOf (sectionIn (now table) i) ≡ fractionKind)
         × (v .magnitude < 10 ^ 15) × (v .scale ≤ 15) ⌝ }
     ensures is { λ r. ⌜ ((x : Number) → v ≡ signedOf x → r .mixed ≡ sectionFraction (sectionIn (now (table .entry)) i) x) ⌝ }
@@ -447,23 +449,23 @@ fn section_fraction(table: &[u16], i: usize, v: Signed) -> Nearest
 }
 
 // Shows a number in section i, which is a fraction section.
-fn show_fraction(room: &mut [u16], table: &[u16], i: u16, v: Signed) -> Shown
+fn show_fraction(room: &mut [u16], size: usize, table: &[u16], i: u16, v: Signed) -> Shown
     requires { ⌜ T (passes (now table)) × (i < getD (now table) 0 0) × (kindOf (sectionIn (now table) i) ≡ fractionKind)
         × (v .magnitude < 10 ^ 15) × (v .scale ≤ 15) ⌝ }
     ensures { λ r. ⌜ ((x : Number) → v ≡ signedOf x
-        → Shows (fractionShown (now (table .entry)) i (v .negative) x (length (now (room .entry)))) (now (room .entry)) r (now (room .exit))) ⌝ }
+        → Shows (fractionShown (now (table .entry)) i (v .negative) x size) (now (room .entry)) r (now (room .exit))) ⌝ }
 {
     let x = section_fraction(table, i as usize, v);
     let f = x.mixed;
     let nought = (f.whole == 0) & (f.above == 0);
     let minus = added_minus(table, i, v.negative, nought);
-    show_fraction_section(room, table, i, minus, f, x.exact)
+    show_fraction_section(room, size, table, i, minus, f, x.exact)
 }
 
 // Shows a value through a table that passes.
-fn show_value(room: &mut [u16], table: &[u16], ask: Ask, text: &[u16]) -> Shown
+fn show_value(room: &mut [u16], size: usize, table: &[u16], ask: Ask, text: &[u16]) -> Shown
     requires { ⌜ T (passes (now table)) ⌝ }
-    ensures { λ r. ⌜ Shows (reading (decode (now (table .entry))) ask (now (text .entry)) (length (now (room .entry))))
+    ensures { λ r. ⌜ Shows (reading (decode (now (table .entry))) ask (now (text .entry)) size)
         (now (room .entry)) r (now (room .exit)) ⌝ }
 {
     let p = plan_of(table, ask, text);
@@ -471,12 +473,13 @@ fn show_value(room: &mut [u16], table: &[u16], ask: Ask, text: &[u16]) -> Shown
     let plan = p.plan;
     match plan {
         Plan::Refused(answer) => refused_shown(answer),
-        Plan::Itself => show_plain(room, text),
-        Plan::Dated(i, d, m) => show_dated(room, table, i, d, m),
-        Plan::Scientific(i, v) => show_scientific(room, table, i, v),
-        Plan::Fraction(i, v) => show_fraction(room, table, i, v),
+        Plan::Itself => show_plain(room, size, text),
+        Plan::Dated(i, d, m) => show_dated(room, size, table, i, d, m),
+        Plan::Scientific(i, v) => show_scientific(room, size, table, i, v),
+        Plan::Fraction(i, v) => show_fraction(room, size, table, i, v),
         Plan::Section(i, minus, s) => show_section(
             room,
+            size,
             table,
             i,
             minus,
@@ -488,14 +491,31 @@ fn show_value(room: &mut [u16], table: &[u16], ask: Ask, text: &[u16]) -> Shown
     }
 }
 
+// Shows a value through the words lent as a table.
+fn show_in(table: &[u16], ask: Ask, text: &[u16], room: &mut [u16], size: usize) -> Shown
+    ensures { λ r. ⌜ Shows (tableReading (now (table .entry)) ask (now (text .entry)) size) (now (room .entry)) r (now (room .exit)) ⌝ }
+{
+    if checking::check(table) {
+        return show_value(room, size, table, ask, text);
+    }
+    refused_shown(Answer::Table)
+}
+
+// The answer that `show` gives in a room of so many units: no room is lent, and nothing is written.
+pub fn answer_of(table: &[u16], ask: Ask, text: &[u16], size: usize) -> Answer
+    ensures { λ r. ⌜ r ≡ (showing (now (table .entry)) ask (now (text .entry)) size) .answer ⌝ }
+{
+    let mut none = [0; 1];
+    let shown = show_in(table, ask, text, &mut none[..0], size);
+    shown.answer
+}
+
 // Shows a value through the words lent as a table. Nothing is asked of the caller: words that break a table rule are answered 8,
 // and a value out of range 9. `text` is read only where the value is a text.
 pub fn show(table: &[u16], ask: Ask, text: &[u16], room: &mut [u16]) -> Shown
     ensures result { λ r. ⌜ r ≡ showing (now (table .entry)) ask (now (text .entry)) (length (now (room .entry))) ⌝ }
     ensures room { λ r. ⌜ now (room .exit) ≡ roomAfter (now (table .entry)) ask (now (text .entry)) (now (room .entry)) ⌝ }
 {
-    if checking::check(table) {
-        return show_value(room, table, ask, text);
-    }
-    refused_shown(Answer::Table)
+    let size = room.len();
+    show_in(table, ask, text, room, size)
 }

@@ -45,6 +45,23 @@ pub struct Shown {
     pub exact: u16,
 }
 
+/// Why a value is shown as it is, with the numbers of include/numfmt.h. On a refusal every number but the answer is 0.
+#[repr(C)]
+#[derive(Clone, Copy, Debug, PartialEq, Eq)]
+pub struct Reason {
+    pub answer: u16,
+    pub section: u16,
+    /// 0 by its own condition, 1 to 7 by a fallback, 8 and 9 for a text.
+    pub choice: u16,
+    /// Of sections 0 and 1, where they stand before the one chosen: 1 its own condition is false, 2 its fallback is.
+    pub first: u16,
+    pub second: u16,
+    /// 0 added, 1 to 5 what held it back.
+    pub minus: u16,
+    /// How many decimals were cut.
+    pub cut: u16,
+}
+
 /// A part of a code: `length` units from unit `start` on.
 #[repr(C)]
 #[derive(Clone, Copy, Debug, PartialEq, Eq)]
@@ -86,6 +103,27 @@ unsafe extern "C" {
         room: *mut u16,
         room_len: usize,
     ) -> Shown;
+    fn numfmt_why_number(
+        table: *const u16,
+        table_len: usize,
+        coefficient: i64,
+        scale: u32,
+        room_len: usize,
+    ) -> Reason;
+    fn numfmt_why_instant(
+        table: *const u16,
+        table_len: usize,
+        day: u32,
+        millisecond: u32,
+        room_len: usize,
+    ) -> Reason;
+    fn numfmt_why_text(
+        table: *const u16,
+        table_len: usize,
+        text: *const u16,
+        text_len: usize,
+        room_len: usize,
+    ) -> Reason;
 }
 
 /// Writes the table of a code in front of the table room. A room of [`TABLE_WORDS`](crate::TABLE_WORDS) holds every table.
@@ -142,6 +180,41 @@ pub fn show_text(table: &[u16], text: &[u16], room: &mut [u16]) -> Shown {
             text.len(),
             room,
             units,
+        )
+    }
+}
+
+/// Why a number is shown as it is in a room of so many units.
+///
+/// ```
+/// use numfmt::calls;
+///
+/// let table = [1, 2, 0, 0, 0, 0, 0, 0, 0, 15, 0, 0, 1, 4, 16];
+/// let reason = calls::why_number(&table, -1250, 2, 8);
+/// assert_eq!((reason.answer, reason.section, reason.choice), (0, 0, 1));
+/// assert_eq!((reason.minus, reason.cut), (0, 1));
+/// ```
+pub fn why_number(table: &[u16], coefficient: i64, scale: u32, room_len: usize) -> Reason {
+    // SAFETY: the pointer is a slice's, with its length; nothing is written.
+    unsafe { numfmt_why_number(table.as_ptr(), table.len(), coefficient, scale, room_len) }
+}
+
+/// Why an instant is shown as it is in a room of so many units.
+pub fn why_instant(table: &[u16], day: u32, millisecond: u32, room_len: usize) -> Reason {
+    // SAFETY: the pointer is a slice's, with its length; nothing is written.
+    unsafe { numfmt_why_instant(table.as_ptr(), table.len(), day, millisecond, room_len) }
+}
+
+/// Why a text is shown as it is in a room of so many units.
+pub fn why_text(table: &[u16], text: &[u16], room_len: usize) -> Reason {
+    // SAFETY: each pointer is a slice's, with its length; nothing is written.
+    unsafe {
+        numfmt_why_text(
+            table.as_ptr(),
+            table.len(),
+            text.as_ptr(),
+            text.len(),
+            room_len,
         )
     }
 }

@@ -89,6 +89,31 @@ impl Table {
         }
     }
 
+    /// Why a value is shown as it is, in a room that takes the text. Refuses as [`show`](Table::show) does.
+    ///
+    /// ```
+    /// use numfmt::{Table, Value};
+    ///
+    /// let table = Table::prepare("[>100]0;0;@")?;
+    /// let reason = table.why(&Value::Number { coefficient: -55, scale: 1 })?;
+    /// assert_eq!((reason.section, reason.choice, reason.first), (1, 3, 1));
+    /// assert_eq!((reason.minus, reason.cut), (0, 1));
+    /// # Ok::<(), numfmt::Refusal>(())
+    /// ```
+    pub fn why(&self, value: &Value) -> Result<calls::Reason, Refusal> {
+        let reason = match *value {
+            Value::Number { coefficient, scale } => {
+                calls::why_number(&self.0, coefficient, scale, usize::MAX)
+            }
+            Value::Instant { day, millisecond } => {
+                calls::why_instant(&self.0, day, millisecond, usize::MAX)
+            }
+            Value::Text(text) => calls::why_text(&self.0, &units(text), usize::MAX),
+        };
+        Refusal::told(reason.answer, 0)?;
+        Ok(reason)
+    }
+
     /// Shows coefficient / 10^scale. Refuses with 9, 10, 11 or 12.
     pub fn show_number(&self, coefficient: i64, scale: u32) -> Result<Shown, Refusal> {
         in_room(|room| calls::show_number(&self.0, coefficient, scale, room))

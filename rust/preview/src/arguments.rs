@@ -5,7 +5,7 @@ use std::ffi::OsString;
 use crate::value::Kind;
 
 pub const USAGE: &str = "\
-usage: ./preview [--plain] CODE [number|instant|text] VALUE..
+usage: ./preview [--plain | --why] CODE [number|instant|text] VALUE..
        ./preview --file LIST
        ./preview --help
 ";
@@ -28,6 +28,8 @@ Without a kind a value is what it reads as:
 
   --plain      prints five lines for each value, answer=, place=, colour=, exact= and text=, as the program show does.
                Behind a kind a value is read as that program reads it: an instant is day/millisecond.
+  --why        says below each row why: the section and how it was chosen, the sections tried before it, the minus or what held
+               it back, and how many decimals were cut.
   --file LIST  takes lines of a code, a tab and values with tabs between (or a kind and values) from a file in UTF-8.
                Each line is reported with its number, and a bad line does not stop the others. Lines may end in LF or
                CR LF, the last in nothing; empty lines are passed over.
@@ -43,6 +45,8 @@ pub enum Asked {
     Help,
     Page(Request),
     Plain(Request),
+    /// Rows, each with its reason.
+    Why(Request),
     /// The contents of a list.
     List(Vec<u8>),
 }
@@ -82,6 +86,7 @@ pub fn read(arguments: impl Iterator<Item = OsString>) -> Result<Asked, String> 
         ["--file", path] => list(path),
         ["--file", ..] => Err(misuse("--file takes the name of a list, and nothing else")),
         ["--plain", rest @ ..] => request(rest).map(Asked::Plain),
+        ["--why", rest @ ..] => request(rest).map(Asked::Why),
         rest => request(rest).map(Asked::Page),
     }
 }

@@ -8,6 +8,7 @@ mod marks;
 mod page;
 mod plain;
 mod value;
+mod why;
 
 use std::ffi::OsStr;
 use std::io::{self, BufWriter, IsTerminal, Write};
@@ -43,7 +44,8 @@ fn write(asked: &Asked, out: &mut impl Write) -> io::Result<bool> {
     match asked {
         Asked::Help => write!(page.out, "{USAGE}{HELP}").map(|()| false),
         Asked::Plain(request) => plain::write(request, page.out),
-        Asked::Page(request) => page.write(request),
+        Asked::Page(request) => page.write(request, false),
+        Asked::Why(request) => page.write(request, true),
         Asked::List(list) => list::write(list, &mut page),
     }
 }

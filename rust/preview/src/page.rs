@@ -9,6 +9,7 @@ use crate::colours;
 use crate::columns::{visible, width};
 use crate::marks::mark;
 use crate::value::{self, Kind};
+use crate::why::sentence;
 
 /// The section that is told for a text which no section shows.
 const NO_SECTION: u16 = 4;
@@ -20,21 +21,21 @@ pub struct Page<W> {
 }
 
 impl<W: Write> Page<W> {
-    /// A row for each value, or why the code is refused.
-    pub fn write(&mut self, request: &Request) -> io::Result<bool> {
+    /// A row for each value, with its reason below it where `why` is told, or why the code is refused.
+    pub fn write(&mut self, request: &Request, why: bool) -> io::Result<bool> {
         let table = Table::prepare(&request.code);
         if let Err(refusal) = &table {
             if mark(&request.code, refusal).is_some() {
                 writeln!(self.out, "{}", visible(&request.code))?;
             }
         }
-        self.write_below("", "", request, table)
+        self.write_below("", "", request, table, why)
     }
 
     /// The same for a line of a list, which begins with `lead` and its code.
     pub fn write_line(&mut self, lead: &str, request: &Request) -> io::Result<bool> {
         writeln!(self.out, "{lead}{}", visible(&request.code))?;
-        self.write_below(lead, "  ", request, Table::prepare(&request.code))
+        self.write_below(lead, "  ", request, Table::prepare(&request.code), false)
     }
 
     /// What stands below the code, which stands behind `lead`.
@@ -44,9 +45,10 @@ impl<W: Write> Page<W> {
         margin: &str,
         request: &Request,
         table: Result<Table, Refusal>,
+        why: bool,
     ) -> io::Result<bool> {
         let refusal = match table {
-            Ok(table) => return self.write_rows(margin, &table, request),
+            Ok(table) => return self.write_rows(margin, &table, request, why),
             Err(refusal) => refusal,
         };
         if let Some(mark) = mark(&request.code, &refusal) {
@@ -56,7 +58,13 @@ impl<W: Write> Page<W> {
         Ok(true)
     }
 
-    fn write_rows(&mut self, margin: &str, table: &Table, request: &Request) -> io::Result<bool> {
+    fn write_rows(
+        &mut self,
+        margin: &str,
+        table: &Table,
+        request: &Request,
+        why: bool,
+    ) -> io::Result<bool> {
         let labels: Vec<String> = request.values.iter().map(|value| visible(value)).collect();
         let widest = labels.iter().map(|label| width(label)).max().unwrap_or(0);
         let mut refused = false;
@@ -69,6 +77,10 @@ impl<W: Write> Page<W> {
             );
             let gap = " ".repeat(widest - width(label) + 2);
             writeln!(self.out, "{margin}{label}{gap}{row}")?;
+            if let Some(sentence) = why.then(|| reason(table, request, written)).flatten() {
+                let below = " ".repeat(widest + 2);
+                writeln!(self.out, "{margin}{below}{}", visible(&sentence))?;
+            }
         }
         Ok(refused)
     }
@@ -77,6 +89,13 @@ impl<W: Write> Page<W> {
 fn show(table: &Table, kind: Option<Kind>, written: &str) -> Result<Shown, String> {
     let value = value::read(kind, written).map_err(|misread| misread.text().to_string())?;
     table.show(&value).map_err(|refusal| refusal.to_string())
+}
+
+/// Nothing where the show is refused.
+fn reason(table: &Table, request: &Request, written: &str) -> Option<String> {
+    let value = value::read(request.kind, written).ok()?;
+    let reason = table.why(&value).ok()?;
+    Some(sentence(&request.code, table, &reason))
 }
 
 fn row(shown: &Shown, coloured: bool) -> String {

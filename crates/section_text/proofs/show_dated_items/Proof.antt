@@ -24,7 +24,7 @@ returns c =
 returns-2 : tie.Need-returns-2
 returns-2 c =
     let t = c .before in
-    λ x k q i f. rw (c .refused-shown .ensures) (shows-none _ _ _ _ _ (leb-false _ _ (sym (t .before .takes-dated .ensures x k q i f) ∙ t .if1 .left)))
+    λ x k q i f. rw (c .refused-shown .ensures) (shows-none _ _ _ _ _ _ (leb-false _ _ (sym (t .before .takes-dated .ensures x k q i f) ∙ t .if1 .left)))
 
 pub show-dated-items-spec : {M : Type 1} → statement M
 show-dated-items-spec =

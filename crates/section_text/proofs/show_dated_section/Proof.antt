@@ -27,8 +27,8 @@ returns c =
     let k = o .before .before .before .before .pre .2 in
     λ x is places.
     rw (← dated-exactly _ k e)
-    (items-shows e _ false _ x (ap (λ (h : Head). h .colour) (o .before .head-of .ensures .0)) places
-    (unsigned _ _ _ _ (s .show-dated-items .ensures x _ _ (items-moment e k is) (items-fit e x (date-uncut _ k)))))
+    (items-shows e _ _ false _ x (ap (λ (h : Head). h .colour) (o .before .head-of .ensures .0)) places
+    (unsigned _ _ _ _ _ (s .show-dated-items .ensures x _ _ (items-moment e k is) (items-fit e x (date-uncut _ k)))))
 
 pub show-dated-section-spec : {M : Type 1} → statement M
 show-dated-section-spec =

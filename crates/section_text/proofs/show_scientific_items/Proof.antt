@@ -20,7 +20,7 @@ returns-2 c =
     let t = c .before in
     λ m k q i f x j r l g.
     rw (c .refused-shown .ensures)
-    (shows-none _ _ _ _ _ (leb-false _ _ (sym (t .before .takes-scientific .ensures m k q i f x j r l g) ∙ t .if1 .left)))
+    (shows-none _ _ _ _ _ _ (leb-false _ _ (sym (t .before .takes-scientific .ensures m k q i f x j r l g) ∙ t .if1 .left)))
 
 pub show-scientific-items-spec : {M : Type 1} → statement M
 show-scientific-items-spec =

@@ -40,7 +40,7 @@ returns c =
     let u = x .cut-start .ensures in
     let counted = power-places f (p .2) u (n .count-between .ensures isPlace place-tag) in
     λ m e is places shows power.
-    scientific-shows f (p .2) u _ _ _ m e (ap (λ (h : Head). h .colour) (o .before .head-of .ensures .0)) places power
+    scientific-shows f (p .2) u _ _ _ _ m e (ap (λ (h : Head). h .colour) (o .before .head-of .ensures .0)) places power
     (y .show-scientific-items .ensures m _ _ is (mantissa-fit f (p .2) u m)
     e _ _ (refl, shows, power ∙ sym counted) (power-fit f (p .2) u e power))
 

@@ -22,7 +22,7 @@ returns c =
     let o = s .before .before in
     let e = o .items-of .ensures in
     λ x is places.
-    items-shows e _ _ _ x (ap (λ (h : Head). h .colour) (o .before .head-of .ensures .0)) places (s .show-items .ensures x _ _ is (items-fit e x (subject-uncut is)))
+    items-shows e _ _ _ _ x (ap (λ (h : Head). h .colour) (o .before .head-of .ensures .0)) places (s .show-items .ensures x _ _ is (items-fit e x (subject-uncut is)))
 
 pub show-section-spec : {M : Type 1} → statement M
 show-section-spec =

@@ -17,7 +17,7 @@ show-plain-spec =
     tie.close
     (tie.spec
     (λ c κs. search needs)
-    (λ c. rw (c .refused-shown .ensures) (shows-none _ _ 0 4 true (c .before .if1 .taken)))
+    (λ c. rw (c .refused-shown .ensures) (shows-none _ _ 0 4 true _ (c .before .if1 .taken)))
     (λ c κs. search needs)
     (λ c. omega (arith, c .before .before .put-units .ensures .next))
     (λ c κs. search needs)

@@ -35,7 +35,7 @@ returns c =
     let b = o .before .before .before .before in
     let p = b .pre in
     fraction-shows (o .items-of .ensures) (p .2) (section-rules _ _ (p .0) (p .1) (p .2)) (section-limits _ _ (p .0) (p .1)) (x .cut-start .ensures) (y .run-start .ensures)
-    _ _ _ (b .args .f) (ap (λ (h : Head). h .colour) (o .before .head-of .ensures .0)) (m .show-mixed .ensures)
+    _ _ _ _ (b .args .f) (ap (λ (h : Head). h .colour) (o .before .head-of .ensures .0)) (m .show-mixed .ensures)
 
 pub show-fraction-section-spec : {M : Type 1} → statement M
 show-fraction-section-spec =

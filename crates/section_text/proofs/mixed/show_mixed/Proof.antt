@@ -17,7 +17,7 @@ returns c =
 returns-2 : tie.Need-returns-2
 returns-2 c =
     let t = c .before in
-    rw (c .refused-shown .ensures) (shows-none _ _ _ _ _ (leb-false _ _ (sym (t .before .takes-mixed .ensures) ∙ t .if1 .left)))
+    rw (c .refused-shown .ensures) (shows-none _ _ _ _ _ _ (leb-false _ _ (sym (t .before .takes-mixed .ensures) ∙ t .if1 .left)))
 
 pub show-mixed-spec : {M : Type 1} → statement M
 show-mixed-spec =

@@ -1,0 +1,5 @@
+pub mod Choices
+pub mod Noughts
+pub mod Cuts
+pub mod Answers
+pub mod Holding
