@@ -3,12 +3,14 @@
 use std::io::{Read, Write};
 use std::process::ExitCode;
 
+use crate::calls::told;
 use crate::oracle::{
-    answer, answer_lines_and_section, prepare as prepare_code, PROGRAM_TABLE_WORDS,
+    answer, answer_lines_and_section, asked_why, prepare as prepare_code, PROGRAM_TABLE_WORDS,
 };
 
-/// A request is three lines.
+/// A request is three lines; one that asks why has a fourth, with the room's length.
 const REQUEST_LINES: usize = 3;
+const WHY_LINES: usize = 4;
 
 /// One line for each code: answer, place, count of words, and the words.
 pub fn prepare() -> ExitCode {
@@ -20,7 +22,15 @@ pub fn prepare() -> ExitCode {
 
 /// Five lines for each request of three, and its section.
 pub fn show() -> ExitCode {
-    each(requests, answer_lines_and_section)
+    each(
+        |input| blocks(input, REQUEST_LINES),
+        answer_lines_and_section,
+    )
+}
+
+/// One line for each request of four: the answer and the numbers of the reason.
+pub fn why() -> ExitCode {
+    each(|input| blocks(input, WHY_LINES), why_line)
 }
 
 fn each(cut: impl Fn(&[u8]) -> Vec<&[u8]>, answered: impl Fn(&[u8]) -> Vec<u8>) -> ExitCode {
@@ -62,13 +72,23 @@ fn prepared_line(line: &[u8]) -> Vec<u8> {
     out.into_bytes()
 }
 
-/// Runs of three lines; what is left over at the end makes a malformed last request.
-fn requests(input: &[u8]) -> Vec<&[u8]> {
+fn why_line(request: &[u8]) -> Vec<u8> {
+    let why = told(&asked_why(request));
+    let [first, second] = why.tried;
+    format!(
+        "answer={} section={} choice={} first={first} second={second} minus={} cut={}\n",
+        why.answer, why.section, why.choice, why.minus, why.cut
+    )
+    .into_bytes()
+}
+
+/// Runs of so many lines; what is left over at the end makes a malformed last request.
+fn blocks(input: &[u8], size: usize) -> Vec<&[u8]> {
     let mut found = Vec::new();
     let mut rest = input;
     while !rest.is_empty() {
         let lines = rest.split_inclusive(|byte| *byte == b'\n');
-        let length = lines.take(REQUEST_LINES).map(<[u8]>::len).sum();
+        let length = lines.take(size).map(<[u8]>::len).sum();
         let (request, others) = rest.split_at(length);
         found.push(request);
         rest = others;

@@ -19,7 +19,8 @@ const USAGE: &str = "usage:
   check self [--count N] [--seed S] [--trace]   compare the oracle's two readings
   check vectors VALUES TABLES                   compare the oracle with lists of known rows
   check expected-prepare < codes                what preparing gives for each line
-  check expected-show < requests                what the program gives for each three lines, and the section";
+  check expected-show < requests                what the program gives for each three lines, and the section
+  check expected-why < requests                 why each is shown so, in the room that a fourth line gives";
 
 fn main() -> ExitCode {
     let arguments: Vec<String> = std::env::args().skip(1).collect();
@@ -30,6 +31,7 @@ fn main() -> ExitCode {
         ["vectors", values, tables] => vectors::run(values, tables),
         ["expected-prepare"] => expected::prepare(),
         ["expected-show"] => expected::show(),
+        ["expected-why"] => expected::why(),
         _ => misused(USAGE),
     }
 }

@@ -27,7 +27,7 @@ mod tests;
 
 pub use code::section;
 pub use prepare::{prepare, Prepared};
-pub use program::{answer_lines, answer_lines_and_section, PROGRAM_TABLE_WORDS};
+pub use program::{answer_lines, answer_lines_and_section, asked_why, PROGRAM_TABLE_WORDS};
 pub use reading::{read, read_why};
 pub use rules::check_table;
 pub use show::{show, show_why};

@@ -2,8 +2,8 @@
 
 use super::answer;
 use super::prepare::prepare;
-use super::show::show;
-use super::value::{Reading, Value};
+use super::show::{show, show_why};
+use super::value::{Reading, Reason, Value};
 
 pub const PROGRAM_TABLE_WORDS: usize = 557;
 const TEXT_UNITS: usize = 4096;
@@ -29,6 +29,20 @@ pub fn answer_lines_and_section(input: &[u8]) -> Vec<u8> {
     let mut out = lines(&outcome);
     out.extend(format!("section={}\n", outcome.reading.section).bytes());
     out
+}
+
+/// Why the value of a request is shown as it is, in a room whose length a fourth line gives, `room=` and digits (02's P6). A
+/// malformed line is answered as in the program, without its place.
+pub fn asked_why(input: &[u8]) -> Result<Reason, u16> {
+    let mut rest = input;
+    let (code, value) = asked(&mut rest).map_err(|_| answer::LINE)?;
+    let length = field(&mut rest, "room=").filter(|digits| all_digits(digits));
+    let room = held(length.ok_or(answer::LINE)?, u64::from(u32::MAX)) as usize;
+    let prepared = prepare(&code, PROGRAM_TABLE_WORDS);
+    if prepared.answer != answer::DONE {
+        return Err(prepared.answer);
+    }
+    show_why(&prepared.words, &value, room)
 }
 
 fn outcome(input: &[u8]) -> Outcome {
@@ -87,18 +101,24 @@ fn lines(outcome: &Outcome) -> Vec<u8> {
 /// The code and the value asked for, or the first malformed line.
 fn request(input: &[u8]) -> Result<(Vec<u16>, Value), u32> {
     let mut rest = input;
-    let code = field(&mut rest, "code=").ok_or(1u32)?;
-    let kind = field(&mut rest, "kind=").ok_or(2u32)?;
+    let request = asked(&mut rest)?;
+    if !rest.is_empty() {
+        return Err(4);
+    }
+    Ok(request)
+}
+
+/// Takes the three lines of a request off the input.
+fn asked(rest: &mut &[u8]) -> Result<(Vec<u16>, Value), u32> {
+    let code = field(rest, "code=").ok_or(1u32)?;
+    let kind = field(rest, "kind=").ok_or(2u32)?;
     let parse = match kind {
         b"number" => number,
         b"instant" => instant,
         b"text" => text,
         _ => return Err(2),
     };
-    let value = field(&mut rest, "value=").and_then(parse).ok_or(3u32)?;
-    if !rest.is_empty() {
-        return Err(4);
-    }
+    let value = field(rest, "value=").and_then(parse).ok_or(3u32)?;
     Ok((units(code), value))
 }
 

@@ -190,7 +190,8 @@ fn because_numbers(g: Grounds) -> WhyNumbers
     }
 }
 
-fn why_numbers(w: Why) -> WhyNumbers
+// What the calls below return of a reason.
+pub fn why_numbers(w: Why) -> WhyNumbers
     ensures { λ r. ⌜ r ≡ whyNumbers w ⌝ }
 {
     match w {

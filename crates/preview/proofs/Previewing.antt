@@ -50,10 +50,6 @@ pub words-within : (code : List ℕ) {p : Prepared} (size : ℕ) → p ≡ prepa
 unfolding prepared
 words-within code size e = rw e (within-as (accept code) size)
 
--- what is told of a code and of what is shown
-abbrev told : Accepted → Shown → Previewed
-told x s = record { place = placeOf x; shown = s }
-
 -- a code prepared in a table room of 557 words
 module _ (code : List ℕ) (u : T (every isUnit code)) (p : Prepared) {n size : ℕ} (e : p ≡ prepared code size) (m : n ≡ numberOf (p .answer))
     (room : 557 ≡ size) where
@@ -63,20 +59,22 @@ module _ (code : List ℕ) (u : T (every isUnit code)) (p : Prepared) {n size : 
   fits ss a = omega (arith, room, rw a at (table-of-code code ss u a .mostWords))
 
   -- ---- preparing refused
-  refused-at : (x : Accepted) → accept code ≡ x → (numberOf (preparedAs x size .answer) ≡ 0 → ⊥) → (ask : Ask) (text : List ℕ) (r : ℕ)
-      → (refusedPreview (preparedAs x size .answer) (preparedAs x size .place) ≡ told x (shownAs (readAccepted x ask text r)))
-      × (textAs (readAccepted x ask text r) ≡ [])
-  unfolding preparedAs placeOf readAccepted shownAs textAs
-  refused-at (refusal a k) c h ask text r = (refl, refl)
-  refused-at (sections ss) c h ask text r = absurd (h (rw (le-leb (length (encode ss)) size (fits ss c))))
+  refused-at : (x : Accepted) → accept code ≡ x → (numberOf (preparedAs x size .answer) ≡ 0 → ⊥)
+      → x ≡ refusal (preparedAs x size .answer) (preparedAs x size .place)
+  unfolding preparedAs
+  refused-at (refusal a k) c h = refl
+  refused-at (sections ss) c h = absurd (h (rw (le-leb (length (encode ss)) size (fits ss c))))
+
+  -- the code is
+  pub refused-code : (n ≡ 0 → ⊥) → accept code ≡ refusal (p .answer) (p .place)
+  unfolding prepared
+  refused-code h = rw e (refused-at (accept code) refl (λ z. h (m ∙ ap (λ (q : Prepared). numberOf (q .answer)) e ∙ z)))
 
   pub refused-shows : (n ≡ 0 → ⊥) → (ask : Ask) (text old : List ℕ)
       → (refusedPreview (p .answer) (p .place) ≡ previewed code ask text (length old))
       × (old ≡ overlay (previewText code ask text (length old)) old)
-  unfolding prepared previewed previewText codeReading overlay
-  refused-shows h ask text old =
-      let r = refused-at (accept code) refl (λ z. h (m ∙ ap (λ (q : Prepared). numberOf (q .answer)) e ∙ z)) ask text (length old) in
-      (rw e (r .0), rw (r .1))
+  unfolding previewed previewText codeReading readAccepted placeOf shownAs textAs overlay
+  refused-shows h ask text old = (rw (refused-code h), rw (refused-code h))
 
   -- ---- preparing made a table
   pub record Made : Type 0 where
@@ -98,20 +96,22 @@ module _ (code : List ℕ) (u : T (every isUnit code)) (p : Prepared) {n size : 
   pub made : n ≡ 0 → Made
   made z = made-by (verdict code) refl (sym (m ∙ ap (λ (q : Prepared). numberOf (q .answer)) e) ∙ z)
 
-  -- what is shown through the words in front of the table room, which are the table
-  module _ (d : Made) (before : List ℕ) {after : List ℕ} (t : size ≡ length before) (f : after ≡ tableAfter code before) (ask : Ask) (text old : List ℕ) where
-    table-taken : take (p .words) after ≡ tableOf code
+  -- the words in front of the table room are the table
+  module _ (d : Made) (before : List ℕ) {after : List ℕ} (t : size ≡ length before) (f : after ≡ tableAfter code before) where
+    pub table-taken : take (p .words) after ≡ tableOf code
     unfolding tableAfter written overlay
     table-taken =
         let l : length (tableOf code) ≤ length before = omega (arith, d .words, words-within code size e) in
         rw (f, le-leb (length (tableOf code)) (length before) l, d .words) (take-append-seam (tableOf code) _)
 
-    same-reading : tableReading (take (p .words) after) ask text (length old) ≡ codeReading code ask text (length old)
-    same-reading = rw table-taken (table-of-code code (d .accepted) u (d .is) .sameReading ask text (length old))
+    -- and what is shown through them is what is read off the code
+    module _ (ask : Ask) (text old : List ℕ) where
+      same-reading : tableReading (take (p .words) after) ask text (length old) ≡ codeReading code ask text (length old)
+      same-reading = rw table-taken (table-of-code code (d .accepted) u (d .is) .sameReading ask text (length old))
 
-    pub made-shows : (s : Shown) {out : List ℕ} → s ≡ showing (take (p .words) after) ask text (length old)
-        → out ≡ roomAfter (take (p .words) after) ask text old
-        → (_≡_ {A = Previewed} (record { place = 0; shown = s }) (previewed code ask text (length old)))
-        × (out ≡ overlay (previewText code ask text (length old)) old)
-    unfolding showing roomAfter previewed placeOf previewText
-    made-shows s h r = (rw (h ∙ ap shownAs same-reading, d .is), r ∙ rw same-reading)
+      pub made-shows : (s : Shown) {out : List ℕ} → s ≡ showing (take (p .words) after) ask text (length old)
+          → out ≡ roomAfter (take (p .words) after) ask text old
+          → (_≡_ {A = Previewed} (record { place = 0; shown = s }) (previewed code ask text (length old)))
+          × (out ≡ overlay (previewText code ask text (length old)) old)
+      unfolding showing roomAfter previewed placeOf previewText
+      made-shows s h r = (rw (h ∙ ap shownAs same-reading, d .is), r ∙ rw same-reading)

@@ -17,6 +17,7 @@ use Rattle.requests.specs.declared.written.ValueRead.the-variants as rea
 use Rattle.requests.specs.declared.written.Sort.{Sort}
 use Rattle.requests.specs.declared.written.Sort.the-variants as sort
 use Rattle.requests.specs.declared.written.SortRead.the-variants.{Known}
+use Rattle.requests.specs.declared.RequestRead.{RequestRead}
 use Rattle.requests.specs.declared.RequestRead.the-variants as told
 use Rattle.requests.specs.Written.{valueOf, textOf}
 use Rattle.requests.specs.Request.{Request, malformed, fromEnd, fromValue}
@@ -25,6 +26,10 @@ use Rattle.requests.specs.Reads.{partOf, Within, Ended, LineAt, textPart
 -- ---- what the answer for a line says
 pub line-told : (input : List ℕ) (at : ℕ) (name : List ℕ) (r : Line) → LineAt input at name r → (l : Line) → r ≡ l → LineAt input at name l
 line-told input at name r x l e = subst (LineAt input at name) e x
+
+-- and what the answer for a request says
+pub request-told : (input : List ℕ) (q : Request) (r : RequestRead) → Reads input q r → (s : RequestRead) → r ≡ s → Reads input q s
+request-told input q r x s e = subst (Reads input q) e x
 
 -- a malformed line
 pub malformed-read : (input : List ℕ) (q : Request) (line : ℕ) → q ≡ malformed line → Reads input q (told.Malformed line)

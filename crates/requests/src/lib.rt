@@ -1,7 +1,7 @@
 // Reads the program's three lines: a code, the kind of a value, and the value.
 pub mod bytes;
-mod digits;
-mod lines;
+pub mod digits;
+pub mod lines;
 mod written;
 
 use lines::Line;

@@ -26,7 +26,8 @@ use Rattle.requests.specs.declared.RequestRead.{RequestRead}
 use Rattle.requests.specs.declared.RequestRead.the-variants as told
 use Rattle.requests.specs.Bytes.{lowByte}
 use Rattle.requests.specs.Request.{Request, request, requestOf}
-use Rattle.requests.specs.Reads.{partOf, Within, Reads}
+use Rattle.requests.specs.Reads.{partOf, Reads}
+use Rattle.requests.proofs.Requesting.{request-told}
 use Rattle.requests.proofs.Prefixes.{request-prefix}
 use Rattle.responding.specs.declared.Told.{Told}
 use Rattle.responding.specs.declared.Responded.{Responded}
@@ -73,10 +74,7 @@ module _ (code : List ℕ) (ask : Ask) (text old : List ℕ) {room : List ℕ} (
 -- ---- a request as it is read
 module _ (input : List ℕ) (r : RequestRead) (x : Reads input (requestOf input) r) where
   read-as : (q : RequestRead) → r ≡ q → Reads input (requestOf input) q
-  read-as q e = subst (Reads input (requestOf input)) e x
-
-  pub request-parts : (code : Part) (ask : Ask) (text : Part) → r ≡ told.Request code ask text → Within input code × Within input text
-  request-parts code ask text e = read-as (told.Request code ask text) e .parts
+  read-as = request-told input (requestOf input) r x
 
   pub request-answered : {old out : List ℕ} {t : Told} (code : Part) (ask : Ask) (text : Part) → r ≡ told.Request code ask text
       → Answers (request (partOf input code) ask (partOf input text)) old t out → Answers (requestOf input) old t out

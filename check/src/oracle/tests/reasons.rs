@@ -1,7 +1,7 @@
 //! 02's P6: why a value is shown as it is.
 
 use super::number;
-use crate::oracle::{answer, prepare, read_why, show_why, units, Reason, Value};
+use crate::oracle::{answer, asked_why, prepare, read_why, show_why, units, Reason, Value};
 
 const ROOM: usize = 4096;
 
@@ -81,4 +81,17 @@ fn a_refused_show_gives_its_answer() {
     assert_eq!(refused("0", &number(1, 16)), Err(answer::RANGE));
     let code = units("0.00");
     assert_eq!(read_why(&code, &number(-1, 0), 4), Err(answer::TEXT_ROOM));
+}
+
+#[test]
+fn a_fourth_line_gives_the_room() {
+    let told = |room: &str| asked_why(format!("code=0\nkind=text\nvalue=weir\n{room}").as_bytes());
+    assert_eq!(told("room=4\n"), Ok(Reason::of_text(4)));
+    assert_eq!(told("room=3\n"), Err(answer::TEXT_ROOM));
+    assert_eq!(told("room=99999999999999999999\n"), Ok(Reason::of_text(4)));
+    for malformed in ["room=4", "room=\n", "room=-4\n", "rooms=4\n", ""] {
+        assert_eq!(told(malformed), Err(answer::LINE), "{malformed}");
+    }
+    let broken = b"code=0\"\nkind=text\nvalue=weir\nroom=0\n";
+    assert_eq!(asked_why(broken), Err(answer::TOKEN));
 }

@@ -1,15 +1,16 @@
 -- `responding::respond` meets its contract.
 -- Assumes nothing.
-use Rattle.responding.proofs.Answering.{request-parts, request-answered, malformed-answered}
+use Rattle.requests.proofs.Requesting.{request-told}
+use Rattle.responding.proofs.Answering.{request-answered, malformed-answered}
 use borrow.Author.Needs.{needs}
 use Rattle.responding.proofs.respond.Statement.{statement}
 use Rattle.responding.proofs.respond.Tie as tie
 
 part-of-requires : tie.Need-part-of-requires
-part-of-requires c κs = request-parts _ _ (c .before .before .before .read-request .ensures) _ _ _ (c .before .code .given .1) .0
+part-of-requires c κs = request-told _ _ _ (c .before .before .before .read-request .ensures) _ (c .before .code .given .1) .parts .0
 
 part-of-requires-2 : tie.Need-part-of-requires-2
-part-of-requires-2 c κs = request-parts _ _ (c .before .before .before .before .read-request .ensures) _ _ _ (c .before .before .code .given .1) .1
+part-of-requires-2 c κs = request-told _ _ _ (c .before .before .before .before .read-request .ensures) _ (c .before .before .code .given .1) .parts .1
 
 returns : tie.Need-returns
 returns c =
