@@ -108,6 +108,28 @@ static void *do_text(void *unused)
     return unused;
 }
 
+/* In a room that surely takes the text, and in one for which it is measured. */
+static void *do_why_number(void *unused)
+{
+    numfmt_why_number(table, made.words, -123456789012345, 4, NUMFMT_SHOWN_TEXT_MOST);
+    numfmt_why_number(table, made.words, -123456789012345, 4, 64);
+    return unused;
+}
+
+static void *do_why_instant(void *unused)
+{
+    numfmt_why_instant(table, made.words, 45579, 59763000, NUMFMT_SHOWN_TEXT_MOST);
+    numfmt_why_instant(table, made.words, 45579, 59763000, 64);
+    return unused;
+}
+
+static void *do_why_text(void *unused)
+{
+    numfmt_why_text(table, made.words, text, NUMFMT_TEXT_MOST, NUMFMT_SHOWN_TEXT_MOST);
+    numfmt_why_text(table, made.words, text, NUMFMT_TEXT_MOST, 64);
+    return unused;
+}
+
 /* How much of a painted stack a thread changes. */
 static unsigned long stack_of(void *(*call)(void *), unsigned char *stack)
 {
@@ -160,6 +182,9 @@ static int stacks(void)
     all &= stack_told("stack of numfmt_show_number", do_number, (unsigned char *)stack);
     all &= stack_told("stack of numfmt_show_instant", do_instant, (unsigned char *)stack);
     all &= stack_told("stack of numfmt_show_text", do_text, (unsigned char *)stack);
+    all &= stack_told("stack of numfmt_why_number", do_why_number, (unsigned char *)stack);
+    all &= stack_told("stack of numfmt_why_instant", do_why_instant, (unsigned char *)stack);
+    all &= stack_told("stack of numfmt_why_text", do_why_text, (unsigned char *)stack);
     free(stack);
     return all;
 }

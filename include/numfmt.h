@@ -61,8 +61,9 @@ extern "C" {
 /*
  * Stack that is enough for each call, whatever is lent: none of them recurses.
  * Measured on x86-64: some 3,300 bytes for numfmt_prepare, 3,200 for
- * numfmt_section, 2,500 for the calls that show and 200 for numfmt_check, and
- * 2,400 more where the loader first looks up the C library's memset.
+ * numfmt_section, 2,500 for the calls that show, 2,700 for those that ask why
+ * and 200 for numfmt_check, and 2,400 more where the loader first looks up the
+ * C library's memset.
  */
 #define NUMFMT_STACK_BYTES 8192
 
