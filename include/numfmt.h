@@ -35,8 +35,8 @@ extern "C" {
 #endif
 
 /* The version of this header and its archive: 10000 * major + 100 * minor + patch. */
-#define NUMFMT_VERSION 200
-#define NUMFMT_VERSION_TEXT "0.2.0"
+#define NUMFMT_VERSION 300
+#define NUMFMT_VERSION_TEXT "0.3.0"
 
 /* Words of table room that hold the table of every accepted code. */
 #define NUMFMT_TABLE_WORDS 557
@@ -238,7 +238,8 @@ numfmt_shown numfmt_show_text(const uint16_t *table, size_t table_len,
 
 /*
  * Why a value is shown as it is in a room of room_len units, of which none is
- * lent: nothing is written. Each refuses as the call that shows does.
+ * lent: nothing is written. Each refuses as the call that shows does. They
+ * are there from version 0.3.0 on.
  */
 numfmt_reason numfmt_why_number(const uint16_t *table, size_t table_len,
                                 int64_t coefficient, uint32_t scale,
