@@ -122,6 +122,12 @@ fn number_ask(coefficient: i64, scale: u32) -> Ask
     asked(Value::Number(Number { coefficient, scale }))
 }
 
+fn instant_ask(day: u32, millisecond: u32) -> Ask
+    ensures { λ r. ⌜ r ≡ instantAsk day millisecond ⌝ }
+{
+    asked(Value::Instant(Day(day), Millisecond(millisecond)))
+}
+
 #[no_mangle]
 pub extern "C" fn numfmt_show_number(
     table: &[u16],
@@ -145,8 +151,7 @@ pub extern "C" fn numfmt_show_instant(
     ensures result { λ r. ⌜ r ≡ shownNumbers (showing (now (table .entry)) (instantAsk day millisecond) [] (length (now (room .entry)))) ⌝ }
     ensures room { λ r. ⌜ now (room .exit) ≡ roomAfter (now (table .entry)) (instantAsk day millisecond) [] (now (room .entry)) ⌝ }
 {
-    let ask = asked(Value::Instant(Day(day), Millisecond(millisecond)));
-    shown_numbers(show(table, ask, &table[..0], room))
+    shown_numbers(show(table, instant_ask(day, millisecond), &table[..0], room))
 }
 
 #[no_mangle]
@@ -221,8 +226,7 @@ pub extern "C" fn numfmt_why_instant(
 ) -> WhyNumbers
     ensures { λ r. ⌜ r ≡ whyNumbers (tableWhy (now (table .entry)) (instantAsk day millisecond) [] size) ⌝ }
 {
-    let ask = asked(Value::Instant(Day(day), Millisecond(millisecond)));
-    why_numbers(why(table, ask, &table[..0], size))
+    why_numbers(why(table, instant_ask(day, millisecond), &table[..0], size))
 }
 
 #[no_mangle]

@@ -8,7 +8,7 @@ use Rattle.c_api.proofs.numfmt_why_instant.Tie as tie
 returns : tie.Need-returns
 returns c =
     let s = c .before in
-    let a = s .before .before .asked .ensures in
+    let a = s .before .before .instant-ask .ensures in
     why-asked a _ _ _ (c .why-numbers .ensures) (s .why .ensures)
 
 pub numfmt-why-instant-spec : {M : Type 1} → statement M
