@@ -1,37 +1,31 @@
 -- The item words of a section, as the walkers ask for them, and what is shown of them.
 -- Assumes nothing.
 use Prim.Native.Nat.{ℕ}
-use mathlib.Core.Path.{_≡_, refl, sym, ap, subst, _∙_}
+use mathlib.Core.Path.{_≡_, sym, ap, subst, _∙_}
 use mathlib.Core.Bool.{Bool, false}
 use mathlib.Core.List.{List, _++_}
 use lib.Dec.{T}
-use lib.ListN.{length}
 use Rattle.lists.specs.Lists.{any}
 use Rattle.lists.proofs.Bools.{carry}
 use Rattle.answers.specs.declared.Shown.{Shown}
-use Rattle.formats.specs.Items.{Item, Section, Kind, dateKind, scientificKind, fractionKind, sameKind, kindOf, isSolidus, integerPlaces, placesBehind}
+use Rattle.formats.specs.Items.{Item, Section, Kind, scientificKind, fractionKind, sameKind, kindOf, isSolidus, integerPlaces, placesBehind}
 use Rattle.formats.specs.Text.{Context, itemsUnits, sectionUnits, firstOf}
 use Rattle.formats.specs.Reading.{Reading, lookOf, within}
 use Rattle.formats.proofs.Cutting.{no-solidus}
 use Rattle.tables.specs.Words.{entriesIn}
-use Rattle.tables.specs.Encode.{entriesOf}
 use Rattle.tables.specs.Decode.{itemsAt}
 use Rattle.tables.specs.Rules.{powersFrom, runPowers}
-use Rattle.tables.proofs.BackEntries.{made-entries, powers-all}
+use Rattle.tables.proofs.BackEntries.{powers-all}
 use Rattle.table_words.specs.Sections.{ItemsOf}
-use Rattle.date_text.specs.Moment.{datedEntry}
 use Rattle.section_text.specs.declared.Subject.{Subject}
 use Rattle.section_text.specs.Subject.{SubjectIs}
-use Rattle.section_text.specs.Walk.{EntriesFit, Ready, MomentIs, DatedIs, Known, DatedKnown}
+use Rattle.section_text.specs.Walk.{EntriesFit, Ready, Known}
 use Rattle.section_text.specs.Show.{signText, sectionReading, Shows}
 use Rattle.section_text.proofs.Cuts.{other-kind, uncut-bare, powers-anew}
 
 -- a kind whose sections are cut nowhere
 abbrev pub Uncut : Kind → Type 0
 Uncut k = (sameKind scientificKind k ≡ false) × (sameKind fractionKind k ≡ false)
-
-pub date-uncut : (k : Kind) → k ≡ dateKind → Uncut k
-date-uncut k e = rw e (refl, refl)
 
 pub subject-uncut : {k : Kind} {digits : List ℕ} {s : Subject} {text : List ℕ} {c : Context} → SubjectIs k digits s text c → Uncut k
 subject-uncut i = (i .unscientific, i .unfractional)
@@ -54,28 +48,9 @@ module _ {z : Section} {words : List ℕ} (o : ItemsOf z words) where
         powers = carry (powers-anew _ (firstOf (c .integerPlaces)) _ (entriesIn words) (uncut-bare (kindOf z) (entriesIn words) (h .0) (h .1) (o .allowed))) (items-powers none);
       }
 
-  -- their entries are those of the section
-  pub items-entries : entriesIn words ≡ entriesOf (z .items)
-  items-entries = sym (ap entriesOf (o .items) ∙ made-entries (entriesIn words) (o .inRange) (o .powers))
-
-  -- so a moment that is what a context shows of the section is what it shows of the words
-  pub items-moment : {m : List ℕ} {c : Context} → kindOf z ≡ dateKind → MomentIs m (any datedEntry (entriesOf (z .items))) c
-      → DatedIs m (any datedEntry (entriesIn words)) (kindOf z) c
-  items-moment e i = (e, rw items-entries i)
-
-  -- words that are ready for a subject, and for a moment
+  -- words that are ready for a subject
   pub items-ready : {digits : List ℕ} {s : Subject} {text : List ℕ} → Known (kindOf z) digits s text → Ready (λ k. SubjectIs k digits s text) words
   items-ready k = record { context = k .context; kind = kindOf z; power = firstOf (integerPlaces (z .items)); subject = k .is; fit = items-fit (k .context) (subject-uncut (k .is)) }
-
-  pub dated-ready : {m : List ℕ} → kindOf z ≡ dateKind → DatedKnown m (any datedEntry (entriesOf (z .items)))
-      → Ready (DatedIs m (any datedEntry (entriesIn words))) words
-  dated-ready e k = record {
-    context = k .context;
-    kind = kindOf z;
-    power = firstOf (integerPlaces (z .items));
-    subject = items-moment e (k .is);
-    fit = items-fit (k .context) (date-uncut (kindOf z) e);
-  }
 
   -- what is shown of the words is what is shown of the section
   pub items-shows : {old out : List ℕ} {r : Shown} {colour : ℕ} (size i : ℕ) (minus exact : Bool) (c : Context)

@@ -3,16 +3,15 @@
 use Prim.Native.Nat.{ℕ, suc, _-_, _≤_, _<_}
 use native.Mathlib.Omega.{arith}
 use mathlib.Core.Path.{_≡_, refl, sym}
-use mathlib.Core.Bool.{Bool, true, false, true≢false}
+use mathlib.Core.Bool.{Bool, true, false}
 use mathlib.Core.List.{List}
 use lib.Dec.{T, leb, eqb, eqb→eq}
 use borrow.Author.Tests.{le-leb, leb-false}
 use Rattle.lists.proofs.Bools.{no, by-cases}
 use Rattle.values.specs.Ranges.{between}
 use Rattle.formats.specs.Items.{point, Kind, dateKind, scientificKind, fractionKind, sameKind, showsPlaces, itemAllowed}
-use Rattle.formats.specs.Text.{Context, itemUnits, placeUnits, exponentUnits}
+use Rattle.formats.specs.Text.{Context, itemUnits, placeUnits}
 use Rattle.formats.proofs.Each.{by-kind}
-use Rattle.tables.specs.Words.{Entry}
 use Rattle.tables.specs.Encode.{entry}
 use Rattle.tables.specs.Decode.{itemAt}
 use Rattle.tables.specs.Rules.{entryInRange}
@@ -21,11 +20,9 @@ use Rattle.figures.proofs.Past.{Apart, past}
 use Rattle.figure_text.specs.declared.Figures.{Figures}
 use Rattle.figure_text.specs.Shown.{FiguresAre, placeOfTag}
 use Rattle.writing.specs.Put.{Put}
-use Rattle.date_text.specs.Moment.{datedEntry}
 use Rattle.section_text.specs.declared.Subject.{Subject}
 use Rattle.section_text.specs.Subject.{GeneralOf, StandsFor, SubjectIs}
-use Rattle.section_text.specs.Walk.{EntryFits, ItemPut, DatedIs}
-use Rattle.section_text.specs.Power.{markOfTag}
+use Rattle.section_text.specs.Walk.{EntryFits}
 
 pub stands-lent : (b : Bool) (digits : List ℕ) (f : Figures) (text us : List ℕ) → b ≡ true → StandsFor b digits f text us → text ≡ us
 stands-lent true digits f text us e h = h
@@ -75,18 +72,6 @@ pub point-held : (k : Kind) → T (itemAllowed k point) → T (showsPlaces k)
 unfolding itemAllowed
 point-held = by-kind (λ (k : Kind). T (itemAllowed k point) → T (showsPlaces k)) absurd absurd absurd (λ t. tt) absurd (λ t. tt) absurd
 
--- an item that is put where the date is known if the item shows it, is put where it is known if some item does
-pub dated-put : {m old out : List ℕ} {at r : ℕ} {dated : Bool} (e : Entry) → (datedEntry e ≡ true → dated ≡ true)
-    → ItemPut (DatedIs m (datedEntry e)) e old at r out → ItemPut (DatedIs m dated) e old at r out
-dated-put e h p c k q i f = p c k q (i .0, record { clock = i .1 .clock; date = λ t. i .1 .date (h t) }) f
-
--- of the tags from a fill's up to that of `@` a date-time section holds the fill's
-pub dated-fill : (k : Kind) (q tag a : ℕ) → k ≡ dateKind → 3 ≤ tag → tag ≤ 10 → EntryFits k q (entry tag a) → tag ≡ 3
-unfolding itemAt itemAllowed
-dated-fill k q tag a e least most f =
-    span-at (λ (t : ℕ). T (itemAllowed dateKind (itemAt (entry t a))) → t ≡ 3) 3 8 tag
-    ((λ h. refl), (absurd, (absurd, (absurd, (absurd, (absurd, (absurd, (absurd, tt)))))))) least (omega arith) (rw e at (f .allowed))
-
 -- a tag that is none of the first ten, no place's and none that the arms of a `match` have beside them, is one of a date-time section, an E's, or
 -- a fraction's
 pub late-other : (k : Kind) (q tag a : ℕ) → T (entryInRange (entry tag a)) → between 4 6 tag ≡ false
@@ -106,52 +91,3 @@ late-other k q tag a t e o f undated unscientific unfractional =
   where
     past-ten : (n : ℕ) → 6 < n → ¬ (n ≡ 7) → ¬ (n ≡ 8) → ¬ (n ≡ 9) → ¬ (n ≡ 10) → 11 ≤ n
     past-ten n h a b c d = omega arith
-
--- ---- from the E on
--- an E by its tag: a scientific section holds no solidus and no fixed number
-pub mark-units : (tag a : ℕ) (c : Context) (k : Kind) (q : ℕ) → k ≡ scientificKind → 22 ≤ tag → T (entryInRange (entry tag a)) → EntryFits k q (entry tag a)
-    → itemUnits c q (itemAt (entry tag a)) ≡ exponentUnits (markOfTag tag) (c .below)
-unfolding itemUnits itemAt itemAllowed markOfTag
-mark-units tag a c k q e least t f =
-    span-at (λ (n : ℕ). T (itemAllowed scientificKind (itemAt (entry n a))) → itemUnits c q (itemAt (entry n a)) ≡ exponentUnits (markOfTag n) (c .below)) 22 4 tag
-    ((λ h. refl), ((λ h. refl), (absurd, (absurd, tt)))) least (omega (arith, tag-known (entry tag a) t)) (rw e at (f .allowed))
-
--- a scientific section holds the fill alone of the items that the arms of the `match` leave
-pub power-fill : (k : Kind) (q tag a : ℕ) → k ≡ scientificKind → T (entryInRange (entry tag a)) → between 4 6 tag ≡ false → tag < 22
-    → Apart tag 1 2 × (¬ (tag ≡ 7)) → EntryFits k q (entry tag a) → tag ≡ 3
-unfolding itemAt itemAllowed
-power-fill k q tag a e t b most o f =
-    span-at
-    (λ (n : ℕ). between 4 6 n ≡ false → Apart n 1 2 × (¬ (n ≡ 7)) → T (itemAllowed scientificKind (itemAt (entry n a))) → n ≡ 3)
-    1 21 tag (
-      (λ b o h. absurd (o .0 .0 .1 refl)),
-      (
-        (λ b o h. absurd (o .0 .1 refl)),
-        (
-          (λ b o h. refl),
-          (
-            place,
-            (
-              place,
-              (
-                place,
-                (
-                  (λ b o h. absurd (o .1 refl)),
-                  (
-                    other,
-                    (other, (other, (other, (other, (other, (other, (other, (other, (other, (other, (other, (other, (other, tt))))))))))))),
-                  ),
-                ),
-              ),
-            ),
-          ),
-        ),
-      ),
-    )
-    (tag-known (entry tag a) t .0) (omega arith) b o (rw e at (f .allowed))
-  where
-    place : {A B : Type 0} {n : ℕ} → true ≡ false → A → B → n ≡ 3
-    place b o h = absurd (true≢false b)
-
-    other : {A B : Type 0} {n : ℕ} → A → B → ⊥ → n ≡ 3
-    other b o h = absurd h

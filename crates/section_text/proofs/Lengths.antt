@@ -30,9 +30,7 @@ use Rattle.figure_text.specs.declared.Figures.{Figures}
 use Rattle.date_text.proofs.Letters.{month-spelt, weekday-spelt}
 use Rattle.section_text.specs.declared.Subject.{Subject}
 use Rattle.section_text.specs.Subject.{StandsFor, SubjectIs}
-use Rattle.section_text.specs.Walk.{EntriesFit, OfText, Ready, DatedIs}
-use Rattle.section_text.specs.declared.Power.{Power}
-use Rattle.section_text.specs.Power.{PowerIs}
+use Rattle.section_text.specs.Walk.{EntriesFit, OfText, Ready}
 
 -- ---- figures
 idle-length : (p : Place) → length (idleUnits p) ≤ 1
@@ -186,16 +184,6 @@ module _ (n : ℕ) (words : List ℕ) (h : 82 ≤ n) where
   subject-short {digits} {s} {text} l c k q i f =
       let short = standing-short (s .lent) digits (s .figures) text (c .standing) n h l in
       words-short c k n h (λ g. short (i .general g)) (λ a. short (i .textual a)) q words f
-
-  -- of a date-time section, which has no General and no `@`
-  pub dated-short : {m : List ℕ} {dated : Bool} → OfText (DatedIs m dated) words (λ us. length us ≤ n * (length words / 2))
-  unfolding itemAllowed
-  dated-short c k q i f = words-short c k n h (λ g. absurd (rw (i .0) at g)) (λ a. absurd (rw (i .0) at a)) q words f
-
-  -- of a scientific section's items from the E on
-  pub power-short : {p : Power} → OfText (PowerIs p) words (λ us. length us ≤ n * (length words / 2))
-  unfolding itemAllowed
-  power-short c k q i f = words-short c k n h (λ g. absurd (rw (i .0) at g)) (λ a. absurd (rw (i .0) at a)) q words f
 
 -- a short text keeps a walk's places small
 pub short-within : {P : Kind → Context → Type 0} {words : List ℕ} → length words ≤ 508 → (d : Ready P words)

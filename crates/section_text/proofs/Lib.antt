@@ -1,16 +1,6 @@
 pub mod Items
 pub mod Lengths
 pub mod Walking
-pub mod FinestUnit
 pub mod Fitting
-pub mod Exponents
 pub mod Cuts
 pub mod Bodies
-pub mod Scientific
-pub mod Segments
-pub mod FixedNumbers
-pub mod Loose
-pub mod Denominators
-pub mod Spaces
-pub mod Fractions
-pub mod Parts

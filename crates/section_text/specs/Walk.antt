@@ -1,19 +1,16 @@
 -- What is asked of a section's item words to show them, and what is said of their text.
 -- Assumes nothing.
-use mathlib.Core.Path.{_≡_}
-use mathlib.Core.Bool.{Bool, true}
 use mathlib.Core.List.{List}
 use Prim.Native.Nat.{ℕ, suc}
 use lib.Dec.{T, eqb}
 use Rattle.lists.specs.Lists.{every}
-use Rattle.formats.specs.Items.{Kind, dateKind, itemAllowed, isPlace}
+use Rattle.formats.specs.Items.{Kind, itemAllowed, isPlace}
 use Rattle.formats.specs.Where.{implies}
 use Rattle.formats.specs.Text.{Context, itemUnits, itemsUnits, firstOf}
 use Rattle.tables.specs.Words.{Entry, entriesIn}
 use Rattle.tables.specs.Decode.{itemAt, itemsAt}
 use Rattle.tables.specs.Rules.{entryInRange, powersFrom}
 use Rattle.writing.specs.Put.{Put}
-use Rattle.date_text.specs.Moment.{ClockIs, DateIs}
 use Rattle.section_text.specs.declared.Subject.{Subject}
 use Rattle.section_text.specs.Subject.{SubjectIs}
 
@@ -46,21 +43,7 @@ pub record Ready (P : Kind → Context → Type 0) (words : List ℕ) : Type 0 w
   pub subject : P kind context
   pub fit : EntriesFit kind context power (entriesIn words)
 
--- a moment is what a context shows: its clock, and its date where that is shown
-pub record MomentIs (m : List ℕ) (dated : Bool) (c : Context) : Type 0 where
-  pub clock : ClockIs m c
-  pub date : dated ≡ true → DateIs m c
-
--- the property of a date-time section
-abbrev pub DatedIs : List ℕ → Bool → Kind → Context → Type 0
-DatedIs m dated k c = (k ≡ dateKind) × MomentIs m dated c
-
 -- there is a context that the subject is of in a section of kind k
 pub record Known (k : Kind) (digits : List ℕ) (s : Subject) (text : List ℕ) : Type 0 where
   pub context : Context
   pub is : SubjectIs k digits s text context
-
--- there is a context that the moment is of
-pub record DatedKnown (m : List ℕ) (dated : Bool) : Type 0 where
-  pub context : Context
-  pub is : MomentIs m dated context

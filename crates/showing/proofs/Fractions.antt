@@ -34,7 +34,7 @@ use Rattle.table_words.specs.Runs.{itemsIn, CutAt}
 use Rattle.formats.proofs.Exactness.{exactly-fraction}
 use Rattle.section_text.specs.Show.{fractionReading}
 use Rattle.table_words.proofs.Cuts.{rest-all}
-use Rattle.section_text.proofs.Parts.{section-rules}
+use Rattle.fraction_sections.proofs.Parts.{section-rules}
 use Rattle.showing.specs.Minus.{minusIn}
 use Rattle.showing.specs.Plan.{fractionShown}
 use Rattle.showing.proofs.Numbers.{exact}

@@ -23,8 +23,8 @@ use Rattle.date_text.proofs.Moments.{clock-instant, date-instant}
 use Rattle.table_words.specs.Sections.{sectionIn, ItemsOf}
 use Rattle.choosing.specs.Seeking.{instantSought}
 use Rattle.figure_text.specs.declared.Figures.{Figures}
-use Rattle.section_text.specs.Walk.{MomentIs, DatedKnown}
-use Rattle.section_text.proofs.Bodies.{items-entries}
+use Rattle.date_sections.specs.Dated.{MomentIs, DatedKnown}
+use Rattle.date_sections.proofs.Dated.{items-entries}
 use Rattle.section_text.specs.Show.{signText, sectionReading}
 use Rattle.showing.specs.Plan.{SectionIs}
 use Rattle.showing.proofs.Subjects.{section-places, literal-subject}

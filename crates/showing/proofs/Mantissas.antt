@@ -31,7 +31,7 @@ use Rattle.figure_text.specs.declared.Figures.{Figures}
 use Rattle.figure_text.specs.Shown.{FiguresAre, figuresWith}
 use Rattle.figure_text.proofs.Digits.{figures-are}
 use Rattle.section_text.specs.Subject.{SubjectIs}
-use Rattle.section_text.specs.Power.{ExponentIs}
+use Rattle.scientific_sections.specs.Power.{ExponentIs}
 use Rattle.section_text.specs.Show.{scientificReading}
 use Rattle.showing.specs.Minus.{minusIn}
 use Rattle.showing.specs.Plan.{scientificOf}
