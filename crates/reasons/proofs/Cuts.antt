@@ -22,8 +22,8 @@ use Rattle.cuts.proofs.Counting.{cut-net}
 use Rattle.formats.specs.Choice.{numberExact}
 use Rattle.formats.specs.Items.{Section, decimalPlaces, numberKind, scientificKind, kindOf, isPercent}
 use Rattle.formats.specs.Reading.{showsGeneral, sectionRounded, standingRounded}
-use Rattle.showing.proofs.Numbers.{exact}
-use Rattle.showing.proofs.Sections.{NumberWords}
+use Rattle.planning.proofs.Numbers.{exact}
+use Rattle.planning.proofs.Sections.{NumberWords}
 use Rattle.showing.proofs.Mantissas.{ScientificWords}
 use Rattle.grounds.specs.Why.{numberCut}
 use Rattle.reasons.specs.declared.Scaling.{Scaling}

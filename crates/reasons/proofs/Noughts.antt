@@ -34,7 +34,7 @@ use Rattle.table_words.specs.Sections.{sectionIn, headIn}
 use Rattle.table_words.proofs.Bodies.{section-limits, section-exponent}
 use Rattle.choosing.proofs.Choosing.{below-zero}
 use Rattle.choosing.proofs.Finding.{chosen-exception}
-use Rattle.showing.proofs.Numbers.{exact}
+use Rattle.planning.proofs.Numbers.{exact}
 use Rattle.grounds.specs.declared.Minus.{Minus}
 use Rattle.grounds.specs.declared.Minus.the-variants as held
 use Rattle.grounds.specs.Why.{minusOf}

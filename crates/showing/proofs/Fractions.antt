@@ -35,9 +35,9 @@ use Rattle.formats.proofs.Exactness.{exactly-fraction}
 use Rattle.section_text.specs.Show.{fractionReading}
 use Rattle.table_words.proofs.Cuts.{rest-all}
 use Rattle.fraction_sections.proofs.Parts.{section-rules}
-use Rattle.showing.specs.Minus.{minusIn}
-use Rattle.showing.specs.Plan.{fractionShown}
-use Rattle.showing.proofs.Numbers.{exact}
+use Rattle.planning.specs.Minus.{minusIn}
+use Rattle.planning.specs.Plan.{fractionShown}
+use Rattle.planning.proofs.Numbers.{exact}
 
 -- ---- the fixed number, where what stands before it has none
 fixed-behind : (is js : List Item) → any isFixed is ≡ false → fixedIn (is ++ js) ≡ fixedIn js

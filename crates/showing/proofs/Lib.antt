@@ -1,13 +1,5 @@
-pub mod KindWords
-pub mod Places
-pub mod Minus
-pub mod Subjects
-pub mod Numbers
-pub mod Generals
-pub mod Sections
+pub mod Checked
 pub mod Mantissas
 pub mod Fractions
 pub mod Instants
-pub mod Texts
-pub mod Values
 pub mod Rooms

@@ -33,12 +33,12 @@ use Rattle.figure_text.proofs.Digits.{figures-are}
 use Rattle.section_text.specs.Subject.{SubjectIs}
 use Rattle.scientific_sections.specs.Power.{ExponentIs}
 use Rattle.section_text.specs.Show.{scientificReading}
-use Rattle.showing.specs.Minus.{minusIn}
-use Rattle.showing.specs.Plan.{scientificOf}
-use Rattle.showing.proofs.Places.{integers-most}
-use Rattle.showing.proofs.Subjects.{number-subject}
-use Rattle.showing.proofs.Numbers.{exact}
-use Rattle.showing.proofs.Generals.{figures-nought}
+use Rattle.planning.specs.Minus.{minusIn}
+use Rattle.planning.specs.Plan.{scientificOf}
+use Rattle.planning.proofs.Places.{integers-most}
+use Rattle.planning.proofs.Subjects.{number-subject}
+use Rattle.planning.proofs.Numbers.{exact}
+use Rattle.planning.proofs.Generals.{figures-nought}
 
 -- what a scientific section's places and decimals say
 pub record ScientificWords (integers decimals : ℕ) (s : Section) : Type 0 where

@@ -2,7 +2,7 @@
 -- Assumes nothing.
 use mathlib.Core.Path.{sym, ap, _∙_}
 use Rattle.grounds.specs.Why.{numberGrounds, groundsOf}
-use Rattle.showing.proofs.Values.{sought-scale, number-exact, found-within, none-found, some-found}
+use Rattle.planning.proofs.Values.{sought-scale, number-exact, found-within, none-found, some-found}
 use borrow.Author.Needs.{needs}
 use Rattle.reasons.proofs.in_range.Statement.{statement}
 use Rattle.reasons.proofs.in_range.Tie as tie

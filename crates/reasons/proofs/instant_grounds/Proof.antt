@@ -3,7 +3,7 @@
 use mathlib.Core.Path.{sym, ap, _∙_}
 use Rattle.grounds.specs.Why.{instantGrounds}
 use Rattle.choosing.proofs.Asking.{instant-scale}
-use Rattle.showing.proofs.Values.{found-within, none-found, some-found, sought-exact}
+use Rattle.planning.proofs.Values.{found-within, none-found, some-found, sought-exact}
 use borrow.Author.Needs.{needs}
 use Rattle.reasons.proofs.instant_grounds.Statement.{statement}
 use Rattle.reasons.proofs.instant_grounds.Tie as tie

@@ -2,7 +2,7 @@
 -- Assumes nothing.
 use mathlib.Core.Path.{sym, _∙_}
 use Rattle.figures.proofs.Sign.{in-says, out-says}
-use Rattle.showing.proofs.Values.{taken-small}
+use Rattle.planning.proofs.Values.{taken-small}
 use borrow.Author.Needs.{needs}
 use Rattle.reasons.proofs.number_grounds.Statement.{statement}
 use Rattle.reasons.proofs.number_grounds.Tie as tie

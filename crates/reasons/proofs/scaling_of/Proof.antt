@@ -2,7 +2,7 @@
 -- Assumes nothing.
 use native.Mathlib.Omega.{arith}
 use Rattle.table_words.proofs.Bodies.{section-limits}
-use Rattle.showing.proofs.Sections.{number-words}
+use Rattle.planning.proofs.Sections.{number-words}
 use Rattle.reasons.proofs.Cuts.{scaling-is}
 use borrow.Author.Needs.{needs}
 use Rattle.reasons.proofs.scaling_of.Statement.{statement}

@@ -1,7 +1,7 @@
 -- `reasons::section_cut` meets its contract.
 -- Assumes nothing.
 use mathlib.Core.Path.{sym}
-use Rattle.showing.proofs.KindWords.{kind-with, told-general}
+use Rattle.planning.proofs.KindWords.{kind-with, told-general}
 use Rattle.grounds.proofs.Holding.{cut-literal, cut-date, cut-fraction}
 use Rattle.reasons.proofs.Cuts.{general-cuts}
 use borrow.Author.Needs.{needs}

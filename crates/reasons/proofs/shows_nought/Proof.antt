@@ -1,7 +1,7 @@
 -- `reasons::shows_nought` meets its contract.
 -- Assumes nothing.
 use mathlib.Core.Path.{_∙_}
-use Rattle.showing.proofs.KindWords.{kind-with, told-general}
+use Rattle.planning.proofs.KindWords.{kind-with, told-general}
 use Rattle.reasons.proofs.Noughts.{nought-literal, nought-number, nought-date, scientific-nought, nought-fraction, nought-general}
 use Rattle.reasons.proofs.Cuts.{general-vanishes}
 use borrow.Author.Needs.{needs}

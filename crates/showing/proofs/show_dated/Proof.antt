@@ -1,6 +1,7 @@
 -- `showing::show_dated` meets its contract.
 -- Assumes nothing.
-use Rattle.showing.proofs.Instants.{date-takes, instant-places, instant-moment, instant-known}
+use Rattle.planning.proofs.Instants.{date-takes, instant-places}
+use Rattle.showing.proofs.Instants.{instant-moment, instant-known}
 use borrow.Author.Needs.{needs}
 use Rattle.showing.proofs.show_dated.Statement.{statement}
 use Rattle.showing.proofs.show_dated.Tie as tie

@@ -1,7 +1,7 @@
 -- `showing::show_fraction` meets its contract.
 -- Assumes nothing.
 use Rattle.showing.proofs.Fractions.{fraction-minus}
-use Rattle.showing.proofs.Values.{shows-as}
+use Rattle.showing.proofs.Checked.{shows-as}
 use borrow.Author.Needs.{needs}
 use Rattle.showing.proofs.show_fraction.Statement.{statement}
 use Rattle.showing.proofs.show_fraction.Tie as tie

@@ -2,7 +2,7 @@
 -- Assumes nothing.
 use mathlib.Core.Path.{sym, _∙_}
 use Rattle.lists.proofs.Bools.{true-T}
-use Rattle.showing.proofs.Values.{table-shows, table-refused}
+use Rattle.showing.proofs.Checked.{table-shows, table-refused}
 use borrow.Author.Needs.{needs}
 use Rattle.showing.proofs.show_in.Statement.{statement}
 use Rattle.showing.proofs.show_in.Tie as tie

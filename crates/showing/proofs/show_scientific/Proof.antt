@@ -4,7 +4,7 @@ use native.Mathlib.Omega.{arith}
 use mathlib.Core.Path.{refl}
 use Rattle.formats.specs.Reading.{numberContext, wholeContext, exponentContext}
 use Rattle.showing.proofs.Mantissas.{scientific-words, mantissa-subject, mantissa-nought, mantissa-exactly, exponent-shows, exponent-most, scientific-minus}
-use Rattle.showing.proofs.Values.{shows-as}
+use Rattle.showing.proofs.Checked.{shows-as}
 use borrow.Author.Needs.{needs}
 use Rattle.showing.proofs.show_scientific.Statement.{statement}
 use Rattle.showing.proofs.show_scientific.Tie as tie

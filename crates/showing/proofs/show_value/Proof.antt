@@ -1,7 +1,7 @@
 -- `showing::show_value` meets its contract.
 -- Assumes nothing.
 use Rattle.section_text.proofs.Fitting.{shows-refused}
-use Rattle.showing.proofs.Values.{shows-as}
+use Rattle.showing.proofs.Checked.{shows-as}
 use borrow.Author.Needs.{needs}
 use Rattle.showing.proofs.show_value.Statement.{statement}
 use Rattle.showing.proofs.show_value.Tie as tie

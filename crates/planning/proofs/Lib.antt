@@ -1,0 +1,10 @@
+pub mod KindWords
+pub mod Places
+pub mod Minus
+pub mod Subjects
+pub mod Numbers
+pub mod Generals
+pub mod Sections
+pub mod Instants
+pub mod Texts
+pub mod Values

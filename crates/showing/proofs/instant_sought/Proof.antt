@@ -1,9 +1,0 @@
--- `showing::instant_sought` meets its contract.
--- Assumes nothing.
-use Rattle.showing.proofs.Instants.{sought-instant}
-use borrow.Author.Needs.{needs}
-use Rattle.showing.proofs.instant_sought.Statement.{statement}
-use Rattle.showing.proofs.instant_sought.Tie as tie
-
-pub instant-sought-spec : {M : Type 1} → statement M
-instant-sought-spec = tie.close (tie.spec (λ c. search needs) (λ c. search needs) (λ c. search needs) (λ c. search needs) (λ c. sought-instant _ _))
