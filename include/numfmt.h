@@ -62,7 +62,7 @@ extern "C" {
  * Stack that is enough for each call, whatever is lent: none of them recurses.
  * Measured on x86-64: some 3,300 bytes for numfmt_prepare, 3,200 for
  * numfmt_section, 2,500 for the calls that show, 2,700 for those that ask why
- * and 200 for numfmt_check, and 2,400 more where the loader first looks up the
+ * and 300 for numfmt_check, and 2,400 more where the loader first looks up the
  * C library's memset.
  */
 #define NUMFMT_STACK_BYTES 8192
@@ -169,8 +169,10 @@ typedef struct {
  * Why a value is shown as it is. `section` is as in numfmt_shown; `first` and
  * `second` are of the sections 0 and 1 where they stand before it; `cut` is how
  * many decimals were cut, at most 30: those of the exact number, after percents
- * and dividing commas and without zeros at its end, that the section does not
- * show. On a refusal every number but the answer is 0.
+ * and dividing commas, in a scientific section over its power of ten, and
+ * without zeros at its end, that the rounding does not keep. It is 0 for an
+ * instant, a text, a literal section and a fraction. On a refusal every number
+ * but the answer is 0.
  */
 typedef struct {
     uint16_t answer;

@@ -41,7 +41,7 @@ isDigits us = not (isEmpty us) && every isDigit us
 unfoldable pub numeralUpTo : ℕ → List ℕ → ℕ
 numeralUpTo limit us = min (numberFrom 0 (map digitOf us)) limit
 
--- every coefficient from the first limit on is out of range, and every day and millisecond from the second (`limits-out`)
+-- a coefficient of the first limit is out of range, and a day and a millisecond of the second (`limits-out`), as all that are larger are
 abbrev pub coefficientLimit : ℕ
 coefficientLimit = 10 ^ 15
 
