@@ -12,9 +12,6 @@ placeForm f = leb 4 f && leb f 6
 unfoldable pub dateForms : List ℕ
 dateForms = 15 ∷ 16 ∷ 17 ∷ 18 ∷ 19 ∷ 20 ∷ 21 ∷ 22 ∷ []
 
-abbrev pub exponentForm : ℕ → Bool
-exponentForm f = leb 25 f && leb f 26
-
 -- a place with a solidus behind it
 abbrev pub overForm : ℕ → Bool
 overForm f = leb 27 f && leb f 32

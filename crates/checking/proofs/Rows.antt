@@ -26,11 +26,10 @@ use Rattle.tables.proofs.BackEntries.{items-ranged, span-at}
 use Rattle.tables.proofs.Standing.{number-word}
 use Rattle.date_rows.specs.declared.DatedRow.{DatedRow}
 use Rattle.number_rows.specs.declared.NumberRow.{NumberRow}
-use Rattle.scientific_rows.specs.declared.ScientificRow.{ScientificRow}
 use Rattle.tallies.specs.Tally.{makesFraction, soundEntries, itemsOf}
 use Rattle.date_rows.specs.DateRows.{DateTold}
 use Rattle.number_rows.specs.NumberRows.{numberItems, NumberTold}
-use Rattle.scientific_rows.specs.ScientificRows.{scientificItems, ScientificTold}
+use Rattle.scientific_rows.specs.ScientificRows.{scientificItems}
 use Rattle.fraction_rows.specs.FractionRows.{fractionItems}
 use Rattle.tallies.proofs.Places.{places-counted}
 use Rattle.tallies.proofs.Held.{takesPoint, Apart, apart, no-dates, no-solidi, uncut}
@@ -106,9 +105,6 @@ range-in h f k s g d =
     })
 
 -- ---- small laws
-same-eqb : (m n : ℕ) → m ≡ n → T (eqb m n)
-same-eqb m n e = true-T (eq-eqb m n e)
-
 neither : (a b : Bool) → a ≡ false → b ≡ false → T (agree a b)
 neither a b p q = rw (p, q) tt
 

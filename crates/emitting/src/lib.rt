@@ -1,6 +1,7 @@
 // Writes the words of a section's items into a lent room, token by token.
 use marks::forms;
 use tables::tags;
+use values::integers::lowered;
 use writing::put_unit;
 ghost use mathlib.Core.Path.{_≡_};
 ghost use mathlib.Core.Bool.{false, cond, _&&_};
@@ -152,15 +153,8 @@ fn seconds_at(form: u16) -> bool
     (form == forms::SECONDS) | (form == forms::ELAPSED_SECONDS)
 }
 
-// One power lower. It stays at 0 behind the fifteenth decimal place, as the table's definition has it; such a section is refused
-// elsewhere.
-fn lowered(digit: u16) -> u16
-    ensures { λ r. ⌜ r ≡ digit - 1 ⌝ }
-{
-    if digit == 0 { 0 } else { digit - 1 }
-}
-
-// The power of the next digit behind a token, and 15: behind an E or solidus the digits begin anew. (A `match`, which is one jump for all forms.)
+// The power of the next digit behind a token, and 15: behind an E or solidus the digits begin anew. Behind the fifteenth decimal place it stays at
+// 0, as the table's definition has it; such a section is refused elsewhere. (A `match`, which is one jump for all forms.)
 fn digit_after(form: u16, digit: u16, anew: u16) -> u16
     ensures { λ r. ⌜ r ≡ formDigit anew form digit ⌝ }
 {

@@ -9,7 +9,7 @@ use borrow.Author.Tests.{ne-eqb, le-leb, lt-leb}
 use lib.Dec.{leb, eqb}
 use Rattle.formats.proofs.ByNumber.{numbered, by-number}
 use Rattle.formats.specs.Tokens.{Token, literal}
-use Rattle.formats.specs.Kinds.{isPlace, isPoint, isSemicolon, isColour, isCondition, isExponent, isOver, isFillToken, colourIn, isSecondsToken, isZero}
+use Rattle.formats.specs.Kinds.{isPlace, isPoint, isSemicolon, isColour, isCondition, isOver, isFillToken, colourIn, isSecondsToken, isZero}
 use Rattle.marks.specs.Marks.{markRows, markToken, conditionOf}
 
 -- what g says of a token is what h says of its form and argument: a computed test of the forms, and one of the literal without units
@@ -51,10 +51,6 @@ module _ (f a : ℕ) (us : List ℕ) where
   pub condition-form : isCondition (markToken f a us) ≡ eqb f 24
   unfolding markRows conditionOf
   condition-form = by-form isCondition (λ (n : ℕ). eqb n 24) a us refl (λ n h. sym (ne-eqb n 24 (omega arith))) f
-
-  pub exponent-form : isExponent (markToken f a us) ≡ (leb 25 f && leb f 26)
-  unfolding markRows conditionOf
-  exponent-form = by-form isExponent (λ (n : ℕ). leb 25 n && leb n 26) a us refl (λ n h. sym (simp (le-leb 25 n (omega arith), lt-leb n 26 (omega arith)))) f
 
   pub over-form : isOver (markToken f a us) ≡ (leb 27 f && leb f 32)
   unfolding markRows conditionOf

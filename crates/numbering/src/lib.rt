@@ -2,6 +2,7 @@
 // down to power 0, where the words have those of one run before the solidus.
 use tables::tags;
 use values::integers::is_between;
+use values::integers::lowered;
 ghost use mathlib.Core.Path.{_≡_};
 ghost use mathlib.Core.Bool.{true, cond};
 ghost use mathlib.Core.List.{List, []};
@@ -86,13 +87,6 @@ fn integers_in(words: &[u16]) -> u16
         i += 2;
     }
     places
-}
-
-// One power lower; it stays at 0, as the table's definition has it.
-fn lowered(digit: u16) -> u16
-    ensures { λ r. ⌜ r ≡ digit - 1 ⌝ }
-{
-    if digit == 0 { 0 } else { digit - 1 }
 }
 
 // Writes the power of the item at the place i, where it is a place; returns the digit of the next place.

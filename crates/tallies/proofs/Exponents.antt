@@ -5,7 +5,7 @@ use mathlib.Core.Path.{_≡_, refl, sym, _∙_, ap}
 use mathlib.Core.Bool.{Bool, true, false, cond, not, _&&_, _||_, and-false, and-true, or-false, or-true}
 use lib.Dec.{T, leb, ltb, eqb}
 use native.Mathlib.Omega.{arith}
-use borrow.Author.Tests.{le-leb, eqb-true, eqb-false, ltb-true, ltb-false, lt-ltb}
+use borrow.Author.Tests.{le-leb, ltb-true, ltb-false, lt-ltb}
 use Rattle.lists.proofs.Bools.{by-cases, T-true}
 use Rattle.tallies.specs.declared.Tally.{Tally}
 use Rattle.tallies.specs.Tally.{hasPlaces, hasExponent, hasSolidus, hasFigures, hasNumberItems, Uncut, Cut, kindTold, allowedTold, noPlainTold, exponentTold, itemsFitTold, withinTold, decimalsTold}
@@ -139,13 +139,6 @@ module _ (t : Tally) (e : Cut t) where
       let shows : leb 5 (kindTold t) ≡ (eqb (kindTold t) 2 || (eqb (kindTold t) 5 || eqb (kindTold t) 6))
       = rw kind-flags (shows-places (t .texts) (ltb 0 (t .generals)) (t .dating) (hasExponent t)) in
       rw (← shows, h)
-
-  -- no other section than a fraction holds a solidus
-  pub solidus-refused : hasSolidus t ≡ true → (kindTold t ≡ 6 → ⊥) → itemsFitTold t ≡ false
-  solidus-refused s n =
-      by-cases (eqb (kindTold t) 5)
-      (λ e. sym (scientific-items-fit (eqb-true (kindTold t) 5 e)) ∙ rw (s, and-false (not (ltb 0 (t .percents))), and-false (not (t .dates))))
-      (λ e. sym (cut-refused (eqb-false (kindTold t) 5 e) n))
 
 -- the kind 5 is that of a section with an E
 pub scientific-exponent : (t : Tally) → kindTold t ≡ 5 → 0 < t .exponents

@@ -2,7 +2,7 @@
 -- Assumes nothing.
 use Prim.Native.Nat.{ℕ, _+_, _≤_}
 use mathlib.Core.Path.{_≡_, refl, sym, _∙_, ap}
-use mathlib.Core.Bool.{Bool, true, false, cond, not, _&&_, _||_, and-false, and-true, or-true}
+use mathlib.Core.Bool.{Bool, true, false, cond, not, _&&_, _||_, and-false, and-true}
 use mathlib.Core.List.{List}
 use lib.Dec.{leb, ltb, eqb}
 use native.Mathlib.Omega.{arith}
@@ -16,10 +16,7 @@ use Rattle.tables.specs.Encode.{kindWord, hasHalf, decimalsWord}
 use Rattle.tables.specs.Decode.{itemsAt}
 use Rattle.formats.proofs.Cutting.{bare-from, whole-none, main-all}
 use Rattle.formats.proofs.Each.{by-item, by-elapsed, by-kind}
-use Rattle.tallies.specs.Tally.{makesText, makesDate, makesFraction, belongsDate, tallyOf, hasPlaces, hasExponent, hasSolidus, Uncut, kindTold, allowedTold, exponentTold, itemsFitTold, withinTold, fractionTold, decimalsTold}
-use borrow.Author.Tests.{ltb-false}
-use Rattle.lists.proofs.Bools.{by-cases}
-use Rattle.tallies.proofs.Exponents.{solidus-refused}
+use Rattle.tallies.specs.Tally.{makesText, makesDate, makesFraction, belongsDate, tallyOf, hasPlaces, Uncut, kindTold, allowedTold, exponentTold, itemsFitTold, withinTold, fractionTold, decimalsTold}
 use Rattle.tallies.proofs.Places.{places-counted}
 use Rattle.tallies.proofs.Held.{kindBy, kind-is, uncut, no-fraction, allowedBy, allowed-every}
 
@@ -197,13 +194,6 @@ module _ (es : List Entry) where
   bare-items-told h =
       sym (and-true (itemsFitTold (tallyOf es))) ∙ ap (λ (b : Bool). itemsFitTold (tallyOf es) && b) (sym (no-fraction (itemsAt es) (no-solidi-told h)))
       ∙ items-fit-told
-
-  pub other-items-told : (kindTold (tallyOf es) ≡ 6 → ⊥) → itemsFitTold (tallyOf es) ≡ itemsFit (itemsAt es)
-  other-items-told n =
-      by-cases (hasSolidus (tallyOf es))
-      (λ e. let none = solidus-refused (tallyOf es) (rw (e, or-true (hasExponent (tallyOf es))) tt) e n in
-      none ∙ sym (ap (λ (b : Bool). b && fractionFits (itemsAt es)) none) ∙ items-fit-told)
-      (λ e. bare-items-told (ltb-false 0 (tallyOf es .solidi) e))
 
   -- without an E and a solidus there is no place behind one
   pub uncut-told : tallyOf es .exponents ≤ 0 → tallyOf es .solidi ≤ 0 → Uncut (tallyOf es)

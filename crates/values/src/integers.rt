@@ -1,4 +1,4 @@
-// The smaller and the greater of two numbers, how far one is above the other, and whether a number is in a range.
+// The smaller and the greater of two numbers, how far one is above the other, one less, and whether a number is in a range.
 ghost use mathlib.Core.Path.{_≡_};
 ghost use Prim.Native.Nat.{_-_, min, max};
 ghost use Rattle.values.specs.Ranges.{between};
@@ -20,6 +20,13 @@ pub fn excess(a: u32, b: u32) -> u32
     ensures { λ r. ⌜ r ≡ a - b ⌝ }
 {
     if b < a { a - b } else { 0 }
+}
+
+// One less; 0 stays 0.
+pub fn lowered(n: u16) -> u16
+    ensures { λ r. ⌜ r ≡ n - 1 ⌝ }
+{
+    if n == 0 { 0 } else { n - 1 }
 }
 
 pub fn is_between(least: u16, greatest: u16, n: u16) -> bool
