@@ -12,8 +12,7 @@ use borrow.Author.Tests.{eq-eqb, ne-eqb, lt-ltb, lt-leb, leb-true, leb-false, eq
 use Rattle.lists.specs.Lists.{every, any, count}
 use Rattle.lists.proofs.Bools.{no, and-left, and-right, and-in, by-cases, same-test, carry, true-T}
 use Rattle.lists.proofs.Counts.{every-map, every-same, every-and, positive-count}
-use Rattle.formats.specs.Items.{Item, Kind, kindRow, textKind, generalKind, dateKind, scientificKind, fractionKind, literalKind, sameKind, showsPlaces, itemMakes, itemsKind, itemAllowed, isFill, isGeneral}
-use Rattle.formats.proofs.Each.{by-kind}
+use Rattle.formats.specs.Items.{Item, Kind, textKind, generalKind, dateKind, scientificKind, fractionKind, literalKind, sameKind, showsPlaces, itemMakes, itemsKind, itemAllowed, isFill, isGeneral}
 use Rattle.formats.proofs.ByNumber.{numbered}
 use Rattle.tables.specs.Words.{Entry, entriesAt, entriesIn}
 use Rattle.tables.specs.Encode.{entry, bit, kindWord}
@@ -21,6 +20,7 @@ use Rattle.tables.specs.Decode.{itemAt, itemsAt}
 use Rattle.tables.specs.Rules.{entryInRange}
 use Rattle.tables.proofs.Words.{entriesLeft, entries-front}
 use Rattle.tables.proofs.BackEntries.{Span, span-at, late-tag}
+use Rattle.tables.proofs.Standing.{kind-most}
 use Rattle.tallies.specs.Tally.{makesText, soundEntries, itemsOf}
 use Rattle.scans.specs.Scans.{tagged}
 use Rattle.bare_rows.specs.BareRows.{ownTag, bareEntry, ownsFit}
@@ -69,14 +69,14 @@ module _ (k : Kind) (own : ℕ) where
     Made = T (isMade k is) × (sameKind generalKind k ≡ true → count isGeneral is ≤ 1)
 
     bare-items : Same → own < 26 → sameKind dateKind k ≡ false → showsPlaces k ≡ false → sameKind scientificKind k ≡ false → sameKind fractionKind k ≡ false → (T b → Made) → (Made → T b)
-        → (every (bareEntry own) es && (leb (count (tagged 3) es) 1 && b)) ≡ itemsOf (kindRow k .number) es
+        → (every (bareEntry own) es && (leb (count (tagged 3) es) 1 && b)) ≡ itemsOf (kindWord k) es
     bare-items rows few d f x s out back =
         let held : every (bareEntry own) es ≡ (every (itemAllowed k) is && every entryInRange es) =
         every-same (bareEntry own) (heldEntry k) (entry-fits rows few d) es ∙ every-and (λ (e : Entry). itemAllowed k (itemAt e)) entryInRange es
         ∙ unfold itemsAt in rw (every-map (itemAllowed k) itemAt es) in
         let fills : count isFill is ≡ count (tagged 3) es = count-tagged isFill 3 (λ e. tag-is isFill 3 e refl (omega arith) refl) es in
         rw (← fills, held)
-        (same-test _ (itemsOf (kindRow k .number) es)
+        (same-test _ (itemsOf (kindWord k) es)
         (λ t. let m = out (search and-right) in
         holds-back k es (record {
           items = search (and-left, and-right);
@@ -94,9 +94,6 @@ module _ (k : Kind) (own : ℕ) where
         search (and-in, le→leb)))
 
 -- ---- by the kind word
-kind-most : (k : Kind) → kindRow k .number ≤ 6
-kind-most = by-kind (λ (k : Kind). kindRow k .number ≤ 6) (omega arith) (omega arith) (omega arith) (omega arith) (omega arith) (omega arith) (omega arith)
-
 module _ (es : List Entry) where
   generals-are : count isGeneral (itemsAt es) ≡ count (tagged 9) es
   generals-are = count-tagged isGeneral 9 (λ e. tag-is isGeneral 9 e refl (omega arith) refl) es
@@ -105,11 +102,11 @@ module _ (es : List Entry) where
   texts-are = count-tagged makesText 10 (λ e. tag-is makesText 10 e (unfold itemMakes in refl) (omega arith) (unfold itemMakes in refl)) es
 
   literal-items : bareTest 0 es ≡ itemsOf 0 es
-  unfolding bareEntry itemAllowed itemAt entryInRange
+  unfolding bareEntry itemAllowed itemAt entryInRange kindWord
   literal-items = bare-items literalKind 1 es true (λ a. refl) (omega arith) refl refl refl refl (λ t. (tt, λ e. no e)) (λ m. tt)
 
   general-items : bareTest 1 es ≡ itemsOf 1 es
-  unfolding bareEntry itemAllowed itemAt entryInRange
+  unfolding bareEntry itemAllowed itemAt entryInRange kindWord
   general-items =
       let n = count (tagged 9) es in
       let made : any isGeneral (itemsAt es) ≡ ltb 0 n = sym (positive-count isGeneral (itemsAt es)) ∙ rw generals-are in
@@ -118,7 +115,7 @@ module _ (es : List Entry) where
       (λ m. let some = ltb→lt 0 n (carry made (m .0)) in let most = m .1 refl in true-T (eq-eqb n 1 (omega (arith, generals-are))))
 
   text-items : bareTest 3 es ≡ itemsOf 3 es
-  unfolding bareEntry itemAllowed itemAt entryInRange
+  unfolding bareEntry itemAllowed itemAt entryInRange kindWord
   text-items =
       let n = count (tagged 10) es in
       let made : any makesText (itemsAt es) ≡ ltb 0 n = sym (positive-count makesText (itemsAt es)) ∙ rw texts-are in
@@ -126,9 +123,9 @@ module _ (es : List Entry) where
 
   -- a number of no kind
   no-items : (kind : ℕ) → 6 < kind → itemsOf kind es ≡ false
-  unfolding itemsOf kindWord
+  unfolding itemsOf
   no-items kind h =
-      rw (ne-eqb kind (kindRow (itemsKind (itemsAt es)) .number) (λ e. absurd (omega (arith, kind-most (itemsKind (itemsAt es))))), and-false (soundEntries es))
+      rw (ne-eqb kind (kindWord (itemsKind (itemsAt es))) (λ e. absurd (omega (arith, kind-most (itemsKind (itemsAt es))))), and-false (soundEntries es))
 
   pub bare-told : (kind : ℕ) → (kind ≡ 2 → ⊥) → (kind ≡ 4 → ⊥) → (kind ≡ 5 → ⊥) → (kind ≡ 6 → ⊥) → bareTest kind es ≡ itemsOf kind es
   bare-told kind n₂ n₄ n₅ n₆ =

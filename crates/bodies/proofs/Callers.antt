@@ -35,7 +35,7 @@ ofFraction i = isSolidus i || isFixed i
 
 module _ (k : Kind) (other : sameKind k fractionKind ≡ false) where
   refused : T (sameKind fractionKind k) → true ≡ false
-  refused t = sym (rw (eqb-true 6 (kindRow k .number) (T-true (sameKind fractionKind k) t)) (T-true _ (eqb-refl (kindRow k .number)))) ∙ other
+  refused t = sym (rw (eqb-true 4 (kindRow k .number) (T-true (sameKind fractionKind k) t)) (T-true _ (eqb-refl (kindRow k .number)))) ∙ other
 
   held : (i : Item) → T (itemAllowed k i) → ofFraction i ≡ false
   unfolding itemAllowed

@@ -10,12 +10,12 @@ use borrow.Author.Tests.{eqb-true, eqb-false, eq-eqb, ne-eqb, lt-ltb, lt-leb, le
 use Rattle.lists.specs.Lists.{every, any, count}
 use Rattle.lists.proofs.Bools.{and-left, and-right, and-in, carry, same-test, by-cases, true-T}
 use Rattle.lists.proofs.Counts.{every-weaker, none-count}
-use Rattle.formats.specs.Items.{Item, Kind, numberKind, sameKind, showsPlaces, kindOf, itemsKind, itemAllowed, itemInRange, isPlace, isPercent, itemsFit, integerPlaces, decimalPlaces, placesBehind, wholeItems, mainItems}
+use Rattle.formats.specs.Items.{Item, Kind, dateKind, scientificKind, fractionKind, numberKind, sameKind, showsPlaces, kindOf, itemsKind, itemAllowed, itemInRange, isPlace, isPercent, itemsFit, integerPlaces, decimalPlaces, placesBehind, wholeItems, mainItems}
 use Rattle.formats.specs.Where.{implies}
 use Rattle.formats.specs.Limits.{elapsedShort, fixedSmall, sectionWithin}
 use Rattle.formats.specs.WellFormed.{oneFill, partsFollow, isSettled, groupingFits, sectionFits}
 use Rattle.formats.proofs.Cutting.{bare-from, whole-none, main-all, no-decimals}
-use Rattle.formats.proofs.Each.{by-item, by-kind}
+use Rattle.formats.proofs.Each.{by-item}
 use Rattle.tables.specs.Words.{Head, Entry, Row}
 use Rattle.tables.specs.Encode.{kindWord, hasHalf, decimalsWord}
 use Rattle.tables.specs.Decode.{wholeAt, millionthsAt, itemsAt, groupedAt, thousandsAt, sectionAt}
@@ -23,7 +23,7 @@ use Rattle.tables.specs.Rules.{headInRange, entryInRange, rowInRange, condition
 use Rattle.tables.proofs.Ranges.{HeadRanges, head-ranges, head-in-ranges}
 use Rattle.tables.proofs.Back.{RowFacts, row-facts}
 use Rattle.tables.proofs.BackEntries.{items-ranged, span-at}
-use Rattle.tables.proofs.Standing.{number-word}
+use Rattle.tables.proofs.Standing.{same-word, kind-most, number-word}
 use Rattle.date_rows.specs.declared.DatedRow.{DatedRow}
 use Rattle.number_rows.specs.declared.NumberRow.{NumberRow}
 use Rattle.tallies.specs.Tally.{makesFraction, soundEntries, itemsOf}
@@ -120,10 +120,6 @@ or-left false b t = absurd t
 ungrouped : (g : Bool) → T (not g || false) → T (not g)
 ungrouped true t = t
 ungrouped false t = tt
-
-kind-few : (k : Kind) → kindWord k ≤ 6
-unfolding kindWord
-kind-few = by-kind (λ (k : Kind). kindWord k ≤ 6) (omega arith) (omega arith) (omega arith) (omega arith) (omega arith) (omega arith) (omega arith)
 
 -- neither grouping nor twelve-hour
 few-flags : (flags : ℕ) → T (eqb flags 0 || eqb flags 2) → (flags < 4) × T (not (groupedAt flags))
@@ -245,13 +241,16 @@ module _ (h : Head) (es : List Entry) where
     shown : (b : Bool) → (eqb (h .kind) 2 || (eqb (h .kind) 5 || eqb (h .kind) 6)) ≡ b → showsPlaces (itemsKind is) ≡ b
     shown b e = places-kind ∙ e
 
+    not-kind : (j : Kind) → (h .kind ≡ kindWord j → ⊥) → sameKind j (itemsKind is) ≡ false
+    not-kind j n = sym (same-word j (itemsKind is)) ∙ ne-eqb (kindWord j) (kindWord (itemsKind is)) (λ e. n (sym word ∙ sym e))
+
     none-half : (h .kind ≡ 4 → ⊥) → hasHalf is ≡ false
     unfolding kindWord
-    none-half n = unfold hasHalf in no-dates is (kept .dates (ne-eqb 4 (kindWord (itemsKind is)) (λ e. n (sym word ∙ sym e)))) .1
+    none-half n = unfold hasHalf in no-dates is (kept .dates (not-kind dateKind n)) .1
 
     none-percent : (h .kind ≡ 2 → ⊥) → count isPercent is ≡ 0
     unfolding kindWord
-    none-percent n = none-count isPercent is (kept .percents (ne-eqb 2 (kindWord (itemsKind is)) (λ e. n (sym word ∙ sym e))))
+    none-percent n = none-count isPercent is (kept .percents (not-kind numberKind n))
 
     none-placed : showsPlaces (itemsKind is) ≡ false → (integerPlaces is ≡ 0) × (decimalPlaces is ≡ 0)
     none-placed e =
@@ -263,14 +262,13 @@ module _ (h : Head) (es : List Entry) where
     none-decimal : (h .kind ≡ 2 → ⊥) → (h .kind ≡ 5 → ⊥) → decimalPlaces is ≡ 0
     unfolding kindWord
     none-decimal k n =
-        let other : takesPoint (itemsKind is) ≡ false =
-        rw (ne-eqb 2 (kindWord (itemsKind is)) (λ e. k (sym word ∙ sym e)), ne-eqb 5 (kindWord (itemsKind is)) (λ e. n (sym word ∙ sym e))) in
+        let other : takesPoint (itemsKind is) ≡ false = rw (not-kind numberKind k, not-kind scientificKind n) in
         no-decimals is (kept .points other)
 
     module _ (s : h .kind ≡ 6 → ⊥) where
       none-solidus : any makesFraction is ≡ false
       unfolding kindWord
-      none-solidus = kept .solidi (ne-eqb 6 (kindWord (itemsKind is)) (λ e. s (sym word ∙ sym e)))
+      none-solidus = kept .solidi (not-kind fractionKind s)
 
       none-whole : integerPlaces (wholeItems is) ≡ 0
       unfolding integerPlaces
@@ -285,7 +283,7 @@ module _ (h : Head) (es : List Entry) where
       none-behind : (h .kind ≡ 5 → ⊥) → T (leb (placesBehind is) 3)
       unfolding kindWord placesBehind count
       none-behind n =
-          rw (bare-from is (uncut is (kept .exponents (ne-eqb 5 (kindWord (itemsKind is)) (λ e. n (sym word ∙ sym e)))) none-solidus)) tt
+          rw (bare-from is (uncut is (kept .exponents (not-kind scientificKind n)) none-solidus)) tt
 
   -- ---- a number section
   module _ (k : h .kind ≡ 2) where
@@ -434,7 +432,7 @@ module _ (h : Head) (es : List Entry) where
         let shorts = short f in
         let smalls = small f in
         good-in f
-        (range-in h front (omega (arith, word f, kind-few (itemsKind is))) (omega (arith, eqb→eq (h .shift) 0 shift)) flags (omega (arith, eqb→eq (h .decimals) 0 decimals)))
+        (range-in h front (omega (arith, word f, kind-most (itemsKind is))) (omega (arith, eqb→eq (h .shift) 0 shift)) flags (omega (arith, eqb→eq (h .decimals) 0 decimals)))
         (condition-in h front) (carry (sym (grouping-by false other)) (or-left (not (groupedAt (h .flags))) false plain))
         (carry (sym (within-by false other)) (search (and-in, le→leb) depth 9)) (carry (sym (shift-by false other)) shift)
         (carry (sym (decimals-none f)) decimals) (search and-right)
@@ -515,7 +513,7 @@ module _ (h : Head) (es : List Entry) where
   -- no kind has a number above 6
   no-kind : 6 < h .kind → itemsOf (h .kind) es ≡ false
   unfolding itemsOf
-  no-kind m = let other = ne-eqb (h .kind) (kindWord (itemsKind is)) (λ e. absurd (omega (arith, e, kind-few (itemsKind is)))) in
+  no-kind m = let other = ne-eqb (h .kind) (kindWord (itemsKind is)) (λ e. absurd (omega (arith, e, kind-most (itemsKind is)))) in
       rw other (and-false (soundEntries es))
 
   cut-answer : 5 ≤ h .kind → Front h → cutTold h es ≡ rowGood row

@@ -216,7 +216,7 @@ module _ (es : List Entry) where
   Rules = (any makesDate is ≡ true) × T (every (noPlain is) is)
 
   dates-out : T (itemsOf 4 es) → Rules × Left begun es
-  unfolding partsFollow
+  unfolding partsFollow kindWord
   dates-out t =
       let h = holds dateKind es t in
       let d = h .dates refl in (
@@ -225,7 +225,7 @@ module _ (es : List Entry) where
       )
 
   dates-back : Rules → Left begun es → T (itemsOf 4 es)
-  unfolding partsFollow
+  unfolding partsFollow kindWord
   dates-back w l =
       holds-back dateKind es (record {
         items = l .items;

@@ -119,7 +119,7 @@ grouped-two before (t ∷ ts) bb bt e =
 
 number-plain : (ts : List Token) → sameKind (bodyKind ts) numberKind ≡ true → bodyItems ts ≡ plainItems ts
 unfolding bodyItems
-number-plain ts e = rw (eqb-true (kindRow (bodyKind ts) .number) 2 e)
+number-plain ts e = rw (eqb-true (kindRow (bodyKind ts) .number) 5 e)
 
 -- a number section has no E and no solidus
 made-exponent : (t : Token) → tokenMakes scientificKind t ≡ isExponent t

@@ -1,6 +1,6 @@
 -- A section as it is understood (R30 to R33, R41, R42, R45, R127, R129, R132, R134): what a code's section and a table's section both stand for.
 -- Assumes nothing.
-use Prim.Native.Nat.{ℕ, suc, _+_}
+use Prim.Native.Nat.{ℕ, suc}
 use mathlib.Core.Bool.{Bool, true, false, cond, not, _&&_, _||_}
 use mathlib.Core.List.{List, [], _∷_, _++_}
 use mathlib.Core.Option.{Option, none, some}
@@ -41,7 +41,7 @@ pub data Kind : Type 0 where
 
 -- what is to be known of a kind
 pub record KindRow : Type 0 where
-  -- document 01's number of the kind, by which kinds are told apart
+  -- a number of its own, by which kinds are told apart
   pub number : ℕ
   pub takesNumber : Bool
   pub takesInstant : Bool
@@ -55,17 +55,17 @@ abbrev kind : ℕ → Bool → Bool → Bool → Bool → KindRow
 kind n takesN takesI asGeneral byPlaces =
     record { number = n; takesNumber = takesN; takesInstant = takesI; showsGeneral = asGeneral; showsPlaces = byPlaces }
 
--- the kinds: "0 literal, 1 General, 2 number, 3 text, 4 date-time", "kind 5" scientific, "kind 6" fraction. "Number sections and General refuse instants; date-time refuses
--- numbers (11). Literal sections take both." "scientific sections (instants are 11)", "fraction sections (instants are 11)". A text section is chosen only where N = 0: "a number appears as General wherever `@` stands;
--- an instant is 11". (R59, R62, R90, R131, R136)
+-- the kinds, numbered as they are declared: "Number sections and General refuse instants; date-time refuses numbers (11). Literal sections take
+-- both." "scientific sections (instants are 11)", "fraction sections (instants are 11)". A text section is chosen only where N = 0: "a number
+-- appears as General wherever `@` stands; an instant is 11". (R59, R62)
 abbrev pub kindRow : Kind → KindRow
-kindRow literalKind = kind 0 true true false false
+kindRow textKind = kind 0 true false true false
 kindRow generalKind = kind 1 true false true false
-kindRow numberKind = kind 2 true false false true
-kindRow textKind = kind 3 true false true false
-kindRow dateKind = kind 4 false true false false
-kindRow scientificKind = kind 5 true false false true
-kindRow fractionKind = kind 6 true false false true
+kindRow dateKind = kind 2 false true false false
+kindRow scientificKind = kind 3 true false false true
+kindRow fractionKind = kind 4 true false false true
+kindRow numberKind = kind 5 true false false true
+kindRow literalKind = kind 6 true true false false
 
 abbrev pub showsPlaces : Kind → Bool
 showsPlaces k = kindRow k .showsPlaces
@@ -100,11 +100,11 @@ isUnit u = ltb u 65536
 
 -- what is to be known of an item beside its text
 pub record ItemRow : Type 0 where
-  -- document 01's number of the item, by which items are told apart: the first of them where it has three
+  -- a number of its own, by which items are told apart
   pub number : ℕ
-  -- which of its numbers it has, counted from the first
+  -- which place, elapsed unit, half-day mark or E it is, counted from 0; 0 where there is but one
   pub variant : ℕ
-  -- its unit, the length of its run, or 1 or 2 for the half-day marks; 0 where it has none
+  -- its unit, the length of its run, or the fixed number; 0 where it has none of these
   pub argument : ℕ
   -- the arguments that it may have
   pub takes : ℕ → Bool
@@ -129,86 +129,83 @@ anyKind k = true
 abbrev hasPoint : Kind → Bool
 hasPoint k = sameKind numberKind k || sameKind scientificKind k
 
--- the items: "1 literal, 2 blank, 3 fill (each with its unit); 4, 5, 6 places `0 # ?`; 7 point, 8 percent, 9 General, 10 at; 11 year,
--- 12 month, 13 day, 14 hour, 15 minute, 16 second, 17 part of a second, 18 to 20 elapsed h, m, s (run length); 21 half-day (1 A/P,
--- 2 AM/PM)", "22 (E+, 0) and 23 (E-, 0)", "24 (solidus, 0) and 25 (fixed denominator, the number)". A body holds its kind's items, "with literals,
--- blanks and fills anywhere". (R31, R94, R97, R131, R136)
+-- the items, numbered as they are declared. A body holds its kind's items, "with literals, blanks and fills anywhere". (R31)
 abbrev pub itemRow : Item → ItemRow
-itemRow (literal u) = row 1 0 u isUnit none anyKind noRun
-itemRow (blank u) = row 2 0 u isUnit none anyKind noRun
-itemRow (fill u) = row 3 0 u isUnit none anyKind noRun
-itemRow (place p) = row 4 (placeIndex p) 0 noArgument (some numberKind) showsPlaces noRun
-itemRow point = row 7 0 0 noArgument none hasPoint noRun
-itemRow percent = row 8 0 0 noArgument none (sameKind numberKind) noRun
-itemRow general = row 9 0 0 noArgument (some generalKind) (sameKind generalKind) noRun
-itemRow at = row 10 0 0 noArgument (some textKind) (sameKind textKind) noRun
-itemRow (year n) = row 11 0 n (runAllowed letterY) (some dateKind) (sameKind dateKind) otherRun
-itemRow (month n) = row 12 0 n (runAllowed letterM) (some dateKind) (sameKind dateKind) otherRun
-itemRow (day n) = row 13 0 n (runAllowed letterD) (some dateKind) (sameKind dateKind) otherRun
-itemRow (hour n) = row 14 0 n (runAllowed letterH) (some dateKind) (sameKind dateKind) hourRun
-itemRow (minute n) = row 15 0 n (between 1 2) (some dateKind) (sameKind dateKind) otherRun
-itemRow (second n) = row 16 0 n (runAllowed letterS) (some dateKind) (sameKind dateKind) secondRun
-itemRow (part n) = row 17 0 n (between 1 3) none (sameKind dateKind) noRun
-itemRow (elapsed e n) = row 18 (elapsedIndex e) n (between 1 9) (some dateKind) (sameKind dateKind) (runOfElapsed e)
-itemRow (half h) = row 21 0 (suc (halfIndex h)) (between 1 2) none (sameKind dateKind) noRun
-itemRow (exponent m) = row 22 (exponentIndex m) 0 noArgument (some scientificKind) (sameKind scientificKind) noRun
-itemRow solidus = row 24 0 0 noArgument (some fractionKind) (sameKind fractionKind) noRun
-itemRow (fixed n) = row 25 0 n (between 1 999) (some fractionKind) (sameKind fractionKind) noRun
+itemRow (literal u) = row 0 0 u isUnit none anyKind noRun
+itemRow (blank u) = row 1 0 u isUnit none anyKind noRun
+itemRow (fill u) = row 2 0 u isUnit none anyKind noRun
+itemRow (place p) = row 3 (placeIndex p) 0 noArgument (some numberKind) showsPlaces noRun
+itemRow point = row 4 0 0 noArgument none hasPoint noRun
+itemRow percent = row 5 0 0 noArgument none (sameKind numberKind) noRun
+itemRow general = row 6 0 0 noArgument (some generalKind) (sameKind generalKind) noRun
+itemRow at = row 7 0 0 noArgument (some textKind) (sameKind textKind) noRun
+itemRow (year n) = row 8 0 n (runAllowed letterY) (some dateKind) (sameKind dateKind) otherRun
+itemRow (month n) = row 9 0 n (runAllowed letterM) (some dateKind) (sameKind dateKind) otherRun
+itemRow (day n) = row 10 0 n (runAllowed letterD) (some dateKind) (sameKind dateKind) otherRun
+itemRow (hour n) = row 11 0 n (runAllowed letterH) (some dateKind) (sameKind dateKind) hourRun
+itemRow (minute n) = row 12 0 n (between 1 2) (some dateKind) (sameKind dateKind) otherRun
+itemRow (second n) = row 13 0 n (runAllowed letterS) (some dateKind) (sameKind dateKind) secondRun
+itemRow (part n) = row 14 0 n (between 1 3) none (sameKind dateKind) noRun
+itemRow (elapsed e n) = row 15 (elapsedIndex e) n (between 1 9) (some dateKind) (sameKind dateKind) (runOfElapsed e)
+itemRow (half h) = row 16 (halfIndex h) 0 noArgument none (sameKind dateKind) noRun
+itemRow (exponent m) = row 17 (exponentIndex m) 0 noArgument (some scientificKind) (sameKind scientificKind) noRun
+itemRow solidus = row 18 0 0 noArgument (some fractionKind) (sameKind fractionKind) noRun
+itemRow (fixed n) = row 19 0 n (between 1 999) (some fractionKind) (sameKind fractionKind) noRun
 
 abbrev pub itemNumber : Item → ℕ
 itemNumber i = itemRow i .number
 
 abbrev pub isLiteral : Item → Bool
-isLiteral i = eqb (itemNumber i) 1
+isLiteral i = eqb (itemNumber i) 0
 
 abbrev pub isFill : Item → Bool
-isFill i = eqb (itemNumber i) 3
+isFill i = eqb (itemNumber i) 2
 
 abbrev pub isPlace : Item → Bool
-isPlace i = eqb (itemNumber i) 4
+isPlace i = eqb (itemNumber i) 3
 
 -- a place `?`
 abbrev pub isSpace : Item → Bool
 isSpace i = isPlace i && eqb (itemRow i .variant) 2
 
 abbrev pub isPoint : Item → Bool
-isPoint i = eqb (itemNumber i) 7
+isPoint i = eqb (itemNumber i) 4
 
 abbrev pub isPercent : Item → Bool
-isPercent i = eqb (itemNumber i) 8
+isPercent i = eqb (itemNumber i) 5
 
 abbrev pub isGeneral : Item → Bool
-isGeneral i = eqb (itemNumber i) 9
+isGeneral i = eqb (itemNumber i) 6
 
 abbrev pub isMonth : Item → Bool
-isMonth i = eqb (itemNumber i) 12
+isMonth i = eqb (itemNumber i) 9
 
 abbrev pub isHour : Item → Bool
-isHour i = eqb (itemNumber i) 14
+isHour i = eqb (itemNumber i) 11
 
 abbrev pub isMinute : Item → Bool
-isMinute i = eqb (itemNumber i) 15
+isMinute i = eqb (itemNumber i) 12
 
 abbrev pub isSecond : Item → Bool
-isSecond i = eqb (itemNumber i) 16
+isSecond i = eqb (itemNumber i) 13
 
 abbrev pub isPart : Item → Bool
-isPart i = eqb (itemNumber i) 17
+isPart i = eqb (itemNumber i) 14
 
 abbrev pub isElapsed : Item → Bool
-isElapsed i = eqb (itemNumber i) 18
+isElapsed i = eqb (itemNumber i) 15
 
 abbrev pub isHalf : Item → Bool
-isHalf i = eqb (itemNumber i) 21
+isHalf i = eqb (itemNumber i) 16
 
 abbrev pub isExponent : Item → Bool
-isExponent i = eqb (itemNumber i) 22
+isExponent i = eqb (itemNumber i) 17
 
 abbrev pub isSolidus : Item → Bool
-isSolidus i = eqb (itemNumber i) 24
+isSolidus i = eqb (itemNumber i) 18
 
 abbrev pub isFixed : Item → Bool
-isFixed i = eqb (itemNumber i) 25
+isFixed i = eqb (itemNumber i) 19
 
 -- a section is cut at its E or at its solidus: the places behind it show a number of their own
 abbrev pub isCut : Item → Bool
@@ -255,9 +252,11 @@ kindOf s = itemsKind (s .items)
 unfoldable pub itemAllowed : Kind → Item → Bool
 itemAllowed k i = itemRow i .heldBy k
 
--- the plain equivalent of the elapsed item of this variant: hour, minute, second (14 to 16) of elapsed h, m, s (18 to 20)
+-- the plain equivalent of the elapsed item of this variant: an hour run of elapsed hours, a minute run of elapsed minutes, a second run
+-- of elapsed seconds
 abbrev pub isPlain : ℕ → Item → Bool
-isPlain variant i = eqb (itemNumber i) (14 + variant)
+isPlain variant i =
+    cond (eqb variant (elapsedIndex hours)) (isHour i) (cond (eqb variant (elapsedIndex minutes)) (isMinute i) (isSecond i))
 
 -- an elapsed item has no plain equivalent anywhere among the items
 unfoldable pub noPlain : List Item → Item → Bool

@@ -14,7 +14,7 @@ use Rattle.formats.specs.Items.{Item, Condition, Section, Kind, generalK
 
 -- what is to be known of a token beside the items that it makes
 pub record TokenRow : Type 0 where
-  -- a number for each form of token, by which tokens are told apart: the first of them where the form has several
+  -- a number of its own for each form of token, by which tokens are told apart: the first of them where the form has several
   pub form : ℕ
   -- which of its numbers it has, counted from the first
   pub variant : ℕ
@@ -29,7 +29,7 @@ pub record TokenRow : Type 0 where
 abbrev row : ℕ → ℕ → ℕ → Option Kind → TokenRow
 row f v a m = record { form = f; variant = v; argument = a; makes = m; written = none }
 
--- the tokens by their forms, as the code's buffer of tokens numbers them too; a half-day mark is no date token (R30)
+-- the tokens by their forms; a half-day mark is no date token (R30)
 abbrev pub tokenRow : Token → TokenRow
 tokenRow (token.literal us) = row 0 0 0 none
 tokenRow (token.bare u) = row 1 0 u none

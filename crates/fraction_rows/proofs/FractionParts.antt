@@ -16,7 +16,7 @@ use Rattle.formats.specs.Items.{Item, fractionKind, literalKind, numberKind, it
 use Rattle.formats.specs.Text.{firstOf}
 use Rattle.formats.proofs.Cutting.{places-integers, no-decimals}
 use Rattle.tables.specs.Words.{Entry, entriesAt, entriesIn}
-use Rattle.tables.specs.Encode.{entry}
+use Rattle.tables.specs.Encode.{entry, kindWord}
 use Rattle.tables.specs.Decode.{itemAt, itemsAt}
 use Rattle.tables.specs.Rules.{entryInRange, powersFrom, runPowers}
 use Rattle.tallies.specs.Tally.{makesFraction, itemsOf}
@@ -48,6 +48,7 @@ module _ (fs : List Entry) where
   loose = itemsAt fs
 
   pub loose-in : T (itemsOf 0 fs) → Piece fs × (any makesFraction loose ≡ false) × (any isPlace loose ≡ false)
+  unfolding kindWord
   loose-in t =
       let h = holds literalKind fs t in
       let a = apart literalKind loose (h .items) in
@@ -56,6 +57,7 @@ module _ (fs : List Entry) where
       (record { items = held; ranges = h .ranges; fill = h .fill }, a .solidi refl, a .places refl)
 
   pub loose-out : Piece fs → any makesFraction loose ≡ false → any isPlace loose ≡ false → T (itemsOf 0 fs)
+  unfolding kindWord
   loose-out p solidi places =
       let a = apart fractionKind loose (p .items) in
       let held : T (every (itemAllowed literalKind) loose) = carry (sym (allowed-every literalKind loose))
@@ -384,7 +386,7 @@ run-unfixed t a es e =
     made t a es e = unfold itemsAt any in (rw (fixed-tag t a, eq-eqb t 25 e, or-true (isSolidus (itemAt (entry t a)))))
 
     unnumbered : (es : List Entry) → T (numberItems es) → any makesFraction (itemsAt es) ≡ false
-    unnumbered es t = unfold numberItems in (apart numberKind (itemsAt es) (holds numberKind es (and-left (itemsOf 2 es) _ t) .items) .solidi refl)
+    unnumbered es t = unfold numberItems kindWord in (apart numberKind (itemsAt es) (holds numberKind es (and-left (itemsOf 2 es) _ t) .items) .solidi refl)
 
 module _ (t a : ℕ) (es : List Entry) where
   pub behind-run : (t ≡ 25 → ⊥) → runFits (entry t a ∷ es) ≡ behindTest (entry t a ∷ es)

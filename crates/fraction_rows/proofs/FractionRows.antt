@@ -16,7 +16,7 @@ use Rattle.formats.specs.Items.{Item, solidus, fractionKind, itemAllowed, itemN
 use Rattle.formats.specs.Text.{firstOf}
 use Rattle.formats.proofs.Cutting.{integers-before, fraction-rules, none-passes}
 use Rattle.tables.specs.Words.{Entry, entriesIn}
-use Rattle.tables.specs.Encode.{entry}
+use Rattle.tables.specs.Encode.{entry, kindWord}
 use Rattle.tables.specs.Decode.{itemAt, itemsAt}
 use Rattle.tables.specs.Rules.{entryInRange, powersFrom, runPowers, powersRunDown}
 use Rattle.tables.proofs.BackEntries.{items-length}
@@ -161,7 +161,7 @@ module _ (ws ns ds : List Entry) (a : ℕ) (whole : itemsAt ws ≡ beforeEnd (it
   only-places p f = none-passes p isPlace f (itemsAt ns) only
 
   pub cut-out : T (fractionItems es) → Parts
-  unfolding fractionItems
+  unfolding fractionItems kindWord
   cut-out t =
       let h : Holds fractionKind es = holds fractionKind es (and-left (itemsOf 6 es) _ t) in
       let r = fraction-rules is some-solidus (h .fraction refl) in
@@ -208,13 +208,13 @@ module _ (ws ns ds : List Entry) (a : ℕ) (whole : itemsAt ws ≡ beforeEnd (it
       }
 
   pub cut-in : Parts → T (fractionItems es)
-  unfolding fractionItems fractionFits
+  unfolding fractionItems fractionFits kindWord
   cut-in p =
       let w = p .wholes in
       let b = p .behind in
-      let point = only-places isPoint (λ i t. rw (eqb-true (itemNumber i) 4 (T-true (isPlace i) t))) in
-      let percent = only-places isPercent (λ i t. rw (eqb-true (itemNumber i) 4 (T-true (isPlace i) t))) in
-      let filler = only-places isFill (λ i t. rw (eqb-true (itemNumber i) 4 (T-true (isPlace i) t))) in
+      let point = only-places isPoint (λ i t. rw (eqb-true (itemNumber i) 3 (T-true (isPlace i) t))) in
+      let percent = only-places isPercent (λ i t. rw (eqb-true (itemNumber i) 3 (T-true (isPlace i) t))) in
+      let filler = only-places isFill (λ i t. rw (eqb-true (itemNumber i) 3 (T-true (isPlace i) t))) in
       let n = number-in ns (p .numerators) (none-count isPercent (itemsAt ns) percent) point in
       let exponents : any isExponent js ≡ false = rw front (any-append isExponent (itemsAt ws) (itemsAt ns) ∙ rw (apart fractionKind (itemsAt ws) (w .piece .items) .exponents refl, n .exponents)) in
       let fractions : any makesFraction js ≡ false = rw front (any-append makesFraction (itemsAt ws) (itemsAt ns) ∙ rw (w .solidi, n .solidi)) in
@@ -301,7 +301,7 @@ unsolid is none made fits =
     omega (arith, none-count isSolidus is none)
 
 pub none-told : (es : List Entry) → hasTag es 24 ≡ false → false ≡ fractionItems es
-unfolding fractionItems
+unfolding fractionItems kindWord
 none-told es n =
     let none : any isSolidus (itemsAt es) ≡ false = any-tagged isSolidus 24 (λ e. tag-is isSolidus 24 e refl (omega arith) refl) es ∙ n in
     by-cases (fractionItems es)

@@ -161,8 +161,8 @@ pub places-counted : (is : List Item) → T (every isPlace is) → count isPlace
 unfolding count integerPlaces
 places-counted [] t = refl
 places-counted (i ∷ is) t =
-    let four = eqb-true (itemNumber i) 4 (T-true (isPlace i) (every-head isPlace i is t)) in
-    rw (four, places-counted is (every-tail isPlace i is t))
+    let number = eqb-true (itemNumber i) 3 (T-true (isPlace i) (every-head isPlace i is t)) in
+    rw (number, places-counted is (every-tail isPlace i is t))
 
 pub places-length : (is : List Item) → T (every isPlace is) → length is ≡ count isPlace is
 unfolding count

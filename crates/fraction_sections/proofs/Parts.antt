@@ -107,7 +107,7 @@ denominator-run [] t = refl
 denominator-run (i ∷ is) t =
     let u = and-left (cond (isFixed i) (not (any isPlace is)) (isPlace i && not (any isPlace (behindStart is)))) _ t in
     by-cases (isFixed i)
-    (λ e. let five = eqb-true (itemNumber i) 25 e in rw (five, five) (not-so (any isPlace is) (rw e at u)))
+    (λ e. let number = eqb-true (itemNumber i) 19 e in rw (number, number) (not-so (any isPlace is) (rw e at u)))
     (λ e.
     let v = rw e at u in
     rw (T-true (isPlace i) (and-left (isPlace i) _ v)) (not-so (any isPlace (behindStart is)) (and-right (isPlace i) _ v)))

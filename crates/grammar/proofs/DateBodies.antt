@@ -163,7 +163,7 @@ date-of ts s h f c =
     let items = date-body ts h in
     let dated : Dated (c .abs) noRun (dateItems (piecesFrom false 0 ts)) = rw items at (sym (dated-fill (c .abs) noRun (bodyItems ts)) ∙ c .each) in
     let rest : DateTimeRest (c .abs) behindOther ts = rest-of (c .abs) ts (body-tokens ts s (f .brackets)) behindOther noRun 0 (λ n k. refl) refl dated in
-    let few : count isElapsed (bodyItems ts) ≤ 1 = rw (count-kept 18 refl refl (bodyItems ts)) at (f .elapseds) in
+    let few : count isElapsed (bodyItems ts) ≤ 1 = rw (count-kept 15 refl refl (bodyItems ts)) at (f .elapseds) in
     record {
       abs = c .abs;
       tokens = from-rest rest (kind-has dateKind refl ts h);
@@ -185,10 +185,10 @@ date-fits ts d =
     let dated : every (dateItem (d .abs)) (kept ts) ≡ true = rw items (dated-fill (d .abs) noRun (dateItems (piecesFrom false 0 ts)) ∙ rest-dated (d .abs) rest noRun refl) in
     let a : every (itemAllowed dateKind) (bodyItems ts) ≡ true
     = sym (allowed-kept dateKind (bodyItems ts)) ∙ date-allowed (d .abs) (kept ts) dated in
-    let places : count item.isPlace (bodyItems ts) ≡ 0 = foreign dateKind 4 refl (bodyItems ts) a in
-    let points : count item.isPoint (bodyItems ts) ≡ 0 = foreign dateKind 7 refl (bodyItems ts) a in
-    let percents : count item.isPercent (bodyItems ts) ≡ 0 = foreign dateKind 8 refl (bodyItems ts) a in
-    let generals : count item.isGeneral (bodyItems ts) ≡ 0 = foreign dateKind 9 refl (bodyItems ts) a in
+    let places : count item.isPlace (bodyItems ts) ≡ 0 = foreign dateKind 3 refl (bodyItems ts) a in
+    let points : count item.isPoint (bodyItems ts) ≡ 0 = foreign dateKind 4 refl (bodyItems ts) a in
+    let percents : count item.isPercent (bodyItems ts) ≡ 0 = foreign dateKind 5 refl (bodyItems ts) a in
+    let generals : count item.isGeneral (bodyItems ts) ≡ 0 = foreign dateKind 6 refl (bodyItems ts) a in
     let unbroken = bare dateKind refl (bodyItems ts) a in
     let once : count isElapsed (bodyItems ts) ≤ 1 = rw (items, rest-elapsed rest) (d .absolute-once) in (
       h,
@@ -199,9 +199,9 @@ date-fits ts d =
         allowed = rw h a;
         generals = omega arith;
         points = omega arith;
-        elapseds = rw (count-kept 18 refl refl (bodyItems ts)) once;
+        elapseds = rw (count-kept 15 refl refl (bodyItems ts)) once;
         apart = dates-apart (d .abs) (kept ts) dated;
-        exponent = no-exponents (bodyItems ts) (foreign dateKind 22 refl (bodyItems ts) a);
+        exponent = no-exponents (bodyItems ts) (foreign dateKind 17 refl (bodyItems ts) a);
         integers = omega (arith, unbroken .integers);
         wholes = omega (arith, unbroken .wholes, no-integers (bodyItems ts) places);
         decimals = omega (arith, no-decimals (bodyItems ts) (absent item.isPoint (bodyItems ts) points));

@@ -11,7 +11,7 @@ use borrow.Author.Tests.{eqb-true, not-true}
 use Rattle.lists.specs.Lists.{every, any, count}
 use Rattle.lists.proofs.Bools.{no, and-parts, by-cases, cond-both}
 use Rattle.formats.specs.Tokens.{Elapsed, hours, minutes, seconds, elapsedIndex}
-use Rattle.formats.specs.Items.{Item, itemRow, itemNumber, elapsed, dateKind, itemAllowed, isHour, isMinute, isSecond, isElapsed, isPlain, noPlain}
+use Rattle.formats.specs.Items.{Item, itemRow, itemNumber, hour, minute, second, elapsed, dateKind, itemAllowed, isHour, isMinute, isSecond, isElapsed, isPlain, noPlain}
 use Rattle.formats.specs.Limits.{elapsedShort}
 use Rattle.formats.proofs.Each.{by-item, by-elapsed}
 use Rattle.grammar.proofs.Tests.{both, every-parts, every-in, every-with, every-all, every-none, unless, none-every}
@@ -58,10 +58,10 @@ plain-for-none i =
 
 plain-for : (x : Elapsed) (i : Item) → plainFor (some x) i ≡ isPlain (elapsedIndex x) i
 plain-for x i =
-    by-cases (isHour i) (λ h. rw (eqb-true (itemNumber i) 14 h) (by-elapsed (λ (y : Elapsed). counts (some y) hours ≡ eqb 14 (14 + elapsedIndex y)) refl refl refl x)) (λ h.
-    by-cases (isMinute i) (λ k. rw (eqb-true (itemNumber i) 15 k) (by-elapsed (λ (y : Elapsed). counts (some y) minutes ≡ eqb 15 (14 + elapsedIndex y)) refl refl refl x)) (λ k.
-    by-cases (isSecond i) (λ l. rw (eqb-true (itemNumber i) 16 l) (by-elapsed (λ (y : Elapsed). counts (some y) seconds ≡ eqb 16 (14 + elapsedIndex y)) refl refl refl x)) (λ l.
-    rw (h, k, l) (by-elapsed (λ (y : Elapsed). false ≡ isPlain (elapsedIndex y) i) (sym h) (sym k) (sym l) x))))
+    by-cases (isHour i) (λ h. rw (eqb-true (itemNumber i) 11 h) (by-elapsed (λ (y : Elapsed). counts (some y) hours ≡ isPlain (elapsedIndex y) (hour 1)) refl refl refl x)) (λ h.
+    by-cases (isMinute i) (λ k. rw (eqb-true (itemNumber i) 12 k) (by-elapsed (λ (y : Elapsed). counts (some y) minutes ≡ isPlain (elapsedIndex y) (minute 1)) refl refl refl x)) (λ k.
+    by-cases (isSecond i) (λ l. rw (eqb-true (itemNumber i) 13 l) (by-elapsed (λ (y : Elapsed). counts (some y) seconds ≡ isPlain (elapsedIndex y) (second 1)) refl refl refl x)) (λ l.
+    rw (h, k, l) (by-elapsed (λ (y : Elapsed). false ≡ cond (eqb (elapsedIndex y) 0) false (cond (eqb (elapsedIndex y) 1) false false)) refl refl refl x))))
 
 -- an item is elapsed or not
 data Sorted : Item → Type 0 where

@@ -62,8 +62,8 @@ fitting p f w =
       commas = T-true (commasFit ts) (search (and-left, and-right) depth 10);
       fraction = fraction;
       allowed = allowed;
-      generals = rw (count-kept 9 refl refl is) at (leb→le (count isGeneral (kept ts)) 1 (search (and-left, and-right) depth 10));
-      points = rw (count-kept 7 refl refl is) at (leb→le (count isPoint (kept ts)) 1 (search (and-left, and-right) depth 10));
+      generals = rw (count-kept 6 refl refl is) at (leb→le (count isGeneral (kept ts)) 1 (search (and-left, and-right) depth 10));
+      points = rw (count-kept 4 refl refl is) at (leb→le (count isPoint (kept ts)) 1 (search (and-left, and-right) depth 10));
       elapseds = leb→le (count isElapsed (kept ts)) 1 (search (and-left, and-right) depth 10);
       apart = T-true (every (noPlain (kept ts)) (kept ts)) (search (and-left, and-right) depth 10);
       exponent = rw (exponent-kept is) at (T-true (exponentFits (kept ts)) (search (and-left, and-right) depth 10));
@@ -71,7 +71,7 @@ fitting p f w =
       wholes = rw (same .numerators) at (leb→le (integerPlaces (mainItems (kept ts))) 20 (search (and-left, and-right) depth 10));
       decimals = rw (decimals-kept is) at (leb→le (decimalPlaces (kept ts)) 15 (search (and-left, and-right) depth 10));
       exponents = rw (exponents-kept is) at (leb→le (placesBehind (kept ts)) 3 (search (and-left, and-right) depth 10));
-      percents = rw (count-kept 8 refl refl is) at (leb→le (count isPercent (kept ts)) 5 (search (and-left, and-right) depth 10));
+      percents = rw (count-kept 5 refl refl is) at (leb→le (count isPercent (kept ts)) 5 (search (and-left, and-right) depth 10));
       divisions = leb→le (cond (sameKind (bodyKind ts) numberKind) (count isDividing (commaUses ts)) 0) 5 (search (and-left, and-right) depth 10);
       short = T-true (every elapsedShort (kept ts)) (search (and-left, and-right) depth 10);
       small = rw (small-kept is) at (T-true (every fixedSmall (kept ts)) (search (and-left, and-right) depth 10));
@@ -88,9 +88,9 @@ fits-fitting p f =
       kind-of-body (p .body),
       allowed-kept (bodyKind (p .body)) is,
       f .allowed,
-      count-kept 9 refl refl is,
+      count-kept 6 refl refl is,
       le-leb (count isGeneral is) 1 (f .generals),
-      count-kept 7 refl refl is,
+      count-kept 4 refl refl is,
       le-leb (count isPoint is) 1 (f .points),
       le-leb (count isElapsed (kept (p .body))) 1 (f .elapseds),
       f .apart,
@@ -113,7 +113,7 @@ within-fitting p f =
       le-leb (decimalPlaces is) 15 (f .decimals),
       exponents-kept is,
       le-leb (placesBehind is) 3 (f .exponents),
-      count-kept 8 refl refl is,
+      count-kept 5 refl refl is,
       le-leb (count isPercent is) 5 (f .percents),
       le-leb (cond (sameKind (bodyKind (p .body)) numberKind) (count isDividing (commaUses (p .body))) 0) 5 (f .divisions),
       f .short,
@@ -132,8 +132,8 @@ pub record Bare (is : List Item) : Type 0 where
 pub bare : (k : Kind) → sameKind fractionKind k ≡ false → (is : List Item) → every (itemAllowed k) is ≡ true → Bare is
 unfolding sorts fractionFits fixedSmall integerPlaces
 bare k e is a =
-    let none-numbered : count isFixed is ≡ 0 = foreign k 25 e is a in
-    let none-there : any isSolidus is ≡ false = absent isSolidus is (foreign k 24 e is a) in
+    let none-numbered : count isFixed is ≡ 0 = foreign k 19 e is a in
+    let none-there : any isSolidus is ≡ false = absent isSolidus is (foreign k 18 e is a) in
     record {
       fraction = rw (none-there, absent isFixed is none-numbered);
       integers = rw (whole-none is none-there);

@@ -49,10 +49,10 @@ fraction-fits ts d =
     (views-has vs scientificKind refl refl) (solidus-has vs .0 ∙ fraction .some) in
     let items = plain-body ts fractionKind h refl in
     let a : every (itemAllowed fractionKind) (bodyItems ts) ≡ true = rw items (views-allowed vs) in
-    let points : count isPoint (bodyItems ts) ≡ 0 = foreign fractionKind 7 refl (bodyItems ts) a in
-    let percents : count isPercent (bodyItems ts) ≡ 0 = foreign fractionKind 8 refl (bodyItems ts) a in
-    let generals : count isGeneral (bodyItems ts) ≡ 0 = foreign fractionKind 9 refl (bodyItems ts) a in
-    let elapseds : count isElapsed (kept ts) ≡ 0 = count-kept 18 refl refl (bodyItems ts) ∙ foreign fractionKind 18 refl (bodyItems ts) a in (
+    let points : count isPoint (bodyItems ts) ≡ 0 = foreign fractionKind 4 refl (bodyItems ts) a in
+    let percents : count isPercent (bodyItems ts) ≡ 0 = foreign fractionKind 5 refl (bodyItems ts) a in
+    let generals : count isGeneral (bodyItems ts) ≡ 0 = foreign fractionKind 6 refl (bodyItems ts) a in
+    let elapseds : count isElapsed (kept ts) ≡ 0 = count-kept 15 refl refl (bodyItems ts) ∙ foreign fractionKind 15 refl (bodyItems ts) a in (
       h,
       record {
         brackets = body-brackets ts (views-body vs);
@@ -63,7 +63,7 @@ fraction-fits ts d =
         points = omega arith;
         elapseds = omega arith;
         apart = plain-none (kept ts) elapseds;
-        exponent = no-exponents (bodyItems ts) (foreign fractionKind 22 refl (bodyItems ts) a);
+        exponent = no-exponents (bodyItems ts) (foreign fractionKind 17 refl (bodyItems ts) a);
         integers = rw (items, fraction .integers) (omega (arith, d .integers-most));
         wholes = rw (items, fraction .numerators) (omega (arith, d .numerators-most));
         decimals = omega (arith, no-decimals (bodyItems ts) (absent isPoint (bodyItems ts) points));

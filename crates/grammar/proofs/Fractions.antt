@@ -141,7 +141,7 @@ top-kept (i ∷ is) a e s f =
     → Topped (integerPlaces (j ∷ is)) (placesBehind (j ∷ is)) (settled (lastFill (j ∷ is))))
     (λ u. no) (λ u. no) (λ u. no)
     (λ p e s f. let (a, x, t, g, n, d) = top-kept is a₂ e s f in (a, x, t, g, ap suc n, d))
-    (λ e s f. (refl, refl, ap suc (count-kept 24 refl refl is) ∙ s, below-kept is a₂ f, refl, count-kept 4 refl refl is)) (λ k. no) i a₁ e s f
+    (λ e s f. (refl, refl, ap suc (count-kept 18 refl refl is) ∙ s, below-kept is a₂ f, refl, count-kept 3 refl refl is)) (λ k. no) i a₁ e s f
 
 -- the numerator does not stand directly behind an integer place
 apart-only : (b : Bool) → follows b [] ≡ true → b ≡ false

@@ -23,7 +23,7 @@ unfolding any
 any-kept f g h = both-kept (any f) (λ i is js e. rw e) (λ u is. rw (g u)) (λ n is. rw (h n))
 
 -- an item other than a fill, a month or a minute is counted alike
-pub count-kept : (k : ℕ) → eqb 3 k ≡ false → eqb 15 k ≡ eqb 12 k → (is : List Item)
+pub count-kept : (k : ℕ) → eqb 2 k ≡ false → eqb 12 k ≡ eqb 9 k → (is : List Item)
     → count (λ (i : Item). eqb (itemNumber i) k) (settled (lastFill is)) ≡ count (λ (i : Item). eqb (itemNumber i) k) is
 unfolding count
 count-kept k g h = both-kept (count (λ (i : Item). eqb (itemNumber i) k)) (λ i is js e. rw e) (λ u is. rw g) (λ n is. rw h)
@@ -36,14 +36,14 @@ integers-kept = both-kept integerPlaces (λ i is js e. rw e) (λ u is. refl) (λ
 
 unfoldable pub sorts : Kind → ℕ → Bool
 sorts k n =
-    leb n 3
-    || cond (leb n 6) (showsPlaces k)
-    (cond (eqb n 7) (sameKind numberKind k || sameKind scientificKind k)
-    (cond (eqb n 8) (sameKind numberKind k)
-    (cond (eqb n 9) (sameKind generalKind k)
-    (cond (eqb n 10) (sameKind textKind k)
-    (cond (eqb n 22) (sameKind scientificKind k)
-    (cond (leb 24 n) (sameKind fractionKind k) (sameKind dateKind k)))))))
+    leb n 2
+    || cond (eqb n 3) (showsPlaces k)
+    (cond (eqb n 4) (sameKind numberKind k || sameKind scientificKind k)
+    (cond (eqb n 5) (sameKind numberKind k)
+    (cond (eqb n 6) (sameKind generalKind k)
+    (cond (eqb n 7) (sameKind textKind k)
+    (cond (eqb n 17) (sameKind scientificKind k)
+    (cond (leb 18 n) (sameKind fractionKind k) (sameKind dateKind k)))))))
 
 pub allowed-sorts : (k : Kind) (i : Item) → itemAllowed k i ≡ sorts k (itemNumber i)
 unfolding itemAllowed sorts
@@ -129,7 +129,7 @@ unfolding exponentFits
 exponent-kept is =
     rw (
       any-kept isExponent (λ u. refl) (λ n. refl) is,
-      count-kept 22 refl refl is,
+      count-kept 17 refl refl is,
       integers-kept is,
       exponents-kept is,
       any-from-kept isPoint (λ u. refl) (λ n. refl) is,

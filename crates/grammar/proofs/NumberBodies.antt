@@ -38,8 +38,8 @@ alike (v-next {t = t} {ts = ts} (v-free g) vs) =
     let (p, q, r, w, d, h) = alike vs in
     let is = plainItems ts in
     let quiet = free-quiet g in (
-      free-count 7 refl refl refl is g ∙ p ∙ sym (passed-over isPoint t ts (quiet .no-point)),
-      free-count 8 refl refl refl is g ∙ q ∙ sym (passed-over isPercent t ts (free-percent g)),
+      free-count 4 refl refl refl is g ∙ p ∙ sym (passed-over isPoint t ts (quiet .no-point)),
+      free-count 5 refl refl refl is g ∙ q ∙ sym (passed-over isPercent t ts (free-percent g)),
       free-kept (λ (js : List Item). count item.isPlace (item.beforeCut js)) false (λ u js. refl) (λ u js. refl) (λ u js. refl) is g ∙ r ∙ sym (passed-over isPlace t ts (quiet .no-place)),
       free-kept integerPlaces false (λ u js. refl) (λ u js. refl) (λ u js. refl) is g ∙ w ∙ sym (quiet-wholes ts quiet),
       free-kept item.decimalPlaces false (λ u js. refl) (λ u js. refl) (λ u js. refl) is g ∙ d ∙ sym (quiet-decimals ts quiet),
@@ -82,8 +82,8 @@ number-fits ts d =
     let items = plain-body ts numberKind h refl in
     let few = c .holds .points in
     let a : every (itemAllowed numberKind) (bodyItems ts) ≡ true = rw items (views-allowed vs) in
-    let generals : count item.isGeneral (bodyItems ts) ≡ 0 = foreign numberKind 9 refl (bodyItems ts) a in
-    let elapseds : count item.isElapsed (kept ts) ≡ 0 = count-kept 18 refl refl (bodyItems ts) ∙ foreign numberKind 18 refl (bodyItems ts) a in
+    let generals : count item.isGeneral (bodyItems ts) ≡ 0 = foreign numberKind 6 refl (bodyItems ts) a in
+    let elapseds : count item.isElapsed (kept ts) ≡ 0 = count-kept 15 refl refl (bodyItems ts) ∙ foreign numberKind 15 refl (bodyItems ts) a in
     let unbroken = bare numberKind refl (bodyItems ts) a in
     let divided = d .divisions-most in (
       h,
@@ -96,7 +96,7 @@ number-fits ts d =
         points = rw (items, points) few;
         elapseds = omega arith;
         apart = plain-none (kept ts) elapseds;
-        exponent = no-exponents (bodyItems ts) (foreign numberKind 22 refl (bodyItems ts) a);
+        exponent = no-exponents (bodyItems ts) (foreign numberKind 17 refl (bodyItems ts) a);
         integers = omega (arith, unbroken .integers);
         wholes = rw (unbroken .wholes, items, wholes) (omega (arith, d .wholes-most));
         decimals = rw (items, decimals) (omega (arith, d .decimals-most));

@@ -26,7 +26,7 @@ use Rattle.grammar.proofs.Plain.{inBody, v-free, v-comma, v-at, v-gener
 -- ---- literals
 
 -- items of these numbers come of no literal
-pub free-count : (k : ℕ) → eqb 1 k ≡ false → eqb 2 k ≡ false → eqb 3 k ≡ false → {t : Token} (is : List Item) → Free t
+pub free-count : (k : ℕ) → eqb 0 k ≡ false → eqb 1 k ≡ false → eqb 2 k ≡ false → {t : Token} (is : List Item) → Free t
     → count (λ (i : Item). eqb (itemNumber i) k) (tokenItems false t ++ is) ≡ count (λ (i : Item). eqb (itemNumber i) k) is
 unfolding count
 free-count k a b c is g = free-kept (count (λ (i : Item). eqb (itemNumber i) k)) false (λ u js. rw a) (λ u js. rw b) (λ u js. rw c) is g
@@ -73,15 +73,15 @@ plain-facts ts k h d d′ e s f =
 -- a body of literals, and of `@` or General, fits where it has no comma and General at most once
 quiet-fitting : (ts : List Token) (k : Kind) → bodyKind ts ≡ k → sameKind k dateKind ≡ false → sameKind k scientificKind ≡ false → sameKind k fractionKind ≡ false
     → sameKind fractionKind k ≡ false → sameKind k numberKind ≡ false
-    → sorts k 4 ≡ false → sorts k 7 ≡ false → sorts k 8 ≡ false → sorts k 18 ≡ false → sorts k 22 ≡ false
+    → sorts k 3 ≡ false → sorts k 4 ≡ false → sorts k 5 ≡ false → sorts k 15 ≡ false → sorts k 17 ≡ false
     → Views k ts → commaUsesFrom false false ts ≡ [] → count isGeneral (plainItems ts) ≤ 1 → Fitting ts
 unfolding commasFit any sorts
-quiet-fitting ts k h d e r r′ n s₄ s₇ s₈ s₁₈ s₂₂ vs c g =
+quiet-fitting ts k h d e r r′ n s₃ s₄ s₅ s₁₅ s₁₇ vs c g =
     let a : every (item.itemAllowed k) (bodyItems ts) ≡ true = rw (plain-body ts k h d) (views-allowed vs) in
-    let places : count isPlace (bodyItems ts) ≡ 0 = foreign k 4 s₄ (bodyItems ts) a in
-    let points : count isPoint (bodyItems ts) ≡ 0 = foreign k 7 s₇ (bodyItems ts) a in
-    let percents : count isPercent (bodyItems ts) ≡ 0 = foreign k 8 s₈ (bodyItems ts) a in
-    let elapseds : count isElapsed (kept ts) ≡ 0 = count-kept 18 refl refl (bodyItems ts) ∙ foreign k 18 s₁₈ (bodyItems ts) a in
+    let places : count isPlace (bodyItems ts) ≡ 0 = foreign k 3 s₃ (bodyItems ts) a in
+    let points : count isPoint (bodyItems ts) ≡ 0 = foreign k 4 s₄ (bodyItems ts) a in
+    let percents : count isPercent (bodyItems ts) ≡ 0 = foreign k 5 s₅ (bodyItems ts) a in
+    let elapseds : count isElapsed (kept ts) ≡ 0 = count-kept 15 refl refl (bodyItems ts) ∙ foreign k 15 s₁₅ (bodyItems ts) a in
     let unbroken = bare k r′ (bodyItems ts) a in
     record {
       brackets = body-brackets ts (views-body vs);
@@ -92,7 +92,7 @@ quiet-fitting ts k h d e r r′ n s₄ s₇ s₈ s₁₈ s₂₂ vs c g =
       points = omega arith;
       elapseds = omega arith;
       apart = plain-none (kept ts) elapseds;
-      exponent = no-exponents (bodyItems ts) (foreign k 22 s₂₂ (bodyItems ts) a);
+      exponent = no-exponents (bodyItems ts) (foreign k 17 s₁₇ (bodyItems ts) a);
       integers = omega (arith, unbroken .integers);
       wholes = omega (arith, unbroken .wholes, no-integers (bodyItems ts) places);
       decimals = omega (arith, no-decimals (bodyItems ts) (absent isPoint (bodyItems ts) points));
@@ -117,7 +117,7 @@ unfolding commaUsesFrom count plainItems
 literals-facts literals-end = (v-end, refl, refl)
 literals-facts (literals-free {ts = ts} g d) =
     let (v, c, n) = literals-facts d in
-    (v-next (v-free g) v, quiet-commas ts (free-quiet g) false false ∙ c, free-count 9 refl refl refl (plainItems ts) g ∙ n)
+    (v-next (v-free g) v, quiet-commas ts (free-quiet g) false false ∙ c, free-count 6 refl refl refl (plainItems ts) g ∙ n)
 
 pub derive-literals : (ts : List Token) → NoSemicolon ts → bodyKind ts ≡ literalKind → Fitting ts → Literals ts
 derive-literals ts s h f = let p = plain-facts ts literalKind h refl refl refl s f in literals-of (p .views) (p .placed)
@@ -136,7 +136,7 @@ general-rest : {ts : List Token} → Views generalKind ts → any isMisplaced (c
 unfolding commaUsesFrom commaUse any count plainItems tokenItems
 general-rest v-end c n = literals-end
 general-rest (v-next {ts = ts} (v-free g) vs) c n =
-    literals-free g (general-rest vs (rw (quiet-commas ts (free-quiet g) false false) at c) (rw (free-count 9 refl refl refl (plainItems ts) g) at n))
+    literals-free g (general-rest vs (rw (quiet-commas ts (free-quiet g) false false) at c) (rw (free-count 6 refl refl refl (plainItems ts) g) at n))
 general-rest (v-next v-comma vs) c n = absurd (true≢false c)
 general-rest (v-next v-general vs) c n = absurd (omega arith)
 
@@ -146,7 +146,7 @@ unfolding commaUsesFrom commaUse any count plainItems tokenItems
 general-of v-end c n h = no h
 general-of (v-next {ts = ts} (v-free g) vs) c n h =
     general-free g
-    (general-of vs (rw (quiet-commas ts (free-quiet g) false false) at c) (rw (free-count 9 refl refl refl (plainItems ts) g) at n) (rw (free-has generalKind ts g) at h))
+    (general-of vs (rw (quiet-commas ts (free-quiet g) false false) at c) (rw (free-count 6 refl refl refl (plainItems ts) g) at n) (rw (free-has generalKind ts g) at h))
 general-of (v-next v-comma vs) c n h = absurd (true≢false c)
 general-of (v-next v-general vs) c n h = general-word (general-rest vs c (omega arith))
 
@@ -156,7 +156,7 @@ unfolding commaUsesFrom any tokenMakes count plainItems tokenItems
 general-facts (general-word d) = let (v, c, n) = literals-facts d in (v-next v-general v, c, refl, ap suc n)
 general-facts (general-free {ts = ts} g d) =
     let (v, c, h, n) = general-facts d in
-    (v-next (v-free g) v, quiet-commas ts (free-quiet g) false false ∙ c, free-has generalKind ts g ∙ h, free-count 9 refl refl refl (plainItems ts) g ∙ n)
+    (v-next (v-free g) v, quiet-commas ts (free-quiet g) false false ∙ c, free-has generalKind ts g ∙ h, free-count 6 refl refl refl (plainItems ts) g ∙ n)
 
 pub derive-general : (ts : List Token) → NoSemicolon ts → bodyKind ts ≡ generalKind → Fitting ts → NFGeneral ts
 derive-general ts s h f =
@@ -210,5 +210,5 @@ unfolding sorts
 text-fits ts d =
     let (v, c, t) = text-facts d in
     let h = kind-text ts t in
-    let n = foreign textKind 9 refl (plainItems ts) (views-allowed v) in
+    let n = foreign textKind 6 refl (plainItems ts) (views-allowed v) in
     (h, quiet-fitting ts textKind h refl refl refl refl refl refl refl refl refl refl v c (omega arith))

@@ -365,7 +365,7 @@ module _ (es : List Entry) where
   number-known = record { places = (refl, refl, refl, refl); percents = omega arith; few = omega arith; fill = omega arith }
 
   number-out : T (numberItems es) → Limits × Left begun es
-  unfolding numberItems runPowers
+  unfolding numberItems runPowers kindWord
   number-out t =
       let integers : integerPlaces is ≤ 20 = search (and-left, and-right, leb→le) depth 6 in
       let decimals : decimalPlaces is ≤ 15 = search (and-left, and-right, leb→le) depth 6 in
@@ -379,7 +379,7 @@ module _ (es : List Entry) where
       )
 
   number-back : Limits → Left begun es → T (numberItems es)
-  unfolding numberItems runPowers
+  unfolding numberItems runPowers kindWord
   number-back w l =
       let a = apart numberKind is (l .items) in
       let bare = uncut is (a .exponents refl) (a .solidi refl) in

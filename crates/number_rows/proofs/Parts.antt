@@ -14,6 +14,7 @@ use Rattle.formats.specs.Items.{Item, Kind, textKind, generalKind, dateKind, nu
 use Rattle.formats.specs.Text.{digitAfter, along}
 use Rattle.formats.proofs.Cutting.{cut-case}
 use Rattle.tables.specs.Words.{Entry}
+use Rattle.tables.specs.Encode.{kindWord}
 use Rattle.tables.specs.Decode.{itemAt, itemsAt}
 use Rattle.tables.specs.Rules.{entryInRange, powerFits, allOf, powersFrom, runPowers}
 use Rattle.tallies.specs.Tally.{makesFraction, itemsOf}
@@ -85,7 +86,7 @@ module _ (k : Kind) (kind : Figures k) (fs : List Entry) where
   part-bare p = uncut part (p .exponents) (p .solidi)
 
   pub part-number : Part → T (numberItems fs) × (count isPercent part ≡ 0)
-  unfolding numberItems
+  unfolding numberItems kindWord
   part-number p =
       let a = apart k part (p .items) in
       let held : T (every (itemAllowed numberKind) part) = carry (sym (allowed-every numberKind part))
@@ -108,7 +109,7 @@ module _ (k : Kind) (kind : Figures k) (fs : List Entry) where
       (search (and-in, le→leb) depth 6, none)
 
   pub number-part : T (numberItems fs) → count isPercent part ≡ 0 → not (any isPoint part && not (takesPoint k)) ≡ true → Part
-  unfolding numberItems
+  unfolding numberItems kindWord
   number-part t none point =
       let h : Holds numberKind fs = holds numberKind fs (and-left (itemsOf 2 fs) _ t) in
       let a = apart numberKind part (h .items) in

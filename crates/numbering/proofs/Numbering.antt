@@ -134,7 +134,7 @@ unfolding every integerPlaces
 places-all [] js e = omega arith
 places-all (i ∷ is) js e =
     by-cases (isPlace i)
-    (λ p. rw (eqb-true (itemNumber i) 4 p) (omega (arith, places-all is js (rw p at e)))) (λ p. absurd (true≢false (sym (rw p at e))))
+    (λ p. rw (eqb-true (itemNumber i) 3 p) (omega (arith, places-all is js (rw p at e)))) (λ p. absurd (true≢false (sym (rw p at e))))
 
 end-places : (is : List Item) → every isPlace (endPlaces is) ≡ true
 unfolding endPlaces every

@@ -17,7 +17,7 @@ use Rattle.figures.specs.Digits.{digit, digitUnit, digitUnits, width, numeral}
 use Rattle.figures.specs.General.{generalTooWide, withoutEndZeros, pointed, generalUnits}
 use Rattle.calendar.specs.Names.{units, monthNames, weekdayNames, monthName, weekdayName, shortName, firstLetter}
 use Rattle.formats.specs.Tokens.{before, startsWith, Token, Place, hashPlace, HalfDay, Letter, ExponentMark}
-use Rattle.formats.specs.Items.{Item, itemRow, literal, blank, fill, place, point, percent, general, at, year, month, day, hour, minute, second, part, elapsed, half, exponent, solidus, fixed, Section, kindOf, sameKind, scientificKind, fractionKind, isPlace, isSpace, isSolidus, isFixed, beforeCut, fromCut, integerPlaces, startPlaces, behindStart, numeratorItems, wholeItems, mainItems}
+use Rattle.formats.specs.Items.{Item, itemRow, literal, blank, fill, place, point, percent, general, at, year, month, day, hour, minute, second, part, elapsed, half, exponent, solidus, fixed, Section, kindOf, sameKind, scientificKind, fractionKind, isLiteral, isPlace, isSpace, isSolidus, isFixed, beforeCut, fromCut, integerPlaces, startPlaces, behindStart, numeratorItems, wholeItems, mainItems}
 use Rattle.formats.specs.Kinds.{Parts, sectionOf, tokenItems, runItem}
 use Rattle.formats.specs.Accept.{partsIn, sectionsIn, Verdict, fine, refused as wrong, verdict, acceptedBy, accept}
 use Rattle.formats.specs.Where.{isText}
@@ -158,7 +158,7 @@ exponent-ascii m false = by-exponent (λ (k : ExponentMark). Ascii (exponentUnit
 
 -- ---- items: of a literal the unit is shown
 unfoldable literalAscii : Item → Bool
-literalAscii i = not (eqb (itemRow i .number) 1) || isAscii (itemRow i .argument)
+literalAscii i = not (isLiteral i) || isAscii (itemRow i .argument)
 
 item-ascii : (c : Context) → Ascii (c .standing) → (q : ℕ) (i : Item) → T (literalAscii i) → Ascii (itemUnits c q i)
 unfolding itemUnits literalAscii yearUnits partUnits units every isAscii

@@ -16,7 +16,7 @@ use Rattle.formats.specs.Items.{Item, half, scientificKind, itemAllowed, itemNu
 use Rattle.formats.specs.Text.{firstOf}
 use Rattle.formats.proofs.Cutting.{exponent-rules, integers-before, decimals-before, places-integers}
 use Rattle.tables.specs.Words.{Entry}
-use Rattle.tables.specs.Encode.{entry}
+use Rattle.tables.specs.Encode.{entry, kindWord}
 use Rattle.tables.specs.Decode.{halfAt, itemAt, itemsAt, itemsByTag}
 use Rattle.tables.specs.Rules.{entryInRange, runPowers}
 use Rattle.tables.proofs.BackEntries.{between-facts, span-at}
@@ -67,8 +67,8 @@ module _ (fs gs : List Entry) (t a : ℕ) (x : T (between 22 23 t)) where
   is-cut : isCut (itemAt e) ≡ true
   is-cut = rw is-exponent
 
-  number-e : itemNumber (itemAt e) ≡ 22
-  number-e = eqb-true (itemNumber (itemAt e)) 22 is-exponent
+  number-e : itemNumber (itemAt e) ≡ 17
+  number-e = eqb-true (itemNumber (itemAt e)) 17 is-exponent
 
   joined : itemsAt es ≡ js ++ (itemAt e ∷ ks)
   unfolding itemsAt
@@ -138,7 +138,7 @@ module _ (fs gs : List Entry) (t a : ℕ) (x : T (between 22 23 t)) where
   behind-part t none = number-part scientificKind scientific gs t none (ap not (and-false (any isPoint ks)))
 
   pub cut-out : T (scientificItems es) → Parts
-  unfolding scientificItems
+  unfolding scientificItems kindWord
   cut-out t =
       let is = itemsAt es in
       let h : Holds scientificKind es = holds scientificKind es (and-left (itemsOf 5 es) _ t) in
@@ -201,7 +201,7 @@ module _ (fs gs : List Entry) (t a : ℕ) (x : T (between 22 23 t)) where
       }
 
   pub cut-in : Parts → T (scientificItems es)
-  unfolding scientificItems exponentFits
+  unfolding scientificItems exponentFits kindWord
   cut-in p =
       let is = itemsAt es in
       let f = before-part (p .mantissa) (p .percents .0) in
@@ -338,7 +338,7 @@ exponent-tags e =
     (λ n h. sym (rw (ne-eqb n 22 (λ x. absurd (omega arith)), ne-eqb n 23 (λ x. absurd (omega arith))))) (e .tag)
 
 pub none-told : (es : List Entry) → hasTag es 22 ≡ false → hasTag es 23 ≡ false → ScientificTold es noScientific
-unfolding scientificItems itemsAt
+unfolding scientificItems itemsAt kindWord
 none-told es p m =
     let none : any isExponent (itemsAt es) ≡ false =
     any-map isExponent itemAt es ∙ any-same (λ (e : Entry). isExponent (itemAt e)) (λ (e : Entry). tagged 22 e || tagged 23 e) exponent-tags es

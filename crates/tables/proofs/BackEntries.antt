@@ -152,7 +152,7 @@ item-ranged =
     (also (λ a r. r) (also (λ a r. r) (also (λ a r. r)
     (also (λ a r. tt) (also (λ a r. tt) (also (λ a r. tt) (also (λ a r. tt) (also (λ a r. tt) (also (λ a r. tt) (also (λ a r. tt)
     (also (λ a r. r) (also (λ a r. r) (also (λ a r. r) (also (λ a r. r) (also (λ a r. r) (also (λ a r. r) (also (λ a r. r) (also (λ a r. r) (also (λ a r. r) (also (λ a r. r)
-    (also (λ a r. rw (half-back a r) r) (also (λ a r. tt) (also (λ a r. tt) (also (λ a r. tt) (also (λ a r. r) tt)))))))))))))))))))))))))
+    (also (λ a r. tt) (also (λ a r. tt) (also (λ a r. tt) (also (λ a r. tt) (also (λ a r. r) tt)))))))))))))))))))))))))
 
 pub items-ranged : (es : List Entry) → T (every entryInRange es) → T (every itemInRange (itemsAt es))
 unfolding itemsAt every

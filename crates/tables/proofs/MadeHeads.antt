@@ -10,16 +10,17 @@ use lib.Dec.{T, leb, ltb, eqb, leb→le, le→leb, ltb→lt, eqb→eq, eqb-refl}
 use Rattle.lists.specs.Lists.{every, count, isSome}
 use Rattle.lists.proofs.Bools.{and-left, and-right, and-in, true-T, by-cases}
 use Rattle.formats.specs.Tokens.{Comparison}
-use Rattle.formats.specs.Items.{Condition, Section, Kind, numberKind, sameKind, kindOf, isPercent, integerPlaces, wholeItems, mainItems, decimalPlaces, itemInRange, showsPlaces, placesBehind}
+use Rattle.formats.specs.Items.{Condition, Section, numberKind, sameKind, kindOf, isPercent, integerPlaces, wholeItems, mainItems, decimalPlaces, itemInRange, showsPlaces, placesBehind}
 use Rattle.formats.specs.Where.{implies}
 use Rattle.formats.specs.Limits.{sectionWithin}
 use Rattle.formats.specs.WellFormed.{conditionInRange, dividingFits, sectionFormed, sectionFits}
 use Rattle.tables.specs.Words.{Head}
-use Rattle.tables.specs.Encode.{kindWord, comparisonWord, operatorWord, bit, negativeWord, wholePart, millionthsPart, lowWord, highWord, shiftWord, flagsWord, noMinus, hasHalf, decimalsWord, headOf}
+use Rattle.tables.specs.Encode.{comparisonWord, operatorWord, bit, negativeWord, wholePart, millionthsPart, lowWord, highWord, shiftWord, flagsWord, noMinus, hasHalf, decimalsWord, headOf}
 use Rattle.tables.specs.Decode.{comparisonAt, twoWords, wholeAt, millionthsAt, conditionAt, groupedAt, thousandsAt}
 use Rattle.tables.specs.Rules.{headInRange, conditionFits, shiftTells}
-use Rattle.formats.proofs.Each.{by-kind, by-comparison}
+use Rattle.formats.proofs.Each.{by-comparison}
 use Rattle.tables.proofs.Ranges.{head-in-ranges}
+use Rattle.tables.proofs.Standing.{kind-most}
 
 -- what a section that is formed keeps to
 pub record Formed (s : Section) : Type 0 where
@@ -152,10 +153,6 @@ shift-most s w = by-cases (sameKind (kindOf s) numberKind) (λ e. rw e (omega ar
 decimals-most : (s : Section) → Within s → decimalsWord s ≤ 15
 unfolding decimalsWord
 decimals-most s w = by-cases (showsPlaces (kindOf s)) (λ e. rw e (omega arith)) (λ e. rw e (omega arith))
-
-kind-most : (k : Kind) → kindWord k ≤ 6
-unfolding kindWord
-kind-most = by-kind (λ k. kindWord k ≤ 6) (omega arith) (omega arith) (omega arith) (omega arith) (omega arith) (omega arith) (omega arith)
 
 -- the words of a condition in range
 record Ranges (o : Option Condition) : Type 0 where

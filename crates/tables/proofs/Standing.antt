@@ -9,28 +9,43 @@ use mathlib.Core.List.{List, [], _∷_, map}
 use lib.Dec.{eqb}
 use Rattle.lists.specs.Lists.{count}
 use Rattle.lists.proofs.Bools.{cond-both}
-use Rattle.formats.specs.Items.{Section, Kind, textKind, generalKind, numberKind, literalKind, sameKind, kindOf, isPercent}
+use Rattle.formats.specs.Items.{Section, Kind, textKind, generalKind, dateKind, scientificKind, fractionKind, numberKind, literalKind, sameKind, kindOf, isPercent}
 use Rattle.formats.specs.Where.{hasCondition, standsAt}
+use Rattle.formats.proofs.Each.{by-kind}
 use Rattle.formats.specs.Choice.{countedFrom}
 use Rattle.tables.specs.Encode.{kindWord, shiftWord}
 use Rattle.tables.specs.Standing.{headStands, countedOne, countedKinds, shiftOf}
 
+-- kinds are told apart by their words
+pub same-word : (j k : Kind) → eqb (kindWord j) (kindWord k) ≡ sameKind j k
+unfolding kindWord
+same-word j k =
+    let Same : Kind → Kind → Type 0 = λ x y. eqb (kindWord x) (kindWord y) ≡ sameKind x y in
+    by-kind (λ x. Same x k) (by-kind (Same textKind) refl refl refl refl refl refl refl k) (by-kind (Same generalKind) refl refl refl refl refl refl refl k)
+    (by-kind (Same dateKind) refl refl refl refl refl refl refl k) (by-kind (Same numberKind) refl refl refl refl refl refl refl k)
+    (by-kind (Same literalKind) refl refl refl refl refl refl refl k) (by-kind (Same scientificKind) refl refl refl refl refl refl refl k)
+    (by-kind (Same fractionKind) refl refl refl refl refl refl refl k) j
+
+pub kind-most : (k : Kind) → kindWord k ≤ 6
+unfolding kindWord
+kind-most = by-kind (λ k. kindWord k ≤ 6) (omega arith) (omega arith) (omega arith) (omega arith) (omega arith) (omega arith) (omega arith)
+
 -- each kind that a rule names, by its word
 pub literal-word : (k : Kind) → eqb (kindWord k) 0 ≡ sameKind k literalKind
 unfolding kindWord
-literal-word k = refl
+literal-word k = same-word k literalKind
 
 pub general-word : (k : Kind) → eqb (kindWord k) 1 ≡ sameKind k generalKind
 unfolding kindWord
-general-word k = refl
+general-word k = same-word k generalKind
 
 pub number-word : (k : Kind) → eqb (kindWord k) 2 ≡ sameKind k numberKind
 unfolding kindWord
-number-word k = refl
+number-word k = same-word k numberKind
 
 pub text-word : (k : Kind) → eqb (kindWord k) 3 ≡ sameKind k textKind
 unfolding kindWord
-text-word k = refl
+text-word k = same-word k textKind
 
 -- the kind word of a section
 abbrev pub sectionKind : Section → ℕ

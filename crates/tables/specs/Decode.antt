@@ -37,7 +37,7 @@ conditionAt h =
 unfoldable pub halfAt : ℕ → HalfDay
 halfAt a = cond (eqb a 1) short long
 
--- the items by their tags from 0 to 25, with the argument a; 0 is the tag of no item
+-- the items in the order of their tags (`tagOf`: Encode.antt) from 0 to 25, with the argument a; 0 is the tag of no item
 abbrev pub itemsByTag : ℕ → List Item
 itemsByTag a =
     half (halfAt a) ∷ literal a ∷ blank a ∷ fill a ∷ place zeroPlace ∷ place hashPlace ∷ place spacePlace ∷ point ∷ percent ∷ general ∷ at

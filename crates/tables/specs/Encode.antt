@@ -6,17 +6,23 @@ use mathlib.Core.List.{List, [], _∷_, _++_}
 use mathlib.Core.Option.{Option, none, some}
 use lib.ListN.{length}
 use Rattle.lists.specs.Lists.{any, count}
-use Rattle.formats.specs.Tokens.{Comparison, equal, less, greater, atMost, atLeast, unequal}
-use Rattle.formats.specs.Items.{Item, itemRow, Condition, Section, Kind, kindRow, showsPlaces, numberKind, sameKind, kindOf, isPlace, isPercent, isHalf, integerPlaces, decimalPlaces, placesBehind, wholeItems, mainItems}
+use Rattle.formats.specs.Tokens.{placeIndex, elapsedIndex, exponentIndex, Comparison, equal, less, greater, atMost, atLeast, unequal}
+use Rattle.formats.specs.Items.{Item, literal, blank, fill, place, point, percent, general, at, year, month, day, hour, minute, second, part, elapsed, half, exponent, solidus, fixed, itemRow, Condition, Section, Kind, textKind, generalKind, dateKind, scientificKind, fractionKind, numberKind, literalKind, showsPlaces, sameKind, kindOf, isPlace, isPercent, isHalf, integerPlaces, decimalPlaces, placesBehind, wholeItems, mainItems}
 use Rattle.formats.specs.Where.{hasCondition}
 use Rattle.formats.specs.Choice.{counted}
 use Rattle.formats.specs.Minus.{firstHasCondition, exceptionA}
 use Rattle.formats.specs.Text.{along, self, firstOf}
 use Rattle.tables.specs.Words.{Head, Entry, Row, tableWords}
 
--- "kind (0 literal, 1 General, 2 number, 3 text, 4 date-time)", 5 scientific, 6 fraction (R90, R131, R136)
+-- "kind (0 literal, 1 General, 2 number, 3 text, 4 date-time)", "kind 5" scientific, "kind 6" fraction (R90, R131, R136)
 unfoldable pub kindWord : Kind → ℕ
-kindWord k = kindRow k .number
+kindWord literalKind = 0
+kindWord generalKind = 1
+kindWord numberKind = 2
+kindWord textKind = 3
+kindWord dateKind = 4
+kindWord scientificKind = 5
+kindWord fractionKind = 6
 
 -- "operator (0 none [..]; then 1 to 6 in the order above)": `= < > <= >= <>` (R90)
 unfoldable pub comparisonWord : Comparison → ℕ
@@ -95,13 +101,39 @@ headOf n i firstHas s =
 abbrev pub entry : ℕ → ℕ → Entry
 entry t a = record { tag = t; argument = a }
 
--- an item's number
+-- an item's first word: "1 literal, 2 blank, 3 fill [..]; 4, 5, 6 places `0 # ?` [..]; 7 point, 8 percent, 9 General, 10 at [..]; 11 year,
+-- 12 month, 13 day, 14 hour, 15 minute, 16 second, 17 part of a second, 18 to 20 elapsed h, m, s [..]; 21 half-day", "22 (E+, 0) and 23
+-- (E-, 0)", "24 (solidus, 0) and 25 (fixed denominator, the number)" (R94, R131, R136)
 abbrev pub tagOf : Item → ℕ
-tagOf i = itemRow i .number + itemRow i .variant
+tagOf (literal u) = 1
+tagOf (blank u) = 2
+tagOf (fill u) = 3
+tagOf (place p) = 4 + placeIndex p
+tagOf point = 7
+tagOf percent = 8
+tagOf general = 9
+tagOf at = 10
+tagOf (year n) = 11
+tagOf (month n) = 12
+tagOf (day n) = 13
+tagOf (hour n) = 14
+tagOf (minute n) = 15
+tagOf (second n) = 16
+tagOf (part n) = 17
+tagOf (elapsed e n) = 18 + elapsedIndex e
+tagOf (half h) = 21
+tagOf (exponent m) = 22 + exponentIndex m
+tagOf solidus = 24
+tagOf (fixed n) = 25
 
--- an item's two words (R94), its number and its argument: "4, 5, 6 places `0 # ?` (power + 16)". q is the power of its digit and 15.
+-- an item's second word: a place has its power, "(power + 16)", where q is the power of its digit and 15; a half-day mark is "1 A/P,
+-- 2 AM/PM"; any other has its unit, its run length or its number, and 0 where it has none (R94, R131, R136)
+abbrev pub argumentOf : ℕ → Item → ℕ
+argumentOf q i = cond (isPlace i) (suc q) (cond (isHalf i) (suc (itemRow i .variant)) (itemRow i .argument))
+
+-- an item's two words (R94)
 unfoldable pub entryOf : ℕ → Item → Entry
-entryOf q i = entry (tagOf i) (cond (isPlace i) (suc q) (itemRow i .argument))
+entryOf q i = entry (tagOf i) (argumentOf q i)
 
 abbrev pub entriesFrom : ℕ → ℕ → List Item → List Entry
 entriesFrom anew q is = along self entryOf anew q is

@@ -7,7 +7,7 @@ use lib.ListN.{length, take, drop}
 use lib.Dec.{leb, eqb}
 use Rattle.values.specs.Ranges.{between}
 use Rattle.lists.specs.Lists.{every, count}
-use Rattle.formats.specs.Items.{itemRow, isUnit, numberKind, sameKind, kindOf, isPercent, isPlace, integerPlaces, placesBehind, wholeItems}
+use Rattle.formats.specs.Items.{itemRow, isUnit, numberKind, sameKind, kindOf, isPercent, isPlace, isHalf, integerPlaces, placesBehind, wholeItems}
 use Rattle.formats.specs.Where.{implies}
 use Rattle.formats.specs.WellFormed.{sectionFits, sectionsStand}
 use Rattle.formats.specs.Choice.{counted}
@@ -31,12 +31,12 @@ headInRange h =
     && leb (h .decimals) 15
     && leb (h .items) 254
 
--- an item's number with an argument that it may have; powers are -15 to 19 (R97)
+-- an item's two words: powers are -15 to 19, a half-day mark is 1 or 2, and any other has the argument that it may have (R97)
 unfoldable pub entryInRange : Entry → Bool
 entryInRange e =
     let i = itemAt e in
     let a = e .argument in
-    eqb (tagOf i) (e .tag) && cond (isPlace i) (between 1 35 a) (itemRow i .takes a)
+    eqb (tagOf i) (e .tag) && cond (isPlace i) (between 1 35 a) (cond (isHalf i) (between 1 2 a) (itemRow i .takes a))
 
 unfoldable pub rowInRange : Row → Bool
 rowInRange r = headInRange (r .head) && every entryInRange (r .entries)

@@ -46,14 +46,14 @@ numbers-walked w [] = omega arith
 numbers-walked w (e ∷ es) = omega (arith, numbers-walked (stepOf w e) es)
 
 -- an E, a solidus, a point, a place `?` or another, or none of these
-figure-cases : {P : Type 0} (i : Item) → (itemNumber i ≡ 22 → P) → (itemNumber i ≡ 24 → P) → (itemNumber i ≡ 7 → P) → (itemNumber i ≡ 4 → eqb (itemRow i .variant) 2 ≡ true → P)
-    → (itemNumber i ≡ 4 → eqb (itemRow i .variant) 2 ≡ false → P) → (isExponent i ≡ false → isSolidus i ≡ false → isPoint i ≡ false → isPlace i ≡ false → P) → P
+figure-cases : {P : Type 0} (i : Item) → (itemNumber i ≡ 17 → P) → (itemNumber i ≡ 18 → P) → (itemNumber i ≡ 4 → P) → (itemNumber i ≡ 3 → eqb (itemRow i .variant) 2 ≡ true → P)
+    → (itemNumber i ≡ 3 → eqb (itemRow i .variant) 2 ≡ false → P) → (isExponent i ≡ false → isSolidus i ≡ false → isPoint i ≡ false → isPlace i ≡ false → P) → P
 figure-cases i e c p s q o =
-    by-cases (isExponent i) (λ x. e (eqb-true (itemNumber i) 22 x))
-    (λ x. by-cases (isSolidus i) (λ y. c (eqb-true (itemNumber i) 24 y))
-    (λ y. by-cases (isPoint i) (λ g. p (eqb-true (itemNumber i) 7 g))
+    by-cases (isExponent i) (λ x. e (eqb-true (itemNumber i) 17 x))
+    (λ x. by-cases (isSolidus i) (λ y. c (eqb-true (itemNumber i) 18 y))
+    (λ y. by-cases (isPoint i) (λ g. p (eqb-true (itemNumber i) 4 g))
     (λ g. by-cases (isPlace i)
-    (λ k. by-cases (eqb (itemRow i .variant) 2) (s (eqb-true (itemNumber i) 4 k)) (q (eqb-true (itemNumber i) 4 k)))
+    (λ k. by-cases (eqb (itemRow i .variant) 2) (s (eqb-true (itemNumber i) 3 k)) (q (eqb-true (itemNumber i) 3 k)))
     (o x y g))))
 
 abbrev figuresOf : List Item → ℕ

@@ -18,6 +18,7 @@ use Rattle.formats.proofs.Cutting.{makes-exponent, whole-none}
 use Rattle.formats.proofs.FigureItems.{makes-place}
 use Rattle.tables.specs.Words.{Entry}
 use Rattle.tables.specs.Encode.{kindWord}
+use Rattle.tables.proofs.Standing.{same-word}
 use Rattle.tables.specs.Decode.{itemAt, itemsAt}
 use Rattle.tables.specs.Rules.{entryInRange, powerFits, allOf, powersFrom, runPowers, powersRunDown}
 use Rattle.tallies.specs.Tally.{makesText, makesDate, makesFraction, belongsDate, soundEntries, itemsOf}
@@ -195,7 +196,7 @@ pub same-kind : (j k : Kind) → T (sameKind j k) → j ≡ k
 same-kind j k t = sym (back j) ∙ ap numbered (eqb→eq (kindRow j .number) (kindRow k .number) t) ∙ back k
   where
     numbered : ℕ → Kind
-    numbered n = cond (eqb n 0) literalKind (cond (eqb n 1) generalKind (cond (eqb n 2) numberKind (cond (eqb n 3) textKind (cond (eqb n 4) dateKind (cond (eqb n 5) scientificKind fractionKind)))))
+    numbered n = cond (eqb n 0) textKind (cond (eqb n 1) generalKind (cond (eqb n 2) dateKind (cond (eqb n 3) scientificKind (cond (eqb n 4) fractionKind (cond (eqb n 5) numberKind literalKind)))))
 
     back : (k : Kind) → numbered (kindRow k .number) ≡ k
     back = by-kind (λ (k : Kind). numbered (kindRow k .number) ≡ k) refl refl refl refl refl refl refl
@@ -298,12 +299,12 @@ module _ (k : Kind) (es : List Entry) where
   abbrev is : List Item
   is = itemsAt es
 
-  pub holds : T (itemsOf (kindRow k .number) es) → Holds k es
-  unfolding itemsOf soundEntries itemsFit oneFill kindWord
+  pub holds : T (itemsOf (kindWord k) es) → Holds k es
+  unfolding itemsOf soundEntries itemsFit oneFill
   holds t =
-      let word : T (sameKind k (itemsKind is)) = search (and-left, and-right) depth 8 in
+      let word : T (eqb (kindWord k) (kindWord (itemsKind is))) = search (and-left, and-right) depth 8 in
       let allowed : T (every (itemAllowed (itemsKind is)) is) = search (and-left, and-right) depth 12 in
-      let kind : itemsKind is ≡ k = sym (same-kind k (itemsKind is) word) in
+      let kind : itemsKind is ≡ k = sym (same-kind k (itemsKind is) (carry (same-word k (itemsKind is)) word)) in
       let points : count isPoint is ≤ 1 = search (and-left, and-right, leb→le) depth 12 in
       let powers : T (powersRunDown es) = search (and-left, and-right) depth 12 in
       let dates : Dated is = search (and-left, and-right, leb→le) depth 12 in
@@ -319,8 +320,8 @@ module _ (k : Kind) (es : List Entry) where
         dates = λ e. dates;
       }
 
-  pub holds-back : Holds k es → T (itemsOf (kindRow k .number) es)
-  unfolding itemsOf soundEntries itemsFit oneFill kindWord runPowers
+  pub holds-back : Holds k es → T (itemsOf (kindWord k) es)
+  unfolding itemsOf soundEntries itemsFit oneFill runPowers
   holds-back h =
       let a = apart k is (h .items) in
       let kind : itemsKind is ≡ k = kind-is is ∙ kind-held k is a (h .made) in
@@ -328,7 +329,7 @@ module _ (k : Kind) (es : List Entry) where
       let powers : T (powersRunDown es) = by-cases (showsPlaces k) (λ e. h .figures e .1)
       (λ e. carry (sym (powers-one es (no-solidi is (a .solidi (no-place-no-solidus k e)) .0))) (no-powers _ _ es (a .places e))) in
       let date : Dated is = by-cases (sameKind dateKind k) (h .dates) (λ e. undated is (a .dates e)) in
-      let word : T (eqb (kindRow k .number) (kindRow (itemsKind is) .number)) = rw kind (true-T (eq-eqb (kindRow k .number) _ refl)) in
+      let word : T (eqb (kindWord k) (kindWord (itemsKind is))) = rw kind (true-T (eq-eqb (kindWord k) _ refl)) in
       let allowed : T (every (itemAllowed (itemsKind is)) is) = rw kind (h .items) in
       let generals : count isGeneral is ≤ 1 = by-cases (sameKind generalKind k) (h .general) (λ e. omega (arith, none-count isGeneral is (a .generals e))) in
       let exponent : T (exponentFits is) = by-cases (sameKind scientificKind k) (h .exponent) (λ e. unfold exponentFits in rw (a .exponents e) tt) in

@@ -18,7 +18,7 @@ places-counted (i ∷ is) =
     let h = places-counted is in
     cut-case (λ (j : Item). integerPlaces (j ∷ is) + (decimalPlaces (j ∷ is) + placesBehind (j ∷ is)) ≡ count isPlace (j ∷ is))
     (λ m. omega arith) (omega arith)
-    (λ j x. by-cases (isPoint j) (λ g. rw (eqb-true (itemNumber j) 7 g) (omega (arith, cut-count isPlace is)))
+    (λ j x. by-cases (isPoint j) (λ g. rw (eqb-true (itemNumber j) 4 g) (omega (arith, cut-count isPlace is)))
     (λ g. rw (x, g) (by-cases (isPlace j) (λ k. rw k (omega arith)) (λ k. rw k (omega arith))))) i
 
 -- without an E and a solidus there is none behind it

@@ -40,7 +40,7 @@ otherTests = isGeneral ∷ makesText ∷ isElapsed ∷ isLong ∷ makesFraction 
 
 -- a year, a month or a day
 abbrev pub isDay : Item → Bool
-isDay i = between 11 13 (itemNumber i)
+isDay i = between 8 10 (itemNumber i)
 
 abbrev pub dateTests : List (Item → Bool)
 dateTests = isDay ∷ isHour ∷ isMinute ∷ isSecond ∷ isElapsedOf hours ∷ isElapsedOf minutes ∷ isElapsedOf seconds ∷ []
