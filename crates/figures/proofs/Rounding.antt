@@ -18,7 +18,7 @@ nearest-bound a b h =
     let p : 0 < 2 * b = omega arith in
     (omega (arith, div-mul-le-self (2 * a + b) (2 * b)), omega (arith, lt-div-mul-add {a = 2 * a + b} {b = 2 * b} p))
 
--- kept for monotonicity: of two numbers the greater never rounds to less
+-- of two numbers the greater never rounds to less
 pub nearest-monotone : (a c b : ℕ) → 0 < b → a ≤ c → nearest a b ≤ nearest c b
 unfolding nearest
 nearest-monotone a c b h le =

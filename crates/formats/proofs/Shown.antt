@@ -50,27 +50,27 @@ use Rattle.formats.proofs.Accepted.{accepted-sections, accepted-formed}
 use Rattle.formats.proofs.Each.{by-item, by-kind}
 
 -- no exact scaled number is divided by 0
-scaled-pos : (m s p t : ℕ) → 0 < (scaled m s p t) .below
+pub scaled-pos : (m s p t : ℕ) → 0 < (scaled m s p t) .below
 unfolding powered
 scaled-pos m s p t = rw (scaled-powered m s p t) (ten-pos (s + 3 * t))
 
 -- what a number section rounds
-rounded-scaled : (s : Section) (x : Number) → kindOf s ≡ numberKind
+pub rounded-scaled : (s : Section) (x : Number) → kindOf s ≡ numberKind
     → sectionRounded s x
     ≡ rounded (scaled (natAbs (x .coefficient)) (x .scale) (count isPercent (s .items)) (s .thousands)) (decimalPlaces (s .items))
 unfolding sectionRounded
 rounded-scaled s x kind = rw kind
 
 -- the rules that figures need
-record Rules (s : Section) : Type 0 where
+pub record Rules (s : Section) : Type 0 where
   formed : T (sectionFormed s)
   allowed : T (every (itemAllowed (kindOf s)) (s .items))
-  onePoint : count isPoint (s .items) ≤ 1
+  pub onePoint : count isPoint (s .items) ≤ 1
   integers : integerPlaces (mainItems (s .items)) ≤ 20
   decimals : decimalPlaces (s .items) ≤ 15
   percents : count isPercent (s .items) ≤ 5
 
-rules : (ss : List Section) (x : Exact) (i : ℕ) (s : Section) (why : Reason) → T (wellFormed ss) → choose ss x ≡ chosen i s why → Rules s
+pub rules : (ss : List Section) (x : Exact) (i : ℕ) (s : Section) (why : Reason) → T (wellFormed ss) → choose ss x ≡ chosen i s why → Rules s
 unfolding wellFormed sectionFormed sectionFits sectionWithin itemsFit kindOf
 rules ss x i s why formed e =
     let all : T (every sectionFormed ss) = search (and-left, and-right) in
@@ -78,10 +78,10 @@ rules ss x i s why formed e =
     search (and-left, and-right, leb→le) depth 16
 
 -- a sign is one minus or nothing
-isMinus : Sign → Bool
+unfoldable pub isMinus : Sign → Bool
 isMinus g = not (isEmpty (signUnits g))
 
-sign-units : (g : Sign) → signUnits g ≡ cond (isMinus g) (45 ∷ []) []
+pub sign-units : (g : Sign) → signUnits g ≡ cond (isMinus g) (45 ∷ []) []
 unfolding isMinus isEmpty signUnits
 sign-units minus = refl
 sign-units notNegative = refl
@@ -143,10 +143,10 @@ same-fraction = by-kind (λ (k : Kind). sameKind k fractionKind ≡ true → k �
 -- a number that went to section i and is taken by it
 module _ (ss : List Section) (i : ℕ) (s : Section) (why : Reason) (x : Number)
     (r : Rules s) (range : T (numberInRange x)) (takes : takesNumber (kindOf s) ≡ true) where
-  abbrev added : Bool
+  abbrev pub added : Bool
   added = isMinus (numberSign ss i s why x)
 
-  abbrev exactly : Bool
+  abbrev pub exactly : Bool
   exactly = numberExactly s x
 
   unsigned : showsNought s x ≡ true → added ≡ false
@@ -162,10 +162,10 @@ module _ (ss : List Section) (i : ℕ) (s : Section) (why : Reason) (x : Number)
   unfolding placesNought
   unsigned-rounded shows other z = unsigned-places shows (rw (other, eq-eqb (sectionRounded s x) 0 z))
 
-  abbrev numberPieces : List (List ℕ)
+  abbrev pub numberPieces : List (List ℕ)
   numberPieces = itemPieces (numberContext s x) (firstOf (integerPlaces (s .items))) (s .items)
 
-  section-figures : kindOf s ≡ numberKind
+  pub section-figures : kindOf s ≡ numberKind
       → FiguresOf (scaled (natAbs (x .coefficient)) (x .scale) (count isPercent (s .items)) (s .thousands))
       (decimalPlaces (s .items)) added exactly (figurePieces (s .items) numberPieces)
   unfolding numberContext kindOf
