@@ -21,11 +21,17 @@ use Rattle.grounds.specs.declared.Why.{Why}
 use Rattle.grounds.specs.declared.Why.the-variants as why
 use Rattle.grounds.specs.Numbers.{choiceNumber, triedNumber, minusNumber}
 use Rattle.reasons.specs.Table.{tableWhy}
+use Rattle.boards.specs.declared.Board.{Board}
+use Rattle.boards.specs.declared.PutRow.{PutRow}
+use Rattle.boards.specs.declared.ClearedRow.{ClearedRow}
+use Rattle.boards.specs.Boards.{putRow, roomPut}
 use Rattle.c_api.specs.declared.PreparedNumbers.{PreparedNumbers}
 use Rattle.c_api.specs.declared.PartNumbers.{PartNumbers}
 use Rattle.c_api.specs.declared.ShownNumbers.{ShownNumbers}
 use Rattle.c_api.specs.declared.WhyNumbers.{WhyNumbers}
-use Rattle.c_api.specs.Numbers.{preparedNumbers, partNumbers, shownNumbers, whyNumbers}
+use Rattle.c_api.specs.declared.PutNumbers.{PutNumbers}
+use Rattle.c_api.specs.declared.ClearedNumbers.{ClearedNumbers}
+use Rattle.c_api.specs.Numbers.{preparedNumbers, partNumbers, shownNumbers, whyNumbers, putNumbers, clearedNumbers}
 
 pub prepared-told : {n : ℕ} {p q : Prepared} → n ≡ numberOf (p .answer) → p ≡ q
     → _≡_ {A = PreparedNumbers} (record { answer = n; place = p .place; words = p .words }) (preparedNumbers q)
@@ -78,3 +84,17 @@ module _ {ask asked : Ask} (same : ask ≡ asked) (table text : List ℕ) where
   pub why-asked : {n : WhyNumbers} {w : Why} (size : ℕ) → n ≡ whyNumbers w → w ≡ tableWhy table ask text size
       → n ≡ whyNumbers (tableWhy table asked text size)
   why-asked size e h = e ∙ ap whyNumbers (h ∙ ap (λ (a : Ask). tableWhy table a text size) same)
+
+-- ---- boards
+pub cleared-told : {n : ℕ} {r q : ClearedRow} → n ≡ numberOf (r .answer) → r ≡ q
+    → _≡_ {A = ClearedNumbers} (record { board = r .board; answer = n }) (clearedNumbers q)
+cleared-told {n} {r} {q} e h = (λ j. record { board = r .board; answer = e j }) ∙ ap clearedNumbers h
+
+-- what is put of a question is put of an equal one
+module _ {ask asked : Ask} (same : ask ≡ asked) (row : ℕ) (table text : List ℕ) where
+  pub put-asked : (board : Board) {n : PutNumbers} {p : PutRow} (size : ℕ) → n ≡ putNumbers p → p ≡ putRow board row table ask text size
+      → n ≡ putNumbers (putRow board row table asked text size)
+  put-asked board size e h = e ∙ ap putNumbers (h ∙ ap (λ (a : Ask). putRow board row table a text size) same)
+
+  pub room-put : {out : List ℕ} (old : List ℕ) → out ≡ roomPut row table ask text old → out ≡ roomPut row table asked text old
+  room-put old h = h ∙ ap (λ (a : Ask). roomPut row table a text old) same

@@ -8,10 +8,13 @@ ghost use Rattle.tables.specs.Rules.{passes};
 ghost use Rattle.tables.specs.Calls.{prepared, tableAfter, showing, roomAfter};
 ghost use Rattle.grounds.specs.declared.Why.the-variants as why;
 ghost use Rattle.reasons.specs.Table.{tableWhy};
-ghost use Rattle.c_api.specs.Numbers.{preparedNumbers, partNumbers, checkNumber, shownNumbers, whyNumbers, numberAsk, instantAsk, textAsk};
+ghost use Rattle.boards.specs.Boards.{emptyBoard, putRow, roomPut, clearRow};
+ghost use Rattle.c_api.specs.Numbers.{preparedNumbers, partNumbers, checkNumber, shownNumbers, whyNumbers, putNumbers, clearedNumbers, numberAsk, instantAsk, textAsk};
 use answers::Answer;
 use answers::Shown;
 use answers::number;
+use boards::Board;
+use boards::PutRow;
 use checking::check;
 use grounds::Grounds;
 use grounds::Why;
@@ -63,6 +66,20 @@ pub struct WhyNumbers {
     pub second: u16,
     pub minus: u16,
     pub cut: u16,
+}
+
+// numfmt_put
+#[repr(C)]
+pub struct PutNumbers {
+    pub board: Board,
+    pub shown: ShownNumbers,
+}
+
+// numfmt_cleared
+#[repr(C)]
+pub struct ClearedNumbers {
+    pub board: Board,
+    pub answer: u16,
 }
 
 #[no_mangle]
@@ -234,4 +251,81 @@ pub extern "C" fn numfmt_why_text(table: &[u16], text: &[u16], size: usize) -> W
     ensures { λ r. ⌜ r ≡ whyNumbers (tableWhy (now (table .entry)) textAsk (now (text .entry)) size) ⌝ }
 {
     why_numbers(why(table, asked(Value::Text), text, size))
+}
+
+#[no_mangle]
+pub extern "C" fn numfmt_board_empty() -> Board
+    ensures { λ r. ⌜ r ≡ emptyBoard ⌝ }
+{
+    Board::empty()
+}
+
+fn put_numbers(p: PutRow) -> PutNumbers
+    ensures { λ r. ⌜ r ≡ putNumbers p ⌝ }
+{
+    let board = p.board;
+    let shown = p.shown;
+    PutNumbers {
+        board,
+        shown: shown_numbers(shown),
+    }
+}
+
+#[no_mangle]
+pub extern "C" fn numfmt_board_put_number(
+    board: Board,
+    row: u32,
+    table: &[u16],
+    coefficient: i64,
+    scale: u32,
+    room: &mut [u16],
+) -> PutNumbers
+    ensures result { λ r. ⌜ r ≡ putNumbers (putRow board row (now (table .entry)) (numberAsk coefficient scale) [] (length (now (room .entry)))) ⌝ }
+    ensures room { λ r. ⌜ now (room .exit) ≡ roomPut row (now (table .entry)) (numberAsk coefficient scale) [] (now (room .entry)) ⌝ }
+{
+    let ask = number_ask(coefficient, scale);
+    put_numbers(board.put(row, table, ask, &table[..0], room))
+}
+
+#[no_mangle]
+pub extern "C" fn numfmt_board_put_instant(
+    board: Board,
+    row: u32,
+    table: &[u16],
+    day: u32,
+    millisecond: u32,
+    room: &mut [u16],
+) -> PutNumbers
+    ensures result { λ r. ⌜ r ≡ putNumbers (putRow board row (now (table .entry)) (instantAsk day millisecond) [] (length (now (room .entry)))) ⌝ }
+    ensures room { λ r. ⌜ now (room .exit) ≡ roomPut row (now (table .entry)) (instantAsk day millisecond) [] (now (room .entry)) ⌝ }
+{
+    let ask = instant_ask(day, millisecond);
+    put_numbers(board.put(row, table, ask, &table[..0], room))
+}
+
+#[no_mangle]
+pub extern "C" fn numfmt_board_put_text(
+    board: Board,
+    row: u32,
+    table: &[u16],
+    text: &[u16],
+    room: &mut [u16],
+) -> PutNumbers
+    ensures result { λ r. ⌜ r ≡ putNumbers (putRow board row (now (table .entry)) textAsk (now (text .entry)) (length (now (room .entry)))) ⌝ }
+    ensures room { λ r. ⌜ now (room .exit) ≡ roomPut row (now (table .entry)) textAsk (now (text .entry)) (now (room .entry)) ⌝ }
+{
+    put_numbers(board.put(row, table, asked(Value::Text), text, room))
+}
+
+#[no_mangle]
+pub extern "C" fn numfmt_board_clear(board: Board, row: u32) -> ClearedNumbers
+    ensures { λ r. ⌜ r ≡ clearedNumbers (clearRow board row) ⌝ }
+{
+    let c = board.clear(row);
+    let board = c.board;
+    let answer = c.answer;
+    ClearedNumbers {
+        board,
+        answer: number(answer),
+    }
 }
