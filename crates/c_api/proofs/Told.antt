@@ -25,17 +25,21 @@ use Rattle.boards.specs.declared.Board.{Board}
 use Rattle.boards.specs.declared.PutRow.{PutRow}
 use Rattle.boards.specs.declared.ClearedRow.{ClearedRow}
 use Rattle.boards.specs.Boards.{putRow, roomPut}
+use Rattle.streams.specs.declared.Fed.{Fed}
+use Rattle.streams.specs.declared.Finished.{Finished}
 use Rattle.c_api.specs.declared.PreparedNumbers.{PreparedNumbers}
 use Rattle.c_api.specs.declared.PartNumbers.{PartNumbers}
 use Rattle.c_api.specs.declared.ShownNumbers.{ShownNumbers}
 use Rattle.c_api.specs.declared.WhyNumbers.{WhyNumbers}
 use Rattle.c_api.specs.declared.PutNumbers.{PutNumbers}
 use Rattle.c_api.specs.declared.ClearedNumbers.{ClearedNumbers}
-use Rattle.c_api.specs.Numbers.{preparedNumbers, partNumbers, shownNumbers, whyNumbers, putNumbers, clearedNumbers}
+use Rattle.c_api.specs.declared.FedNumbers.{FedNumbers}
+use Rattle.c_api.specs.declared.FinishedNumbers.{FinishedNumbers}
+use Rattle.c_api.specs.Numbers.{preparedNumbers, partNumbers, shownNumbers, whyNumbers, putNumbers, clearedNumbers, fedNumbers, finishedNumbers}
 
-pub prepared-told : {n : ℕ} {p q : Prepared} → n ≡ numberOf (p .answer) → p ≡ q
-    → _≡_ {A = PreparedNumbers} (record { answer = n; place = p .place; words = p .words }) (preparedNumbers q)
-prepared-told {n} {p} {q} e h = (λ j. record { answer = e j; place = p .place; words = p .words }) ∙ ap preparedNumbers h
+pub prepared-told : (p : Prepared) {n : ℕ} → n ≡ numberOf (p .answer)
+    → _≡_ {A = PreparedNumbers} (record { answer = n; place = p .place; words = p .words }) (preparedNumbers p)
+prepared-told p e = λ j. record { answer = e j; place = p .place; words = p .words }
 
 as-number : (b : Bool) → boolByte b ≡ cond b 1 0
 as-number true = refl
@@ -98,3 +102,12 @@ module _ {ask asked : Ask} (same : ask ≡ asked) (row : ℕ) (table text : List
 
   pub room-put : {out : List ℕ} (old : List ℕ) → out ≡ roomPut row table ask text old → out ≡ roomPut row table asked text old
   room-put old h = h ∙ ap (λ (a : Ask). roomPut row table a text old) same
+
+-- ---- streams
+pub fed-told : {n : ℕ} {r q : Fed} → n ≡ numberOf (r .answer) → r ≡ q
+    → _≡_ {A = FedNumbers} (record { stream = r .stream; answer = n; place = r .place }) (fedNumbers q)
+fed-told {n} {r} {q} e h = (λ j. record { stream = r .stream; answer = e j; place = r .place }) ∙ ap fedNumbers h
+
+pub finished-told : {n : PreparedNumbers} {r q : Finished} → n ≡ preparedNumbers (r .prepared) → r ≡ q
+    → _≡_ {A = FinishedNumbers} (record { stream = r .stream; prepared = n }) (finishedNumbers q)
+finished-told {n} {r} {q} e h = (λ j. record { stream = r .stream; prepared = e j }) ∙ ap finishedNumbers h

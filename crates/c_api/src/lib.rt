@@ -1,5 +1,5 @@
 // The calls for C and Rust, as include/numfmt.h declares them. Each is the Rattle call with the answer as its number; a slice
-// is a pointer and a length.
+// is a pointer and a length, and a board or a stream goes in and comes back by value.
 ghost use mathlib.Core.Path.{_≡_};
 ghost use lib.ListN.{length};
 ghost use mathlib.Core.List.{[]};
@@ -9,8 +9,10 @@ ghost use Rattle.tables.specs.Calls.{prepared, tableAfter, showing, roomAfter};
 ghost use Rattle.grounds.specs.declared.Why.the-variants as why;
 ghost use Rattle.reasons.specs.Table.{tableWhy};
 ghost use Rattle.boards.specs.Boards.{emptyBoard, putRow, roomPut, clearRow};
-ghost use Rattle.c_api.specs.Numbers.{preparedNumbers, partNumbers, checkNumber, shownNumbers, whyNumbers, putNumbers, clearedNumbers, numberAsk, instantAsk, textAsk};
+ghost use Rattle.streams.specs.Streams.{started, feeding, ending, endingRoom};
+ghost use Rattle.c_api.specs.Numbers.{preparedNumbers, fedNumbers, finishedNumbers, partNumbers, checkNumber, shownNumbers, whyNumbers, putNumbers, clearedNumbers, numberAsk, instantAsk, textAsk};
 use answers::Answer;
+use answers::Prepared;
 use answers::Shown;
 use answers::number;
 use boards::Board;
@@ -24,6 +26,7 @@ use grounds::tried_number;
 use reasons::why;
 use showing::show;
 use spans::section_span;
+use streams::Stream;
 use values::Ask;
 use values::Day;
 use values::Millisecond;
@@ -82,17 +85,75 @@ pub struct ClearedNumbers {
     pub answer: u16,
 }
 
-#[no_mangle]
-pub extern "C" fn numfmt_prepare(code: &[u16], table: &mut [u16]) -> PreparedNumbers
-    ensures answer { λ r. ⌜ r ≡ preparedNumbers (prepared (now (code .entry)) (length (now (table .entry)))) ⌝ }
-    ensures table { λ r. ⌜ now (table .exit) ≡ tableAfter (now (code .entry)) (now (table .entry)) ⌝ }
+// numfmt_fed
+#[repr(C)]
+pub struct FedNumbers {
+    pub stream: Stream,
+    pub answer: u16,
+    pub place: u32,
+}
+
+// numfmt_finished
+#[repr(C)]
+pub struct FinishedNumbers {
+    pub stream: Stream,
+    pub prepared: PreparedNumbers,
+}
+
+fn prepared_numbers(p: Prepared) -> PreparedNumbers
+    ensures { λ r. ⌜ r ≡ preparedNumbers p ⌝ }
 {
-    let p = preparing::prepare(code, table);
     let answer = p.answer;
     PreparedNumbers {
         answer: number(answer),
         place: p.place,
         words: p.words,
+    }
+}
+
+#[no_mangle]
+pub extern "C" fn numfmt_prepare(code: &[u16], table: &mut [u16]) -> PreparedNumbers
+    ensures answer { λ r. ⌜ r ≡ preparedNumbers (prepared (now (code .entry)) (length (now (table .entry)))) ⌝ }
+    ensures table { λ r. ⌜ now (table .exit) ≡ tableAfter (now (code .entry)) (now (table .entry)) ⌝ }
+{
+    prepared_numbers(preparing::prepare(code, table))
+}
+
+// A stream to which nothing has come.
+#[no_mangle]
+pub extern "C" fn numfmt_stream_start() -> Stream
+    ensures { λ r. ⌜ r ≡ started ⌝ }
+{
+    Stream::start()
+}
+
+// The stream with a part of a code behind what has come.
+#[no_mangle]
+pub extern "C" fn numfmt_stream_feed(stream: Stream, part: &[u16]) -> FedNumbers
+    ensures { λ r. ⌜ r ≡ fedNumbers (feeding stream (now (part .entry))) ⌝ }
+{
+    let f = stream.feed(part);
+    let stream = f.stream;
+    let answer = f.answer;
+    FedNumbers {
+        stream,
+        answer: number(answer),
+        place: f.place,
+    }
+}
+
+// The stream when it has ended, and its code prepared.
+#[no_mangle]
+pub extern "C" fn numfmt_stream_end(stream: Stream, table: &mut [u16]) -> FinishedNumbers
+    ensures result { λ r. ⌜ r ≡ finishedNumbers (ending stream (length (now (table .entry)))) ⌝ }
+    ensures table { λ r. ⌜ now (table .exit) ≡ endingRoom stream (now (table .entry)) ⌝ }
+{
+    let f = stream.end(table);
+    let stream = f.stream;
+    let p = f.prepared;
+    FinishedNumbers {
+        stream,
+        prepared: prepared_numbers(p),
     }
 }
 
