@@ -1,55 +1,21 @@
--- The records of numbers are those of the Rattle calls.
+-- Where a section of an accepted code stands, and that equal questions are answered alike.
 -- Assumes nothing.
 use Prim.Native.Nat.{ℕ, _+_, _≤_}
 use native.Mathlib.Omega.{arith}
 use mathlib.Core.Path.{_≡_, refl, ap, _∙_}
-use mathlib.Core.Bool.{Bool, true, false, cond}
 use mathlib.Core.List.{List}
 use lib.ListN.{length}
-use mir.Val.{boolByte}
-use Rattle.answers.specs.declared.Answer.{Answer}
-use Rattle.answers.specs.declared.Answer.the-variants as answer
-use Rattle.answers.specs.declared.Prepared.{Prepared}
 use Rattle.answers.specs.declared.Shown.{Shown}
-use Rattle.answers.specs.Number.{numberOf}
 use Rattle.values.specs.declared.Ask.{Ask}
-use Rattle.formats.specs.Accept.{Verdict, fine, refused, verdict, Span, spanBy, sectionSpan}
+use Rattle.formats.specs.Accept.{Verdict, fine, refused, verdict, spanBy, sectionSpan}
 use Rattle.formats.proofs.First.{verdict-fine, length-bounds}
 use Rattle.tables.specs.Calls.{showing, roomAfter}
-use Rattle.grounds.specs.declared.Grounds.{Grounds}
 use Rattle.grounds.specs.declared.Why.{Why}
-use Rattle.grounds.specs.declared.Why.the-variants as why
-use Rattle.grounds.specs.Numbers.{choiceNumber, triedNumber, minusNumber}
 use Rattle.reasons.specs.Table.{tableWhy}
-use Rattle.c_api.specs.declared.PreparedNumbers.{PreparedNumbers}
-use Rattle.c_api.specs.declared.PartNumbers.{PartNumbers}
-use Rattle.c_api.specs.declared.ShownNumbers.{ShownNumbers}
-use Rattle.c_api.specs.declared.WhyNumbers.{WhyNumbers}
-use Rattle.c_api.specs.Numbers.{preparedNumbers, partNumbers, shownNumbers, whyNumbers}
-
-pub prepared-told : {n : ℕ} {p q : Prepared} → n ≡ numberOf (p .answer) → p ≡ q
-    → _≡_ {A = PreparedNumbers} (record { answer = n; place = p .place; words = p .words }) (preparedNumbers q)
-prepared-told {n} {p} {q} e h = (λ j. record { answer = e j; place = p .place; words = p .words }) ∙ ap preparedNumbers h
-
-as-number : (b : Bool) → boolByte b ≡ cond b 1 0
-as-number true = refl
-as-number false = refl
-
-pub shown-told : (s : Shown) {n : ℕ} → n ≡ numberOf (s .answer)
-    → _≡_ {A = ShownNumbers} (record { answer = n; length = s .length; colour = s .colour; section = s .section; exact = boolByte (s .exact) })
-    (shownNumbers s)
-shown-told s e = λ j. record { answer = e j; length = s .length; colour = s .colour; section = s .section; exact = as-number (s .exact) j }
-
--- of a reason
-pub refused-told : (a : Answer) {n : ℕ} → n ≡ numberOf a
-    → _≡_ {A = WhyNumbers} (record { answer = n; section = 0; choice = 0; first = 0; second = 0; minus = 0; cut = 0 }) (whyNumbers (why.Refused a))
-refused-told a e = λ j. record { answer = e j; section = 0; choice = 0; first = 0; second = 0; minus = 0; cut = 0 }
-
-pub because-told : (g : Grounds) {n choice first second minus : ℕ} → n ≡ numberOf answer.Done → choice ≡ choiceNumber (g .choice)
-    → first ≡ triedNumber (g .first) → second ≡ triedNumber (g .second) → minus ≡ minusNumber (g .minus)
-    → _≡_ {A = WhyNumbers} (record { answer = n; section = g .section; choice = choice; first = first; second = second; minus = minus; cut = g .cut })
-    (whyNumbers (why.Because g))
-because-told g e c f s m = λ j. record { answer = e j; section = g .section; choice = c j; first = f j; second = s j; minus = m j; cut = g .cut }
+use Rattle.c_numbers.specs.declared.PartNumbers.{PartNumbers}
+use Rattle.c_numbers.specs.declared.ShownNumbers.{ShownNumbers}
+use Rattle.c_numbers.specs.declared.WhyNumbers.{WhyNumbers}
+use Rattle.c_numbers.specs.Numbers.{partNumbers, shownNumbers, whyNumbers}
 
 -- a section stands among the first 254 units: a code that is not refused has no more
 small-by : (v : Verdict) (code : List ℕ) (n : ℕ) → verdict code ≡ v → spanBy v n code .start + spanBy v n code .size ≤ length code

@@ -6,77 +6,33 @@ ghost use mathlib.Core.List.{[]};
 ghost use Rattle.formats.specs.Accept.{sectionSpan};
 ghost use Rattle.tables.specs.Rules.{passes};
 ghost use Rattle.tables.specs.Calls.{prepared, tableAfter, showing, roomAfter};
-ghost use Rattle.grounds.specs.declared.Why.the-variants as why;
 ghost use Rattle.reasons.specs.Table.{tableWhy};
-ghost use Rattle.c_api.specs.Numbers.{preparedNumbers, partNumbers, checkNumber, shownNumbers, whyNumbers, numberAsk, instantAsk, textAsk};
-use answers::Answer;
-use answers::Shown;
-use answers::number;
+ghost use Rattle.c_numbers.specs.Numbers.{preparedNumbers, partNumbers, checkNumber, shownNumbers, whyNumbers, numberAsk, instantAsk, textAsk};
+use c_numbers::PartNumbers;
+use c_numbers::PreparedNumbers;
+use c_numbers::ShownNumbers;
+use c_numbers::WhyNumbers;
+use c_numbers::check_number;
+use c_numbers::instant_ask;
+use c_numbers::number_ask;
+use c_numbers::part_numbers;
+use c_numbers::prepared_numbers;
+use c_numbers::shown_numbers;
+use c_numbers::why_numbers;
 use checking::check;
-use grounds::Grounds;
-use grounds::Why;
-use grounds::choice_number;
-use grounds::minus_number;
-use grounds::tried_number;
+use preparing::prepare;
 use reasons::why;
 use showing::show;
 use spans::section_span;
-use values::Ask;
-use values::Day;
-use values::Millisecond;
-use values::Number;
 use values::Value;
 use values::asked;
-
-// numfmt_prepared
-#[repr(C)]
-pub struct PreparedNumbers {
-    pub answer: u16,
-    pub place: u32,
-    pub words: u32,
-}
-
-// numfmt_part
-#[repr(C)]
-pub struct PartNumbers {
-    pub start: u32,
-    pub length: u32,
-}
-
-// numfmt_shown
-#[repr(C)]
-pub struct ShownNumbers {
-    pub answer: u16,
-    pub length: u32,
-    pub colour: u16,
-    pub section: u16,
-    pub exact: u16,
-}
-
-// numfmt_reason
-#[repr(C)]
-pub struct WhyNumbers {
-    pub answer: u16,
-    pub section: u16,
-    pub choice: u16,
-    pub first: u16,
-    pub second: u16,
-    pub minus: u16,
-    pub cut: u16,
-}
 
 #[no_mangle]
 pub extern "C" fn numfmt_prepare(code: &[u16], table: &mut [u16]) -> PreparedNumbers
     ensures answer { λ r. ⌜ r ≡ preparedNumbers (prepared (now (code .entry)) (length (now (table .entry)))) ⌝ }
     ensures table { λ r. ⌜ now (table .exit) ≡ tableAfter (now (code .entry)) (now (table .entry)) ⌝ }
 {
-    let p = preparing::prepare(code, table);
-    let answer = p.answer;
-    PreparedNumbers {
-        answer: number(answer),
-        place: p.place,
-        words: p.words,
-    }
+    prepared_numbers(prepare(code, table))
 }
 
 // Section n of a code: where it stands in it.
@@ -85,10 +41,7 @@ pub extern "C" fn numfmt_section(code: &[u16], n: u32) -> PartNumbers
     ensures { λ r. ⌜ r ≡ partNumbers (sectionSpan n (now (code .entry))) ⌝ }
 {
     let s = section_span(code, n as usize);
-    PartNumbers {
-        start: s.start as u32,
-        length: s.size as u32,
-    }
+    part_numbers(s.start, s.size)
 }
 
 // Whether the words are a table: what the calls that show test first.
@@ -96,36 +49,7 @@ pub extern "C" fn numfmt_section(code: &[u16], n: u32) -> PartNumbers
 pub extern "C" fn numfmt_check(table: &[u16]) -> u16
     ensures { λ r. ⌜ r ≡ checkNumber (passes (now (table .entry))) ⌝ }
 {
-    if check(table) {
-        number(Answer::Done)
-    } else {
-        number(Answer::Table)
-    }
-}
-
-fn shown_numbers(s: Shown) -> ShownNumbers
-    ensures { λ r. ⌜ r ≡ shownNumbers s ⌝ }
-{
-    let answer = s.answer;
-    ShownNumbers {
-        answer: number(answer),
-        length: s.length,
-        colour: s.colour,
-        section: s.section,
-        exact: s.exact as u16,
-    }
-}
-
-fn number_ask(coefficient: i64, scale: u32) -> Ask
-    ensures { λ r. ⌜ r ≡ numberAsk coefficient scale ⌝ }
-{
-    asked(Value::Number(Number { coefficient, scale }))
-}
-
-fn instant_ask(day: u32, millisecond: u32) -> Ask
-    ensures { λ r. ⌜ r ≡ instantAsk day millisecond ⌝ }
-{
-    asked(Value::Instant(Day(day), Millisecond(millisecond)))
+    check_number(check(table))
 }
 
 #[no_mangle]
@@ -160,49 +84,6 @@ pub extern "C" fn numfmt_show_text(table: &[u16], text: &[u16], room: &mut [u16]
     ensures room { λ r. ⌜ now (room .exit) ≡ roomAfter (now (table .entry)) textAsk (now (text .entry)) (now (room .entry)) ⌝ }
 {
     shown_numbers(show(table, asked(Value::Text), text, room))
-}
-
-// Of a refused show the answer alone is told.
-fn refused_numbers(answer: Answer) -> WhyNumbers
-    ensures { λ r. ⌜ r ≡ whyNumbers (why.Refused answer) ⌝ }
-{
-    WhyNumbers {
-        answer: number(answer),
-        section: 0,
-        choice: 0,
-        first: 0,
-        second: 0,
-        minus: 0,
-        cut: 0,
-    }
-}
-
-fn because_numbers(g: Grounds) -> WhyNumbers
-    ensures { λ r. ⌜ r ≡ whyNumbers (why.Because g) ⌝ }
-{
-    let choice = g.choice;
-    let first = g.first;
-    let second = g.second;
-    let minus = g.minus;
-    WhyNumbers {
-        answer: number(Answer::Done),
-        section: g.section,
-        choice: choice_number(choice),
-        first: tried_number(first),
-        second: tried_number(second),
-        minus: minus_number(minus),
-        cut: g.cut,
-    }
-}
-
-// What the calls below return of a reason.
-pub fn why_numbers(w: Why) -> WhyNumbers
-    ensures { λ r. ⌜ r ≡ whyNumbers w ⌝ }
-{
-    match w {
-        Why::Refused(answer) => refused_numbers(answer),
-        Why::Because(g) => because_numbers(g),
-    }
 }
 
 #[no_mangle]

@@ -1,8 +1,4 @@
 // Each call for C, called with lent slices and numbers and nothing required: none of them asks anything of its caller.
-use c_api::PartNumbers;
-use c_api::PreparedNumbers;
-use c_api::ShownNumbers;
-use c_api::WhyNumbers;
 use c_api::numfmt_check;
 use c_api::numfmt_prepare;
 use c_api::numfmt_section;
@@ -12,6 +8,10 @@ use c_api::numfmt_show_text;
 use c_api::numfmt_why_instant;
 use c_api::numfmt_why_number;
 use c_api::numfmt_why_text;
+use c_numbers::PartNumbers;
+use c_numbers::PreparedNumbers;
+use c_numbers::ShownNumbers;
+use c_numbers::WhyNumbers;
 
 fn prepare(code: &[u16], table: &mut [u16]) -> PreparedNumbers {
     numfmt_prepare(code, table)

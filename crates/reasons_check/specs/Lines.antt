@@ -4,7 +4,7 @@ use Prim.Native.Nat.{ℕ}
 use mathlib.Core.List.{List, [], _∷_, _++_}
 use Rattle.figures.specs.Digits.{numeral}
 use Rattle.calendar.specs.Names.{units}
-use Rattle.c_api.specs.declared.WhyNumbers.{WhyNumbers}
+use Rattle.c_numbers.specs.declared.WhyNumbers.{WhyNumbers}
 
 unfoldable pub named : List ℕ → ℕ → List ℕ
 named name n = name ++ numeral 1 n

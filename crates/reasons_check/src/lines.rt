@@ -3,7 +3,7 @@ ghost use Prim.Native.Nat.{_+_, _≤_, _<_, _^_};
 ghost use lib.ListN.{length};
 ghost use Rattle.writing.specs.Put.{Put};
 ghost use Rattle.reasons_check.specs.Lines.{named, choiceUnits, lineOf};
-use c_api::WhyNumbers;
+use c_numbers::WhyNumbers;
 use requests::bytes::put_bytes;
 use writing::put_numeral;
 use writing::put_unit;

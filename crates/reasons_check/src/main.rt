@@ -6,7 +6,7 @@ mod lines;
 
 use answers::Answer;
 use answers::number;
-use c_api::why_numbers;
+use c_numbers::why_numbers;
 use grounds::Why;
 use lexing::scan::Set;
 use lexing::scan::scan;

@@ -3,7 +3,7 @@
 use mathlib.Core.Path.{ap, _∙_}
 use lib.IntN.{ℤ}
 use mir.Facts.{toZ-ofZ}
-use Rattle.c_api.specs.Numbers.{numberAsk}
+use Rattle.c_numbers.specs.Numbers.{numberAsk}
 use Rattle.c_api.proofs.Told.{shown-asked, room-asked}
 use borrow.Author.Needs.{needs}
 use Rattle.c_api.proofs.numfmt_show_number.Statement.{statement}

@@ -1,10 +1,10 @@
--- `c_api::why_numbers` meets its contract.
+-- `c_numbers::why_numbers` meets its contract.
 -- Assumes nothing.
 use mathlib.Core.Path.{sym, ap, _∙_}
-use Rattle.c_api.specs.Numbers.{whyNumbers}
+use Rattle.c_numbers.specs.Numbers.{whyNumbers}
 use borrow.Author.Needs.{needs}
-use Rattle.c_api.proofs.why_numbers.Statement.{statement}
-use Rattle.c_api.proofs.why_numbers.Tie as tie
+use Rattle.c_numbers.proofs.why_numbers.Statement.{statement}
+use Rattle.c_numbers.proofs.why_numbers.Tie as tie
 
 returns : tie.Need-returns
 returns c = c .refused-numbers .ensures ∙ sym (ap whyNumbers (c .before .before .w .given .1))

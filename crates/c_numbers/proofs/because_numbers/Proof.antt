@@ -1,9 +1,9 @@
--- `c_api::because_numbers` meets its contract.
+-- `c_numbers::because_numbers` meets its contract.
 -- Assumes nothing.
-use Rattle.c_api.proofs.Told.{because-told}
+use Rattle.c_numbers.proofs.Told.{because-told}
 use borrow.Author.Needs.{needs}
-use Rattle.c_api.proofs.because_numbers.Statement.{statement}
-use Rattle.c_api.proofs.because_numbers.Tie as tie
+use Rattle.c_numbers.proofs.because_numbers.Statement.{statement}
+use Rattle.c_numbers.proofs.because_numbers.Tie as tie
 
 returns : tie.Need-returns
 returns c =

@@ -7,21 +7,17 @@ use Rattle.answers.specs.declared.Answer.the-variants as answer
 use Rattle.answers.specs.declared.Prepared.{Prepared}
 use Rattle.answers.specs.declared.Shown.{Shown}
 use Rattle.answers.specs.Number.{numberOf}
-use Rattle.values.specs.declared.Day.{Day}
-use Rattle.values.specs.declared.Millisecond.{Millisecond}
-use Rattle.values.specs.declared.Number.{Number}
-use Rattle.values.specs.declared.Value.{Value}
 use Rattle.values.specs.declared.Value.the-variants as value
 use Rattle.values.specs.declared.Ask.{Ask}
 use Rattle.values.specs.Ranges.{asked}
 use Rattle.formats.specs.Accept.{Span}
-use Rattle.c_api.specs.declared.PreparedNumbers.{PreparedNumbers}
-use Rattle.c_api.specs.declared.PartNumbers.{PartNumbers}
+use Rattle.c_numbers.specs.declared.PreparedNumbers.{PreparedNumbers}
+use Rattle.c_numbers.specs.declared.PartNumbers.{PartNumbers}
 use Rattle.grounds.specs.declared.Why.{Why}
 use Rattle.grounds.specs.declared.Why.the-variants as why
 use Rattle.grounds.specs.Numbers.{choiceNumber, triedNumber, minusNumber}
-use Rattle.c_api.specs.declared.ShownNumbers.{ShownNumbers}
-use Rattle.c_api.specs.declared.WhyNumbers.{WhyNumbers}
+use Rattle.c_numbers.specs.declared.ShownNumbers.{ShownNumbers}
+use Rattle.c_numbers.specs.declared.WhyNumbers.{WhyNumbers}
 
 abbrev pub preparedNumbers : Prepared → PreparedNumbers
 preparedNumbers p = record { answer = numberOf (p .answer); place = p .place; words = p .words }

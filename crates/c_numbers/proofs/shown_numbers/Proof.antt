@@ -1,9 +1,9 @@
--- `c_api::shown_numbers` meets its contract.
+-- `c_numbers::shown_numbers` meets its contract.
 -- Assumes nothing.
-use Rattle.c_api.proofs.Told.{shown-told}
+use Rattle.c_numbers.proofs.Told.{shown-told}
 use borrow.Author.Needs.{needs}
-use Rattle.c_api.proofs.shown_numbers.Statement.{statement}
-use Rattle.c_api.proofs.shown_numbers.Tie as tie
+use Rattle.c_numbers.proofs.shown_numbers.Statement.{statement}
+use Rattle.c_numbers.proofs.shown_numbers.Tie as tie
 
 returns : tie.Need-returns
 returns c = shown-told (c .before .before .args .s) (c .before .number .ensures)
