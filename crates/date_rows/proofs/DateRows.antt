@@ -7,32 +7,31 @@ use mathlib.Core.Path.{_≡_, refl, sym, _∙_, ap}
 use mathlib.Core.Bool.{Bool, true, false, true≢false, cond, not, _&&_, _||_, and-true}
 use mathlib.Core.List.{List, [], _∷_}
 use lib.ListN.{length, getD}
-use lib.Dec.{T, leb, eqb, leb→le, le→leb, eqb→eq}
+use lib.Dec.{T, leb, eqb, eqb→eq}
 use borrow.Author.Tests.{eqb-true, eq-eqb, ne-eqb, le-leb, lt-leb}
 use Rattle.values.specs.Ranges.{between}
 use Rattle.lists.specs.Lists.{every, any, count}
 use Rattle.lists.proofs.Bools.{no, and-left, and-right, and-in, by-cases, true-T, T-true, same-test, or-cond, or-right, or-false, carry, every-head, every-tail, every-cons}
 use Rattle.formats.specs.Tokens.{Elapsed, hours, minutes, seconds, elapsedIndex}
-use Rattle.formats.specs.Items.{Item, half, dateKind, itemAllowed, itemMakes, itemsKind, itemsFit, isFill, isPart, isGeneral, isPoint, isHour, isMinute, isSecond, isElapsed, isElapsedOf, isHalf, noPlain, runOf, runOfElapsed, elapsed, integerPlaces, placesBehind, exponentFits}
+use Rattle.formats.specs.Items.{Item, half, dateKind, itemAllowed, itemMakes, isFill, isPart, isHour, isMinute, isSecond, isElapsed, isElapsedOf, isHalf, noPlain, runOf, runOfElapsed, elapsed}
 use Rattle.formats.specs.Where.{implies}
-use Rattle.formats.specs.Text.{firstOf}
-use Rattle.formats.specs.WellFormed.{isSeconds, oneFill, partsFrom, partsFollow, isSettled}
+use Rattle.formats.specs.WellFormed.{isSeconds, partsFrom, partsFollow}
 use Rattle.formats.proofs.Each.{by-item, by-elapsed}
 use Rattle.formats.proofs.ByNumber.{by-number}
 use Rattle.tables.specs.Words.{Entry, entriesAt, entriesIn}
 use Rattle.tables.specs.Encode.{entry, kindWord, hasHalf}
 use Rattle.tables.specs.Decode.{halfAt, itemAt, itemsAt, itemsByTag}
-use Rattle.tables.specs.Rules.{entryInRange, powersFrom, powersRunDown}
+use Rattle.tables.specs.Rules.{entryInRange}
 use Rattle.tables.proofs.Words.{entriesLeft, entries-front}
 use Rattle.tables.proofs.MadeHeads.{bit-back}
 use Rattle.tables.proofs.BackEntries.{between-facts, span-at}
 use Rattle.date_rows.specs.declared.DateWalk.{DateWalk}
-use Rattle.tallies.specs.Tally.{makesDate, soundEntries, itemsOf}
+use Rattle.tallies.specs.Tally.{makesDate, itemsOf}
 use Rattle.date_rows.specs.Runs.{runAfter, earlierAfter, mayStand, answers}
 use Rattle.date_rows.specs.DateRows.{DateTold, noDates, dateSound, dateAfter, noDate, dateNext, passed, plainTold}
 use Rattle.date_rows.proofs.Runs.{runsFrom, runs-front, runs-end, runs-start}
 use Rattle.tallies.proofs.Told.{no-plain-every}
-use Rattle.tallies.proofs.Held.{Holds, holds, holds-back}
+use Rattle.tallies.proofs.Held.{holds, holds-back}
 use Rattle.scans.proofs.Scanned.{tag-is, any-tagged}
 use Rattle.scans.specs.Scans.{hasTag}
 

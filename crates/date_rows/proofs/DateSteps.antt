@@ -4,11 +4,9 @@ use Prim.Native.Nat.{ℕ, _≤_, _<_}
 use native.Mathlib.Omega.{arith}
 use mathlib.Core.Path.{_≡_, refl}
 use mathlib.Core.Bool.{true, false, cond, _&&_, _||_, and-true, and-false}
-use mathlib.Core.List.{List, _∷_}
 use lib.Dec.{leb, eqb}
-use borrow.Author.Tests.{eq-eqb, ne-eqb, lt-ltb, leb-true, leb-false}
+use borrow.Author.Tests.{ne-eqb, lt-ltb, leb-true, leb-false}
 use Rattle.values.specs.Ranges.{between}
-use Rattle.lists.specs.Lists.{any}
 use Rattle.lists.proofs.Bools.{and-parts, by-cases}
 use Rattle.formats.specs.Tokens.{runAllowed}
 use Rattle.formats.specs.Items.{itemAllowed, runOf, runOfElapsed}

@@ -10,7 +10,6 @@ use borrow.Author.Tests.{eqb-true, lt-ltb, le-ltb}
 use Rattle.lists.specs.Lists.{any, count}
 use Rattle.lists.proofs.Bools.{by-cases}
 use Rattle.lists.proofs.Counts.{count-append, any-count, none-count}
-use Rattle.formats.specs.Tokens as token
 use Rattle.formats.specs.Tokens.{Token, Letter}
 use Rattle.formats.specs.Items.{Item, fill, part, dateKind, sameKind, isFill}
 use Rattle.formats.specs.Kinds.{formOf, isFillToken, isZero, isSecondsToken, leadingZeros, partZeros, piecesFrom, pieceItems, plainItems, dateItems, bodyKind, bodyItems, runItem, tokenItems, lastFill}

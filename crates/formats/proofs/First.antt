@@ -18,7 +18,6 @@ use Rattle.answers.specs.Number.{numberOf}
 use Rattle.lists.specs.Lists.{any, All, firstFailing}
 use Rattle.lists.proofs.Bools.{no, by-cases}
 use Rattle.lists.proofs.First.{first-exactly}
-use Rattle.formats.specs.Tokens as token
 use Rattle.formats.specs.Tokens.{Token, semicolon, broken, Placed, Lexed, good, bad, onto, lexFrom, lex}
 use Rattle.formats.specs.Starts.{StepIs, TokenStart, begin, next, ReadsAt, SemicolonAt}
 use Rattle.formats.specs.Kinds.{Parts, fits, isSemicolon}

@@ -1,9 +1,7 @@
 -- The section that parts in range stand for is well formed where it fits its kind and keeps the limits.
 -- Assumes nothing.
-use Prim.Native.Nat.{ℕ}
 use mathlib.Core.Path.{_≡_}
-use mathlib.Core.Bool.{Bool, true, false, cond, _||_}
-use lib.Dec.{T, leb, eqb}
+use lib.Dec.{T, leb}
 use Rattle.lists.specs.Lists.{every, count}
 use Rattle.lists.proofs.Bools.{and-left, and-right, and-in, nought-unless}
 use Rattle.formats.specs.Items.{itemInRange, numberKind, sameKind, kindOf, itemsFit}

@@ -9,7 +9,6 @@ use lib.Dec.{T, leb, le→leb}
 use borrow.Author.Tests.{eqb-true, not-true}
 use Rattle.lists.specs.Lists.{any}
 use Rattle.lists.proofs.Bools.{by-cases, cond-both, and-left, and-right, T-true, true-T, implies-in, and-in, or-false}
-use Rattle.formats.specs.Tokens as token
 use Rattle.formats.specs.Tokens.{Token, Letter}
 use Rattle.formats.specs.Items as item
 use Rattle.formats.specs.Items.{Item, numberKind, sameKind, kindRow, integerPlaces, settled, noRun, Kind, textKind, generalKind, dateKind, scientificKind, fractionKind, literalKind, kindFrom, itemsKind, kindOf}

@@ -9,7 +9,6 @@ use lib.Dec.{eqb}
 use Rattle.lists.specs.Lists.{any}
 use Rattle.lists.proofs.Bools.{by-cases, cond-both, cond-case, cond-self, or-cond}
 use Rattle.lists.proofs.Counts.{any-append}
-use Rattle.formats.specs.Tokens as token
 use Rattle.formats.specs.Tokens.{Token, Letter}
 use Rattle.formats.specs.Items as item
 use Rattle.formats.specs.Items.{Item, Kind, textKind, generalKind, dateKind, scientificKind, fractionKind, numberKind, sameKind, kindFrom, itemMakes, itemsKind, settled}

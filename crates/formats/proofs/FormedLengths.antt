@@ -11,7 +11,6 @@ use Rattle.lists.specs.Lists.{every, isEmpty}
 use Rattle.lists.proofs.Bools.{cond-both, cond-case, and-left, and-right, and-in, true-T, every-head, every-tail, every-cons, implied, implies-in}
 use Rattle.lists.proofs.Counts.{every-map}
 use Rattle.values.specs.Ranges.{between}
-use Rattle.formats.specs.Tokens as token
 use Rattle.formats.specs.Tokens.{Token, Letter, HalfDay, runAllowed}
 use Rattle.formats.specs.Items as item
 use Rattle.formats.specs.Items.{Item, isUnit, itemInRange, Run, meansMinutes, monthOrMinute, settledItem}

@@ -6,7 +6,6 @@ use mathlib.Core.Bool.{Bool, true, false, cond}
 use mathlib.Core.List.{List, [], _∷_, _++_, map}
 use lib.Dec.{T, eqb}
 use Rattle.lists.proofs.Bools.{by-cases, cond-both, T-true, true-T, implied, implies-in}
-use Rattle.formats.specs.Tokens as token
 use Rattle.formats.specs.Tokens.{Token, Letter, letterIndex, elapsedIndex}
 use Rattle.formats.specs.Items as item
 use Rattle.formats.specs.Items.{Item, dateKind, sameKind, settled, noRun}

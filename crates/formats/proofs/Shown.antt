@@ -9,7 +9,6 @@ use borrow.Author.Tests.{eq-eqb}
 use lib.ListN.{length}
 use lib.Dec.{T, leb, eqb, leb→le, ltb→lt}
 use lib.IntN.{natAbs}
-use Rattle.answers.specs.declared.Answer.the-variants as answer
 use Rattle.values.specs.declared.Number.{Number}
 use Rattle.values.specs.declared.Day.{Day}
 use Rattle.values.specs.declared.Millisecond.{Millisecond}

@@ -1,13 +1,12 @@
 -- "Which section" (R54 to R60): the section that a value goes to, with the reason.
 -- Assumes nothing.
-use Prim.Native.Nat.{ℕ, zero, suc, _*_, _^_}
+use Prim.Native.Nat.{ℕ, suc, _*_, _^_}
 use mathlib.Core.Bool.{Bool, true, false, cond, not, _&&_, _||_}
 use mathlib.Core.List.{List, [], _∷_}
 use mathlib.Core.Option.{Option, none, some}
 use lib.Dec.{ltb, eqb}
 use lib.IntN.{pos, natAbs}
 use lib.Signed.{ltZ}
-use lib.ListN.{length}
 use Rattle.values.specs.declared.Number.{Number}
 use Rattle.values.specs.declared.Day.{Day}
 use Rattle.values.specs.declared.Millisecond.{Millisecond}

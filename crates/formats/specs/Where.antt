@@ -1,10 +1,10 @@
 -- "Where" (R46 to R50): which section may stand where, else 5.
 -- Assumes nothing.
 use Prim.Native.Nat.{ℕ, suc}
-use mathlib.Core.Bool.{Bool, cond, not, _&&_, _||_}
+use mathlib.Core.Bool.{Bool, not, _&&_, _||_}
 use lib.Dec.{ltb, eqb}
 use Rattle.lists.specs.Lists.{isSome}
-use Rattle.formats.specs.Items.{Section, Kind, literalKind, generalKind, textKind, sameKind, kindOf}
+use Rattle.formats.specs.Items.{Section, literalKind, generalKind, textKind, sameKind, kindOf}
 
 -- where the first is so, the second must be
 abbrev pub implies : Bool → Bool → Bool

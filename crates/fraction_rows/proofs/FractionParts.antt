@@ -12,7 +12,7 @@ use Rattle.values.specs.Ranges.{between}
 use Rattle.lists.specs.Lists.{every, any, count}
 use Rattle.lists.proofs.Bools.{no, and-left, and-right, and-in, or-right, or-false, by-cases, T-true, true-T, carry, not-so, every-head, every-tail, every-cons}
 use Rattle.lists.proofs.Counts.{none-count, any-count, any-either}
-use Rattle.formats.specs.Items.{Item, fractionKind, literalKind, numberKind, itemAllowed, itemNumber, isFill, isPlace, isPoint, isPercent, isSolidus, isFixed, isCut, integerPlaces, startPlaces, behindStart, literalFollows, denominatorFits}
+use Rattle.formats.specs.Items.{Item, fractionKind, literalKind, numberKind, itemAllowed, isFill, isPlace, isPoint, isPercent, isSolidus, isFixed, isCut, integerPlaces, startPlaces, behindStart, literalFollows, denominatorFits}
 use Rattle.formats.specs.Text.{firstOf}
 use Rattle.formats.proofs.Cutting.{places-integers, no-decimals}
 use Rattle.tables.specs.Words.{Entry, entriesAt, entriesIn}

@@ -6,7 +6,7 @@ use mathlib.Core.Bool.{Bool, true, false, cond, not, _&&_, _||_, true≢false}
 use mathlib.Core.List.{List, [], _∷_, _++_}
 use lib.ListN.{take, drop}
 use lib.Dec.{T, eqb}
-use Rattle.lists.specs.Lists.{every, any}
+use Rattle.lists.specs.Lists.{every}
 
 -- nothing follows from a test that fails and holds
 pub no {ℓ} : {P : Type ℓ} → false ≡ true → P

@@ -1,15 +1,15 @@
 -- Tests and counts over joined and mapped lists, joined tests, tests that agree, and a count beside its test.
 -- Assumes nothing.
-use Prim.Native.Nat.{ℕ, zero, suc, _+_, _≤_, _<_}
+use Prim.Native.Nat.{ℕ, _+_, _≤_, _<_}
 use native.Mathlib.Omega.{arith}
 use mathlib.Core.Path.{_≡_, refl, sym}
-use mathlib.Core.Bool.{Bool, true, false, cond, not, _&&_, _||_, true≢false, and-false, or-true}
+use mathlib.Core.Bool.{Bool, true, false, not, _&&_, _||_, true≢false, and-false, or-true}
 use mathlib.Core.List.{List, [], _∷_, _++_, map}
 use lib.ListN.{length}
 use lib.Dec.{T, ltb}
 use borrow.Author.Tests.{lt-ltb, ltb-true, ltb-false}
 use Rattle.lists.specs.Lists.{every, any, count}
-use Rattle.lists.proofs.Bools.{by-cases, every-cons, every-head, every-tail, T-true, true-T}
+use Rattle.lists.proofs.Bools.{by-cases, every-cons, every-head, every-tail}
 
 module _ {A : Type 0} (f : A → Bool) where
   pub count-append : (xs ys : List A) → count f (xs ++ ys) ≡ count f xs + count f ys

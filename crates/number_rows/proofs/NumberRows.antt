@@ -13,10 +13,8 @@ use Rattle.values.specs.Ranges.{between}
 use Rattle.lists.specs.Lists.{every, any, count}
 use Rattle.lists.proofs.Bools.{no, cond-left, cond-right, and-left, and-right, and-in, by-cases, cond-case, true-T, T-true, carry}
 use Rattle.lists.proofs.Counts.{any-count, positive-count}
-use Rattle.formats.specs.Items.{Item, half, numberKind, itemAllowed, itemsKind, itemsFit, isFill, isPlace, isPoint, isPercent, isGeneral, isElapsed, noPlain, noRun, beforeCut, integerPlaces, decimalPlaces}
+use Rattle.formats.specs.Items.{Item, half, numberKind, itemAllowed, isFill, isPlace, isPoint, isPercent, beforeCut, integerPlaces, decimalPlaces}
 use Rattle.formats.proofs.ByNumber.{by-number}
-use Rattle.formats.proofs.FigureItems.{number-place}
-use Rattle.formats.specs.WellFormed.{oneFill, partsFrom, partsFollow, settledTest, isSettled}
 use Rattle.formats.specs.Text.{digitAfter, along, firstOf}
 use Rattle.tables.specs.Words.{Entry, entriesAt, entriesIn}
 use Rattle.tables.specs.Encode.{entry, kindWord}
@@ -26,7 +24,7 @@ use Rattle.tables.proofs.Words.{entriesLeft, entries-front}
 use Rattle.tables.proofs.BackEntries.{between-facts, span-at}
 use Rattle.tallies.proofs.Steps.{no-place-beyond}
 use Rattle.number_rows.specs.declared.NumberWalk.{NumberWalk}
-use Rattle.tallies.specs.Tally.{soundEntries, itemsOf}
+use Rattle.tallies.specs.Tally.{itemsOf}
 use Rattle.tallies.proofs.Places.{places-bare}
 use Rattle.tallies.proofs.Held.{apart, uncut, no-solidi, holds, holds-back, powers-one, powers-bare}
 use Rattle.number_rows.specs.NumberRows.{numberItems, greatestPower, NumberTold, noRow, noNumber, countedAt, placeTaken, pointTaken, percentTaken, fillTaken, numberAfter}

@@ -1,9 +1,9 @@
 -- The words of a fraction's items before its solidus, cut into integer part and numerator, and numbered anew.
 -- Assumes nothing.
-use Prim.Native.Nat.{ℕ, zero, suc, _+_, _-_, _*_, _/_}
+use Prim.Native.Nat.{ℕ, _+_, _-_, _*_, _/_}
 use native.Mathlib.Omega.{arith}
 use mathlib.Core.Path.{_≡_, refl, sym, _∙_, ap}
-use mathlib.Core.Bool.{Bool, true, false, cond, _&&_, _||_, true≢false}
+use mathlib.Core.Bool.{true, false, cond, true≢false}
 use mathlib.Core.List.{List, [], _∷_, _++_, append-assoc}
 use lib.ListN.{length, take, drop, length-append}
 use lib.Seq.{take-append-seam, drop-append-seam}
@@ -13,7 +13,7 @@ use Rattle.values.specs.Ranges.{between}
 use Rattle.lists.specs.Lists.{every, any}
 use Rattle.lists.proofs.Counts.{any-append}
 use Rattle.lists.proofs.Bools.{by-cases, or-false}
-use Rattle.formats.specs.Items.{Item, itemNumber, elapsed, exponent, isPlace, isPoint, isExponent, isSolidus, isCut, beforeCut, fromCut, integerPlaces, placesBehind, endPlaces, beforeEnd, numeratorItems, wholeItems, mainItems}
+use Rattle.formats.specs.Items.{Item, itemNumber, elapsed, exponent, isPlace, isPoint, isSolidus, isCut, beforeCut, fromCut, integerPlaces, placesBehind, endPlaces, beforeEnd, numeratorItems, wholeItems, mainItems}
 use Rattle.formats.specs.Text.{digitAfter, along, firstOf}
 use Rattle.formats.proofs.Each.{by-item, by-place, by-elapsed, by-exponent}
 use Rattle.formats.proofs.Cutting.{cut-case, before-bare, whole-bare, main-exponents, cut-joins, end-joins}

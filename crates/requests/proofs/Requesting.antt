@@ -11,7 +11,6 @@ use Rattle.values.specs.declared.Value.{Value}
 use Rattle.lists.specs.Lists.{isEmpty}
 use Rattle.requests.specs.declared.lines.Part.{Part}
 use Rattle.requests.specs.declared.lines.Line.{Line}
-use Rattle.requests.specs.declared.lines.Line.the-variants as line
 use Rattle.requests.specs.declared.written.ValueRead.{ValueRead}
 use Rattle.requests.specs.declared.written.ValueRead.the-variants as read
 use Rattle.requests.specs.declared.written.Sort.{Sort}

@@ -8,7 +8,7 @@ use lib.ListN.{length}
 use lib.Dec.{T, eqb→eq, le→leb}
 use Rattle.lists.specs.Lists.{every, count}
 use Rattle.lists.proofs.Bools.{and-left, and-right, and-in, nought-unless, every-head, every-tail, every-cons}
-use Rattle.formats.specs.Items.{numberKind, sameKind, kindOf, itemsKind, isPercent, itemsFit, integerPlaces, itemInRange, placesBehind}
+use Rattle.formats.specs.Items.{numberKind, sameKind, kindOf, itemsKind, isPercent, itemsFit, itemInRange}
 use Rattle.formats.specs.Limits.{sectionWithin}
 use Rattle.formats.specs.WellFormed.{conditionInRange, oneFill, partsFollow, isSettled, groupingFits, dividingFits, sectionFormed, sectionFits}
 use Rattle.tables.specs.Words.{Head, Row}
@@ -19,7 +19,6 @@ use Rattle.tables.proofs.Words.{Counted}
 use Rattle.tables.proofs.Ranges.{HeadRanges, head-ranges}
 use Rattle.tables.proofs.BackEntries.{made-entries, items-ranged, items-length}
 use Rattle.tables.proofs.BackHead.{condition-facts, ConditionBack, condition-back, condition-ranged, low-back, high-back, shift-back}
-use Rattle.formats.specs.Text.{firstOf}
 
 -- the rules for one row as facts
 pub record RowFacts (r : Row) : Type 0 where

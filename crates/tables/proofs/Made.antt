@@ -9,7 +9,7 @@ use lib.ListN.{length}
 use lib.Dec.{T, eqb→eq, eqb-refl}
 use Rattle.lists.specs.Lists.{every, count}
 use Rattle.lists.proofs.Bools.{and-in, by-cases, every-head, every-tail, every-cons}
-use Rattle.formats.specs.Items.{Section, numberKind, sameKind, kindOf, isPercent, integerPlaces, placesBehind}
+use Rattle.formats.specs.Items.{Section, numberKind, sameKind, kindOf, isPercent}
 use Rattle.formats.specs.WellFormed.{dividingFits, sectionFormed, itemsInAll}
 use Rattle.tables.specs.Encode.{kindWord, shiftWord, flagsWord, noMinus, hasHalf, decimalsWord, headOf, entriesOf, rowOf, rowsFrom}
 use Rattle.tables.specs.Decode.{thousandsAt, sectionAt}
@@ -17,7 +17,6 @@ use Rattle.tables.specs.Rules.{headInRange, entryInRange, rowInRange, sh
 use Rattle.tables.proofs.Words.{Counted}
 use Rattle.tables.proofs.MadeItems.{made-back, made-length, made-in-range, powers-run-down}
 use Rattle.tables.proofs.MadeHeads.{Formed, formed, within-limits, says, condition-back, condition-fits, grouped-back, thousands-back, shift-tells, head-in-range}
-use Rattle.formats.specs.Text.{firstOf}
 
 -- only a number section divides
 undivided : (s : Section) → T (dividingFits s) → sameKind (kindOf s) numberKind ≡ false → s .thousands ≡ 0

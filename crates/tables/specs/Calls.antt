@@ -1,11 +1,10 @@
 -- What preparing and showing return, and what they leave in the memory lent to them (R6 to R8, R107, R110).
 -- Assumes nothing.
 use Prim.Native.Nat.{ℕ}
-use mathlib.Core.Bool.{Bool, cond}
+use mathlib.Core.Bool.{cond}
 use mathlib.Core.List.{List, []}
 use lib.ListN.{length}
 use lib.Dec.{leb}
-use Rattle.answers.specs.declared.Answer.{Answer}
 use Rattle.answers.specs.declared.Answer.the-variants as answer
 use Rattle.answers.specs.declared.Prepared.{Prepared}
 use Rattle.answers.specs.declared.Shown.{Shown}

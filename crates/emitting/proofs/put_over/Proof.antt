@@ -1,6 +1,5 @@
 -- `emitting::put_over` meets its contract.
 -- Assumes nothing.
-use native.Mathlib.Omega.{arith}
 use borrow.Author.Tests.{le-leb, lt-leb}
 use borrow.Author.Needs.{needs}
 use Rattle.writing.proofs.Laws.{put-put, put-none}

@@ -1,13 +1,11 @@
 -- `numbering::integers_in` meets its contract.
 -- Assumes nothing.
 use Prim.Native.Nat.{_+_, _-_, _*_, _≤_}
-use mathlib.Core.Path.{_≡_, refl, sym, _∙_}
+use mathlib.Core.Path.{_≡_}
 use native.Mathlib.Omega.{arith}
 use denote.Ref.{now}
 use lib.ListN.{length, drop}
 use borrow.Author.Tests.{ne-eqb}
-use Rattle.values.specs.Ranges.{between}
-use Rattle.lists.proofs.Bools.{by-cases}
 use Rattle.numbering.specs.Number.{integersIn}
 use Rattle.numbering.proofs.Scanning.{integers-here, integers-past, integers-end, more-places}
 use borrow.Author.Needs.{needs}

@@ -1,9 +1,9 @@
 -- `numbering::number_run` meets its contract.
 -- Assumes nothing.
-use Prim.Native.Nat.{_+_, _-_, _*_, _≤_}
-use mathlib.Core.Path.{_≡_, refl, sym, _∙_}
+use Prim.Native.Nat.{_+_, _-_, _≤_}
+use mathlib.Core.Path.{_≡_, refl}
 use native.Mathlib.Omega.{arith}
-use lib.ListN.{length, drop}
+use lib.ListN.{length}
 use Rattle.numbering.proofs.Scanning.{Going, going-start, going-step, going-end}
 use borrow.Author.Needs.{needs}
 use Rattle.numbering.proofs.number_run.Statement.{statement}
