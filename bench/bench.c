@@ -101,6 +101,21 @@ static void print_preparing(void)
     printf("\n");
 }
 
+/* A put beside the show that it makes, a clear, and what passing a board costs by itself. */
+static void print_boards(void)
+{
+    if (!has_boards())
+        return;
+    printf("### Boards\n\nA call: nanoseconds / instructions\n\n| `%s` shown | put in a row | more | a row cleared | a board passed |\n|---|---|---|---|---|\n|",
+           specimens[0].code);
+    print_cell(&jobs[LIBRARY]);
+    print_cell(&jobs[PUT]);
+    printf(" %.0f |", jobs[PUT].best - jobs[LIBRARY].best);
+    print_cell(&jobs[CLEAR]);
+    print_cell(&jobs[HANDED]);
+    printf("\n\n");
+}
+
 static double one_more(const double *counts, const job *grown, size_t at)
 {
     return (grown[at].best - grown[at - 1].best) / (counts[at] - counts[at - 1]);
@@ -171,6 +186,7 @@ static void print_tables(const char *counts_path, const char *data_path, unsigne
     printf("\n");
     measure_on(AMOUNTS, COUNTED, rounds, counts);
     print_showing("amounts");
+    print_boards();
     measure_on(MIXED, JOBS, rounds, counts);
     print_showing("mixed numbers");
     print_preparing();

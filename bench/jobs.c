@@ -7,6 +7,9 @@
 
 #include "values.h"
 
+#pragma weak numfmt_board_put_number
+#pragma weak numfmt_board_clear
+
 specimen specimens[SPECIMENS] = {
     {.code = "#,##0", .number = plain_grouped},
     [FIXED] = {.code = "0.00", .number = plain_fixed},
@@ -164,6 +167,60 @@ static uint64_t batch_of_codes(const job *one)
     return sum;
 }
 
+/* Batches on boards: every row in turn, so that most puts are over a row that is filled and most clears empty one. */
+
+static numfmt_board board;
+
+static uint64_t batch_of_puts(const job *one)
+{
+    uint64_t sum = 0;
+    size_t at;
+
+    for (at = 0; at < CALLS; at++) {
+        numfmt_put put = numfmt_board_put_number(board, at % NUMFMT_BOARD_ROWS, one->units, one->count, coefficients[at],
+                                                 scales[at], room, one->room_len);
+
+        board = put.board;
+        sum += put.shown.length + room[0] + board.widest;
+    }
+    return sum;
+}
+
+static uint64_t batch_of_clears(const job *one)
+{
+    uint64_t sum = 0;
+    size_t at;
+
+    (void)one;
+    for (at = 0; at < CALLS; at++) {
+        numfmt_cleared cleared = numfmt_board_clear(board, at % NUMFMT_BOARD_ROWS);
+
+        board = cleared.board;
+        sum += cleared.answer + board.widest;
+    }
+    return sum;
+}
+
+static uint64_t batch_of_hands(const job *one)
+{
+    uint64_t sum = 0;
+    size_t at;
+
+    (void)one;
+    for (at = 0; at < CALLS; at++) {
+        numfmt_put put = plain_handed(board, (uint32_t)at);
+
+        board = put.board;
+        sum += put.shown.length + board.widest;
+    }
+    return sum;
+}
+
+int has_boards(void)
+{
+    return numfmt_board_put_number != NULL && numfmt_board_clear != NULL;
+}
+
 /* Jobs */
 
 static job show_job(const specimen *of, show_number *number, show_instant *instant, size_t room_len)
@@ -217,6 +274,17 @@ static void make_growth_jobs(job *ample, job *narrow, const prepared *from, size
     }
 }
 
+/* A put shows what the first specimen's job shows. */
+static void make_board_jobs(void)
+{
+    jobs[HANDED].batch = jobs[PUT].batch = jobs[CLEAR].batch = batch_of_hands;
+    if (has_boards()) {
+        jobs[PUT] = show_job(&specimens[0], numfmt_show_number, numfmt_show_instant, ROOM);
+        jobs[PUT].batch = batch_of_puts;
+        jobs[CLEAR].batch = batch_of_clears;
+    }
+}
+
 void make_jobs(void)
 {
     size_t at;
@@ -236,6 +304,7 @@ void make_jobs(void)
         jobs[WALKER_SHORT + at] = show_job(&specimens[at], walker_show_number, walker_show_instant, SHORT_ROOM);
     }
     jobs[PREPARE_LONGEST] = prepare_job(&longest);
+    make_board_jobs();
     make_growth_jobs(jobs + BY_LITERALS, jobs + BY_LITERALS_SHORT, literals, LITERALS);
     make_growth_jobs(jobs + BY_PLACES, jobs + BY_PLACES_SHORT, places, PLACES);
     make_growth_jobs(jobs + BY_SECTIONS, jobs + BY_SECTIONS_SHORT, sections, SECTIONS);

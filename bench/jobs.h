@@ -45,6 +45,9 @@ enum {
     PLAIN = WALKER_SHORT + WALKED,
     PREPARE = PLAIN + SPECIMENS,
     PREPARE_LONGEST = PREPARE + SPECIMENS,
+    PUT,
+    CLEAR,
+    HANDED,
     COUNTED,
     BY_LITERALS = COUNTED,
     BY_LITERALS_SHORT = BY_LITERALS + LITERALS,
@@ -59,5 +62,8 @@ extern job jobs[JOBS];
 
 /* Prepares the codes and fills in the jobs; ends the program where a code is refused. */
 void make_jobs(void);
+
+/* Whether the archive has boards: one from before them has not, and its jobs PUT and CLEAR are HANDED's then. */
+int has_boards(void);
 
 #endif

@@ -294,3 +294,10 @@ plain_text plain_clock(uint32_t day, uint32_t millisecond, uint16_t *room, size_
     put_whole(&text, hour % 12 == 0 ? 12 : hour % 12);
     return keep(&text, 0, room, room_len);
 }
+
+numfmt_put plain_handed(numfmt_board board, uint32_t length)
+{
+    numfmt_put put = {.board = board, .shown = {.length = length}};
+
+    return put;
+}

@@ -10,6 +10,8 @@
 #include <stddef.h>
 #include <stdint.h>
 
+#include "numfmt.h"
+
 typedef struct {
     size_t length;
     uint16_t colour;
@@ -26,5 +28,8 @@ plain_number plain_scientific; /* 0.00E+00 */
 plain_number plain_fraction;   /* # ???/??? */
 plain_instant plain_date;      /* d-mmm-yy */
 plain_instant plain_clock;     /* h:mm:ss AM/PM */
+
+/* A board taken and handed back by value, and nothing done with it: what passing it costs. */
+numfmt_put plain_handed(numfmt_board board, uint32_t length);
 
 #endif

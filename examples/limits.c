@@ -130,6 +130,18 @@ static void *do_why_text(void *unused)
     return unused;
 }
 
+static void *do_put(void *unused)
+{
+    numfmt_board_put_number(numfmt_board_empty(), 63, table, made.words, -123456789012345, 4, room, NUMFMT_SHOWN_TEXT_MOST);
+    return unused;
+}
+
+static void *do_clear(void *unused)
+{
+    numfmt_board_clear(numfmt_board_empty(), 63);
+    return unused;
+}
+
 /* How much of a painted stack a thread changes. */
 static unsigned long stack_of(void *(*call)(void *), unsigned char *stack)
 {
@@ -185,6 +197,8 @@ static int stacks(void)
     all &= stack_told("stack of numfmt_why_number", do_why_number, (unsigned char *)stack);
     all &= stack_told("stack of numfmt_why_instant", do_why_instant, (unsigned char *)stack);
     all &= stack_told("stack of numfmt_why_text", do_why_text, (unsigned char *)stack);
+    all &= stack_told("stack of numfmt_board_put_number", do_put, (unsigned char *)stack);
+    all &= stack_told("stack of numfmt_board_clear", do_clear, (unsigned char *)stack);
     free(stack);
     return all;
 }

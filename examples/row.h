@@ -70,19 +70,40 @@ static inline value value_of(const char *written)
     return read;
 }
 
+/* The units of a text value; of a text that is too long more than a value may have, so that it is refused. */
+typedef struct {
+    uint16_t units[NUMFMT_TEXT_MOST + 1];
+    size_t length;
+} text_units;
+
+static inline text_units units_of(const char *text)
+{
+    text_units taken;
+
+    taken.length = to_units(text, strlen(text), taken.units, NUMFMT_TEXT_MOST + 1);
+    return taken;
+}
+
 static inline numfmt_shown show_text(const uint16_t *table, size_t words, const char *text, uint16_t *room)
 {
-    uint16_t units[NUMFMT_TEXT_MOST + 1];
-    size_t length = to_units(text, strlen(text), units, NUMFMT_TEXT_MOST + 1);
+    text_units taken = units_of(text);
 
-    return numfmt_show_text(table, words, units, length, room, ROW_UNITS);
+    return numfmt_show_text(table, words, taken.units, taken.length, room, ROW_UNITS);
+}
+
+static inline numfmt_put board_text(numfmt_board board, uint32_t row, const uint16_t *table, size_t words,
+                                    const char *text, uint16_t *room)
+{
+    text_units taken = units_of(text);
+
+    return numfmt_board_put_text(board, row, table, words, taken.units, taken.length, room, ROW_UNITS);
 }
 
 /* A value that could not be converted is refused as the library refuses one out of range. */
+static const numfmt_shown out_of_range = {NUMFMT_ANSWER_RANGE, 0, 0, 0, 0};
+
 static inline numfmt_shown show_value(const uint16_t *table, size_t words, const value *asked, uint16_t *room)
 {
-    numfmt_shown refused = {NUMFMT_ANSWER_RANGE, 0, 0, 0, 0};
-
     switch (asked->kind) {
     case NUMBER:
         return numfmt_show_number(table, words, asked->coefficient, asked->scale, room, ROW_UNITS);
@@ -91,16 +112,33 @@ static inline numfmt_shown show_value(const uint16_t *table, size_t words, const
     case TEXT:
         return show_text(table, words, asked->text, room);
     default:
+        return out_of_range;
+    }
+}
+
+/* The same in a row of a board. */
+static inline numfmt_put board_value(numfmt_board board, uint32_t row, const uint16_t *table, size_t words,
+                                     const value *asked, uint16_t *room)
+{
+    numfmt_put refused = {board, out_of_range};
+
+    switch (asked->kind) {
+    case NUMBER:
+        return numfmt_board_put_number(board, row, table, words, asked->coefficient, asked->scale, room, ROW_UNITS);
+    case INSTANT:
+        return numfmt_board_put_instant(board, row, table, words, asked->day, asked->millisecond, room, ROW_UNITS);
+    case TEXT:
+        return board_text(board, row, table, words, asked->text, room);
+    default:
         return refused;
     }
 }
 
 static inline numfmt_reason why_text(const uint16_t *table, size_t words, const char *text)
 {
-    uint16_t units[NUMFMT_TEXT_MOST + 1];
-    size_t length = to_units(text, strlen(text), units, NUMFMT_TEXT_MOST + 1);
+    text_units taken = units_of(text);
 
-    return numfmt_why_text(table, words, units, length, ROW_UNITS);
+    return numfmt_why_text(table, words, taken.units, taken.length, ROW_UNITS);
 }
 
 static inline numfmt_reason why_value(const uint16_t *table, size_t words, const value *asked)
@@ -162,22 +200,36 @@ static inline void put_refusal(uint16_t answer, uint32_t place)
 }
 
 /*
- * The rest of a row: the value through the table in its colour, and a mark when
- * it was rounded or cut; or the refusal. 1 when it is shown.
+ * The rest of a row: a text in its colour, and a mark when the value was rounded
+ * or cut, behind a column of this width; or the refusal. 1 when it is shown.
  */
-static inline int put_value(const uint16_t *table, size_t words, const value *asked)
+static inline int put_shown(numfmt_shown shown, const uint16_t *text, uint32_t width)
 {
-    uint16_t room[ROW_UNITS];
-    numfmt_shown shown = show_value(table, words, asked, room);
+    uint32_t at;
 
     if (shown.answer != NUMFMT_ANSWER_DONE) {
         put_refusal(shown.answer, 0);
         return 0;
     }
     printf("\033[%dm", terminal_colour(shown.colour));
-    put_units(room, shown.length);
-    printf("\033[0m%s\n", shown.exact ? "" : " (about)");
+    put_units(text, shown.length);
+    printf("\033[0m");
+    if (!shown.exact) {
+        for (at = shown.length; at < width; at++)
+            putchar(' ');
+        printf(" (about)");
+    }
+    putchar('\n');
     return 1;
+}
+
+/* The value through the table, with its mark right behind it. */
+static inline int put_value(const uint16_t *table, size_t words, const value *asked)
+{
+    uint16_t room[ROW_UNITS];
+    numfmt_shown shown = show_value(table, words, asked, room);
+
+    return put_shown(shown, room, 0);
 }
 
 /* The table of a code that is UTF-8. */

@@ -1,11 +1,11 @@
-//! A river wall: each row's code is prepared, and its value shown through the table, in the code's colour. A value that was
-//! rounded or cut is marked. A row whose code or value is refused says so in its place. After `--why` each row is followed by the
-//! numbers of its reason.
+//! A river wall: each row's code is prepared, and its value put on the board through the table. When all rows are known, they are
+//! drawn in their colours, and a value that was rounded or cut is marked behind the widest. A row whose code or value is refused says
+//! so in its place. After `--why` each row is followed by the numbers of its reason.
 //!
 //!     rt staticlib c_api
 //!     cargo run --manifest-path rust/Cargo.toml --example wall
 
-use numfmt::{Refusal, Shown, Table, Value};
+use numfmt::{Board, Refusal, Shown, Table, Value};
 
 const DIFFERENCE: &str = r#"+#,##0;[Red]-#,##0;"no change""#;
 
@@ -44,27 +44,29 @@ fn terminal_colour(colour: u16) -> u16 {
     }
 }
 
-fn show(code: &str, value: &Value) -> Result<Shown, Refusal> {
-    Table::prepare(code)?.show(value)
-}
-
 /// A text that no section shows was not meant by the code; a value that is not exact was rounded or cut.
 fn mark(shown: &Shown) -> &'static str {
     match shown {
-        Shown { section: 4, .. } => " (as it is)",
-        Shown { exact: false, .. } => " (about)",
+        Shown { section: 4, .. } => "(as it is)",
+        Shown { exact: false, .. } => "(about)",
         _ => "",
     }
 }
 
-fn row(code: &str, value: &Value) -> String {
-    match show(code, value) {
-        Ok(shown) => format!(
-            "\x1b[{}m{}\x1b[0m{}",
-            terminal_colour(shown.colour),
-            shown.text,
-            mark(&shown)
-        ),
+/// The mark stands behind the widest text. (Lengths are counted in units, which here are characters.)
+fn row(line: &Result<Shown, Refusal>, widest: usize) -> String {
+    match line {
+        Ok(shown) => {
+            let padding = widest.saturating_sub(shown.text.encode_utf16().count());
+            let drawn = format!(
+                "\x1b[{}m{}\x1b[0m{:padding$} {}",
+                terminal_colour(shown.colour),
+                shown.text,
+                "",
+                mark(shown)
+            );
+            drawn.trim_end().to_string()
+        }
         Err(refusal) => format!("refused: {refusal}"),
     }
 }
@@ -80,8 +82,13 @@ fn reason(code: &str, value: &Value) -> Result<String, Refusal> {
 
 fn main() {
     let with_reasons = std::env::args().nth(1).is_some_and(|word| word == "--why");
-    for (label, code, value) in ROWS {
-        println!("{label:18} {}", row(code, value));
+    let mut board = Board::empty();
+    let mut lines = Vec::new();
+    for (at, (_, code, value)) in (0..).zip(ROWS) {
+        lines.push(Table::prepare(code).and_then(|table| board.put(at, &table, value)));
+    }
+    for ((label, code, value), line) in ROWS.iter().zip(&lines) {
+        println!("{label:18} {}", row(line, board.widest() as usize));
         if with_reasons {
             println!("{:18} {}", "", reason(code, value).unwrap_or_default());
         }

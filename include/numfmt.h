@@ -5,7 +5,8 @@
  * Codes, tables, texts and rooms are lent runs of 16-bit units (UTF-16; a unit
  * may be any number). No call keeps a pointer, allocates or needs a start or an
  * end. Any number of threads may call at once, and lend the same code, table or
- * text, where each has a table room or text room of its own.
+ * text, where each has a table room or text room of its own. A board is a plain
+ * struct of the caller's: a call takes it by value and hands it back whole.
  *
  * What a caller owes, and nothing checks:
  *   - each pointer is valid for the length beside it, aligned for a uint16_t;
@@ -17,12 +18,13 @@
  *     the others) overlaps nothing else lent in the same call;
  *   - NUMFMT_STACK_BYTES of stack are free.
  * All else is checked by the call: any units at all may be lent as a code, a
- * table or a text, and any number may be given as a value.
+ * table or a text, any number may be given as a value or a row, and any numbers
+ * may stand in a board.
  *
  * What every call leaves: units of a table or room past the reported length
  * keep their contents; on a refusal all of them do. On a refusal every number
  * returned, but the answer and the place, is 0. What is lent as const is only
- * read.
+ * read. A refused put or clear hands the board back number for number.
  */
 #ifndef NUMFMT_H
 #define NUMFMT_H
@@ -35,8 +37,8 @@ extern "C" {
 #endif
 
 /* The version of this header and its archive: 10000 * major + 100 * minor + patch. */
-#define NUMFMT_VERSION 300
-#define NUMFMT_VERSION_TEXT "0.3.0"
+#define NUMFMT_VERSION 400
+#define NUMFMT_VERSION_TEXT "0.4.0"
 
 /* Words of table room that hold the table of every accepted code. */
 #define NUMFMT_TABLE_WORDS 557
@@ -44,6 +46,8 @@ extern "C" {
 #define NUMFMT_CODE_MOST 254
 /* Most units of a text value. */
 #define NUMFMT_TEXT_MOST 1024
+/* Rows of a board. */
+#define NUMFMT_BOARD_ROWS 64
 
 /*
  * Most units that a call shows through any table: a room of so many is never
@@ -61,15 +65,17 @@ extern "C" {
 /*
  * Stack that is enough for each call, whatever is lent: none of them recurses.
  * Measured on x86-64: some 3,300 bytes for numfmt_prepare, 3,200 for
- * numfmt_section, 2,500 for the calls that show, 2,700 for those that ask why
- * and 300 for numfmt_check, and 2,400 more where the loader first looks up the
- * C library's memset.
+ * numfmt_section, 2,500 for the calls that show, 2,700 for those that ask why,
+ * 4,900 for those that put a row, 2,300 for numfmt_board_clear and 300 for
+ * numfmt_check, and 2,400 more where the loader first looks up the C library's
+ * memset.
  */
 #define NUMFMT_STACK_BYTES 8192
 
 /*
- * The answers. Preparing tests 1 to 7 in that order, showing 8 to 13; the first
- * that applies is given. Sections and units are counted from 0.
+ * The answers. Preparing tests 1 to 7 in that order, showing 8 to 13, putting a
+ * row 16 and then as showing; the first that applies is given. Sections, units
+ * and rows are counted from 0.
  */
 #define NUMFMT_ANSWER_DONE 0
 #define NUMFMT_ANSWER_CODE_LENGTH 1   /* the code has 0 units, or more than 254 */
@@ -85,10 +91,12 @@ extern "C" {
 #define NUMFMT_ANSWER_SORT 11         /* the section chosen can't show that sort of value */
 #define NUMFMT_ANSWER_GENERAL 12      /* General, rounded to a whole number, reaches 10^11 */
 #define NUMFMT_ANSWER_TEXT_ROOM 13    /* the text is longer than the room */
+#define NUMFMT_ANSWER_ROW 16          /* the row is 64 or above */
 
 /* An answer in words, for people. */
 static inline const char *numfmt_answer_text(uint16_t answer)
 {
+    static const char unknown[] = "No call gives this answer.";
     static const char *const texts[] = {
         "Done.",
         "The code is empty or longer than 254 signs.",
@@ -103,10 +111,13 @@ static inline const char *numfmt_answer_text(uint16_t answer)
         "No section takes this value.",
         "The section that takes this value cannot show its kind.",
         "The number is too large for General.",
-        "The text is too long for the room."
+        "The text is too long for the room.",
+        unknown,
+        unknown,
+        "The board has no such row."
     };
 
-    return answer < sizeof texts / sizeof texts[0] ? texts[answer] : "No call gives this answer.";
+    return answer < sizeof texts / sizeof texts[0] ? texts[answer] : unknown;
 }
 
 /* What preparing returns. The place is 0 but for answers 2 to 6. */
@@ -191,6 +202,33 @@ typedef struct {
 } numfmt_part;
 
 /*
+ * The rows of a wall. A row is filled where its number in `filled` is not 0,
+ * which a put makes 1, and has the length and colour last shown there; an empty
+ * row has 0 in all three. A row with an empty text is filled. `widest` is the
+ * greatest length of the filled rows, 0 where there is none: every put and clear
+ * that is done counts it anew, so that a wrong one, in a board made by hand, is
+ * put right.
+ */
+typedef struct {
+    uint8_t filled[NUMFMT_BOARD_ROWS];
+    uint32_t length[NUMFMT_BOARD_ROWS];
+    uint16_t colour[NUMFMT_BOARD_ROWS];
+    uint32_t widest;
+} numfmt_board;
+
+/* What putting a row hands back: the board, and what the show returned. */
+typedef struct {
+    numfmt_board board;
+    numfmt_shown shown;
+} numfmt_put;
+
+/* What clearing a row hands back: the board, and 0 or 16. */
+typedef struct {
+    numfmt_board board;
+    uint16_t answer;
+} numfmt_cleared;
+
+/*
  * Writes the table of a code in front of the table room, and tells how many
  * words it has. Those words, and no more, are the table to lend to the calls
  * that show. Refuses with 1 to 7; a room of NUMFMT_TABLE_WORDS is never
@@ -254,6 +292,43 @@ numfmt_reason numfmt_why_instant(const uint16_t *table, size_t table_len,
 numfmt_reason numfmt_why_text(const uint16_t *table, size_t table_len,
                               const uint16_t *text, size_t text_len,
                               size_t room_len);
+
+/*
+ * A board whose rows are all empty: all numbers are 0. This and the calls below
+ * are there from version 0.4.0 on.
+ */
+numfmt_board numfmt_board_empty(void);
+
+/*
+ * Shows a value as numfmt_show_number does, and hands the board back with the
+ * text's length and colour in the row and the width put right:
+ *     numfmt_put put = numfmt_board_put_number(board, 3, table, words, ..);
+ *     board = put.board;
+ * Refuses with 16 for a row of 64 or above, whatever else is lent, and then as
+ * showing does.
+ */
+numfmt_put numfmt_board_put_number(numfmt_board board, uint32_t row,
+                                   const uint16_t *table, size_t table_len,
+                                   int64_t coefficient, uint32_t scale,
+                                   uint16_t *room, size_t room_len);
+
+/* The same for an instant, as numfmt_show_instant shows it. */
+numfmt_put numfmt_board_put_instant(numfmt_board board, uint32_t row,
+                                    const uint16_t *table, size_t table_len,
+                                    uint32_t day, uint32_t millisecond,
+                                    uint16_t *room, size_t room_len);
+
+/* The same for a text, as numfmt_show_text shows it. */
+numfmt_put numfmt_board_put_text(numfmt_board board, uint32_t row,
+                                 const uint16_t *table, size_t table_len,
+                                 const uint16_t *text, size_t text_len,
+                                 uint16_t *room, size_t room_len);
+
+/*
+ * Hands the board back with the row empty and the width put right. Refuses with
+ * 16 for a row of 64 or above.
+ */
+numfmt_cleared numfmt_board_clear(numfmt_board board, uint32_t row);
 
 #ifdef __cplusplus
 }

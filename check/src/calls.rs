@@ -1,6 +1,6 @@
 //! The library's calls as the comparison sees them: lent slices in, plain results out.
 
-use crate::oracle::{self, answer, Reason, Value};
+use crate::oracle::{self, answer, Board, Reading, Reason, Value};
 
 #[derive(Clone, Copy, Debug, PartialEq, Eq)]
 pub struct Prepared {
@@ -41,6 +41,16 @@ pub trait Calls {
     fn check(&self, table: &[u16]) -> u16;
     fn show(&self, table: &[u16], value: &Value, room: &mut [u16]) -> Shown;
     fn why(&self, table: &[u16], value: &Value, room_length: usize) -> Why;
+    fn empty(&self) -> Board;
+    fn put(
+        &self,
+        board: &Board,
+        row: u32,
+        table: &[u16],
+        value: &Value,
+        room: &mut [u16],
+    ) -> (Board, Shown);
+    fn clear(&self, board: &Board, row: u32) -> (Board, u16);
 }
 
 /// The oracle behind the same calls. Run against it, the comparison checks itself, and the oracle's
@@ -72,28 +82,58 @@ impl Calls for Oracle {
     }
 
     fn show(&self, table: &[u16], value: &Value, room: &mut [u16]) -> Shown {
-        match oracle::show(table, value, room.len()) {
-            Ok(reading) => {
-                room[..reading.text.len()].copy_from_slice(&reading.text);
-                Shown {
-                    answer: answer::DONE,
-                    length: reading.text.len() as u32,
-                    colour: reading.colour,
-                    section: reading.section,
-                    exact: u16::from(reading.exact),
-                }
-            }
-            Err(answer) => refused(answer),
-        }
+        in_room(&oracle::show(table, value, room.len()), room)
     }
 
     fn why(&self, table: &[u16], value: &Value, room_length: usize) -> Why {
-        told(&oracle::show_why(table, value, room_length))
+        why_of(&oracle::show_why(table, value, room_length))
+    }
+
+    fn empty(&self) -> Board {
+        Board::empty()
+    }
+
+    fn put(
+        &self,
+        board: &Board,
+        row: u32,
+        table: &[u16],
+        value: &Value,
+        room: &mut [u16],
+    ) -> (Board, Shown) {
+        let (board, shown) = board.put(row, table, value, room.len());
+        (board, in_room(&shown, room))
+    }
+
+    fn clear(&self, board: &Board, row: u32) -> (Board, u16) {
+        board.clear(row)
+    }
+}
+
+/// Writes the text in front of the room.
+fn in_room(shown: &Result<Reading, u16>, room: &mut [u16]) -> Shown {
+    if let Ok(reading) = shown {
+        room[..reading.text.len()].copy_from_slice(&reading.text);
+    }
+    shown_of(shown)
+}
+
+/// What a show returns for what the oracle gives.
+pub fn shown_of(shown: &Result<Reading, u16>) -> Shown {
+    match shown {
+        Ok(reading) => Shown {
+            answer: answer::DONE,
+            length: reading.text.len() as u32,
+            colour: reading.colour,
+            section: reading.section,
+            exact: u16::from(reading.exact),
+        },
+        Err(answer) => refused(*answer),
     }
 }
 
 /// A reason as the call returns it.
-pub fn told(why: &Result<Reason, u16>) -> Why {
+pub fn why_of(why: &Result<Reason, u16>) -> Why {
     match why {
         Ok(reason) => Why {
             answer: answer::DONE,

@@ -1,7 +1,7 @@
 //! One comparison: what is asked, what the oracle gives for it, and whether the library agrees.
 
-use crate::calls::{refused, told, Calls, Oracle, Part, Prepared, Shown};
-use crate::oracle::{self, answer, Reading, Reason, Value, PROGRAM_TABLE_WORDS};
+use crate::calls::{shown_of, why_of, Calls, Oracle, Part, Prepared};
+use crate::oracle::{self, Board, Reading, Reason, Value, PROGRAM_TABLE_WORDS};
 
 /// Units in front of and behind a lent room, which nothing may touch.
 const GUARD: usize = 8;
@@ -27,6 +27,25 @@ pub enum Case {
         value: Value,
         room: usize,
     },
+    /// A run of calls, each on the board that the one before it handed back.
+    Run {
+        board: Board,
+        steps: Vec<Step>,
+    },
+}
+
+/// A call on a board.
+#[derive(Clone, Debug)]
+pub enum Step {
+    Put {
+        row: u32,
+        table: Vec<u16>,
+        value: Value,
+        room: usize,
+    },
+    Clear {
+        row: u32,
+    },
 }
 
 /// Requests by call and by answer.
@@ -38,12 +57,15 @@ pub struct Counts {
     pub instant: u64,
     pub text: u64,
     pub why: u64,
-    pub answers: [u64; 14],
+    pub put: u64,
+    pub clear: u64,
+    pub answers: [u64; 17],
 }
 
 impl Counts {
     pub fn requests(&self) -> u64 {
-        self.prepare + self.section + self.number + self.instant + self.text + self.why
+        let shown = self.number + self.instant + self.text;
+        self.prepare + self.section + shown + self.why + self.put + self.clear
     }
 
     fn answer(&mut self, answer: u16) {
@@ -85,6 +107,7 @@ impl Case {
                 show(calls, counts, table, value, *room, &expected)?;
                 why(calls, counts, table, value, *room, &reason)
             }
+            Case::Run { board, steps } => run(calls, counts, board, steps),
         }
     }
 }
@@ -194,14 +217,11 @@ fn show(
     let mut text = Room::new(room);
     let lent = (table.to_vec(), value.clone());
     let found = calls.show(&lent.0, &lent.1, text.lent());
-    let (wanted, units) = match expected {
-        Ok(reading) => (shown(reading), reading.text.as_slice()),
-        Err(answer) => (refused(*answer), [].as_slice()),
-    };
+    let wanted = shown_of(expected);
     let answers = (found.answer, wanted.answer);
     same(&headline("showing", answers), &found, &wanted)?;
     check(calls, &lent.0)?;
-    text.holds(units)?;
+    text.holds(units(expected))?;
     same("the table lent", &lent.0.as_slice(), &table)?;
     same("the value lent", &&lent.1, &value)?;
     counts.show(value);
@@ -217,19 +237,75 @@ fn why(
     room: usize,
     expected: &Result<Reason, u16>,
 ) -> Result<(), String> {
-    let (found, wanted) = (calls.why(table, value, room), told(expected));
+    let (found, wanted) = (calls.why(table, value, room), why_of(expected));
     let answers = (found.answer, wanted.answer);
     same(&headline("asking why", answers), &found, &wanted)?;
     counts.why += 1;
     Ok(())
 }
 
-fn shown(reading: &Reading) -> Shown {
-    Shown {
-        answer: answer::DONE,
-        length: reading.text.len() as u32,
-        colour: reading.colour,
-        section: reading.section,
-        exact: u16::from(reading.exact),
+/// The units that a show writes; of a refusal none.
+fn units(shown: &Result<Reading, u16>) -> &[u16] {
+    shown.as_ref().map_or(&[], |reading| &reading.text)
+}
+
+fn run(
+    calls: &dyn Calls,
+    counts: &mut Counts,
+    board: &Board,
+    steps: &[Step],
+) -> Result<(), String> {
+    same("the empty board", &calls.empty(), &Board::empty())?;
+    let mut board = board.clone();
+    for step in steps {
+        board = match step {
+            Step::Put {
+                row,
+                table,
+                value,
+                room,
+            } => put(calls, counts, &board, *row, table, value, *room)?,
+            Step::Clear { row } => clear(calls, counts, &board, *row)?,
+        };
     }
+    Ok(())
+}
+
+/// Gives the board handed back.
+fn put(
+    calls: &dyn Calls,
+    counts: &mut Counts,
+    board: &Board,
+    row: u32,
+    table: &[u16],
+    value: &Value,
+    room: usize,
+) -> Result<Board, String> {
+    let (wanted, expected) = board.put(row, table, value, room);
+    let mut text = Room::new(room);
+    let lent = (table.to_vec(), value.clone());
+    let (found, shown) = calls.put(board, row, &lent.0, &lent.1, text.lent());
+    let answers = (shown.answer, shown_of(&expected).answer);
+    same(&headline("putting", answers), &shown, &shown_of(&expected))?;
+    same("the board of a put", &found, &wanted)?;
+    text.holds(units(&expected))?;
+    same("the table lent", &lent.0.as_slice(), &table)?;
+    same("the value lent", &&lent.1, &value)?;
+    counts.put += 1;
+    counts.answer(shown.answer);
+    Ok(found)
+}
+
+fn clear(calls: &dyn Calls, counts: &mut Counts, board: &Board, row: u32) -> Result<Board, String> {
+    let (wanted, expected) = board.clear(row);
+    let (found, answer) = calls.clear(board, row);
+    same(
+        &headline("clearing", (answer, expected)),
+        &answer,
+        &expected,
+    )?;
+    same("the board of a clear", &found, &wanted)?;
+    counts.clear += 1;
+    counts.answer(answer);
+    Ok(found)
 }

@@ -3,7 +3,7 @@
 use std::io::{Read, Write};
 use std::process::ExitCode;
 
-use crate::calls::told;
+use crate::calls::why_of;
 use crate::oracle::{
     answer, answer_lines_and_section, asked_why, prepare as prepare_code, PROGRAM_TABLE_WORDS,
 };
@@ -73,7 +73,7 @@ fn prepared_line(line: &[u8]) -> Vec<u8> {
 }
 
 fn why_line(request: &[u8]) -> Vec<u8> {
-    let why = told(&asked_why(request));
+    let why = why_of(&asked_why(request));
     let [first, second] = why.tried;
     format!(
         "answer={} section={} choice={} first={first} second={second} minus={} cut={}\n",

@@ -3,7 +3,7 @@
 use numfmt::calls;
 
 use crate::calls::{Calls, Part, Prepared, Shown, Why};
-use crate::oracle::Value;
+use crate::oracle::{Board, Row, Value, ROWS};
 
 /// The linked library.
 pub struct Linked;
@@ -38,13 +38,7 @@ impl Calls for Linked {
             Value::Instant { day, ms } => calls::show_instant(table, *day, *ms, room),
             Value::Text(text) => calls::show_text(table, text, room),
         };
-        Shown {
-            answer: given.answer,
-            length: given.length,
-            colour: given.colour,
-            section: given.section,
-            exact: given.exact,
-        }
+        shown(given)
     }
 
     fn why(&self, table: &[u16], value: &Value, room_length: usize) -> Why {
@@ -63,5 +57,67 @@ impl Calls for Linked {
             minus: given.minus,
             cut: given.cut,
         }
+    }
+
+    fn empty(&self) -> Board {
+        rows(&calls::board_empty())
+    }
+
+    fn put(
+        &self,
+        board: &Board,
+        row: u32,
+        table: &[u16],
+        value: &Value,
+        room: &mut [u16],
+    ) -> (Board, Shown) {
+        let board = columns(board);
+        let given = match value {
+            Value::Number { coefficient, scale } => {
+                calls::board_put_number(board, row, table, *coefficient, *scale, room)
+            }
+            Value::Instant { day, ms } => {
+                calls::board_put_instant(board, row, table, *day, *ms, room)
+            }
+            Value::Text(text) => calls::board_put_text(board, row, table, text, room),
+        };
+        (rows(&given.board), shown(given.shown))
+    }
+
+    fn clear(&self, board: &Board, row: u32) -> (Board, u16) {
+        let given = calls::board_clear(columns(board), row);
+        (rows(&given.board), given.answer)
+    }
+}
+
+fn shown(given: calls::Shown) -> Shown {
+    Shown {
+        answer: given.answer,
+        length: given.length,
+        colour: given.colour,
+        section: given.section,
+        exact: given.exact,
+    }
+}
+
+/// The oracle's board has its numbers by rows, the library's by columns.
+fn rows(given: &calls::Board) -> Board {
+    let row = |at: usize| Row {
+        filled: given.filled[at],
+        length: given.length[at],
+        colour: given.colour[at],
+    };
+    Board {
+        rows: (0..ROWS).map(row).collect(),
+        widest: given.widest,
+    }
+}
+
+fn columns(board: &Board) -> calls::Board {
+    calls::Board {
+        filled: std::array::from_fn(|at| board.rows[at].filled),
+        length: std::array::from_fn(|at| board.rows[at].length),
+        colour: std::array::from_fn(|at| board.rows[at].colour),
+        widest: board.widest,
     }
 }

@@ -18,6 +18,7 @@ const USAGE: &str = "usage:
   check run [--count N] [--seed S] [--trace]    compare the library with the oracle
   check self [--count N] [--seed S] [--trace]   compare the oracle's two readings
   check vectors VALUES TABLES                   compare the oracle with lists of known rows
+  check boards RUNS                             compare the oracle and the library with a list of runs on boards
   check expected-prepare < codes                what preparing gives for each line
   check expected-show < requests                what the program gives for each three lines, and the section
   check expected-why < requests                 why each is shown so, in the room that a fourth line gives";
@@ -29,6 +30,7 @@ fn main() -> ExitCode {
         ["run", options @ ..] => with_options(options, run_library),
         ["self", options @ ..] => with_options(options, |o| run::run(&calls::Oracle, o)),
         ["vectors", values, tables] => vectors::run(values, tables),
+        ["boards", runs] => run_boards(runs),
         ["expected-prepare"] => expected::prepare(),
         ["expected-show"] => expected::show(),
         ["expected-why"] => expected::why(),
@@ -56,4 +58,14 @@ fn run_library(options: &run::Options) -> ExitCode {
 #[cfg(not(feature = "library"))]
 fn run_library(_: &run::Options) -> ExitCode {
     misused("built without the library (see README.md)")
+}
+
+#[cfg(feature = "library")]
+fn run_boards(runs: &str) -> ExitCode {
+    vectors::run_boards(runs, &[&calls::Oracle, &library::Linked])
+}
+
+#[cfg(not(feature = "library"))]
+fn run_boards(runs: &str) -> ExitCode {
+    vectors::run_boards(runs, &[&calls::Oracle])
 }

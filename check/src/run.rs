@@ -5,8 +5,8 @@ use std::process::ExitCode;
 use std::time::{Duration, Instant, SystemTime, UNIX_EPOCH};
 
 use crate::calls::Calls;
-use crate::case::{Case, Counts};
-use crate::generate::{code, room, table, value};
+use crate::case::{Case, Counts, Step};
+use crate::generate::{board, code, room, table, value};
 use crate::oracle::{self, answer, Reading, Value};
 use crate::random::Random;
 use crate::shrink::shrink;
@@ -15,6 +15,9 @@ const DEFAULT_COUNT: u64 = 1_000_000;
 
 /// The length that rooms are made around where a refusal gives none.
 const REFUSED_LENGTH: usize = 20;
+
+/// Most calls of a run on one board.
+const MOST_STEPS: usize = 24;
 
 pub struct Options {
     pub count: u64,
@@ -83,7 +86,7 @@ pub fn run(calls: &dyn Calls, options: &Options) -> ExitCode {
 
 /// Makes one case.
 pub fn make(random: &mut Random) -> Case {
-    match random.weighted(&[22, 6, 42, 30]) {
+    match random.weighted(&[22, 6, 42, 30, 2]) {
         0 => {
             let code = code::code(random);
             let words = oracle::prepare(&code, usize::MAX).words.len();
@@ -107,13 +110,39 @@ pub fn make(random: &mut Random) -> Case {
             let (value, room) = value_and_room(random, read);
             Case::ShowCode { code, value, room }
         }
-        _ => {
-            let table = table::table(random);
-            let show = |value: &Value| oracle::show(&table, value, usize::MAX);
-            let (value, room) = value_and_room(random, show);
+        3 => {
+            let (table, value, room) = table_value_and_room(random);
             Case::ShowTable { table, value, room }
         }
+        _ => {
+            let board = board::board(random);
+            let steps = (0..random.between(1, MOST_STEPS)).map(|_| step(random));
+            let steps = steps.collect();
+            Case::Run { board, steps }
+        }
     }
+}
+
+/// Three puts for each clear; the table is mostly that of a code.
+fn step(random: &mut Random) -> Step {
+    let row = board::row(random);
+    if random.chance(25) {
+        return Step::Clear { row };
+    }
+    let (table, value, room) = table_value_and_room(random);
+    Step::Put {
+        row,
+        table,
+        value,
+        room,
+    }
+}
+
+fn table_value_and_room(random: &mut Random) -> (Vec<u16>, Value, usize) {
+    let table = table::table(random);
+    let show = |value: &Value| oracle::show(&table, value, usize::MAX);
+    let (value, room) = value_and_room(random, show);
+    (table, value, room)
 }
 
 /// A value and a room around the length of its text. A value of a sort that the section cannot show
@@ -157,6 +186,25 @@ fn describe(case: &Case) -> String {
             "show {}, {room} units lent\n  table {table:?}",
             described_value(value)
         ),
+        Case::Run { board, steps } => {
+            let steps: Vec<String> = steps.iter().map(described_step).collect();
+            format!("{board:?}\n{}", steps.join("\n"))
+        }
+    }
+}
+
+fn described_step(step: &Step) -> String {
+    match step {
+        Step::Put {
+            row,
+            table,
+            value,
+            room,
+        } => format!(
+            "put row {row}, {}, {room} units lent\n  table {table:?}",
+            described_value(value)
+        ),
+        Step::Clear { row } => format!("clear row {row}"),
     }
 }
 
@@ -180,7 +228,7 @@ fn summary(counts: &Counts, time: Duration) -> String {
         .map(|(answer, count)| format!("{answer}: {count}"))
         .collect();
     format!(
-        "{} requests agree; prepare {}, section {}, number {}, instant {}, text {}, why {}; answers {}; {:.1} s",
+        "{} requests agree; prepare {}, section {}, number {}, instant {}, text {}, why {}, put {}, clear {}; answers {}; {:.1} s",
         counts.requests(),
         counts.prepare,
         counts.section,
@@ -188,6 +236,8 @@ fn summary(counts: &Counts, time: Duration) -> String {
         counts.instant,
         counts.text,
         counts.why,
+        counts.put,
+        counts.clear,
         answers.join(", "),
         time.as_secs_f64()
     )

@@ -1,7 +1,7 @@
 //! Makes a failing case small: takes away and simplifies what it can while the case still fails.
 
-use crate::case::Case;
-use crate::oracle::Value;
+use crate::case::{Case, Step};
+use crate::oracle::{Board, Value};
 
 const MOST_TRIES: usize = 200_000;
 const HEAD_WORDS: usize = 12;
@@ -46,6 +46,50 @@ fn candidates(case: &Case) -> Vec<Case> {
             let make = |table, value, room| Case::ShowTable { table, value, room };
             shows(tables(table), table, value, *room, make)
         }
+        Case::Run { board, steps } => boards(board, steps),
+    }
+}
+
+/// From the empty board, without one step, and with one step made simpler.
+fn boards(board: &Board, steps: &[Step]) -> Vec<Case> {
+    let make = |board: &Board, steps: Vec<Step>| Case::Run {
+        board: board.clone(),
+        steps,
+    };
+    let mut found = Vec::new();
+    if *board != Board::empty() {
+        found.push(make(&Board::empty(), steps.to_vec()));
+    }
+    for at in 0..steps.len() {
+        let mut rest = steps.to_vec();
+        rest.remove(at);
+        found.push(make(board, rest));
+        for simpler in simpler_steps(&steps[at]) {
+            let mut rest = steps.to_vec();
+            rest[at] = simpler;
+            found.push(make(board, rest));
+        }
+    }
+    found
+}
+
+fn simpler_steps(step: &Step) -> Vec<Step> {
+    match step {
+        Step::Clear { .. } => Vec::new(),
+        Step::Put {
+            row,
+            table,
+            value,
+            room,
+        } => {
+            let make = |table, value, room| Step::Put {
+                row: *row,
+                table,
+                value,
+                room,
+            };
+            shows(tables(table), table, value, *room, make)
+        }
     }
 }
 
@@ -62,13 +106,13 @@ fn sized(code: &[u16], number: usize, make: impl Fn(Vec<u16>, usize) -> Case) ->
 }
 
 /// A code or table, a value and a room, each made smaller in turn.
-fn shows(
+fn shows<T>(
     simpler: Vec<Vec<u16>>,
     units: &[u16],
     value: &Value,
     room: usize,
-    make: impl Fn(Vec<u16>, Value, usize) -> Case,
-) -> Vec<Case> {
+    make: impl Fn(Vec<u16>, Value, usize) -> T,
+) -> Vec<T> {
     let mut found = Vec::new();
     for smaller in simpler {
         found.push(make(smaller, value.clone(), room));

@@ -1,14 +1,19 @@
-//! Compares the oracle with lists of known rows, whose paths the caller gives.
+//! Compares the oracle, and for boards the library too, with lists of known rows, whose paths the caller gives.
 //!
 //! A row of values is `code kind value answer place section colour exact text`, or the same without
 //! `exact`, a row of tables is its words and what they are: `made from` a code, `passes`, or `8`. Fields
 //! are parted by tabs; a line names the columns, and lines before it that begin with `//` are remarks.
+//!
+//! A row of runs is `run call row code kind value room`, then `answer length colour section exact` of the call,
+//! the rows of the board after it that are not empty, as `row:length:colour`, and its width. The code may be
+//! `table:` and words. A run starts from the empty board.
 
 use std::process::ExitCode;
 
+use crate::calls::{refused, Calls, Shown};
 use crate::oracle::{
-    answer, answer_lines, check_table, prepare, read, show, units, Prepared, Reading, Value,
-    PROGRAM_TABLE_WORDS,
+    answer, answer_lines, check_table, prepare, read, show, units, Board, Prepared, Reading, Row,
+    Value, PROGRAM_TABLE_WORDS,
 };
 
 const ROOM: usize = 4096;
@@ -33,7 +38,27 @@ pub fn run(values: &str, tables: &str) -> ExitCode {
     }
 }
 
-fn check_rows(path: &str, check: impl Fn(&[&str]) -> Result<(), String>) -> Result<usize, String> {
+/// Each of these calls gives what every row of the list says.
+pub fn run_boards(path: &str, calls: &[&dyn Calls]) -> ExitCode {
+    let mut rows = 0;
+    for calls in calls {
+        let mut at = (String::new(), calls.empty());
+        match check_rows(path, |fields| board_row(*calls, &mut at, fields)) {
+            Ok(counted) => rows += counted,
+            Err(message) => {
+                eprintln!("{message}");
+                return ExitCode::FAILURE;
+            }
+        }
+    }
+    println!("{rows} rows of runs agree");
+    ExitCode::SUCCESS
+}
+
+fn check_rows(
+    path: &str,
+    mut check: impl FnMut(&[&str]) -> Result<(), String>,
+) -> Result<usize, String> {
     let text = std::fs::read_to_string(path).map_err(|error| format!("{path}: {error}"))?;
     let mut failures = Vec::new();
     let mut rows = 0;
@@ -149,4 +174,57 @@ fn table_row(fields: &[&str]) -> Result<(), String> {
         ),
         None => Ok(()),
     }
+}
+
+/// `at` has the run of the row before and the board that it left.
+fn board_row(calls: &dyn Calls, at: &mut (String, Board), fields: &[&str]) -> Result<(), String> {
+    let [run, call, row, code, kind, value, room, answer, length, colour, section, exact, board, width] =
+        fields[..]
+    else {
+        return Err("a row has fourteen fields".to_string());
+    };
+    if at.0 != run {
+        *at = (run.to_string(), calls.empty());
+    }
+    let row = parsed(row)?;
+    let (after, shown) = match call {
+        "clear" => {
+            let (after, answer) = calls.clear(&at.1, row);
+            (after, refused(answer))
+        }
+        _ => {
+            let mut room = vec![0; parsed(room)?];
+            let value = value_of(kind, value)?;
+            calls.put(&at.1, row, &table_of(code)?, &value, &mut room)
+        }
+    };
+    let expected = Shown {
+        answer: parsed(answer)?,
+        length: parsed(length)?,
+        colour: parsed(colour)?,
+        section: parsed(section)?,
+        exact: parsed(exact)?,
+    };
+    at.1 = after;
+    agree("shown", shown, expected)?;
+    agree("board", filled_rows(&at.1), board.to_string())?;
+    agree("width", at.1.widest, parsed(width)?)
+}
+
+fn table_of(code: &str) -> Result<Vec<u16>, String> {
+    match code.strip_prefix("table:") {
+        Some(words) => words.split(' ').map(parsed).collect(),
+        None => Ok(prepare(&units(code), PROGRAM_TABLE_WORDS).words),
+    }
+}
+
+/// An empty row has to have its one spelling, or it is told too.
+fn filled_rows(board: &Board) -> String {
+    let rows = board.rows.iter().enumerate();
+    let told = rows.filter(|(_, row)| **row != Row::default());
+    let spelled = |(at, row): (usize, &Row)| match row.filled {
+        1 => format!("{at}:{}:{}", row.length, row.colour),
+        _ => format!("{at}:{row:?}"),
+    };
+    told.map(spelled).collect::<Vec<String>>().join(" ")
 }

@@ -1,5 +1,6 @@
 //! Codes, tables, values and rooms to compare on.
 
+pub mod board;
 pub mod code;
 pub mod table;
 pub mod value;

@@ -7,6 +7,7 @@
 //! sections (`code`) and use the same calendar (`days`); choice, rounding, whether it was exact,
 //! exponents, fractions and figures are separate.
 
+mod board;
 mod code;
 mod days;
 mod decimal;
@@ -25,6 +26,7 @@ mod value;
 #[cfg(test)]
 mod tests;
 
+pub use board::{Board, Row, ROWS};
 pub use code::section;
 pub use prepare::{prepare, Prepared};
 pub use program::{answer_lines, answer_lines_and_section, asked_why, PROGRAM_TABLE_WORDS};
@@ -50,6 +52,7 @@ pub mod answer {
     pub const GENERAL: u16 = 12;
     pub const TEXT_ROOM: u16 = 13;
     pub const LINE: u16 = 14;
+    pub const ROW: u16 = 16;
 }
 
 /// The units of an ASCII text.

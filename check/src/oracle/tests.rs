@@ -1,3 +1,4 @@
+mod board;
 mod exact;
 mod fractions;
 mod reasons;

@@ -3,7 +3,7 @@
 use super::make;
 use crate::calls::{Calls, Oracle, Part, Prepared, Shown, Why};
 use crate::case::Counts;
-use crate::oracle::{answer, Value};
+use crate::oracle::{answer, Board, Row, Value};
 use crate::random::Random;
 
 const CASES: u64 = 20_000;
@@ -35,6 +35,11 @@ enum Fault {
     Minus,
     Cut,
     RefusedReason,
+    WidthGrows,
+    RefusedBoard,
+    OtherRow,
+    TableBeforeRow,
+    ClearedWidth,
 }
 
 struct Double(Fault);
@@ -104,6 +109,43 @@ impl Calls for Double {
         }
         given
     }
+
+    fn empty(&self) -> Board {
+        Board::empty()
+    }
+
+    fn put(
+        &self,
+        board: &Board,
+        row: u32,
+        table: &[u16],
+        value: &Value,
+        room: &mut [u16],
+    ) -> (Board, Shown) {
+        let (mut after, mut shown) = Oracle.put(board, row, table, value, room);
+        match self.0 {
+            Fault::WidthGrows if shown.answer == 0 => {
+                after.widest = after.widest.max(board.widest);
+            }
+            Fault::RefusedBoard if shown.answer == answer::TEXT_ROOM => {
+                after.rows[row as usize] = Row::default();
+            }
+            Fault::OtherRow if shown.answer == 0 && row == 62 => after.rows[63].colour ^= 1,
+            Fault::TableBeforeRow if shown.answer == answer::ROW => {
+                shown.answer = answer::TABLE;
+            }
+            _ => {}
+        }
+        (after, shown)
+    }
+
+    fn clear(&self, board: &Board, row: u32) -> (Board, u16) {
+        let (mut after, answer) = Oracle.clear(board, row);
+        if self.0 == Fault::ClearedWidth {
+            after.widest = board.widest;
+        }
+        (after, answer)
+    }
 }
 
 /// One unit behind the room, as a library in another language could.
@@ -134,4 +176,9 @@ fn every_fault_is_found() {
     assert!(found(&Double(Fault::Minus)));
     assert!(found(&Double(Fault::Cut)));
     assert!(found(&Double(Fault::RefusedReason)));
+    assert!(found(&Double(Fault::WidthGrows)));
+    assert!(found(&Double(Fault::RefusedBoard)));
+    assert!(found(&Double(Fault::OtherRow)));
+    assert!(found(&Double(Fault::TableBeforeRow)));
+    assert!(found(&Double(Fault::ClearedWidth)));
 }

@@ -2,7 +2,7 @@
 ghost use mathlib.Core.Path.{_≡_};
 ghost use Rattle.answers.specs.Number.{numberOf, donePrepared, doneShown, refusedPrepared, refusedShown};
 
-// The answer list of document 01, in its order. `numberOf` in specs/ gives each its number.
+// The answer list, in its order. `numberOf` in specs/ gives each its number.
 pub enum Answer {
     Done,
     CodeLength,
@@ -19,6 +19,7 @@ pub enum Answer {
     General,
     TextRoom,
     Line,
+    Row,
 }
 
 // What preparing returns. On a refusal every number but the answer and the place is 0.
@@ -106,5 +107,6 @@ pub fn number(a: Answer) -> u16
         Answer::General => 12,
         Answer::TextRoom => 13,
         Answer::Line => 14,
+        Answer::Row => 16,
     }
 }

@@ -12,10 +12,14 @@ use Rattle.formats.proofs.First.{verdict-fine, length-bounds}
 use Rattle.tables.specs.Calls.{showing, roomAfter}
 use Rattle.grounds.specs.declared.Why.{Why}
 use Rattle.reasons.specs.Table.{tableWhy}
+use Rattle.boards.specs.declared.Board.{Board}
+use Rattle.boards.specs.declared.PutRow.{PutRow}
+use Rattle.boards.specs.Boards.{putRow, roomPut}
 use Rattle.c_numbers.specs.declared.PartNumbers.{PartNumbers}
 use Rattle.c_numbers.specs.declared.ShownNumbers.{ShownNumbers}
 use Rattle.c_numbers.specs.declared.WhyNumbers.{WhyNumbers}
-use Rattle.c_numbers.specs.Numbers.{partNumbers, shownNumbers, whyNumbers}
+use Rattle.c_numbers.specs.declared.PutNumbers.{PutNumbers}
+use Rattle.c_numbers.specs.Numbers.{partNumbers, shownNumbers, whyNumbers, putNumbers}
 
 -- a section stands among the first 254 units: a code that is not refused has no more
 small-by : (v : Verdict) (code : List ℕ) (n : ℕ) → verdict code ≡ v → spanBy v n code .start + spanBy v n code .size ≤ length code
@@ -44,3 +48,12 @@ module _ {ask asked : Ask} (same : ask ≡ asked) (table text : List ℕ) where
   pub why-asked : {n : WhyNumbers} {w : Why} (size : ℕ) → n ≡ whyNumbers w → w ≡ tableWhy table ask text size
       → n ≡ whyNumbers (tableWhy table asked text size)
   why-asked size e h = e ∙ ap whyNumbers (h ∙ ap (λ (a : Ask). tableWhy table a text size) same)
+
+-- what is put of a question is put of an equal one
+module _ {ask asked : Ask} (same : ask ≡ asked) (row : ℕ) (table text : List ℕ) where
+  pub put-asked : (board : Board) {n : PutNumbers} {p : PutRow} (size : ℕ) → n ≡ putNumbers p → p ≡ putRow board row table ask text size
+      → n ≡ putNumbers (putRow board row table asked text size)
+  put-asked board size e h = e ∙ ap putNumbers (h ∙ ap (λ (a : Ask). putRow board row table a text size) same)
+
+  pub room-put : {out : List ℕ} (old : List ℕ) → out ≡ roomPut row table ask text old → out ≡ roomPut row table asked text old
+  room-put old h = h ∙ ap (λ (a : Ask). roomPut row table a text old) same

@@ -7,16 +7,22 @@ ghost use Rattle.formats.specs.Accept.{sectionSpan};
 ghost use Rattle.tables.specs.Rules.{passes};
 ghost use Rattle.tables.specs.Calls.{prepared, tableAfter, showing, roomAfter};
 ghost use Rattle.reasons.specs.Table.{tableWhy};
-ghost use Rattle.c_numbers.specs.Numbers.{preparedNumbers, partNumbers, checkNumber, shownNumbers, whyNumbers, numberAsk, instantAsk, textAsk};
+ghost use Rattle.boards.specs.Boards.{emptyBoard, putRow, roomPut, clearRow};
+ghost use Rattle.c_numbers.specs.Numbers.{preparedNumbers, partNumbers, checkNumber, shownNumbers, whyNumbers, putNumbers, clearedNumbers, numberAsk, instantAsk, textAsk};
+use boards::Board;
+use c_numbers::ClearedNumbers;
 use c_numbers::PartNumbers;
 use c_numbers::PreparedNumbers;
+use c_numbers::PutNumbers;
 use c_numbers::ShownNumbers;
 use c_numbers::WhyNumbers;
 use c_numbers::check_number;
+use c_numbers::cleared_numbers;
 use c_numbers::instant_ask;
 use c_numbers::number_ask;
 use c_numbers::part_numbers;
 use c_numbers::prepared_numbers;
+use c_numbers::put_numbers;
 use c_numbers::shown_numbers;
 use c_numbers::why_numbers;
 use checking::check;
@@ -115,4 +121,64 @@ pub extern "C" fn numfmt_why_text(table: &[u16], text: &[u16], size: usize) -> W
     ensures { λ r. ⌜ r ≡ whyNumbers (tableWhy (now (table .entry)) textAsk (now (text .entry)) size) ⌝ }
 {
     why_numbers(why(table, asked(Value::Text), text, size))
+}
+
+#[no_mangle]
+pub extern "C" fn numfmt_board_empty() -> Board
+    ensures { λ r. ⌜ r ≡ emptyBoard ⌝ }
+{
+    Board::empty()
+}
+
+#[no_mangle]
+pub extern "C" fn numfmt_board_put_number(
+    board: Board,
+    row: u32,
+    table: &[u16],
+    coefficient: i64,
+    scale: u32,
+    room: &mut [u16],
+) -> PutNumbers
+    ensures result { λ r. ⌜ r ≡ putNumbers (putRow board row (now (table .entry)) (numberAsk coefficient scale) [] (length (now (room .entry)))) ⌝ }
+    ensures room { λ r. ⌜ now (room .exit) ≡ roomPut row (now (table .entry)) (numberAsk coefficient scale) [] (now (room .entry)) ⌝ }
+{
+    let ask = number_ask(coefficient, scale);
+    put_numbers(board.put(row, table, ask, &table[..0], room))
+}
+
+#[no_mangle]
+pub extern "C" fn numfmt_board_put_instant(
+    board: Board,
+    row: u32,
+    table: &[u16],
+    day: u32,
+    millisecond: u32,
+    room: &mut [u16],
+) -> PutNumbers
+    ensures result { λ r. ⌜ r ≡ putNumbers (putRow board row (now (table .entry)) (instantAsk day millisecond) [] (length (now (room .entry)))) ⌝ }
+    ensures room { λ r. ⌜ now (room .exit) ≡ roomPut row (now (table .entry)) (instantAsk day millisecond) [] (now (room .entry)) ⌝ }
+{
+    let ask = instant_ask(day, millisecond);
+    put_numbers(board.put(row, table, ask, &table[..0], room))
+}
+
+#[no_mangle]
+pub extern "C" fn numfmt_board_put_text(
+    board: Board,
+    row: u32,
+    table: &[u16],
+    text: &[u16],
+    room: &mut [u16],
+) -> PutNumbers
+    ensures result { λ r. ⌜ r ≡ putNumbers (putRow board row (now (table .entry)) textAsk (now (text .entry)) (length (now (room .entry)))) ⌝ }
+    ensures room { λ r. ⌜ now (room .exit) ≡ roomPut row (now (table .entry)) textAsk (now (text .entry)) (now (room .entry)) ⌝ }
+{
+    put_numbers(board.put(row, table, asked(Value::Text), text, room))
+}
+
+#[no_mangle]
+pub extern "C" fn numfmt_board_clear(board: Board, row: u32) -> ClearedNumbers
+    ensures { λ r. ⌜ r ≡ clearedNumbers (clearRow board row) ⌝ }
+{
+    cleared_numbers(board.clear(row))
 }

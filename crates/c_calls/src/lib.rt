@@ -1,4 +1,10 @@
-// Each call for C, called with lent slices and numbers and nothing required: none of them asks anything of its caller.
+// Each call for C, called with lent slices, numbers and boards and nothing required: none of them asks anything of its caller.
+use boards::Board;
+use c_api::numfmt_board_clear;
+use c_api::numfmt_board_empty;
+use c_api::numfmt_board_put_instant;
+use c_api::numfmt_board_put_number;
+use c_api::numfmt_board_put_text;
 use c_api::numfmt_check;
 use c_api::numfmt_prepare;
 use c_api::numfmt_section;
@@ -8,8 +14,10 @@ use c_api::numfmt_show_text;
 use c_api::numfmt_why_instant;
 use c_api::numfmt_why_number;
 use c_api::numfmt_why_text;
+use c_numbers::ClearedNumbers;
 use c_numbers::PartNumbers;
 use c_numbers::PreparedNumbers;
+use c_numbers::PutNumbers;
 use c_numbers::ShownNumbers;
 use c_numbers::WhyNumbers;
 
@@ -47,4 +55,44 @@ fn why_instant(table: &[u16], day: u32, millisecond: u32, size: usize) -> WhyNum
 
 fn why_text(table: &[u16], text: &[u16], size: usize) -> WhyNumbers {
     numfmt_why_text(table, text, size)
+}
+
+fn board_empty() -> Board {
+    numfmt_board_empty()
+}
+
+fn board_put_number(
+    board: Board,
+    row: u32,
+    table: &[u16],
+    coefficient: i64,
+    scale: u32,
+    room: &mut [u16],
+) -> PutNumbers {
+    numfmt_board_put_number(board, row, table, coefficient, scale, room)
+}
+
+fn board_put_instant(
+    board: Board,
+    row: u32,
+    table: &[u16],
+    day: u32,
+    millisecond: u32,
+    room: &mut [u16],
+) -> PutNumbers {
+    numfmt_board_put_instant(board, row, table, day, millisecond, room)
+}
+
+fn board_put_text(
+    board: Board,
+    row: u32,
+    table: &[u16],
+    text: &[u16],
+    room: &mut [u16],
+) -> PutNumbers {
+    numfmt_board_put_text(board, row, table, text, room)
+}
+
+fn board_clear(board: Board, row: u32) -> ClearedNumbers {
+    numfmt_board_clear(board, row)
 }

@@ -12,10 +12,12 @@ use Rattle.answers.specs.Number.{numberOf}
 use Rattle.grounds.specs.declared.Grounds.{Grounds}
 use Rattle.grounds.specs.declared.Why.the-variants as why
 use Rattle.grounds.specs.Numbers.{choiceNumber, triedNumber, minusNumber}
+use Rattle.boards.specs.declared.ClearedRow.{ClearedRow}
 use Rattle.c_numbers.specs.declared.PreparedNumbers.{PreparedNumbers}
 use Rattle.c_numbers.specs.declared.ShownNumbers.{ShownNumbers}
 use Rattle.c_numbers.specs.declared.WhyNumbers.{WhyNumbers}
-use Rattle.c_numbers.specs.Numbers.{preparedNumbers, checkNumber, shownNumbers, whyNumbers}
+use Rattle.c_numbers.specs.declared.ClearedNumbers.{ClearedNumbers}
+use Rattle.c_numbers.specs.Numbers.{preparedNumbers, checkNumber, shownNumbers, whyNumbers, clearedNumbers}
 
 pub prepared-told : (p : Prepared) {n : ℕ} → n ≡ numberOf (p .answer)
     → _≡_ {A = PreparedNumbers} (record { answer = n; place = p .place; words = p .words }) (preparedNumbers p)
@@ -47,3 +49,7 @@ pub because-told : (g : Grounds) {n choice first second minus : ℕ} → n ≡ n
     → _≡_ {A = WhyNumbers} (record { answer = n; section = g .section; choice = choice; first = first; second = second; minus = minus; cut = g .cut })
     (whyNumbers (why.Because g))
 because-told g e c f s m = λ j. record { answer = e j; section = g .section; choice = c j; first = f j; second = s j; minus = m j; cut = g .cut }
+
+pub cleared-told : (c : ClearedRow) {n : ℕ} → n ≡ numberOf (c .answer)
+    → _≡_ {A = ClearedNumbers} (record { board = c .board; answer = n }) (clearedNumbers c)
+cleared-told c e = λ j. record { board = c .board; answer = e j }

@@ -11,6 +11,8 @@ use Rattle.values.specs.declared.Value.the-variants as value
 use Rattle.values.specs.declared.Ask.{Ask}
 use Rattle.values.specs.Ranges.{asked}
 use Rattle.formats.specs.Accept.{Span}
+use Rattle.boards.specs.declared.PutRow.{PutRow}
+use Rattle.boards.specs.declared.ClearedRow.{ClearedRow}
 use Rattle.c_numbers.specs.declared.PreparedNumbers.{PreparedNumbers}
 use Rattle.c_numbers.specs.declared.PartNumbers.{PartNumbers}
 use Rattle.grounds.specs.declared.Why.{Why}
@@ -18,6 +20,8 @@ use Rattle.grounds.specs.declared.Why.the-variants as why
 use Rattle.grounds.specs.Numbers.{choiceNumber, triedNumber, minusNumber}
 use Rattle.c_numbers.specs.declared.ShownNumbers.{ShownNumbers}
 use Rattle.c_numbers.specs.declared.WhyNumbers.{WhyNumbers}
+use Rattle.c_numbers.specs.declared.PutNumbers.{PutNumbers}
+use Rattle.c_numbers.specs.declared.ClearedNumbers.{ClearedNumbers}
 
 abbrev pub preparedNumbers : Prepared → PreparedNumbers
 preparedNumbers p = record { answer = numberOf (p .answer); place = p .place; words = p .words }
@@ -47,6 +51,13 @@ whyNumbers (why.Because g) =
       minus = minusNumber (g .minus);
       cut = g .cut;
     }
+
+-- the board itself is lent and handed back by value
+abbrev pub putNumbers : PutRow → PutNumbers
+putNumbers p = record { board = p .board; shown = shownNumbers (p .shown) }
+
+abbrev pub clearedNumbers : ClearedRow → ClearedNumbers
+clearedNumbers c = record { board = c .board; answer = numberOf (c .answer) }
 
 -- what is asked for: a number, an instant, a text
 abbrev pub numberAsk : ℤ → ℕ → Ask

@@ -4,11 +4,14 @@ ghost use mathlib.Core.Path.{_≡_};
 ghost use Prim.Native.Nat.{_+_, _≤_};
 ghost use Rattle.formats.specs.Accept.{Span};
 ghost use Rattle.grounds.specs.declared.Why.the-variants as why;
-ghost use Rattle.c_numbers.specs.Numbers.{preparedNumbers, partNumbers, checkNumber, shownNumbers, whyNumbers, numberAsk, instantAsk};
+ghost use Rattle.c_numbers.specs.Numbers.{preparedNumbers, partNumbers, checkNumber, shownNumbers, whyNumbers, putNumbers, clearedNumbers, numberAsk, instantAsk};
 use answers::Answer;
 use answers::Prepared;
 use answers::Shown;
 use answers::number;
+use boards::Board;
+use boards::ClearedRow;
+use boards::PutRow;
 use grounds::Grounds;
 use grounds::Why;
 use grounds::choice_number;
@@ -56,6 +59,20 @@ pub struct WhyNumbers {
     pub second: u16,
     pub minus: u16,
     pub cut: u16,
+}
+
+// numfmt_put
+#[repr(C)]
+pub struct PutNumbers {
+    pub board: Board,
+    pub shown: ShownNumbers,
+}
+
+// numfmt_cleared
+#[repr(C)]
+pub struct ClearedNumbers {
+    pub board: Board,
+    pub answer: u16,
 }
 
 pub fn prepared_numbers(p: Prepared) -> PreparedNumbers
@@ -154,5 +171,27 @@ pub fn why_numbers(w: Why) -> WhyNumbers
     match w {
         Why::Refused(answer) => refused_numbers(answer),
         Why::Because(g) => because_numbers(g),
+    }
+}
+
+pub fn put_numbers(p: PutRow) -> PutNumbers
+    ensures { λ r. ⌜ r ≡ putNumbers p ⌝ }
+{
+    let board = p.board;
+    let shown = p.shown;
+    PutNumbers {
+        board,
+        shown: shown_numbers(shown),
+    }
+}
+
+pub fn cleared_numbers(c: ClearedRow) -> ClearedNumbers
+    ensures { λ r. ⌜ r ≡ clearedNumbers c ⌝ }
+{
+    let board = c.board;
+    let answer = c.answer;
+    ClearedNumbers {
+        board,
+        answer: number(answer),
     }
 }

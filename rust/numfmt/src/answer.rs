@@ -2,7 +2,8 @@
 
 use std::fmt;
 
-/// An answer, with its number. Preparing tests 1 to 7 in that order, showing 8 to 13; the first that applies is given.
+/// An answer, with its number. Preparing tests 1 to 7 in that order, showing 8 to 13, putting a row 16 and then as showing; the first
+/// that applies is given.
 #[repr(u16)]
 #[derive(Clone, Copy, Debug, PartialEq, Eq)]
 pub enum Answer {
@@ -33,11 +34,13 @@ pub enum Answer {
     General = 12,
     /// The text is longer than the room.
     TextRoom = 13,
+    /// The row is 64 or above.
+    Row = 16,
 }
 
 impl Answer {
-    /// Every answer, at the place of its number.
-    pub const ALL: [Answer; 14] = [
+    /// Every answer that a call gives, in the order of their numbers.
+    pub const ALL: [Answer; 15] = [
         Answer::Done,
         Answer::CodeLength,
         Answer::Token,
@@ -52,7 +55,15 @@ impl Answer {
         Answer::Sort,
         Answer::General,
         Answer::TextRoom,
+        Answer::Row,
     ];
+
+    /// The answer with this number, where a call gives it.
+    pub fn of(number: u16) -> Option<Answer> {
+        Answer::ALL
+            .into_iter()
+            .find(|answer| answer.number() == number)
+    }
 
     /// The number that the C calls return for it.
     pub fn number(self) -> u16 {
@@ -80,6 +91,7 @@ impl Answer {
             Answer::Sort => "The section that takes this value cannot show its kind.",
             Answer::General => "The number is too large for General.",
             Answer::TextRoom => "The text is too long for the room.",
+            Answer::Row => "The board has no such row.",
         }
     }
 }
@@ -104,7 +116,7 @@ pub struct Refusal {
 impl Refusal {
     /// The refusal that a call's numbers tell; none where they tell that all is done.
     pub(crate) fn told(answer: u16, place: u32) -> Result<(), Refusal> {
-        match Answer::ALL[usize::from(answer)] {
+        match Answer::of(answer).expect("a call's answer is in the list") {
             Answer::Done => Ok(()),
             answer => Err(Refusal { answer, place }),
         }

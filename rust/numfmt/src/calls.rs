@@ -24,6 +24,8 @@
 //! assert_eq!(short, [7; 5]);
 //! ```
 
+use crate::BOARD_ROWS;
+
 /// What preparing returns. On a refusal `words` is 0; `place` is 0 but for answers 2 to 6.
 #[repr(C)]
 #[derive(Clone, Copy, Debug, PartialEq, Eq)]
@@ -60,6 +62,33 @@ pub struct Reason {
     pub minus: u16,
     /// How many decimals were cut.
     pub cut: u16,
+}
+
+/// The rows of a wall: each empty, with 0 in `filled`, `length` and `colour`, or filled, with the length and colour last shown there.
+/// `widest` is the greatest length of the filled rows, and 0 where there is none. Any numbers may stand in a board that is lent.
+#[repr(C)]
+#[derive(Clone, Copy, Debug, PartialEq, Eq)]
+pub struct Board {
+    pub filled: [u8; BOARD_ROWS],
+    pub length: [u32; BOARD_ROWS],
+    pub colour: [u16; BOARD_ROWS],
+    pub widest: u32,
+}
+
+/// What putting a row hands back. On a refusal the board is the one that was lent.
+#[repr(C)]
+#[derive(Clone, Copy, Debug, PartialEq, Eq)]
+pub struct Put {
+    pub board: Board,
+    pub shown: Shown,
+}
+
+/// What clearing a row hands back.
+#[repr(C)]
+#[derive(Clone, Copy, Debug, PartialEq, Eq)]
+pub struct Cleared {
+    pub board: Board,
+    pub answer: u16,
 }
 
 /// A part of a code: `length` units from unit `start` on.
@@ -124,6 +153,38 @@ unsafe extern "C" {
         text_len: usize,
         room_len: usize,
     ) -> Reason;
+    fn numfmt_board_empty() -> Board;
+    fn numfmt_board_put_number(
+        board: Board,
+        row: u32,
+        table: *const u16,
+        table_len: usize,
+        coefficient: i64,
+        scale: u32,
+        room: *mut u16,
+        room_len: usize,
+    ) -> Put;
+    fn numfmt_board_put_instant(
+        board: Board,
+        row: u32,
+        table: *const u16,
+        table_len: usize,
+        day: u32,
+        millisecond: u32,
+        room: *mut u16,
+        room_len: usize,
+    ) -> Put;
+    fn numfmt_board_put_text(
+        board: Board,
+        row: u32,
+        table: *const u16,
+        table_len: usize,
+        text: *const u16,
+        text_len: usize,
+        room: *mut u16,
+        room_len: usize,
+    ) -> Put;
+    fn numfmt_board_clear(board: Board, row: u32) -> Cleared;
 }
 
 /// Writes the table of a code in front of the table room. A room of [`TABLE_WORDS`](crate::TABLE_WORDS) holds every table.
@@ -217,4 +278,102 @@ pub fn why_text(table: &[u16], text: &[u16], room_len: usize) -> Reason {
             room_len,
         )
     }
+}
+
+/// A board whose rows are all empty.
+pub fn board_empty() -> Board {
+    // SAFETY: nothing is lent.
+    unsafe { numfmt_board_empty() }
+}
+
+/// Shows a number and puts its length and colour into the row. A row of 64 or above is answered 16, before all else.
+///
+/// ```
+/// use numfmt::calls;
+///
+/// let zero = [1, 2, 0, 0, 0, 0, 0, 0, 0, 15, 0, 0, 1, 4, 16];
+/// let mut room = [0; 8];
+/// let put = calls::board_put_number(calls::board_empty(), 3, &zero, 1200, 0, &mut room);
+/// assert_eq!((put.shown.answer, put.board.length[3], put.board.widest), (0, 4, 4));
+/// let refused = calls::board_put_number(put.board, 64, &[], 1, 0, &mut room);
+/// assert_eq!((refused.shown.answer, refused.board), (16, put.board));
+/// assert_eq!(calls::board_clear(put.board, 3).board, calls::board_empty());
+/// ```
+pub fn board_put_number(
+    board: Board,
+    row: u32,
+    table: &[u16],
+    coefficient: i64,
+    scale: u32,
+    room: &mut [u16],
+) -> Put {
+    let (words, room, units) = (table.len(), room.as_mut_ptr(), room.len());
+    // SAFETY: each pointer is a slice's, with its length; the slice that is written overlaps no other.
+    unsafe {
+        numfmt_board_put_number(
+            board,
+            row,
+            table.as_ptr(),
+            words,
+            coefficient,
+            scale,
+            room,
+            units,
+        )
+    }
+}
+
+/// The same for an instant.
+pub fn board_put_instant(
+    board: Board,
+    row: u32,
+    table: &[u16],
+    day: u32,
+    millisecond: u32,
+    room: &mut [u16],
+) -> Put {
+    let (words, room, units) = (table.len(), room.as_mut_ptr(), room.len());
+    // SAFETY: each pointer is a slice's, with its length; the slice that is written overlaps no other.
+    unsafe {
+        numfmt_board_put_instant(
+            board,
+            row,
+            table.as_ptr(),
+            words,
+            day,
+            millisecond,
+            room,
+            units,
+        )
+    }
+}
+
+/// The same for a text.
+pub fn board_put_text(
+    board: Board,
+    row: u32,
+    table: &[u16],
+    text: &[u16],
+    room: &mut [u16],
+) -> Put {
+    let (room, units) = (room.as_mut_ptr(), room.len());
+    // SAFETY: each pointer is a slice's, with its length; the slice that is written overlaps no other.
+    unsafe {
+        numfmt_board_put_text(
+            board,
+            row,
+            table.as_ptr(),
+            table.len(),
+            text.as_ptr(),
+            text.len(),
+            room,
+            units,
+        )
+    }
+}
+
+/// Empties a row. A row of 64 or above is answered 16.
+pub fn board_clear(board: Board, row: u32) -> Cleared {
+    // SAFETY: nothing is lent by pointer.
+    unsafe { numfmt_board_clear(board, row) }
 }

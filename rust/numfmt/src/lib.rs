@@ -11,14 +11,17 @@
 //! # Ok::<(), numfmt::Refusal>(())
 //! ```
 //!
-//! [`Table`] owns its words and takes and gives strings. [`calls`] are the C calls themselves on lent slices of units.
+//! [`Table`] owns its words and takes and gives strings. A [`Board`] keeps the lengths and colours of a wall's rows, and the width that they
+//! need. [`calls`] are the C calls themselves on lent slices of units.
 //! A table is only read by showing, so that many threads may show by one.
 
 mod answer;
+mod board;
 pub mod calls;
 mod table;
 
 pub use answer::{Answer, Refusal};
+pub use board::Board;
 pub use table::{byte_of_unit, section, Shown, Table, Value};
 
 /// Words of table room that hold the table of every accepted code.
@@ -27,3 +30,5 @@ pub const TABLE_WORDS: usize = 557;
 pub const CODE_MOST: usize = 254;
 /// Most units of a text value.
 pub const TEXT_MOST: usize = 1024;
+/// Rows of a board.
+pub const BOARD_ROWS: usize = 64;

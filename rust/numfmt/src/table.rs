@@ -144,7 +144,7 @@ impl Table {
 }
 
 /// Shows in a room that is made larger until the text fits; a room that is too short was left as it was.
-fn in_room(show: impl Fn(&mut [u16]) -> calls::Shown) -> Result<Shown, Refusal> {
+pub(crate) fn in_room(mut show: impl FnMut(&mut [u16]) -> calls::Shown) -> Result<Shown, Refusal> {
     let mut room = vec![0; FIRST_ROOM];
     let mut shown = show(&mut room);
     while shown.answer == Answer::TextRoom.number() {
@@ -195,6 +195,6 @@ pub fn byte_of_unit(text: &str, unit: usize) -> usize {
     text.len()
 }
 
-fn units(text: &str) -> Vec<u16> {
+pub(crate) fn units(text: &str) -> Vec<u16> {
     text.encode_utf16().collect()
 }

@@ -2,7 +2,7 @@
 
 use std::collections::HashMap;
 
-use numfmt::{Answer, CODE_MOST, TABLE_WORDS, TEXT_MOST};
+use numfmt::{Answer, BOARD_ROWS, CODE_MOST, TABLE_WORDS, TEXT_MOST};
 
 fn header() -> String {
     let header = concat!(env!("CARGO_MANIFEST_DIR"), "/../../include/numfmt.h");
@@ -53,20 +53,24 @@ fn sizes_are_those_of_the_header() {
     assert_eq!(macros["TABLE_WORDS"], TABLE_WORDS);
     assert_eq!(macros["CODE_MOST"], CODE_MOST);
     assert_eq!(macros["TEXT_MOST"], TEXT_MOST);
+    assert_eq!(macros["BOARD_ROWS"], BOARD_ROWS);
 }
 
 #[test]
 fn answers_are_those_of_the_header() {
     let macros = macros();
-    for (number, answer) in Answer::ALL.into_iter().enumerate() {
+    for answer in Answer::ALL {
         let name = header_name(answer);
+        let number = usize::from(answer.number());
         assert_eq!(
             macros.get(&format!("ANSWER_{name}")),
             Some(&number),
             "{name}"
         );
-        assert_eq!(usize::from(answer.number()), number, "{name}");
+        assert_eq!(Answer::of(answer.number()), Some(answer), "{name}");
     }
+    let named = macros.keys().filter(|name| name.starts_with("ANSWER_"));
+    assert_eq!(named.count(), Answer::ALL.len());
 }
 
 /// The lines of the header that are one string each are the sentences, in the answers' order.
