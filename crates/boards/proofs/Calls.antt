@@ -7,20 +7,20 @@ use mathlib.Core.Bool.{Bool, true, false, not, cond}
 use mathlib.Core.List.{List, [], _∷_}
 use mathlib.Core.Option.{Option, none, some}
 use lib.Dec.{T, eqb, ltb}
-use lib.ListN.{length, getD, length-set, getD-replicate}
-use lib.Seq.{getD-set-same, getD-set-other}
-use borrow.Author.Tests.{ltb-true, ltb-false, eqb-true, eqb-false, not-true}
+use lib.ListN.{length, getD, set, length-set, getD-replicate}
+use lib.Seq.{getD-set-same, getD-set-other, set-getD}
+use borrow.Author.Tests.{lt-ltb, ltb-true, ltb-false, eq-eqb, ne-eqb, eqb-true, eqb-false, not-true}
 use Rattle.answers.specs.declared.Answer.the-variants as answer
 use Rattle.answers.specs.declared.Shown.{Shown}
-use Rattle.answers.specs.Number.{numberOf}
+use Rattle.answers.specs.Number.{numberOf, refusedShown}
 use Rattle.lists.specs.Lists.{every, isSome}
-use Rattle.lists.proofs.Bools.{no, true-T, not-so, by-cases, cond-case, every-head, every-tail}
+use Rattle.lists.proofs.Bools.{no, true-T, not-so, by-cases, cond-both, cond-case, every-head, every-tail}
 use Rattle.tables.specs.Calls.{showing}
 use Rattle.boards.specs.declared.Board.{Board}
 use Rattle.boards.specs.declared.PutRow.{PutRow}
 use Rattle.boards.specs.declared.ClearedRow.{ClearedRow}
 use Rattle.boards.specs.Boards.{rowCount, Row, emptyRow, shownRow, rowAt, emptyBoard, lengthIn, widestFrom, widestOf, righted, withRow, shownIn, putRow, clearRow}
-use Rattle.boards.specs.Runs.{Call, put, clear, rowNamed, handedBack, after, shownLeft, leaves, orElse, leftIn, lastLeft, isFilled, Reached, Greatest, Whole, Run, OneCall}
+use Rattle.boards.specs.Runs.{Call, put, clear, rowNamed, handedBack, answered, after, shownLeft, leaves, orElse, leftIn, lastLeft, isFilled, Reached, Greatest, Whole, Run, OneCall}
 use Rattle.boards.proofs.Widths.{none-longer, found-from}
 
 -- a width that is not 0 is that of a row that is filled, so with none of them it is 0
@@ -137,6 +137,32 @@ row-handed b w c i =
     (λ e. rw (sym (eqb-true (rowNamed c) i e)) (named-landed b w (rowNamed c) (leaves c) (left-there c)))
     (λ e. other-landed b (rowNamed c) (leaves c) i (λ q. eqb-false (rowNamed c) i e (sym q))))
 
+-- ---- the answer
+-- a call that leaves something is answered 0, and one that leaves nothing is not
+shown-answered : (s : Shown) (t : Bool) → t ≡ eqb (numberOf (s .answer)) 0 → isSome (cond t (some (shownRow s)) none) ≡ eqb (numberOf (s .answer)) 0
+unfolding isSome
+shown-answered s true e = e
+shown-answered s false e = e
+
+put-answered : (t : Bool) (b : Board) (k : ℕ) (s : Shown)
+    → isSome (cond t (shownLeft s) none)
+    ≡ eqb (numberOf (cond {A = PutRow} t (record { board = shownIn b k s; shown = s }) (record { board = b; shown = refusedShown answer.Row }) .shown .answer)) 0
+unfolding isSome shownLeft
+put-answered true b k s = shown-answered s (eqb (numberOf (s .answer)) 0) refl
+put-answered false b k s = refl
+
+clear-answered : (t : Bool) (b : Board) (k : ℕ)
+    → isSome (cond t (some emptyRow) none)
+    ≡ eqb (numberOf (cond {A = ClearedRow} t (record { board = withRow b k emptyRow; answer = answer.Done }) (record { board = b; answer = answer.Row }) .answer)) 0
+unfolding isSome
+clear-answered true b k = refl
+clear-answered false b k = refl
+
+left-answered : (b : Board) (c : Call) → isSome (leaves c) ≡ eqb (answered b c) 0
+unfolding leaves answered putRow clearRow
+left-answered b (put k table ask text size) = put-answered (ltb k rowCount) b k (showing table ask text size)
+left-answered b (clear k) = clear-answered (ltb k rowCount) b k
+
 one-landed : (b : Board) → Whole b → (k : ℕ) (o : Option Row)
     → (isSome o ≡ true → Greatest (landed b k o)) × (isSome o ≡ false → landed b k o ≡ b)
 unfolding isSome
@@ -146,7 +172,13 @@ one-landed b w k (some row) = ((λ e. greatest-with b w k row), (λ e. no (sym e
 pub one-call : (b : Board) → Whole b → (c : Call) → OneCall b c
 one-call b w c =
     let o = one-landed b w (rowNamed c) (leaves c) in
-    record { righted = λ e. rw (handed-landed b c) (o .0 e); refused = λ e. handed-landed b c ∙ o .1 e }
+    let a = left-answered b c in
+    record {
+      accepted = a;
+      righted = λ e. rw (handed-landed b c) (o .0 (a ∙ eq-eqb (answered b c) 0 e));
+      refused = λ d. handed-landed b c ∙ o .1 (a ∙ ne-eqb (answered b c) 0 d);
+      rows = row-handed b w c;
+    }
 
 -- ---- runs of calls
 whole-after : (b : Board) → Whole b → (cs : List Call) → Whole (after b cs)
@@ -176,6 +208,55 @@ other-after b (c ∷ cs) i t =
     other-after (handedBack b c) cs i (every-tail _ c cs t)
     ∙ rw (handed-landed b c) (other-landed b (rowNamed c) (leaves c) i (λ q. eqb-false (rowNamed c) i d (sym q)))
 
+-- ---- rows that are not filled
+-- such a row has its one spelling
+abbrev Spelled : Row → Type 0
+Spelled row = isFilled row ≡ false → row ≡ emptyRow
+
+shown-spelled : (row : Row) → Spelled row → (s : Shown) → Spelled (orElse (shownLeft s) row)
+unfolding shownLeft orElse isFilled
+shown-spelled row p s = cond-both (λ (o : Option Row). Spelled (orElse o row)) (eqb (numberOf (s .answer)) 0) (λ e. no (sym e)) p
+
+left-spelled : (row : Row) → Spelled row → (c : Call) → Spelled (orElse (leaves c) row)
+unfolding leaves orElse
+left-spelled row p (put k table ask text size) =
+    cond-both (λ (o : Option Row). Spelled (orElse o row)) (ltb k rowCount) (shown-spelled row p (showing table ask text size)) p
+left-spelled row p (clear k) = cond-both (λ (o : Option Row). Spelled (orElse o row)) (ltb k rowCount) (λ e. refl) p
+
+last-spelled : (k : ℕ) (row : Row) → Spelled row → (cs : List Call) → Spelled (lastLeft k row cs)
+unfolding lastLeft leftIn
+last-spelled k row p [] = p
+last-spelled k row p (c ∷ cs) = last-spelled k (leftIn k row c) (cond-both Spelled (eqb (rowNamed c) k) (left-spelled row p c) p) cs
+
+-- a board whose width is what is counted; so it is after every call that is done
+abbrev Counted : Board → Type 0
+Counted b = b .widest ≡ widestOf (b .filled) (b .length)
+
+counted-landed : (b : Board) → Counted b → (k : ℕ) (o : Option Row) → Counted (landed b k o)
+unfolding withRow righted
+counted-landed b e k none = e
+counted-landed b e k (some row) = refl
+
+counted-after : (b : Board) → Counted b → (cs : List Call) → Counted (after b cs)
+unfolding after
+counted-after b e [] = e
+counted-after b e (c ∷ cs) = counted-after (handedBack b c) (rw (handed-landed b c) (counted-landed b e (rowNamed c) (leaves c))) cs
+
+-- emptying an empty row changes nothing there
+kept : (b : Board) → Counted b → (k : ℕ) → rowAt b k ≡ emptyRow → withRow b k emptyRow ≡ b
+unfolding withRow righted
+kept b e k r =
+    let filled : set (b .filled) k 0 ≡ b .filled = ap (λ (row : Row). set (b .filled) k (row .filled)) (sym r) ∙ set-getD (b .filled) k 0 in
+    let lengths : set (b .length) k 0 ≡ b .length = ap (λ (row : Row). set (b .length) k (row .length)) (sym r) ∙ set-getD (b .length) k 0 in
+    let colours : set (b .colour) k 0 ≡ b .colour = ap (λ (row : Row). set (b .colour) k (row .colour)) (sym r) ∙ set-getD (b .colour) k 0 in
+    (λ j. record { filled = filled j; length = lengths j; colour = colours j; widest = widestOf (filled j) (lengths j) })
+    ∙ (λ j. record { filled = b .filled; length = b .length; colour = b .colour; widest = sym e j })
+
+clear-kept : (b : Board) → Counted b → (k : ℕ) → k < rowCount → rowAt b k ≡ emptyRow
+    → clearRow b k ≡ record { board = b; answer = answer.Done }
+unfolding clearRow
+clear-kept b e k h r = rw (lt-ltb k rowCount h, kept b e k r)
+
 -- ---- from the empty board
 empty-whole : Whole emptyBoard
 empty-whole = record { filled = refl; lengths = refl; colours = refl }
@@ -188,10 +269,23 @@ empty-greatest =
 empty-row : (i : ℕ) → i < rowCount → rowAt emptyBoard i ≡ emptyRow
 empty-row i h = rw (getD-replicate {A = ℕ} rowCount i 0 0 h)
 
-pub run-of : (cs : List Call) → Run cs
-run-of cs =
-    record {
-      width = greatest-after emptyBoard empty-whole empty-greatest cs;
-      rows = λ k h. row-after emptyBoard empty-whole cs k ∙ ap (λ (row : Row). lastLeft k row cs) (empty-row k h);
-      others = λ b k e. other-after b cs k (true-T e);
-    }
+empty-counted : Counted emptyBoard
+unfolding widestOf widestFrom lengthIn
+empty-counted = refl
+
+module _ (cs : List Call) where
+  rows-after : (k : ℕ) → k < rowCount → rowAt (after emptyBoard cs) k ≡ lastLeft k emptyRow cs
+  rows-after k h = row-after emptyBoard empty-whole cs k ∙ ap (λ (row : Row). lastLeft k row cs) (empty-row k h)
+
+  spelled-after : (k : ℕ) → k < rowCount → Spelled (rowAt (after emptyBoard cs) k)
+  spelled-after k h = rw (rows-after k h) (last-spelled k emptyRow (λ e. refl) cs)
+
+  pub run-of : Run cs
+  run-of =
+      record {
+        width = greatest-after emptyBoard empty-whole empty-greatest cs;
+        rows = rows-after;
+        others = λ b k e. other-after b cs k (true-T e);
+        spelled = spelled-after;
+        cleared = λ k h e. clear-kept (after emptyBoard cs) (counted-after emptyBoard empty-counted cs) k h (spelled-after k h e);
+      }

@@ -1,4 +1,4 @@
--- What is handed back: a row stored and the width counted; of a put, by its row and by what its show answers.
+-- What is handed back: a row stored and the width counted; of a clear, by its row; of a put, by its row and by what its show answers.
 -- Assumes nothing.
 use Prim.Native.Nat.{ℕ, _≤_, _<_}
 use mathlib.Core.Path.{_≡_, sym, _∙_}
@@ -12,7 +12,8 @@ use Rattle.values.specs.declared.Ask.{Ask}
 use Rattle.tables.specs.Calls.{showing, roomAfter}
 use Rattle.boards.specs.declared.Board.{Board}
 use Rattle.boards.specs.declared.PutRow.{PutRow}
-use Rattle.boards.specs.Boards.{rowCount, Row, shownRow, widestOf, righted, withRow, shownIn, putRow, roomPut}
+use Rattle.boards.specs.declared.ClearedRow.{ClearedRow}
+use Rattle.boards.specs.Boards.{rowCount, Row, emptyRow, shownRow, widestOf, righted, withRow, shownIn, putRow, roomPut, clearRow}
 
 -- a board with its row stored and its width counted
 pub with-width : (b : Board) (k : ℕ) (row : Row) {w : ℕ} → w ≡ widestOf (set (b .filled) k (row .filled)) (set (b .length) k (row .length))
@@ -21,6 +22,16 @@ pub with-width : (b : Board) (k : ℕ) (row : Row) {w : ℕ} → w ≡ widestOf 
     (withRow b k row)
 unfolding withRow righted
 with-width b k row e = rw e
+
+module _ (b : Board) (k : ℕ) where
+  pub clear-refused : rowCount ≤ k → _≡_ {A = ClearedRow} (record { board = b; answer = answer.Row }) (clearRow b k)
+  unfolding clearRow
+  clear-refused h = rw (le-ltb k rowCount h)
+
+  pub clear-done : k < rowCount → {r : Board} → r ≡ withRow b k emptyRow
+      → _≡_ {A = ClearedRow} (record { board = r; answer = answer.Done }) (clearRow b k)
+  unfolding clearRow
+  clear-done inside h = rw (lt-ltb k rowCount inside, h)
 
 -- the room is as showing leaves it, where the row is one of the sixty-four; else as it was
 pub room-kept : (k : ℕ) (table : List ℕ) (ask : Ask) (text old : List ℕ) → rowCount ≤ k → old ≡ roomPut k table ask text old

@@ -8,6 +8,7 @@ use mathlib.Core.List.{List, [], _∷_}
 use mathlib.Core.Option.{Option, none, some}
 use lib.Dec.{eqb, ltb}
 use lib.ListN.{length}
+use Rattle.answers.specs.declared.Answer.the-variants as answer
 use Rattle.answers.specs.declared.Shown.{Shown}
 use Rattle.answers.specs.Number.{numberOf}
 use Rattle.values.specs.declared.Ask.{Ask}
@@ -29,6 +30,11 @@ rowNamed (clear k) = k
 unfoldable pub handedBack : Board → Call → Board
 handedBack b (put k table ask text size) = putRow b k table ask text size .board
 handedBack b (clear k) = clearRow b k .board
+
+-- the number of the answer that a call hands back
+unfoldable pub answered : Board → Call → ℕ
+answered b (put k table ask text size) = numberOf (putRow b k table ask text size .shown .answer)
+answered b (clear k) = numberOf (clearRow b k .answer)
 
 -- the board after a run of calls
 unfoldable pub after : Board → List Call → Board
@@ -80,13 +86,20 @@ pub record Whole (b : Board) : Type 0 where
   pub lengths : length (b .length) ≡ rowCount
   pub colours : length (b .colour) ≡ rowCount
 
--- what holds after a run of calls, from the empty board, and of other rows from any board
+-- what holds after a run of calls, from the empty board, and of other rows from any board. Of a row that is not filled there: it has an
+-- empty row's one spelling (R148), and clearing it changes nothing (R151).
 pub record Run (cs : List Call) : Type 0 where
   pub width : Greatest (after emptyBoard cs)
   pub rows : (k : ℕ) → k < rowCount → rowAt (after emptyBoard cs) k ≡ lastLeft k emptyRow cs
   pub others : (b : Board) (k : ℕ) → every (λ c. not (eqb (rowNamed c) k)) cs ≡ true → rowAt (after b cs) k ≡ rowAt b k
+  pub spelled : (k : ℕ) → k < rowCount → isFilled (rowAt (after emptyBoard cs) k) ≡ false → rowAt (after emptyBoard cs) k ≡ emptyRow
+  pub cleared : (k : ℕ) → k < rowCount → isFilled (rowAt (after emptyBoard cs) k) ≡ false
+      → clearRow (after emptyBoard cs) k ≡ record { board = after emptyBoard cs; answer = answer.Done }
 
--- one call on any board, made by hand too: accepted it puts the width right, whatever that was; refused it changes nothing
+-- one call on any board, made by hand too: what it leaves, it leaves exactly where it is answered 0; then the width is right, whatever it
+-- was; else nothing is changed; and a row has what the call left there, or what it had
 pub record OneCall (b : Board) (c : Call) : Type 0 where
-  pub righted : isSome (leaves c) ≡ true → Greatest (handedBack b c)
-  pub refused : isSome (leaves c) ≡ false → handedBack b c ≡ b
+  pub accepted : isSome (leaves c) ≡ eqb (answered b c) 0
+  pub righted : answered b c ≡ 0 → Greatest (handedBack b c)
+  pub refused : (answered b c ≡ 0 → ⊥) → handedBack b c ≡ b
+  pub rows : (k : ℕ) → rowAt (handedBack b c) k ≡ leftIn k (rowAt b k) c
