@@ -23,8 +23,8 @@
  *
  * What every call leaves: units of a table or room past the reported length
  * keep their contents; on a refusal all of them do. On a refusal every number
- * returned, but the answer and the place, is 0. What is lent as const is only
- * read. A refused put or clear hands the board back number for number.
+ * returned, but the answer, the place and a board, is 0; a refused put or clear
+ * hands the board back number for number. What is lent as const is only read.
  */
 #ifndef NUMFMT_H
 #define NUMFMT_H
@@ -68,7 +68,7 @@ extern "C" {
  * numfmt_section, 2,500 for the calls that show, 2,700 for those that ask why,
  * 4,900 for those that put a row, 2,300 for numfmt_board_clear and 300 for
  * numfmt_check, and 2,400 more where the loader first looks up the C library's
- * memset.
+ * memset or memcpy.
  */
 #define NUMFMT_STACK_BYTES 8192
 
