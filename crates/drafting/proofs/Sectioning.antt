@@ -8,7 +8,7 @@ use mathlib.Core.Bool.{Bool, true, false, cond}
 use mathlib.Core.List.{List, [], _∷_, _++_, map}
 use mathlib.Core.Option.{none}
 use lib.ListN.{length, take, drop, getD, set, length-append, length-take, length-drop, drop-of-length-le}
-use lib.Seq.{sets, take-all, drop-cons, drop-drop, getD-set-other, getD-take, getD-drop}
+use lib.Seq.{sets, length-sets, take-all, drop-cons, drop-drop, getD-set-other, getD-take, getD-drop}
 use lib.Dec.{T, ltb, eqb}
 use borrow.Author.Tests.{eqb-false, ltb-true}
 use mir.Val.{boolByte}
@@ -21,7 +21,7 @@ use Rattle.formats.specs.WellFormed.{itemsInAll}
 use Rattle.formats.proofs.ItemCount.{items-most}
 use Rattle.marks.specs.Marks.{tokensIn}
 use Rattle.writing.specs.Put.{Put, Rest}
-use Rattle.writing.proofs.Laws.{put-size, rest-start, rest-put, rest-done}
+use Rattle.writing.proofs.Laws.{rest-start, rest-put, rest-done}
 use Rattle.bodies.specs.Sections.{firstSection, laterSections, SectionEnd}
 use Rattle.marks.proofs.Words.{tokens-drop, tokens-take, tokens-length}
 use Rattle.bodies.proofs.Endings.{split-first}
@@ -52,16 +52,19 @@ kept-below : (vs ws : List ℕ) (at j : ℕ) → j < at → getD (sets ws at vs)
 kept-below [] ws at j h = refl
 kept-below (v ∷ vs) ws at j h = kept-below vs (set ws at v) (suc at) j (omega arith) ∙ getD-set-other ws at j v 0 (λ e. omega arith)
 
-module _ {ws out : List ℕ} {r : ℕ} (k : ℕ) (d : Draft) (put : Put ws (16 * k) (draftWords d) r out) where
+module _ (ws : List ℕ) {out : List ℕ} (k : ℕ) (d : Draft) (e : out ≡ sets ws (16 * k) (draftWords d)) where
+  put : Put ws (16 * k) (draftWords d) (16 * k + 16) out
+  put = record { next = refl; room = e }
+
   draft-kept : (i : ℕ) → i < k → draftIn out i ≡ draftIn ws i
   draft-kept i h =
-      let kept : (j : ℕ) → j < 16 * k → getD out j 0 ≡ getD ws j 0 = λ j l. rw (put .room) (kept-below (draftWords d) ws (16 * k) j l) in
+      let kept : (j : ℕ) → j < 16 * k → getD out j 0 ≡ getD ws j 0 = λ j l. rw e (kept-below (draftWords d) ws (16 * k) j l) in
       draft-same (kept (16 * i) (omega arith)) (λ j l. kept (j + 16 * i) (omega arith))
 
   draft-put : 16 * k + 16 ≤ length ws → draftIn out k ≡ d
   draft-put h =
       let read : (j at : ℕ) → at ≡ 16 * k + j → j < 16 → getD out at 0 ≡ getD (draftWords d) j 0
-      = λ j at e l. rw (e, ← getD-drop (16 * k) out j 0, ← getD-take (r - 16 * k) (drop (16 * k) out) j 0 (omega (arith, put .next)), put-read put h) in
+      = λ j at a l. rw (a, ← getD-drop (16 * k) out j 0, ← getD-take (16 * k + 16 - 16 * k) (drop (16 * k) out) j 0 (omega arith), put-read put h) in
       draft-same (read 0 (16 * k) (omega arith) (omega arith)) (λ j l. read j (j + 16 * k) (omega arith) l) ∙ draft-back d
 
 -- ---- the items' words of all sections
@@ -196,18 +199,18 @@ module _ {code words old room ds : List ℕ} {n first at k : ℕ} (inv : Section
       pub next-items : at + 2 * d .body .items ≤ 508
       next-items = omega (arith, put .next, next-asks .1 .0, inv .rest .size, inv .wide)
 
-      pub sectioning-step : {ds′ : List ℕ} {r : ℕ} → Put ds (16 * k) (draftWords d) r ds′ → Sectioning code words old out ds′ n (first + (size + 1)) (at + 2 * d .body .items) (k + 1)
+      pub sectioning-step : {ds′ : List ℕ} → ds′ ≡ sets ds (16 * k) (draftWords d) → Sectioning code words old out ds′ n (first + (size + 1)) (at + 2 * d .body .items) (k + 1)
       sectioning-step {ds′} x = rw (add-one k) (record {
         small = inv .small;
         words-small = inv .words-small;
         few = inv .few;
         lexes = inv .lexes;
         inside = omega arith;
-        size = put-size x ∙ inv .size;
+        size = rw x (length-sets ds (16 * k) (draftWords d)) ∙ inv .size;
         wide = inv .wide;
         place = λ l. rw same (place-behind l);
         tokens = λ l. rw same (tokens-behind l);
-        done = drafted-next ps ds ds′ 0 k k (omega arith) (inv .done) more (draft-kept k d x) (subst (DraftOf (getD ps k noParts)) (sym (draft-put k d x (omega (arith, inv .size, inv .few)))) (rw (here, ← part) drafted));
+        done = drafted-next ps ds ds′ 0 k k (omega arith) (inv .done) more (draft-kept ds k d x) (subst (DraftOf (getD ps k noParts)) (sym (draft-put ds k d x (omega (arith, inv .size, inv .few)))) (rw (here, ← part) drafted));
         rest = rest-put (rw words-here at (inv .rest)) (rw part at put);
       })
 

@@ -1,38 +1,35 @@
 // The words of drafts in a lent room, sixteen a section.
 use super::Body;
 use super::Draft;
-use writing::put_units;
 ghost use mathlib.Core.Path.{_≡_};
 ghost use Prim.Native.Nat.{_*_, _≤_};
 ghost use lib.ListN.{length};
-ghost use Rattle.writing.specs.Put.{Put};
+ghost use lib.Seq.{sets};
 ghost use Rattle.drafting.specs.Draft.{draftWords, draftIn};
 
-// Puts the draft of section k.
-pub fn put_draft(room: &mut [u16], k: usize, d: Draft) -> usize
-    requires { ⌜ k ≤ 3 ⌝ }
-    ensures { λ r. ⌜ Put (now (room .entry)) (16 * k) (draftWords d) r (now (room .exit)) ⌝ }
+// Puts the draft of section k. Each word has its place in the room, so that none is tested against the room's end.
+pub fn put_draft(room: &mut [u16], k: usize, d: Draft)
+    requires { ⌜ (k ≤ 3) × (length (now room) ≡ 64) ⌝ }
+    ensures { λ _. ⌜ now (room .exit) ≡ sets (now (room .entry)) (16 * k) (draftWords d) ⌝ }
 {
+    let a = 16 * k;
     let b = d.body;
-    let words = [
-        d.colour,
-        d.operator,
-        d.negative as u16,
-        d.whole_low,
-        d.whole_high,
-        d.millionths_low,
-        d.millionths_high,
-        d.within as u16,
-        b.fits as u16,
-        b.within as u16,
-        b.kind,
-        b.shift,
-        b.grouped as u16,
-        b.twelve as u16,
-        b.decimals,
-        b.items,
-    ];
-    put_units(room, 16 * k, &words)
+    room[a] = d.colour;
+    room[1 + a] = d.operator;
+    room[2 + a] = d.negative as u16;
+    room[3 + a] = d.whole_low;
+    room[4 + a] = d.whole_high;
+    room[5 + a] = d.millionths_low;
+    room[6 + a] = d.millionths_high;
+    room[7 + a] = d.within as u16;
+    room[8 + a] = b.fits as u16;
+    room[9 + a] = b.within as u16;
+    room[10 + a] = b.kind;
+    room[11 + a] = b.shift;
+    room[12 + a] = b.grouped as u16;
+    room[13 + a] = b.twelve as u16;
+    room[14 + a] = b.decimals;
+    room[15 + a] = b.items;
 }
 
 // The draft of section k.

@@ -75,7 +75,7 @@ draft-all-spec =
     (λ c. omega (arith, size c))
     (λ c. sym (length-take-le _ _ (c .before .section-end .ensures .inside)))
     draft-section-requires
-    (λ c κs. few (c .before .before .before .before .before .before .before .before))
+    (λ c κs. let t = c .before .before .before .before .before .before .before .before in (few t, t .before .loop .inv .size))
     (λ c. search needs)
     (λ c. omega (arith, items (drafted c)))
     (λ c. omega (arith, items (drafted c)))
