@@ -22,7 +22,7 @@ use Rattle.formats.proofs.ItemCount.{section-count}
 use Rattle.marks.specs.Marks.{tokensIn}
 use Rattle.lexing.specs.declared.buffer.Filled.the-variants.{All, Bad}
 use Rattle.lexing.specs.declared.buffer.Filled.{Filled}
-use Rattle.lexing.specs.Buffer.{lexMeant, countOf, Fills, semicolonsIn}
+use Rattle.lexing.specs.Buffer.{lexMeant, countOf, semicolonsOf, Fills, semicolonsIn}
 use Rattle.lexing.proofs.Semicolons.{semicolons-in}
 use Rattle.writing.proofs.Laws.{put-size}
 use Rattle.examining.specs.declared.Examined.{Examined}
@@ -127,14 +127,18 @@ token-inside code k e = token-refused code k e .inside
 
 -- what filling left
 module _ (code old words : List ℕ) (r : Filled) (f : Fills code old words r) where
-  pub filled-few : (n : ℕ) → r ≡ All n → n ≤ length code
+  pub filled-few : (n k : ℕ) → r ≡ All n k → n ≤ length code
   unfolding countOf
-  filled-few n e = rw e at (f .few)
+  filled-few n k e = rw e at (f .few)
 
-  pub filled-all : (n : ℕ) → r ≡ All n → length code ≤ 254 → length old ≡ 762 → lengthVerdict code ≡ fine → Buffered code (take (3 * n) words) n
+  pub filled-count : (n k : ℕ) → r ≡ All n k → k ≡ length (semicolonsIn (take (3 * n) (take (3 * n) words)))
+  unfolding countOf semicolonsOf
+  filled-count n k e = rw (take-take (3 * n) (3 * n) words (omega arith)) (rw e at (f .counted))
+
+  pub filled-all : (n k : ℕ) → r ≡ All n k → length code ≤ 254 → length old ≡ 762 → lengthVerdict code ≡ fine → Buffered code (take (3 * n) words) n
   unfolding lexMeant
-  filled-all n e small wide fair =
-      let few = filled-few n e in
+  filled-all n k e small wide fair =
+      let few = filled-few n k e in
       record {
         size = length-take-le (3 * n) words (omega (arith, f .size));
         few = omega arith;

@@ -5,16 +5,16 @@ use answers::Answer;
 use drafting::sections::draft_all;
 use lexing::buffer::Filled;
 use lexing::buffer::fill;
-use lexing::buffer::semicolon_count;
 use lexing::buffer::semicolon_place;
 use verdicts::KIND;
 use verdicts::LIMIT;
 use verdicts::STANDING;
 use verdicts::first_failing;
 ghost use mathlib.Core.Path.{_≡_};
-ghost use Prim.Native.Nat.{_≤_};
-ghost use lib.ListN.{length};
+ghost use Prim.Native.Nat.{_*_, _≤_};
+ghost use lib.ListN.{length, take};
 ghost use Rattle.formats.specs.Accept.{verdict};
+ghost use Rattle.lexing.specs.Buffer.{semicolonsIn};
 ghost use Rattle.drafting.specs.Draft.{Lexes};
 ghost use Rattle.examining.specs.Examine.{sectionsVerdict, Buffered, ExaminedAs};
 
@@ -76,19 +76,20 @@ fn examine_sections(
     }
 }
 
-// The tests from 3 on of a code whose `count` tokens these are.
+// The tests from 3 on of a code whose `count` tokens these are, `semicolons` of them semicolons.
 fn examine_tokens(
     code: &[u16],
     tokens: &[u16],
     count: usize,
+    semicolons: usize,
     items: &mut [u16],
     drafts: &mut [u16],
 ) -> Examined
     requires { ⌜ (length (now items) ≡ 508) × (length (now drafts) ≡ 64) ⌝ }
     requires { ⌜ Buffered (now code) (now tokens) count ⌝ }
+    requires { ⌜ semicolons ≡ length (semicolonsIn (take (3 * count) (now tokens))) ⌝ }
     ensures { λ r. ⌜ ExaminedAs (now (code .entry)) (now (tokens .entry)) r (now (items .exit)) (now (drafts .exit)) ⌝ }
 {
-    let semicolons = semicolon_count(tokens, count);
     if 3 < semicolons {
         let place = semicolon_place(tokens, count, 3);
         return refused(Answer::SectionCount, place as u32);
@@ -108,9 +109,9 @@ pub fn examine(code: &[u16], tokens: &mut [u16], items: &mut [u16], drafts: &mut
         return refused(Answer::CodeLength, 0);
     }
     match fill(code, tokens) {
-        Filled::All(count) => {
+        Filled::All(count, semicolons) => {
             let end = 3 * count;
-            examine_tokens(code, &tokens[..end], count, items, drafts)
+            examine_tokens(code, &tokens[..end], count, semicolons, items, drafts)
         }
         Filled::Bad(k) => refused(Answer::Token, k as u32),
     }

@@ -9,14 +9,14 @@ use lib.ListN.{length, take, drop, getD, length-append, drop-of-length-le}
 use lib.Seq.{sets, sets-eq, length-sets, take-at, length-take-le, drop-cons}
 use Rattle.formats.specs.Tokens.{Token, read, broken, stepAt, Placed, Lexed, good, bad, onto, lexFrom, lex}
 use Rattle.formats.specs.Starts.{StepIs}
-use Rattle.formats.specs.Accept.{placedOf}
 use Rattle.formats.proofs.Lexing.{lex-front, lex-front-broken, read-inside}
 use Rattle.lexing.specs.declared.Mark.{Mark}
 use Rattle.lexing.specs.declared.Step.the-variants.{Read, Broken}
 use Rattle.lexing.specs.declared.buffer.Filled.the-variants.{All, Bad}
 use Rattle.marks.specs.Marks.{tokenAt, placedIn}
 use Rattle.lexing.specs.Marks.{stepBehind, stepMeant}
-use Rattle.lexing.specs.Buffer.{lexMeant}
+use Rattle.lexing.specs.Buffer.{lexMeant, semicolonsIn}
+use Rattle.lexing.proofs.Semicolons.{count-hit, count-miss}
 
 -- ---- one more token
 placed-append : (code : List ℕ) (n : ℕ) (xs : List ℕ) (f a s : ℕ) → length xs ≡ 3 * n
@@ -51,23 +51,27 @@ unfolding ontoAll onto
 onto-all ps p (good qs) = ap good (sym (append-assoc ps (p ∷ []) qs))
 onto-all ps p (bad k) = refl
 
--- what the loop keeps: the lexing of the whole is the n tokens in the words, and then that of what is left from `at` on
-pub record Filling (code words : List ℕ) (room at n : ℕ) : Type 0 where
+-- what the loop keeps: the lexing of the whole is the n tokens in the words, k of them semicolons, and then that of what is left from `at` on
+pub record Filling (code words : List ℕ) (room at n k : ℕ) : Type 0 where
   pub small : length code ≤ 254
   pub wide : 762 ≤ room
   pub size : length words ≡ room
   pub inside : at ≤ length code
   pub few : n ≤ at
+  pub fewer : k ≤ n
+  pub counted : k ≡ length (semicolonsIn (take (3 * n) words))
   pub same : lex code ≡ ontoAll (placedIn code (take (3 * n) words)) (lexFrom at 0 (drop at code))
 
-pub filling-start : (code words : List ℕ) → length code ≤ 254 → 762 ≤ length words → Filling code words (length words) 0 0
-unfolding lex placedIn ontoAll
+pub filling-start : (code words : List ℕ) → length code ≤ 254 → 762 ≤ length words → Filling code words (length words) 0 0 0
+unfolding lex placedIn ontoAll semicolonsIn
 filling-start code words h w = record {
   small = h;
   wide = w;
   size = refl;
   inside = omega arith;
   few = omega arith;
+  fewer = omega arith;
+  counted = refl;
   same = go (lexFrom 0 0 code);
 }
   where
@@ -75,8 +79,8 @@ filling-start code words h w = record {
     go (good ps) = refl
     go (bad k) = refl
 
-module _ (code words : List ℕ) (room at n : ℕ) (inv : Filling code words room at n) where
-  pub filling-end : length code ≤ at → lexMeant code words (All n) ≡ lex code
+module _ (code words : List ℕ) (room at n k : ℕ) (inv : Filling code words room at n k) where
+  pub filling-end : length code ≤ at → lexMeant code words (All n k) ≡ lex code
   unfolding lexMeant ontoAll lexFrom
   filling-end h = sym (inv .same ∙ rw (drop-of-length-le code h) (ap good (append-nil _)))
 
@@ -101,13 +105,18 @@ module _ (code words : List ℕ) (room at n : ℕ) (inv : Filling code words roo
       front : lexFrom at 0 (drop at code) ≡ onto (record { token = token; start = at }) (lexFrom (at + (more + 1)) 0 (drop (at + (more + 1)) code))
       front = rw (add-one more) (lex-front code at token more here)
 
-      pub filling-step : Filling code (sets words (3 * n) (m .form ∷ m .argument ∷ at ∷ [])) room (at + (more + 1)) (n + 1)
-      filling-step = record {
+      abbrev filled : List ℕ
+      filled = sets words (3 * n) (m .form ∷ m .argument ∷ at ∷ [])
+
+      filling-step : (j : ℕ) → j ≤ n + 1 → j ≡ length (semicolonsIn (take (3 * (n + 1)) filled)) → Filling code filled room (at + (more + 1)) (n + 1) j
+      filling-step j most told = record {
         small = inv .small;
         wide = inv .wide;
         size = length-sets words (3 * n) (m .form ∷ m .argument ∷ at ∷ []) ∙ inv .size;
         inside = filling-inside;
         few = omega arith;
+        fewer = most;
+        counted = told;
         same =
             inv .same ∙ ap (ontoAll (placedIn code (take (3 * n) words))) front
             ∙ onto-all (placedIn code (take (3 * n) words)) _ _
@@ -115,7 +124,18 @@ module _ (code words : List ℕ) (room at n : ℕ) (inv : Filling code words roo
             (sym (placed-put code words n (m .form) (m .argument) at (omega arith)));
       }
 
--- the tokens of a code, from a buffer that holds them all
-pub placed-all : (code words : List ℕ) (n : ℕ) → lexMeant code words (All n) ≡ lex code → placedIn code (take (3 * n) words) ≡ placedOf (lex code)
-unfolding lexMeant placedOf
-placed-all code words n e = ap placedOf e
+      put-last : length (semicolonsIn (take (3 * (n + 1)) filled)) ≡ length (semicolonsIn (take (3 * n) words ++ (m .form ∷ m .argument ∷ at ∷ [])))
+      put-last = ap (λ (ws : List ℕ). length (semicolonsIn ws)) (taken-put code words n (m .form) (m .argument) at (omega arith))
+
+      front-length : length (take (3 * n) words) ≡ 3 * n
+      front-length = length-take-le (3 * n) words (omega arith)
+
+      pub filling-hit : m .form ≡ 11 → Filling code filled room (at + (more + 1)) (n + 1) (k + 1)
+      filling-hit e =
+          filling-step (k + 1) (omega arith)
+          (omega (arith, inv .counted, put-last, count-hit n (take (3 * n) words) (m .form) (m .argument) at front-length e))
+
+      pub filling-miss : (m .form ≡ 11 → ⊥) → Filling code filled room (at + (more + 1)) (n + 1) k
+      filling-miss e =
+          filling-step k (omega arith)
+          (omega (arith, inv .counted, put-last, count-miss n (take (3 * n) words) (m .form) (m .argument) at front-length e))

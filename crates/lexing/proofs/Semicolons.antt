@@ -1,21 +1,18 @@
--- Laws of the semicolons of a buffer: they are those of its tokens, and what the loops over them keep.
+-- Laws of the semicolons of a buffer: they are those of its tokens, what one more token adds, and what the loop that looks for one keeps.
 -- Assumes nothing.
 use Prim.Native.Nat.{ℕ, zero, suc, _+_, _-_, _*_, _≤_, _<_}
 use mathlib.Core.Path.{_≡_, refl, sym, ap, _∙_}
-use mathlib.Core.List.{List, [], _∷_}
+use mathlib.Core.List.{List, [], _∷_, _++_}
 use native.Mathlib.Omega.{arith}
 use borrow.Author.Tests.{eq-eqb, ne-eqb}
 use lib.Dec.{eqb}
-use lib.ListN.{length, take, drop, getD, drop-of-length-le}
+use lib.ListN.{length, take, drop, getD, length-append, drop-of-length-le}
 use lib.Seq.{drop-cons, getD-take, length-take-le}
 use Rattle.lists.proofs.Bools.{by-cases}
-use Rattle.formats.specs.Tokens.{lex}
-use Rattle.formats.specs.Accept.{placedOf, semicolons}
-use Rattle.lexing.specs.declared.buffer.Filled.the-variants.{All}
+use Rattle.formats.specs.Accept.{semicolons}
 use Rattle.marks.specs.Marks.{tokenAt, placedIn}
 use Rattle.marks.proofs.ByForm.{semicolon-form}
-use Rattle.lexing.specs.Buffer.{lexMeant, semicolonsIn}
-use Rattle.lexing.proofs.Filling.{placed-all}
+use Rattle.lexing.specs.Buffer.{semicolonsIn}
 
 pub semicolons-in : (code words : List ℕ) → semicolons (placedIn code words) ≡ semicolonsIn words
 unfolding semicolons placedIn semicolonsIn tokenAt
@@ -27,9 +24,29 @@ semicolons-in code (f ∷ a ∷ s ∷ ws) =
     (λ e. rw (semicolon-form f a (drop (suc s) code), e) (ap (λ (ks : List ℕ). s ∷ ks) (semicolons-in code ws)))
     (λ e. rw (semicolon-form f a (drop (suc s) code), e) (semicolons-in code ws))
 
--- the semicolons of a code, from a buffer that holds all its tokens
-pub semicolons-all : (code words : List ℕ) (n : ℕ) → lexMeant code words (All n) ≡ lex code → semicolonsIn (take (3 * n) words) ≡ semicolons (placedOf (lex code))
-semicolons-all code words n e = sym (semicolons-in code (take (3 * n) words)) ∙ ap semicolons (placed-all code words n e)
+-- ---- one more token
+semicolons-append : (n : ℕ) (xs ys : List ℕ) → length xs ≡ 3 * n → semicolonsIn (xs ++ ys) ≡ semicolonsIn xs ++ semicolonsIn ys
+unfolding semicolonsIn
+semicolons-append zero [] ys h = refl
+semicolons-append zero (x ∷ xs) ys h = absurd (omega arith)
+semicolons-append (suc n) [] ys h = absurd (omega arith)
+semicolons-append (suc n) (x ∷ []) ys h = absurd (omega arith)
+semicolons-append (suc n) (x ∷ y ∷ []) ys h = absurd (omega arith)
+semicolons-append (suc n) (x ∷ y ∷ z ∷ xs) ys h =
+    let rest = semicolons-append n xs ys (omega arith) in
+    by-cases (eqb x 11) (λ e. rw e (ap (λ (ks : List ℕ). z ∷ ks) rest)) (λ e. rw e rest)
+
+module _ (n : ℕ) (xs : List ℕ) (f a s : ℕ) (h : length xs ≡ 3 * n) where
+  one-more : length (semicolonsIn (xs ++ (f ∷ a ∷ s ∷ []))) ≡ length (semicolonsIn xs) + length (semicolonsIn (f ∷ a ∷ s ∷ []))
+  one-more = ap length (semicolons-append n xs (f ∷ a ∷ s ∷ []) h) ∙ length-append (semicolonsIn xs) (semicolonsIn (f ∷ a ∷ s ∷ []))
+
+  pub count-hit : f ≡ 11 → length (semicolonsIn (xs ++ (f ∷ a ∷ s ∷ []))) ≡ length (semicolonsIn xs) + 1
+  unfolding semicolonsIn
+  count-hit e = one-more ∙ rw (eq-eqb f 11 e)
+
+  pub count-miss : (f ≡ 11 → ⊥) → length (semicolonsIn (xs ++ (f ∷ a ∷ s ∷ []))) ≡ length (semicolonsIn xs)
+  unfolding semicolonsIn
+  count-miss e = one-more ∙ rw (ne-eqb f 11 e) (omega arith)
 
 -- ---- at token i of the n
 module _ (words : List ℕ) (n i : ℕ) (fits : 3 * n ≤ length words) where
@@ -65,34 +82,7 @@ module _ (words : List ℕ) (n i : ℕ) (fits : 3 * n ≤ length words) where
     unfolding semicolonsIn
     semi-miss e = rw (front, ne-eqb (getD words (3 * i) 0) 11 e)
 
--- ---- the loops
--- what counting keeps: those counted, and those from token i on
-pub record Counting (words : List ℕ) (n count i : ℕ) : Type 0 where
-  pub fits : 3 * n ≤ length words
-  pub inside : i ≤ n
-  pub few : count ≤ i
-  pub same : length (semicolonsIn (take (3 * n) words)) ≡ count + length (semicolonsIn (drop (3 * i) (take (3 * n) words)))
-
-pub counting-start : (words : List ℕ) (n : ℕ) → 3 * n ≤ length words → Counting words n 0 0
-counting-start words n h = record { fits = h; inside = omega arith; few = omega arith; same = omega arith }
-
-module _ (words : List ℕ) (n count i : ℕ) (inv : Counting words n count i) where
-  pub counting-hit : i < n → getD words (3 * i) 0 ≡ 11 → Counting words n (count + 1) (i + 1)
-  counting-hit h e =
-      let hit = ap length (semi-hit words n i (inv .fits) h e) in
-      record { fits = inv .fits; inside = omega arith; few = omega arith; same = omega (arith, inv .same) }
-
-  pub counting-miss : i < n → (getD words (3 * i) 0 ≡ 11 → ⊥) → Counting words n count (i + 1)
-  counting-miss h e = record {
-    fits = inv .fits;
-    inside = omega arith;
-    few = omega arith;
-    same = inv .same ∙ ap (λ (ks : List ℕ). count + length ks) (semi-miss words n i (inv .fits) h e);
-  }
-
-  pub counting-end : n ≤ i → count ≡ length (semicolonsIn (take (3 * n) words))
-  counting-end h = let none = ap length (semi-end words n i (inv .fits) h) in omega (arith, inv .same)
-
+-- ---- the loop
 -- what looking for semicolon k keeps: it is `left` semicolons ahead of token i
 pub record Seeking (words : List ℕ) (n k left i : ℕ) : Type 0 where
   pub fits : 3 * n ≤ length words

@@ -13,19 +13,18 @@ use Rattle.marks.specs.Marks.{placedIn}
 
 -- the lexing of a code, from the words that filling left: all its tokens, or the place of the first broken one
 unfoldable pub lexMeant : List ℕ → List ℕ → Filled → Lexed
-lexMeant code words (All n) = good (placedIn code (take (3 * n) words))
+lexMeant code words (All n k) = good (placedIn code (take (3 * n) words))
 lexMeant code words (Bad k) = bad k
 
 -- how many tokens the words hold
 unfoldable pub countOf : Filled → ℕ
-countOf (All n) = n
+countOf (All n k) = n
 countOf (Bad k) = 0
 
--- what filling leaves of a code in a run of words
-pub record Fills (code old words : List ℕ) (r : Filled) : Type 0 where
-  pub same : lexMeant code words r ≡ lex code
-  pub few : countOf r ≤ length code
-  pub size : length words ≡ length old
+-- how many semicolons were counted among them
+unfoldable pub semicolonsOf : Filled → ℕ
+semicolonsOf (All n k) = k
+semicolonsOf (Bad k) = 0
 
 -- the places of the semicolons of a buffer
 unfoldable pub semicolonsIn : List ℕ → List ℕ
@@ -33,3 +32,10 @@ semicolonsIn [] = []
 semicolonsIn (f ∷ []) = []
 semicolonsIn (f ∷ a ∷ []) = []
 semicolonsIn (f ∷ a ∷ s ∷ ws) = let r = semicolonsIn ws in cond (eqb f 11) (s ∷ r) r
+
+-- what filling leaves of a code in a run of words
+pub record Fills (code old words : List ℕ) (r : Filled) : Type 0 where
+  pub same : lexMeant code words r ≡ lex code
+  pub few : countOf r ≤ length code
+  pub counted : semicolonsOf r ≡ length (semicolonsIn (take (3 * countOf r) words))
+  pub size : length words ≡ length old

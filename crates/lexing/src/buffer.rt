@@ -10,9 +10,9 @@ ghost use lib.ListN.{length, take, getD};
 ghost use lib.Seq.{sets};
 ghost use Rattle.lexing.specs.Buffer.{Fills, semicolonsIn};
 
-// How many tokens there are, or the place of the first broken one.
+// How many tokens there are and how many of them are semicolons, or the place of the first broken one.
 pub enum Filled {
-    All(usize),
+    All(usize, usize),
     Bad(usize),
 }
 
@@ -29,43 +29,31 @@ fn put(tokens: &mut [u16], n: usize, m: Mark, start: u16)
     tokens[k] = start;
 }
 
-// Fills the run with the tokens of the code. 762 words are room for 254 tokens.
+// Fills the run with the tokens of the code. 762 words are room for 254 tokens. A byte counts their semicolons: with a usize
+// preparing takes 12 to 37 instructions more.
 pub fn fill(code: &[u16], tokens: &mut [u16]) -> Filled
     requires { ⌜ (length (now code) ≤ 254) × (762 ≤ length (now tokens)) ⌝ }
     ensures { λ r. ⌜ Fills (now (code .entry)) (now (tokens .entry)) (now (tokens .exit)) r ⌝ }
 {
     let mut at: usize = 0;
     let mut n: usize = 0;
+    let mut semicolons: u8 = 0;
     while at < code.len() {
         match next(code, at) {
             Step::Read(m, more) => {
                 put(tokens, n, m, at as u16);
                 n += 1;
                 at += more + 1;
+                if m.form == SEMICOLON {
+                    semicolons += 1;
+                }
             }
             Step::Broken => {
                 return Filled::Bad(at);
             }
         }
     }
-    Filled::All(n)
-}
-
-// How many of the n tokens are semicolons.
-pub fn semicolon_count(tokens: &[u16], n: usize) -> usize
-    requires { ⌜ (3 * n ≤ length (now tokens)) × (n ≤ 254) ⌝ }
-    ensures { λ r. ⌜ r ≡ length (semicolonsIn (take (3 * n) (now (tokens .entry)))) ⌝ }
-{
-    let mut count: usize = 0;
-    let mut i: usize = 0;
-    while i < n {
-        let word = 3 * i;
-        i += 1;
-        if tokens[word] == SEMICOLON {
-            count += 1;
-        }
-    }
-    count
+    Filled::All(n, semicolons as usize)
 }
 
 // The place of semicolon k of the n tokens, counted from 0, or 0.

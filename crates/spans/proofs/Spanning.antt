@@ -99,7 +99,14 @@ module _ (code : List ℕ) (sound : tokenVerdict (lex code) ≡ fine) where
       (λ t. rw t (place-inside n h))
 
 -- ---- from the tokens
-module _ (code tokens : List ℕ) (count n : ℕ) (b : Buffered code tokens count) (there : n ≤ length (semicolons (placedOf (lex code)))) where
+module _ (code tokens : List ℕ) (count last n : ℕ) (b : Buffered code tokens count)
+    (many : last ≡ length (semicolons (placedOf (lex code)))) (within : n ≤ last) where
+  there : n ≤ length (semicolons (placedOf (lex code)))
+  there = omega arith
+
+  pub last-counted : last ≡ length (semicolonsIn (take (3 * count) tokens))
+  last-counted = rw (places-same code tokens count b) many
+
   pub start-small : startBehind 0 n (semicolonsIn (take (3 * count) tokens)) ≤ 254
   start-small = rw (places-same code tokens count b) (omega (arith, start-inside code (token-fine code tokens count b) n there, b .small))
 
@@ -140,8 +147,8 @@ module _ (code : List ℕ) (n : ℕ) where
     unfolding sectionsIn
     many-sections = omega (arith, s .many, section-count code, length-map (partsIn code) sectionOf)
 
-    pub section-there : n < r .sections → n ≤ length (semicolons (placedOf (lex code)))
-    section-there h = omega (arith, many-sections)
+    pub last-section : r .sections - 1 ≡ length (semicolons (placedOf (lex code)))
+    last-section = omega (arith, many-sections)
 
     pub section-missing : verdict code ≡ fine → r .sections ≤ n → SpanIs code (sectionSpan n code) (record { start = 0; size = 0 })
     unfolding sectionSpan spanBy

@@ -1,7 +1,6 @@
 // Where the sections of a code stand in it.
 use answers::number;
 use examining::examine;
-use lexing::buffer::semicolon_count;
 use lexing::buffer::semicolon_place;
 ghost use mathlib.Core.Path.{_≡_};
 ghost use Prim.Native.Nat.{_+_, _*_, _≤_};
@@ -37,25 +36,26 @@ fn start_behind(tokens: &[u16], count: usize, n: usize) -> usize
     semicolon_place(tokens, count, n - 1) + 1
 }
 
-// The place of the semicolon behind section n, or the end of the code.
-fn end_before(tokens: &[u16], count: usize, n: usize, end: usize) -> usize
+// The place of the semicolon behind section n, or behind the last section the end of the code.
+fn end_before(tokens: &[u16], count: usize, last: usize, n: usize, end: usize) -> usize
     requires { ⌜ (3 * count ≤ length (now tokens)) × (count ≤ 254) ⌝ }
+    requires { ⌜ last ≡ length (semicolonsIn (take (3 * count) (now tokens))) ⌝ }
     ensures { λ r. ⌜ r ≡ endBefore end n (semicolonsIn (take (3 * count) (now (tokens .entry)))) ⌝ }
 {
-    if n < semicolon_count(tokens, count) {
+    if n < last {
         return semicolon_place(tokens, count, n);
     }
     end
 }
 
-// Where section n stands, which is there, of a code whose tokens these are.
-fn span_between(code: &[u16], tokens: &[u16], count: usize, n: usize) -> SectionSpan
+// Where section n stands, of a code whose tokens these are and whose last section is `last`.
+fn span_between(code: &[u16], tokens: &[u16], count: usize, last: usize, n: usize) -> SectionSpan
     requires { ⌜ Buffered (now code) (now tokens) count ⌝ }
-    requires { ⌜ n ≤ length (semicolons (placedOf (lex (now code)))) ⌝ }
+    requires { ⌜ (last ≡ length (semicolons (placedOf (lex (now code))))) × (n ≤ last) ⌝ }
     ensures { λ r. ⌜ SpanIs (now (code .entry)) (spanBy fine n (now (code .entry))) r ⌝ }
 {
     let start = start_behind(tokens, count, n);
-    let end = end_before(tokens, count, n, code.len());
+    let end = end_before(tokens, count, last, n, code.len());
     SectionSpan {
         start,
         size: end - start,
@@ -80,7 +80,7 @@ pub fn section_span(code: &[u16], n: usize) -> SectionSpan
         return empty_start();
     }
     let end = 3 * e.tokens;
-    span_between(code, &tokens[..end], e.tokens, n)
+    span_between(code, &tokens[..end], e.tokens, e.sections - 1, n)
 }
 
 // Section n of a code, as a part of it; of a refused code or a missing section the empty part at the start.

@@ -9,7 +9,7 @@ use lib.ListN.{length, take}
 use Rattle.formats.specs.Accept.{fine, lengthVerdict}
 use Rattle.lexing.specs.declared.buffer.Filled.the-variants.{All}
 use Rattle.examining.specs.Examine.{Buffered}
-use Rattle.examining.proofs.Answering.{examined-refused, examined-front, length-none, length-over, length-fair, filled-few, filled-all, filled-bad, token-inside}
+use Rattle.examining.proofs.Answering.{examined-refused, examined-front, length-none, length-over, length-fair, filled-few, filled-count, filled-all, filled-bad, token-inside}
 use borrow.Author.Needs.{needs}
 use Rattle.examining.proofs.examine.Statement.{statement}
 use Rattle.examining.proofs.examine.Tie as tie
@@ -25,12 +25,12 @@ module _ (f : tie.After-fill) where
   fair : lengthVerdict code ≡ fine
   fair = length-fair _ (f .before .before .before .if1 .left) small
 
-  module _ (n : ℕ) (e : f .fill .result ≡ All n) where
+  module _ (n k : ℕ) (e : f .fill .result ≡ All n k) where
     few : n ≤ length code
-    few = filled-few _ _ _ _ (f .fill .ensures) n e
+    few = filled-few _ _ _ _ (f .fill .ensures) n k e
 
     buffered : Buffered code (take (3 * n) (f .fill .last .1 .0)) n
-    buffered = filled-all _ _ _ _ (f .fill .ensures) n e small (f .before .before .before .before .before .before .before .before .pre .0) fair
+    buffered = filled-all _ _ _ _ (f .fill .ensures) n k e small (f .before .before .before .before .before .before .before .before .pre .0) fair
 
 returns : tie.Need-returns
 returns c = examined-refused _ _ _ _ _ _ _ (c .refused .ensures) refl (length-none _ (c .before .if1 .taken))
@@ -41,22 +41,22 @@ returns-2 c = examined-refused _ _ _ _ _ _ _ (c .refused2 .ensures) refl (length
 mul-end : tie.Need-mul-end
 mul-end c =
     let f = c .before .before .before .before .before in
-    omega (arith, few f _ (c .before .count .given .1), small f)
+    omega (arith, few f _ _ (c .before .count .given .1), small f)
 
 slice-reshare-prefix-examine-tokens : tie.Need-slice-reshare-prefix-examine-tokens
 slice-reshare-prefix-examine-tokens c =
     let f = c .before .before .before .before .before in
-    omega (arith, few f _ (c .before .count .given .1), small f, f .fill .ensures .size, f .before .before .before .before .before .before .before .before .pre .0)
+    omega (arith, few f _ _ (c .before .count .given .1), small f, f .fill .ensures .size, f .before .before .before .before .before .before .before .before .pre .0)
 
 slice-aggregate-examine-tokens : tie.Need-slice-aggregate-examine-tokens
-slice-aggregate-examine-tokens c = sym (buffered (c .before .before .before .before .before .before) _ (c .before .before .count .given .1) .size)
+slice-aggregate-examine-tokens c = sym (buffered (c .before .before .before .before .before .before) _ _ (c .before .before .count .given .1) .size)
 
 examine-tokens-requires : tie.Need-examine-tokens-requires
 examine-tokens-requires c κs =
     let a = c .before .before .before .before in
     let f = a .before .before .before .before in
     let s = f .before .before .before .before .before .before .before .before in
-    ((s .pre .1, s .pre .2), buffered f _ (a .count .given .1))
+    ((s .pre .1, s .pre .2), (buffered f _ _ (a .count .given .1), filled-count _ _ _ _ (f .fill .ensures) _ _ (a .count .given .1)))
 
 cast-refused : tie.Need-cast-refused
 cast-refused c =

@@ -9,7 +9,7 @@ use lib.ListN.{length-take}
 use Rattle.formats.specs.Accept.{fine, verdict}
 use Rattle.examining.specs.Examine.{Sound}
 use Rattle.examining.proofs.Answering.{examined-no, examined-fine}
-use Rattle.spans.proofs.Spanning.{section-refused, section-fine, section-there, section-missing}
+use Rattle.spans.proofs.Spanning.{section-refused, section-fine, last-section, section-missing}
 use borrow.Author.Needs.{needs}
 use Rattle.spans.proofs.section_span.Statement.{statement}
 use Rattle.spans.proofs.section_span.Tie as tie
@@ -59,12 +59,12 @@ slice-aggregate-span-between c = sym (sound (c .before .before .before .before) 
 
 span-between-requires : tie.Need-span-between-requires
 span-between-requires c κs =
-    let k = c .before .before .before .before in
-    (sound k .buffered, section-there (code k) (n k) _ _ _ _ (sound k) (omega (arith, c .before .before .if2 .left)))
+    let k = c .before .before .before .before .before in
+    (sound k .buffered, (last-section (code k) (n k) _ _ _ _ (sound k), omega (arith, c .before .before .before .if2 .left)))
 
 returns-3 : tie.Need-returns-3
 returns-3 c =
-    let k = c .before .before .before .before .before in
+    let k = c .before .before .before .before .before .before in
     let r = section-fine (code k) (n k) (accepted k) _ (c .span-between .ensures) in
     (r .start, (r .size, r .inside))
 
@@ -84,5 +84,6 @@ section-span-spec =
     mul-end
     array-share-prefix-tokens
     slice-aggregate-span-between
+    (λ c. search needs)
     span-between-requires
     returns-3)
