@@ -2,7 +2,6 @@
 // numbers. It stands apart from the calls, so that a must-fail edit of a number does not pay for all that they call.
 ghost use mathlib.Core.Path.{_≡_};
 ghost use Prim.Native.Nat.{_+_, _≤_};
-ghost use Rattle.formats.specs.Accept.{Span};
 ghost use Rattle.grounds.specs.declared.Why.the-variants as why;
 ghost use Rattle.c_numbers.specs.Numbers.{preparedNumbers, partNumbers, checkNumber, shownNumbers, whyNumbers, putNumbers, clearedNumbers, numberAsk, instantAsk};
 use answers::Answer;
