@@ -39,11 +39,11 @@ abbrev pub otherTests : List (Item → Bool)
 otherTests = isGeneral ∷ makesText ∷ isElapsed ∷ isLong ∷ makesFraction ∷ isHalf ∷ isPart ∷ []
 
 -- a year, a month or a day
-abbrev pub isDay : Item → Bool
-isDay i = between 8 10 (itemNumber i)
+abbrev pub isCalendar : Item → Bool
+isCalendar i = between 8 10 (itemNumber i)
 
 abbrev pub dateTests : List (Item → Bool)
-dateTests = isDay ∷ isHour ∷ isMinute ∷ isSecond ∷ isElapsedOf hours ∷ isElapsedOf minutes ∷ isElapsedOf seconds ∷ []
+dateTests = isCalendar ∷ isHour ∷ isMinute ∷ isSecond ∷ isElapsedOf hours ∷ isElapsedOf minutes ∷ isElapsedOf seconds ∷ []
 
 -- ---- integer and decimal places, points, percents, E, exponent places, and what is misplaced behind an E or solidus
 abbrev pub figureTests : List (Item → Bool)
