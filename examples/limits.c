@@ -18,6 +18,7 @@ enum { HEAD_WORDS = 13, ITEMS = 254, STACK = 1 << 18, PAINT = 0xa5 };
 static uint16_t code[NUMFMT_CODE_MOST], table[NUMFMT_TABLE_WORDS], text[NUMFMT_TEXT_MOST], room[NUMFMT_SHOWN_TEXT_MOST];
 static size_t code_length;
 static numfmt_prepared made;
+static numfmt_stream stream;
 
 static int told(const char *what, unsigned long found, unsigned long named, int holds)
 {
@@ -142,6 +143,10 @@ static void *do_clear(void *unused)
     return unused;
 }
 
+static void *do_start(void *unused) { numfmt_stream_start(); return unused; }
+static void *do_feed(void *unused) { numfmt_stream_feed(stream, code, code_length); return unused; }
+static void *do_end(void *unused) { numfmt_stream_end(stream, table, NUMFMT_TABLE_WORDS); return unused; }
+
 /* How much of a painted stack a thread changes. */
 static unsigned long stack_of(void *(*call)(void *), unsigned char *stack)
 {
@@ -174,6 +179,7 @@ static int stack_told(const char *name, void *(*call)(void *), unsigned char *st
     for (at = 0; at < sizeof codes / sizeof codes[0]; at++) {
         take_code(codes[at]);
         prepare();
+        stream = numfmt_stream_feed(numfmt_stream_start(), code, code_length).stream;
         used = stack_of(call, stack);
         deepest = used > deepest ? used : deepest;
     }
@@ -199,6 +205,9 @@ static int stacks(void)
     all &= stack_told("stack of numfmt_why_text", do_why_text, (unsigned char *)stack);
     all &= stack_told("stack of numfmt_board_put_number", do_put, (unsigned char *)stack);
     all &= stack_told("stack of numfmt_board_clear", do_clear, (unsigned char *)stack);
+    all &= stack_told("stack of numfmt_stream_start", do_start, (unsigned char *)stack);
+    all &= stack_told("stack of numfmt_stream_feed", do_feed, (unsigned char *)stack);
+    all &= stack_told("stack of numfmt_stream_end", do_end, (unsigned char *)stack);
     free(stack);
     return all;
 }

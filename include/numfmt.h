@@ -5,8 +5,9 @@
  * Codes, tables, texts and rooms are lent runs of 16-bit units (UTF-16; a unit
  * may be any number). No call keeps a pointer, allocates or needs a start or an
  * end. Any number of threads may call at once, and lend the same code, table or
- * text, where each has a table room or text room of its own. A board is a plain
- * struct of the caller's: a call takes it by value and hands it back whole.
+ * text, where each has a table room or text room of its own. A board or a stream
+ * is a plain struct of the caller's: a call takes it by value and hands it back
+ * whole.
  *
  * What a caller owes, and nothing checks:
  *   - each pointer is valid for the length beside it, aligned for a uint16_t;
@@ -14,17 +15,20 @@
  *     be null: lend a unit of your own with length 0 instead,
  *         static const uint16_t none = 0;
  *         numfmt_show_text(table, words, &none, 0, room, room_len);
- *   - memory that a call may write (the table of numfmt_prepare, the room of
- *     the others) overlaps nothing else lent in the same call;
+ *   - memory that a call may write (the table of numfmt_prepare and of
+ *     numfmt_stream_end, the room of the others) overlaps nothing else lent in
+ *     the same call;
  *   - NUMFMT_STACK_BYTES of stack are free.
  * All else is checked by the call: any units at all may be lent as a code, a
  * table or a text, any number may be given as a value or a row, and any numbers
- * may stand in a board.
+ * may stand in a board or a stream.
  *
  * What every call leaves: units of a table or room past the reported length
  * keep their contents; on a refusal all of them do. On a refusal every number
- * returned, but the answer, the place and a board, is 0; a refused put or clear
- * hands the board back number for number. What is lent as const is only read.
+ * returned, but the answer, the place, a board and a stream, is 0; a refused
+ * put or clear hands the board back number for number, and 15 the stream; an
+ * end that is refused otherwise hands it back ended. What is lent as const is
+ * only read.
  */
 #ifndef NUMFMT_H
 #define NUMFMT_H
@@ -37,8 +41,8 @@ extern "C" {
 #endif
 
 /* The version of this header and its archive: 10000 * major + 100 * minor + patch. */
-#define NUMFMT_VERSION 400
-#define NUMFMT_VERSION_TEXT "0.4.0"
+#define NUMFMT_VERSION 500
+#define NUMFMT_VERSION_TEXT "0.5.0"
 
 /* Words of table room that hold the table of every accepted code. */
 #define NUMFMT_TABLE_WORDS 557
@@ -66,16 +70,17 @@ extern "C" {
  * Stack that is enough for each call, whatever is lent: none of them recurses.
  * Measured on x86-64: some 3,300 bytes for numfmt_prepare, 3,200 for
  * numfmt_section, 2,500 for the calls that show, 2,700 for those that ask why,
- * 4,900 for those that put a row, 2,300 for numfmt_board_clear and 300 for
- * numfmt_check, and 2,400 more where the loader first looks up the C library's
- * memset or memcpy.
+ * 4,900 for those that put a row, 2,300 for numfmt_board_clear, 500, 1,600 and
+ * 5,500 to start, feed and end a stream, and 300 for numfmt_check, the boards and
+ * streams that are passed counted; and up to 3,200 more where the loader first
+ * looks up the C library's memset or memcpy, with which the end takes 8,200.
  */
-#define NUMFMT_STACK_BYTES 8192
+#define NUMFMT_STACK_BYTES 12288
 
 /*
  * The answers. Preparing tests 1 to 7 in that order, showing 8 to 13, putting a
- * row 16 and then as showing; the first that applies is given. Sections, units
- * and rows are counted from 0.
+ * row 16 and then as showing, ending a stream 15 and then as preparing; the first
+ * that applies is given. Sections, units and rows are counted from 0.
  */
 #define NUMFMT_ANSWER_DONE 0
 #define NUMFMT_ANSWER_CODE_LENGTH 1   /* the code has 0 units, or more than 254 */
@@ -91,6 +96,7 @@ extern "C" {
 #define NUMFMT_ANSWER_SORT 11         /* the section chosen can't show that sort of value */
 #define NUMFMT_ANSWER_GENERAL 12      /* General, rounded to a whole number, reaches 10^11 */
 #define NUMFMT_ANSWER_TEXT_ROOM 13    /* the text is longer than the room */
+#define NUMFMT_ANSWER_ENDED 15        /* the stream has ended */
 #define NUMFMT_ANSWER_ROW 16          /* the row is 64 or above */
 
 /* An answer in words, for people. */
@@ -113,7 +119,7 @@ static inline const char *numfmt_answer_text(uint16_t answer)
         "The number is too large for General.",
         "The text is too long for the room.",
         unknown,
-        unknown,
+        "The code has ended already.",
         "The board has no such row."
     };
 
@@ -229,6 +235,31 @@ typedef struct {
 } numfmt_cleared;
 
 /*
+ * A code that arrives in parts: `count` units have come, of which `units` begins
+ * with the first 254 (more are counted as 255), and `ended` is 0 until the end,
+ * which makes it 1. Of a stream made by hand any count above 254 is a code that is
+ * too long, and any `ended` but 0 a stream that has ended.
+ */
+typedef struct {
+    uint16_t units[NUMFMT_CODE_MOST];
+    uint16_t count;
+    uint16_t ended;
+} numfmt_stream;
+
+/* What feeding a stream hands back: the place is 0, the answer 0 or 15. */
+typedef struct {
+    numfmt_stream stream;
+    uint16_t answer;
+    uint32_t place;
+} numfmt_fed;
+
+/* What ending a stream hands back, with what preparing returned. */
+typedef struct {
+    numfmt_stream stream;
+    numfmt_prepared prepared;
+} numfmt_finished;
+
+/*
  * Writes the table of a code in front of the table room, and tells how many
  * words it has. Those words, and no more, are the table to lend to the calls
  * that show. Refuses with 1 to 7; a room of NUMFMT_TABLE_WORDS is never
@@ -294,8 +325,8 @@ numfmt_reason numfmt_why_text(const uint16_t *table, size_t table_len,
                               size_t room_len);
 
 /*
- * A board whose rows are all empty: all numbers are 0. This and the calls below
- * are there from version 0.4.0 on.
+ * A board whose rows are all empty: all numbers are 0. This and the other calls
+ * on boards are there from version 0.4.0 on.
  */
 numfmt_board numfmt_board_empty(void);
 
@@ -329,6 +360,26 @@ numfmt_put numfmt_board_put_text(numfmt_board board, uint32_t row,
  * 16 for a row of 64 or above.
  */
 numfmt_cleared numfmt_board_clear(numfmt_board board, uint32_t row);
+
+/*
+ * A code that arrives in parts, of any length, cut anywhere: start, feed each
+ * part, and end, going on with the stream that each call hands back.
+ *     numfmt_stream code = numfmt_stream_start();
+ *     code = numfmt_stream_feed(code, part, part_len).stream;
+ *     numfmt_finished f = numfmt_stream_end(code, table, table_len);
+ * Feeding answers 0 however long the code grows. The end returns and writes what
+ * numfmt_prepare does for the joined code in that room, and is final, even where
+ * it is refused, with 7 too. Feeding after it, or ending again, is refused with
+ * 15 whatever else is lent. A stream can be copied, and its copies go their own
+ * ways. These calls are there from version 0.5.0 on.
+ */
+numfmt_stream numfmt_stream_start(void);
+
+numfmt_fed numfmt_stream_feed(numfmt_stream stream, const uint16_t *part,
+                              size_t part_len);
+
+numfmt_finished numfmt_stream_end(numfmt_stream stream, uint16_t *table,
+                                  size_t table_len);
 
 #ifdef __cplusplus
 }

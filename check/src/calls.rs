@@ -35,8 +35,39 @@ pub struct Part {
     pub length: u32,
 }
 
+/// Units that a stream keeps.
+pub const KEPT: usize = 254;
+
+/// The numbers of a stream.
+#[derive(Clone, Debug, PartialEq, Eq)]
+pub struct Held {
+    pub units: [u16; KEPT],
+    pub count: u16,
+    pub ended: u16,
+}
+
+impl Held {
+    pub fn start() -> Held {
+        Held {
+            units: [0; KEPT],
+            count: 0,
+            ended: 0,
+        }
+    }
+}
+
+/// A code that comes in parts.
+pub trait Stream {
+    /// Answer and place.
+    fn feed(&mut self, part: &[u16]) -> (u16, u32);
+    fn end(&mut self, table: &mut [u16]) -> Prepared;
+    fn held(&self) -> Held;
+}
+
 pub trait Calls {
     fn prepare(&self, code: &[u16], table: &mut [u16]) -> Prepared;
+    fn start(&self) -> Held;
+    fn stream(&self, from: &Held) -> Box<dyn Stream>;
     fn section(&self, code: &[u16], n: u32) -> Part;
     fn check(&self, table: &[u16]) -> u16;
     fn show(&self, table: &[u16], value: &Value, room: &mut [u16]) -> Shown;
@@ -57,6 +88,43 @@ pub trait Calls {
 /// reading of tables against its reading off codes.
 pub struct Oracle;
 
+/// The oracle's stream keeps the whole code, however long it grows, beside the numbers.
+struct Joined {
+    code: Vec<u16>,
+    held: Held,
+}
+
+impl Stream for Joined {
+    fn feed(&mut self, part: &[u16]) -> (u16, u32) {
+        if self.held.ended != 0 {
+            return (answer::ENDED, 0);
+        }
+        self.code.extend(part);
+        let came = usize::from(self.held.count);
+        for (at, unit) in (came..KEPT).zip(part) {
+            self.held.units[at] = *unit;
+        }
+        self.held.count = (came + part.len()).min(KEPT + 1) as u16;
+        (answer::DONE, 0)
+    }
+
+    fn end(&mut self, table: &mut [u16]) -> Prepared {
+        if self.held.ended != 0 {
+            return Prepared {
+                answer: answer::ENDED,
+                place: 0,
+                words: 0,
+            };
+        }
+        self.held.ended = 1;
+        Oracle.prepare(&self.code, table)
+    }
+
+    fn held(&self) -> Held {
+        self.held.clone()
+    }
+}
+
 impl Calls for Oracle {
     fn prepare(&self, code: &[u16], table: &mut [u16]) -> Prepared {
         let prepared = oracle::prepare(code, table.len());
@@ -66,6 +134,18 @@ impl Calls for Oracle {
             place: prepared.place,
             words: prepared.words.len() as u32,
         }
+    }
+
+    fn start(&self) -> Held {
+        Held::start()
+    }
+
+    /// Units that are counted and not kept are any: the code is too long whatever they are.
+    fn stream(&self, from: &Held) -> Box<dyn Stream> {
+        let mut code = from.units.to_vec();
+        code.resize(usize::from(from.count), 0);
+        let held = from.clone();
+        Box::new(Joined { code, held })
     }
 
     fn section(&self, code: &[u16], n: u32) -> Part {

@@ -1,6 +1,6 @@
 //! One comparison: what is asked, what the oracle gives for it, and whether the library agrees.
 
-use crate::calls::{shown_of, why_of, Calls, Oracle, Part, Prepared};
+use crate::calls::{shown_of, why_of, Calls, Held, Oracle, Part, Prepared, Stream};
 use crate::oracle::{self, Board, Reading, Reason, Value, PROGRAM_TABLE_WORDS};
 
 /// Units in front of and behind a lent room, which nothing may touch.
@@ -11,6 +11,11 @@ pub enum Case {
     Prepare {
         code: Vec<u16>,
         room: usize,
+    },
+    /// A code in parts, each fed to the stream that the call before it handed back.
+    Stream {
+        from: Box<Held>,
+        steps: Vec<StreamStep>,
     },
     Section {
         code: Vec<u16>,
@@ -34,6 +39,13 @@ pub enum Case {
     },
 }
 
+/// A call on a stream: a part is fed, or it is ended in a room of so many words.
+#[derive(Clone, Debug)]
+pub enum StreamStep {
+    Feed(Vec<u16>),
+    End(usize),
+}
+
 /// A call on a board.
 #[derive(Clone, Debug)]
 pub enum Step {
@@ -52,6 +64,7 @@ pub enum Step {
 #[derive(Default)]
 pub struct Counts {
     pub prepare: u64,
+    pub stream: u64,
     pub section: u64,
     pub number: u64,
     pub instant: u64,
@@ -65,7 +78,8 @@ pub struct Counts {
 impl Counts {
     pub fn requests(&self) -> u64 {
         let shown = self.number + self.instant + self.text;
-        self.prepare + self.section + shown + self.why + self.put + self.clear
+        let boards = self.put + self.clear;
+        self.prepare + self.stream + self.section + shown + self.why + boards
     }
 
     fn answer(&mut self, answer: u16) {
@@ -86,6 +100,7 @@ impl Case {
     pub fn check(&self, calls: &dyn Calls, counts: &mut Counts) -> Result<(), String> {
         match self {
             Case::Prepare { code, room } => prepare(calls, counts, code, *room).map(|_| ()),
+            Case::Stream { from, steps } => stream(calls, counts, from, steps),
             Case::Section { code, n } => section(calls, counts, code, *n),
             Case::ShowCode { code, value, room } => {
                 let table = prepare(calls, counts, code, PROGRAM_TABLE_WORDS)?;
@@ -190,6 +205,44 @@ fn prepare(
     counts.prepare += 1;
     counts.answer(found.answer);
     Ok(expected.words)
+}
+
+/// Each step gives what the oracle gives for it, and leaves the stream so.
+fn stream(
+    calls: &dyn Calls,
+    counts: &mut Counts,
+    from: &Held,
+    steps: &[StreamStep],
+) -> Result<(), String> {
+    same("a stream at its start", &calls.start(), &Held::start())?;
+    let (mut found, mut expected) = (calls.stream(from), Oracle.stream(from));
+    for step in steps {
+        let told = match step {
+            StreamStep::Feed(part) => feed(found.as_mut(), expected.as_mut(), part)?,
+            StreamStep::End(room) => end(found.as_mut(), expected.as_mut(), *room)?,
+        };
+        same("the stream", &found.held(), &expected.held())?;
+        counts.answer(told);
+    }
+    counts.stream += 1;
+    Ok(())
+}
+
+fn feed(found: &mut dyn Stream, expected: &mut dyn Stream, part: &[u16]) -> Result<u16, String> {
+    let lent = part.to_vec();
+    let (found, wanted) = (found.feed(&lent), expected.feed(part));
+    same(&headline("feeding", (found.0, wanted.0)), &found, &wanted)?;
+    same("the part lent", &lent.as_slice(), &part)?;
+    Ok(found.0)
+}
+
+fn end(found: &mut dyn Stream, expected: &mut dyn Stream, room: usize) -> Result<u16, String> {
+    let (mut table, mut words) = (Room::new(room), vec![0; room]);
+    let (found, wanted) = (found.end(table.lent()), expected.end(&mut words));
+    let answers = (found.answer, wanted.answer);
+    same(&headline("ending", answers), &found, &wanted)?;
+    table.holds(&words[..wanted.words as usize])?;
+    Ok(found.answer)
 }
 
 fn section(calls: &dyn Calls, counts: &mut Counts, code: &[u16], n: u32) -> Result<(), String> {

@@ -2,20 +2,57 @@
 
 use numfmt::calls;
 
-use crate::calls::{Calls, Part, Prepared, Shown, Why};
+use crate::calls::{Calls, Held, Part, Prepared, Shown, Stream, Why};
 use crate::oracle::{Board, Row, Value, ROWS};
 
 /// The linked library.
 pub struct Linked;
 
+fn prepared(given: calls::Prepared) -> Prepared {
+    Prepared {
+        answer: given.answer,
+        place: given.place,
+        words: given.words,
+    }
+}
+
+impl Stream for calls::Stream {
+    fn feed(&mut self, part: &[u16]) -> (u16, u32) {
+        let given = calls::stream_feed(*self, part);
+        *self = given.stream;
+        (given.answer, given.place)
+    }
+
+    fn end(&mut self, table: &mut [u16]) -> Prepared {
+        let given = calls::stream_end(*self, table);
+        *self = given.stream;
+        prepared(given.prepared)
+    }
+
+    fn held(&self) -> Held {
+        Held {
+            units: self.units,
+            count: self.count,
+            ended: self.ended,
+        }
+    }
+}
+
 impl Calls for Linked {
     fn prepare(&self, code: &[u16], table: &mut [u16]) -> Prepared {
-        let given = calls::prepare(code, table);
-        Prepared {
-            answer: given.answer,
-            place: given.place,
-            words: given.words,
-        }
+        prepared(calls::prepare(code, table))
+    }
+
+    fn start(&self) -> Held {
+        calls::stream_start().held()
+    }
+
+    fn stream(&self, from: &Held) -> Box<dyn Stream> {
+        Box::new(calls::Stream {
+            units: from.units,
+            count: from.count,
+            ended: from.ended,
+        })
     }
 
     fn section(&self, code: &[u16], n: u32) -> Part {

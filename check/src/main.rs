@@ -10,18 +10,24 @@ mod oracle;
 mod random;
 mod run;
 mod shrink;
+mod streams;
 mod vectors;
 
 use std::process::ExitCode;
 
 const USAGE: &str = "usage:
-  check run [--count N] [--seed S] [--trace]    compare the library with the oracle
-  check self [--count N] [--seed S] [--trace]   compare the oracle's two readings
+  check run [OPTIONS]                           compare the library with the oracle
+  check self [OPTIONS]                          compare the oracle's two readings
   check vectors VALUES TABLES                   compare the oracle with lists of known rows
   check boards RUNS                             compare the oracle and the library with a list of runs on boards
+  check streams RUNS                            the same with a list of streams
   check expected-prepare < codes                what preparing gives for each line
   check expected-show < requests                what the program gives for each three lines, and the section
-  check expected-why < requests                 why each is shown so, in the room that a fourth line gives";
+  check expected-why < requests                 why each is shown so, in the room that a fourth line gives
+options:
+  --count N, --seed S                           so many requests, drawn by this seed
+  --streams                                     draw nothing but streams
+  --trace                                       tell each case before it is run";
 
 fn main() -> ExitCode {
     let arguments: Vec<String> = std::env::args().skip(1).collect();
@@ -30,7 +36,8 @@ fn main() -> ExitCode {
         ["run", options @ ..] => with_options(options, run_library),
         ["self", options @ ..] => with_options(options, |o| run::run(&calls::Oracle, o)),
         ["vectors", values, tables] => vectors::run(values, tables),
-        ["boards", runs] => run_boards(runs),
+        ["boards", runs] => vectors::run_boards(runs, ALL),
+        ["streams", runs] => streams::run(runs, ALL),
         ["expected-prepare"] => expected::prepare(),
         ["expected-show"] => expected::show(),
         ["expected-why"] => expected::why(),
@@ -60,12 +67,9 @@ fn run_library(_: &run::Options) -> ExitCode {
     misused("built without the library (see README.md)")
 }
 
+/// The oracle, and the library where it is linked.
 #[cfg(feature = "library")]
-fn run_boards(runs: &str) -> ExitCode {
-    vectors::run_boards(runs, &[&calls::Oracle, &library::Linked])
-}
+const ALL: &[&dyn calls::Calls] = &[&calls::Oracle, &library::Linked];
 
 #[cfg(not(feature = "library"))]
-fn run_boards(runs: &str) -> ExitCode {
-    vectors::run_boards(runs, &[&calls::Oracle])
-}
+const ALL: &[&dyn calls::Calls] = &[&calls::Oracle];

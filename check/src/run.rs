@@ -6,7 +6,7 @@ use std::time::{Duration, Instant, SystemTime, UNIX_EPOCH};
 
 use crate::calls::Calls;
 use crate::case::{Case, Counts, Step};
-use crate::generate::{board, code, room, table, value};
+use crate::generate::{board, code, room, stream, table, value};
 use crate::oracle::{self, answer, Reading, Value};
 use crate::random::Random;
 use crate::shrink::shrink;
@@ -24,15 +24,18 @@ pub struct Options {
     pub seed: u64,
     /// Tells every case before it is run, to find one that ends the process.
     pub trace: bool,
+    /// Draws nothing but streams.
+    pub streams: bool,
 }
 
 impl Options {
-    /// From `--count N`, `--seed S` and `--trace`; without a seed the clock gives one.
+    /// From `--count N`, `--seed S`, `--trace` and `--streams`; without a seed the clock gives one.
     pub fn from_words(words: &[&str]) -> Result<Options, String> {
         let mut options = Options {
             count: DEFAULT_COUNT,
             seed: clock_seed(),
             trace: false,
+            streams: false,
         };
         let mut rest = words.iter();
         while let Some(word) = rest.next() {
@@ -46,6 +49,7 @@ impl Options {
                 "--count" => options.count = number()?,
                 "--seed" => options.seed = number()?,
                 "--trace" => options.trace = true,
+                "--streams" => options.streams = true,
                 other => return Err(format!("unknown option `{other}`")),
             }
         }
@@ -65,7 +69,11 @@ pub fn run(calls: &dyn Calls, options: &Options) -> ExitCode {
     let mut counts = Counts::default();
     let mut index = 0;
     while counts.requests() < options.count {
-        let case = make(&mut Random::for_case(options.seed, index));
+        let mut random = Random::for_case(options.seed, index);
+        let case = match options.streams {
+            true => streamed(&mut random),
+            false => make(&mut random),
+        };
         if options.trace {
             eprintln!("case {index}:\n{}", describe(&case));
         }
@@ -86,7 +94,7 @@ pub fn run(calls: &dyn Calls, options: &Options) -> ExitCode {
 
 /// Makes one case.
 pub fn make(random: &mut Random) -> Case {
-    match random.weighted(&[22, 6, 42, 30, 2]) {
+    match random.weighted(&[22, 6, 42, 30, 2, 8]) {
         0 => {
             let code = code::code(random);
             let words = oracle::prepare(&code, usize::MAX).words.len();
@@ -114,13 +122,20 @@ pub fn make(random: &mut Random) -> Case {
             let (table, value, room) = table_value_and_room(random);
             Case::ShowTable { table, value, room }
         }
-        _ => {
+        4 => {
             let board = board::board(random);
             let steps = (0..random.between(1, MOST_STEPS)).map(|_| step(random));
             let steps = steps.collect();
             Case::Run { board, steps }
         }
+        _ => streamed(random),
     }
+}
+
+fn streamed(random: &mut Random) -> Case {
+    let (from, steps) = stream::stream(random);
+    let from = Box::new(from);
+    Case::Stream { from, steps }
 }
 
 /// Three puts for each clear; the table is mostly that of a code.
@@ -176,6 +191,7 @@ fn describe(case: &Case) -> String {
         Case::Prepare { code, room } => {
             format!("prepare, {room} words lent\n{}", spelled("code", code))
         }
+        Case::Stream { from, steps } => format!("stream\n  {from:?}\n  steps {steps:?}"),
         Case::Section { code, n } => format!("section {n}\n{}", spelled("code", code)),
         Case::ShowCode { code, value, room } => format!(
             "show {}, {room} units lent\n{}",
@@ -228,9 +244,10 @@ fn summary(counts: &Counts, time: Duration) -> String {
         .map(|(answer, count)| format!("{answer}: {count}"))
         .collect();
     format!(
-        "{} requests agree; prepare {}, section {}, number {}, instant {}, text {}, why {}, put {}, clear {}; answers {}; {:.1} s",
+        "{} requests agree; prepare {}, stream {}, section {}, number {}, instant {}, text {}, why {}, put {}, clear {}; answers {}; {:.1} s",
         counts.requests(),
         counts.prepare,
+        counts.stream,
         counts.section,
         counts.number,
         counts.instant,

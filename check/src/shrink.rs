@@ -1,6 +1,7 @@
 //! Makes a failing case small: takes away and simplifies what it can while the case still fails.
 
-use crate::case::{Case, Step};
+use crate::calls::Held;
+use crate::case::{Case, Step, StreamStep};
 use crate::oracle::{Board, Value};
 
 const MOST_TRIES: usize = 200_000;
@@ -34,6 +35,7 @@ fn candidates(case: &Case) -> Vec<Case> {
         Case::Prepare { code, room } => {
             sized(code, *room, |code, room| Case::Prepare { code, room })
         }
+        Case::Stream { from, steps } => streams(from, steps),
         Case::Section { code, n } => sized(code, *n as usize, |code, n| Case::Section {
             code,
             n: n as u32,
@@ -48,6 +50,32 @@ fn candidates(case: &Case) -> Vec<Case> {
         }
         Case::Run { board, steps } => boards(board, steps),
     }
+}
+
+/// From the start, without one step, and with one step made smaller.
+fn streams(from: &Held, steps: &[StreamStep]) -> Vec<Case> {
+    let make = |from: &Held, steps: Vec<StreamStep>| Case::Stream {
+        from: Box::new(from.clone()),
+        steps,
+    };
+    let mut found = Vec::new();
+    if *from != Held::start() {
+        found.push(make(&Held::start(), steps.to_vec()));
+    }
+    for at in 0..steps.len() {
+        let smaller: Vec<StreamStep> = match &steps[at] {
+            StreamStep::Feed(part) => runs(part).into_iter().map(StreamStep::Feed).collect(),
+            StreamStep::End(room) => rooms(*room).into_iter().map(StreamStep::End).collect(),
+        };
+        let with = |step: Option<StreamStep>| {
+            let mut steps = steps.to_vec();
+            steps.splice(at..=at, step);
+            make(from, steps)
+        };
+        found.push(with(None));
+        found.extend(smaller.into_iter().map(|step| with(Some(step))));
+    }
+    found
 }
 
 /// From the empty board, without one step, and with one step made simpler.

@@ -38,12 +38,18 @@ pub fn run(values: &str, tables: &str) -> ExitCode {
     }
 }
 
-/// Each of these calls gives what every row of the list says.
-pub fn run_boards(path: &str, calls: &[&dyn Calls]) -> ExitCode {
+/// Each of these calls gives what every row of the list says, one after the other, where `start` begins.
+pub fn run_calls<'a, Row>(
+    path: &str,
+    calls: &[&'a dyn Calls],
+    start: impl Fn(&'a dyn Calls) -> Row,
+) -> ExitCode
+where
+    Row: FnMut(&[&str]) -> Result<(), String>,
+{
     let mut rows = 0;
     for calls in calls {
-        let mut at = (String::new(), calls.empty());
-        match check_rows(path, |fields| board_row(*calls, &mut at, fields)) {
+        match check_rows(path, start(*calls)) {
             Ok(counted) => rows += counted,
             Err(message) => {
                 eprintln!("{message}");
@@ -53,6 +59,13 @@ pub fn run_boards(path: &str, calls: &[&dyn Calls]) -> ExitCode {
     }
     println!("{rows} rows of runs agree");
     ExitCode::SUCCESS
+}
+
+pub fn run_boards(path: &str, calls: &[&dyn Calls]) -> ExitCode {
+    run_calls(path, calls, |calls| {
+        let mut at = (String::new(), calls.empty());
+        move |fields: &[&str]| board_row(calls, &mut at, fields)
+    })
 }
 
 fn check_rows(
@@ -77,7 +90,11 @@ fn check_rows(
     }
 }
 
-fn agree<T: PartialEq + std::fmt::Debug>(what: &str, found: T, expected: T) -> Result<(), String> {
+pub fn agree<T: PartialEq + std::fmt::Debug>(
+    what: &str,
+    found: T,
+    expected: T,
+) -> Result<(), String> {
     if found == expected {
         Ok(())
     } else {
@@ -85,7 +102,7 @@ fn agree<T: PartialEq + std::fmt::Debug>(what: &str, found: T, expected: T) -> R
     }
 }
 
-fn parsed<T: std::str::FromStr>(field: &str) -> Result<T, String> {
+pub fn parsed<T: std::str::FromStr>(field: &str) -> Result<T, String> {
     field.parse().map_err(|_| format!("`{field}` is no number"))
 }
 

@@ -2,6 +2,7 @@
 
 pub mod board;
 pub mod code;
+pub mod stream;
 pub mod table;
 pub mod value;
 

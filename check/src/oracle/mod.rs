@@ -52,6 +52,7 @@ pub mod answer {
     pub const GENERAL: u16 = 12;
     pub const TEXT_ROOM: u16 = 13;
     pub const LINE: u16 = 14;
+    pub const ENDED: u16 = 15;
     pub const ROW: u16 = 16;
 }
 

@@ -1,7 +1,7 @@
 //! The comparison has to find faults: each double below is the oracle with one fault.
 
 use super::make;
-use crate::calls::{Calls, Oracle, Part, Prepared, Shown, Why};
+use crate::calls::{Calls, Held, Oracle, Part, Prepared, Shown, Stream, Why};
 use crate::case::Counts;
 use crate::oracle::{answer, Board, Row, Value};
 use crate::random::Random;
@@ -40,6 +40,54 @@ enum Fault {
     OtherRow,
     TableBeforeRow,
     ClearedWidth,
+    ToldWhileFeeding,
+    SecondEnd,
+    LostUnit,
+    RefusedStream,
+    EndedByOne,
+    CountCut,
+}
+
+/// A stream with one fault.
+struct Faulty {
+    fault: Fault,
+    stream: Box<dyn Stream>,
+    fed: usize,
+    ends: usize,
+}
+
+impl Stream for Faulty {
+    fn feed(&mut self, part: &[u16]) -> (u16, u32) {
+        self.fed += part.len();
+        if self.fault == Fault::LostUnit && self.fed > 20 && !part.is_empty() {
+            return self.stream.feed(&part[1..]);
+        }
+        match self.stream.feed(part) {
+            (0, 0) if self.fault == Fault::ToldWhileFeeding && self.fed > 254 => {
+                (answer::CODE_LENGTH, 0)
+            }
+            given => given,
+        }
+    }
+
+    fn end(&mut self, table: &mut [u16]) -> Prepared {
+        self.ends += 1;
+        match self.stream.end(table) {
+            given if self.fault == Fault::SecondEnd && self.ends == 2 => Prepared {
+                answer: answer::TABLE_ROOM,
+                ..given
+            },
+            given => given,
+        }
+    }
+
+    fn held(&self) -> Held {
+        let mut held = self.stream.held();
+        if self.fault == Fault::RefusedStream && self.ends > 1 {
+            held.ended = 2;
+        }
+        held
+    }
 }
 
 struct Double(Fault);
@@ -55,6 +103,25 @@ impl Calls for Double {
             given.place += 1;
         }
         given
+    }
+
+    fn start(&self) -> Held {
+        Held::start()
+    }
+
+    fn stream(&self, from: &Held) -> Box<dyn Stream> {
+        let mut from = from.clone();
+        match self.0 {
+            Fault::EndedByOne if from.ended > 1 => from.ended = 0,
+            Fault::CountCut => from.count = from.count.min(254),
+            _ => {}
+        }
+        Box::new(Faulty {
+            fault: self.0,
+            stream: Oracle.stream(&from),
+            fed: 0,
+            ends: 0,
+        })
     }
 
     fn section(&self, code: &[u16], n: u32) -> Part {
@@ -181,4 +248,10 @@ fn every_fault_is_found() {
     assert!(found(&Double(Fault::OtherRow)));
     assert!(found(&Double(Fault::TableBeforeRow)));
     assert!(found(&Double(Fault::ClearedWidth)));
+    assert!(found(&Double(Fault::ToldWhileFeeding)));
+    assert!(found(&Double(Fault::SecondEnd)));
+    assert!(found(&Double(Fault::LostUnit)));
+    assert!(found(&Double(Fault::RefusedStream)));
+    assert!(found(&Double(Fault::EndedByOne)));
+    assert!(found(&Double(Fault::CountCut)));
 }

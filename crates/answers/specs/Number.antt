@@ -23,6 +23,7 @@ numberOf answer.Sort = 11
 numberOf answer.General = 12
 numberOf answer.TextRoom = 13
 numberOf answer.Line = 14
+numberOf answer.Ended = 15
 numberOf answer.Row = 16
 
 -- a table of so many words

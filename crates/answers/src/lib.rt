@@ -19,6 +19,7 @@ pub enum Answer {
     General,
     TextRoom,
     Line,
+    Ended,
     Row,
 }
 
@@ -107,6 +108,7 @@ pub fn number(a: Answer) -> u16
         Answer::General => 12,
         Answer::TextRoom => 13,
         Answer::Line => 14,
+        Answer::Ended => 15,
         Answer::Row => 16,
     }
 }

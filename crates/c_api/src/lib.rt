@@ -1,5 +1,5 @@
 // The calls for C and Rust, as include/numfmt.h declares them. Each is the Rattle call with the answer as its number; a slice
-// is a pointer and a length.
+// is a pointer and a length, and a board or a stream goes in and comes back by value.
 ghost use mathlib.Core.Path.{_≡_};
 ghost use lib.ListN.{length};
 ghost use mathlib.Core.List.{[]};
@@ -8,9 +8,12 @@ ghost use Rattle.tables.specs.Rules.{passes};
 ghost use Rattle.tables.specs.Calls.{prepared, tableAfter, showing, roomAfter};
 ghost use Rattle.reasons.specs.Table.{tableWhy};
 ghost use Rattle.boards.specs.Boards.{emptyBoard, putRow, roomPut, clearRow};
-ghost use Rattle.c_numbers.specs.Numbers.{preparedNumbers, partNumbers, checkNumber, shownNumbers, whyNumbers, putNumbers, clearedNumbers, numberAsk, instantAsk, textAsk};
+ghost use Rattle.streams.specs.Streams.{started, feeding, ending, endingRoom};
+ghost use Rattle.c_numbers.specs.Numbers.{preparedNumbers, fedNumbers, finishedNumbers, partNumbers, checkNumber, shownNumbers, whyNumbers, putNumbers, clearedNumbers, numberAsk, instantAsk, textAsk};
 use boards::Board;
 use c_numbers::ClearedNumbers;
+use c_numbers::FedNumbers;
+use c_numbers::FinishedNumbers;
 use c_numbers::PartNumbers;
 use c_numbers::PreparedNumbers;
 use c_numbers::PutNumbers;
@@ -18,6 +21,8 @@ use c_numbers::ShownNumbers;
 use c_numbers::WhyNumbers;
 use c_numbers::check_number;
 use c_numbers::cleared_numbers;
+use c_numbers::fed_numbers;
+use c_numbers::finished_numbers;
 use c_numbers::instant_ask;
 use c_numbers::number_ask;
 use c_numbers::part_numbers;
@@ -30,6 +35,7 @@ use preparing::prepare;
 use reasons::why;
 use showing::show;
 use spans::section_span;
+use streams::Stream;
 use values::Value;
 use values::asked;
 
@@ -39,6 +45,31 @@ pub extern "C" fn numfmt_prepare(code: &[u16], table: &mut [u16]) -> PreparedNum
     ensures table { λ r. ⌜ now (table .exit) ≡ tableAfter (now (code .entry)) (now (table .entry)) ⌝ }
 {
     prepared_numbers(prepare(code, table))
+}
+
+// A stream to which nothing has come.
+#[no_mangle]
+pub extern "C" fn numfmt_stream_start() -> Stream
+    ensures { λ r. ⌜ r ≡ started ⌝ }
+{
+    Stream::start()
+}
+
+// The stream with a part of a code behind what has come.
+#[no_mangle]
+pub extern "C" fn numfmt_stream_feed(stream: Stream, part: &[u16]) -> FedNumbers
+    ensures { λ r. ⌜ r ≡ fedNumbers (feeding stream (now (part .entry))) ⌝ }
+{
+    fed_numbers(stream.feed(part))
+}
+
+// The stream when it has ended, and its code prepared.
+#[no_mangle]
+pub extern "C" fn numfmt_stream_end(stream: Stream, table: &mut [u16]) -> FinishedNumbers
+    ensures result { λ r. ⌜ r ≡ finishedNumbers (ending stream (length (now (table .entry)))) ⌝ }
+    ensures table { λ r. ⌜ now (table .exit) ≡ endingRoom stream (now (table .entry)) ⌝ }
+{
+    finished_numbers(stream.end(table))
 }
 
 // Section n of a code: where it stands in it.

@@ -1,4 +1,4 @@
-// Each call for C, called with lent slices, numbers and boards and nothing required: none of them asks anything of its caller.
+// Each call for C, called with lent slices, numbers, boards and streams and nothing required: none of them asks anything of its caller.
 use boards::Board;
 use c_api::numfmt_board_clear;
 use c_api::numfmt_board_empty;
@@ -11,15 +11,21 @@ use c_api::numfmt_section;
 use c_api::numfmt_show_instant;
 use c_api::numfmt_show_number;
 use c_api::numfmt_show_text;
+use c_api::numfmt_stream_end;
+use c_api::numfmt_stream_feed;
+use c_api::numfmt_stream_start;
 use c_api::numfmt_why_instant;
 use c_api::numfmt_why_number;
 use c_api::numfmt_why_text;
 use c_numbers::ClearedNumbers;
+use c_numbers::FedNumbers;
+use c_numbers::FinishedNumbers;
 use c_numbers::PartNumbers;
 use c_numbers::PreparedNumbers;
 use c_numbers::PutNumbers;
 use c_numbers::ShownNumbers;
 use c_numbers::WhyNumbers;
+use streams::Stream;
 
 fn prepare(code: &[u16], table: &mut [u16]) -> PreparedNumbers {
     numfmt_prepare(code, table)
@@ -95,4 +101,16 @@ fn board_put_text(
 
 fn board_clear(board: Board, row: u32) -> ClearedNumbers {
     numfmt_board_clear(board, row)
+}
+
+fn stream_start() -> Stream {
+    numfmt_stream_start()
+}
+
+fn stream_feed(stream: Stream, part: &[u16]) -> FedNumbers {
+    numfmt_stream_feed(stream, part)
+}
+
+fn stream_end(stream: Stream, table: &mut [u16]) -> FinishedNumbers {
+    numfmt_stream_end(stream, table)
 }

@@ -13,11 +13,15 @@ use Rattle.grounds.specs.declared.Grounds.{Grounds}
 use Rattle.grounds.specs.declared.Why.the-variants as why
 use Rattle.grounds.specs.Numbers.{choiceNumber, triedNumber, minusNumber}
 use Rattle.boards.specs.declared.ClearedRow.{ClearedRow}
+use Rattle.streams.specs.declared.Fed.{Fed}
+use Rattle.streams.specs.declared.Finished.{Finished}
 use Rattle.c_numbers.specs.declared.PreparedNumbers.{PreparedNumbers}
 use Rattle.c_numbers.specs.declared.ShownNumbers.{ShownNumbers}
 use Rattle.c_numbers.specs.declared.WhyNumbers.{WhyNumbers}
 use Rattle.c_numbers.specs.declared.ClearedNumbers.{ClearedNumbers}
-use Rattle.c_numbers.specs.Numbers.{preparedNumbers, checkNumber, shownNumbers, whyNumbers, clearedNumbers}
+use Rattle.c_numbers.specs.declared.FedNumbers.{FedNumbers}
+use Rattle.c_numbers.specs.declared.FinishedNumbers.{FinishedNumbers}
+use Rattle.c_numbers.specs.Numbers.{preparedNumbers, checkNumber, shownNumbers, whyNumbers, clearedNumbers, fedNumbers, finishedNumbers}
 
 pub prepared-told : (p : Prepared) {n : ℕ} → n ≡ numberOf (p .answer)
     → _≡_ {A = PreparedNumbers} (record { answer = n; place = p .place; words = p .words }) (preparedNumbers p)
@@ -53,3 +57,11 @@ because-told g e c f s m = λ j. record { answer = e j; section = g .section; ch
 pub cleared-told : (c : ClearedRow) {n : ℕ} → n ≡ numberOf (c .answer)
     → _≡_ {A = ClearedNumbers} (record { board = c .board; answer = n }) (clearedNumbers c)
 cleared-told c e = λ j. record { board = c .board; answer = e j }
+
+pub fed-told : (f : Fed) {n : ℕ} → n ≡ numberOf (f .answer)
+    → _≡_ {A = FedNumbers} (record { stream = f .stream; answer = n; place = f .place }) (fedNumbers f)
+fed-told f e = λ j. record { stream = f .stream; answer = e j; place = f .place }
+
+pub finished-told : (f : Finished) {n : PreparedNumbers} → n ≡ preparedNumbers (f .prepared)
+    → _≡_ {A = FinishedNumbers} (record { stream = f .stream; prepared = n }) (finishedNumbers f)
+finished-told f e = λ j. record { stream = f .stream; prepared = e j }

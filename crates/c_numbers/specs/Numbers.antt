@@ -13,6 +13,8 @@ use Rattle.values.specs.Ranges.{asked}
 use Rattle.formats.specs.Accept.{Span}
 use Rattle.boards.specs.declared.PutRow.{PutRow}
 use Rattle.boards.specs.declared.ClearedRow.{ClearedRow}
+use Rattle.streams.specs.declared.Fed.{Fed}
+use Rattle.streams.specs.declared.Finished.{Finished}
 use Rattle.c_numbers.specs.declared.PreparedNumbers.{PreparedNumbers}
 use Rattle.c_numbers.specs.declared.PartNumbers.{PartNumbers}
 use Rattle.grounds.specs.declared.Why.{Why}
@@ -22,6 +24,8 @@ use Rattle.c_numbers.specs.declared.ShownNumbers.{ShownNumbers}
 use Rattle.c_numbers.specs.declared.WhyNumbers.{WhyNumbers}
 use Rattle.c_numbers.specs.declared.PutNumbers.{PutNumbers}
 use Rattle.c_numbers.specs.declared.ClearedNumbers.{ClearedNumbers}
+use Rattle.c_numbers.specs.declared.FedNumbers.{FedNumbers}
+use Rattle.c_numbers.specs.declared.FinishedNumbers.{FinishedNumbers}
 
 abbrev pub preparedNumbers : Prepared → PreparedNumbers
 preparedNumbers p = record { answer = numberOf (p .answer); place = p .place; words = p .words }
@@ -58,6 +62,13 @@ putNumbers p = record { board = p .board; shown = shownNumbers (p .shown) }
 
 abbrev pub clearedNumbers : ClearedRow → ClearedNumbers
 clearedNumbers c = record { board = c .board; answer = numberOf (c .answer) }
+
+-- a stream too
+abbrev pub fedNumbers : Fed → FedNumbers
+fedNumbers f = record { stream = f .stream; answer = numberOf (f .answer); place = f .place }
+
+abbrev pub finishedNumbers : Finished → FinishedNumbers
+finishedNumbers f = record { stream = f .stream; prepared = preparedNumbers (f .prepared) }
 
 -- what is asked for: a number, an instant, a text
 abbrev pub numberAsk : ℤ → ℕ → Ask

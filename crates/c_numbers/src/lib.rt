@@ -3,7 +3,7 @@
 ghost use mathlib.Core.Path.{_≡_};
 ghost use Prim.Native.Nat.{_+_, _≤_};
 ghost use Rattle.grounds.specs.declared.Why.the-variants as why;
-ghost use Rattle.c_numbers.specs.Numbers.{preparedNumbers, partNumbers, checkNumber, shownNumbers, whyNumbers, putNumbers, clearedNumbers, numberAsk, instantAsk};
+ghost use Rattle.c_numbers.specs.Numbers.{preparedNumbers, partNumbers, checkNumber, shownNumbers, whyNumbers, putNumbers, clearedNumbers, fedNumbers, finishedNumbers, numberAsk, instantAsk};
 use answers::Answer;
 use answers::Prepared;
 use answers::Shown;
@@ -16,6 +16,9 @@ use grounds::Why;
 use grounds::choice_number;
 use grounds::minus_number;
 use grounds::tried_number;
+use streams::Fed;
+use streams::Finished;
+use streams::Stream;
 use values::Ask;
 use values::Day;
 use values::Millisecond;
@@ -72,6 +75,21 @@ pub struct PutNumbers {
 pub struct ClearedNumbers {
     pub board: Board,
     pub answer: u16,
+}
+
+// numfmt_fed
+#[repr(C)]
+pub struct FedNumbers {
+    pub stream: Stream,
+    pub answer: u16,
+    pub place: u32,
+}
+
+// numfmt_finished
+#[repr(C)]
+pub struct FinishedNumbers {
+    pub stream: Stream,
+    pub prepared: PreparedNumbers,
 }
 
 pub fn prepared_numbers(p: Prepared) -> PreparedNumbers
@@ -192,5 +210,28 @@ pub fn cleared_numbers(c: ClearedRow) -> ClearedNumbers
     ClearedNumbers {
         board,
         answer: number(answer),
+    }
+}
+
+pub fn fed_numbers(f: Fed) -> FedNumbers
+    ensures { λ r. ⌜ r ≡ fedNumbers f ⌝ }
+{
+    let stream = f.stream;
+    let answer = f.answer;
+    FedNumbers {
+        stream,
+        answer: number(answer),
+        place: f.place,
+    }
+}
+
+pub fn finished_numbers(f: Finished) -> FinishedNumbers
+    ensures { λ r. ⌜ r ≡ finishedNumbers f ⌝ }
+{
+    let stream = f.stream;
+    let p = f.prepared;
+    FinishedNumbers {
+        stream,
+        prepared: prepared_numbers(p),
     }
 }

@@ -2,8 +2,8 @@
 
 use std::fmt;
 
-/// An answer, with its number. Preparing tests 1 to 7 in that order, showing 8 to 13, putting a row 16 and then as showing; the first
-/// that applies is given.
+/// An answer, with its number. Preparing tests 1 to 7 in that order, showing 8 to 13, putting a row 16 and then as showing, ending a stream
+/// 15 and then as preparing; the first that applies is given.
 #[repr(u16)]
 #[derive(Clone, Copy, Debug, PartialEq, Eq)]
 pub enum Answer {
@@ -34,13 +34,15 @@ pub enum Answer {
     General = 12,
     /// The text is longer than the room.
     TextRoom = 13,
+    /// The stream has ended.
+    Ended = 15,
     /// The row is 64 or above.
     Row = 16,
 }
 
 impl Answer {
     /// Every answer that a call gives, in the order of their numbers.
-    pub const ALL: [Answer; 15] = [
+    pub const ALL: [Answer; 16] = [
         Answer::Done,
         Answer::CodeLength,
         Answer::Token,
@@ -55,6 +57,7 @@ impl Answer {
         Answer::Sort,
         Answer::General,
         Answer::TextRoom,
+        Answer::Ended,
         Answer::Row,
     ];
 
@@ -91,6 +94,7 @@ impl Answer {
             Answer::Sort => "The section that takes this value cannot show its kind.",
             Answer::General => "The number is too large for General.",
             Answer::TextRoom => "The text is too long for the room.",
+            Answer::Ended => "The code has ended already.",
             Answer::Row => "The board has no such row.",
         }
     }

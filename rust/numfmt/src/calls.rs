@@ -24,7 +24,7 @@
 //! assert_eq!(short, [7; 5]);
 //! ```
 
-use crate::BOARD_ROWS;
+use crate::{BOARD_ROWS, CODE_MOST};
 
 /// What preparing returns. On a refusal `words` is 0; `place` is 0 but for answers 2 to 6.
 #[repr(C)]
@@ -91,6 +91,33 @@ pub struct Cleared {
     pub answer: u16,
 }
 
+/// A code that arrives in parts: `count` units have come, of which `units` begins with the first 254; more are counted as 255.
+/// `ended` is 0 until the end. Any numbers may be in it.
+#[repr(C)]
+#[derive(Clone, Copy, Debug, PartialEq, Eq)]
+pub struct Stream {
+    pub units: [u16; CODE_MOST],
+    pub count: u16,
+    pub ended: u16,
+}
+
+/// What feeding a stream returns.
+#[repr(C)]
+#[derive(Clone, Copy, Debug, PartialEq, Eq)]
+pub struct Fed {
+    pub stream: Stream,
+    pub answer: u16,
+    pub place: u32,
+}
+
+/// What ending a stream returns.
+#[repr(C)]
+#[derive(Clone, Copy, Debug, PartialEq, Eq)]
+pub struct Finished {
+    pub stream: Stream,
+    pub prepared: Prepared,
+}
+
 /// A part of a code: `length` units from unit `start` on.
 #[repr(C)]
 #[derive(Clone, Copy, Debug, PartialEq, Eq)]
@@ -106,6 +133,9 @@ unsafe extern "C" {
         table: *mut u16,
         table_len: usize,
     ) -> Prepared;
+    fn numfmt_stream_start() -> Stream;
+    fn numfmt_stream_feed(stream: Stream, part: *const u16, part_len: usize) -> Fed;
+    fn numfmt_stream_end(stream: Stream, table: *mut u16, table_len: usize) -> Finished;
     fn numfmt_section(code: *const u16, code_len: usize, n: u32) -> Part;
     fn numfmt_check(table: *const u16, table_len: usize) -> u16;
     fn numfmt_show_number(
@@ -191,6 +221,37 @@ unsafe extern "C" {
 pub fn prepare(code: &[u16], table: &mut [u16]) -> Prepared {
     // SAFETY: each pointer is a slice's, with its length; the slice that is written overlaps no other.
     unsafe { numfmt_prepare(code.as_ptr(), code.len(), table.as_mut_ptr(), table.len()) }
+}
+
+/// A stream to which nothing has come.
+///
+/// ```
+/// use numfmt::calls;
+///
+/// let mut table = [0; 16];
+/// let mut stream = calls::stream_start();
+/// for part in [[35, 44, 35].as_slice(), &[35, 48]] {
+///     stream = calls::stream_feed(stream, part).stream;
+/// }
+/// let finished = calls::stream_end(stream, &mut table);
+/// assert_eq!(finished.prepared.answer, 7);
+/// assert_eq!(calls::stream_feed(finished.stream, &[48]).answer, 15);
+/// ```
+pub fn stream_start() -> Stream {
+    // SAFETY: nothing is lent.
+    unsafe { numfmt_stream_start() }
+}
+
+/// The stream with a part of a code behind what has come: answer 0 however long the code grows, 15 after the end.
+pub fn stream_feed(stream: Stream, part: &[u16]) -> Fed {
+    // SAFETY: the pointer is a slice's, with its length; nothing is written.
+    unsafe { numfmt_stream_feed(stream, part.as_ptr(), part.len()) }
+}
+
+/// Ends a stream, and prepares the joined code as [`prepare`] does; 15 where it has ended before.
+pub fn stream_end(stream: Stream, table: &mut [u16]) -> Finished {
+    // SAFETY: the pointer is a slice's, with its length.
+    unsafe { numfmt_stream_end(stream, table.as_mut_ptr(), table.len()) }
 }
 
 /// Answer 0 for words that keep the table rules, 8 for others.

@@ -12,16 +12,18 @@
 //! ```
 //!
 //! [`Table`] owns its words and takes and gives strings. A [`Board`] keeps the lengths and colours of a wall's rows, and the width that they
-//! need. [`calls`] are the C calls themselves on lent slices of units.
+//! need, a [`Stream`] takes a code that arrives in parts. [`calls`] are the C calls themselves on lent slices of units.
 //! A table is only read by showing, so that many threads may show by one.
 
 mod answer;
 mod board;
 pub mod calls;
+mod stream;
 mod table;
 
 pub use answer::{Answer, Refusal};
 pub use board::Board;
+pub use stream::Stream;
 pub use table::{byte_of_unit, section, Shown, Table, Value};
 
 /// Words of table room that hold the table of every accepted code.

@@ -53,6 +53,11 @@ impl Table {
     pub fn prepare_units(code: &[u16]) -> Result<Table, Refusal> {
         let mut words = vec![0; TABLE_WORDS];
         let prepared = calls::prepare(code, &mut words);
+        Table::told(prepared, words)
+    }
+
+    /// The table that preparing wrote in front of these words, or its refusal.
+    pub(crate) fn told(prepared: calls::Prepared, mut words: Vec<u16>) -> Result<Table, Refusal> {
         Refusal::told(prepared.answer, prepared.place)?;
         words.truncate(prepared.words as usize);
         Ok(Table(words))

@@ -1,0 +1,4 @@
+pub mod Steps
+pub mod Long
+pub mod Parts
+pub mod Final
