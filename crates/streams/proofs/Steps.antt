@@ -24,13 +24,13 @@ abbrev pub finishedAs : Stream → Prepared → Finished
 finishedAs s p = record { stream = s; prepared = p }
 
 -- ---- while it runs
-pub fed-open : (s : Stream) (part : List ℕ) {next count : ℕ} {units : List ℕ} → runs s ≡ true
-    → Put (s .units) (s .count) part next units → count ≡ min next 255
+pub fed-open : (s : Stream) (part : List ℕ) {at next count : ℕ} {units : List ℕ} → runs s ≡ true
+    → Put (s .units) at part next units → at ≡ s .count → count ≡ min next 255
     → fedAs (record { units = units; count = count; ended = s .ended }) answer.Done ≡ feeding s part
 unfolding feeding grown
-fed-open s part {next} {count} {units} r p e =
-    let size : count ≡ min (s .count + length part) 255 = omega (arith, e, p .next) in
-    rw (r, p .room, size)
+fed-open s part {at} {next} {count} {units} r p behind e =
+    let size : count ≡ min (s .count + length part) 255 = omega (arith, behind, e, p .next) in
+    rw (r, p .room, behind, size)
 
 module _ (s : Stream) where
   pub stands-kept : s .count ≤ 254 → standsFor s ≡ joined (take (s .count) (s .units))

@@ -1,5 +1,6 @@
 -- `streams::Stream::feed` meets its contract.
 -- Assumes nothing.
+use native.Mathlib.Omega.{arith}
 use borrow.Author.Tests.{eq-eqb, ne-eqb}
 use Rattle.streams.proofs.Steps.{fed-open, fed-again}
 use borrow.Author.Needs.{needs}
@@ -31,7 +32,7 @@ returns-2 : tie.Need-returns-2
 returns-2 c =
     let p = c .before .before in
     let b = p .before .before .before .before in
-    fed-open (b .before .before .before .args .self) _ (eq-eqb _ _ (b .if1 .left)) (p .put-units .ensures) (c .least .ensures)
+    fed-open (b .before .before .before .args .self) _ (eq-eqb _ _ (b .if1 .left)) (p .put-units .ensures) (omega arith) (c .least .ensures)
 
 pub feed-spec : {M : Type 1} → statement M
 feed-spec =
