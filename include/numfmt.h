@@ -3,11 +3,11 @@
  * through the table.
  *
  * Codes, tables, texts and rooms are lent runs of 16-bit units (UTF-16; a unit
- * may be any number). No call keeps a pointer, allocates or needs a start or an
- * end. Any number of threads may call at once, and lend the same code, table or
- * text, where each has a table room or text room of its own. A board or a stream
- * is a plain struct of the caller's: a call takes it by value and hands it back
- * whole.
+ * may be any number). No call keeps a pointer or allocates, and the library has
+ * no state: nothing is done before the first call or behind the last. Any number
+ * of threads may call at once, and lend the same code, table or text, where each
+ * has a table room or text room of its own. A board or a stream is a plain struct
+ * of the caller's: a call takes it by value and hands it back whole.
  *
  * What a caller owes, and nothing checks:
  *   - each pointer is valid for the length beside it, aligned for a uint16_t;
@@ -20,8 +20,8 @@
  *     the same call;
  *   - NUMFMT_STACK_BYTES of stack are free.
  * All else is checked by the call: any units at all may be lent as a code, a
- * table or a text, any number may be given as a value or a row, and any numbers
- * may stand in a board or a stream.
+ * part of one, a table or a text, any number may be given as a value or a row,
+ * and any numbers may stand in a board or a stream.
  *
  * What every call leaves: units of a table or room past the reported length
  * keep their contents; on a refusal all of them do. On a refusal every number
@@ -237,8 +237,9 @@ typedef struct {
 /*
  * A code that arrives in parts: `count` units have come, of which `units` begins
  * with the first 254 (more are counted as 255), and `ended` is 0 until the end,
- * which makes it 1. Of a stream made by hand any count above 254 is a code that is
- * too long, and any `ended` but 0 a stream that has ended.
+ * which makes it 1. At the start all numbers are 0. Of a stream made by hand any
+ * count above 254 is a code that is too long, and any `ended` but 0 a stream that
+ * has ended.
  */
 typedef struct {
     uint16_t units[NUMFMT_CODE_MOST];
