@@ -12,7 +12,7 @@
 //! ```
 //!
 //! [`Table`] owns its words and takes and gives strings. A [`Board`] keeps the lengths and colours of a wall's rows, and the width that they
-//! need, a [`Stream`] takes a code that arrives in parts. [`calls`] are the C calls themselves on lent slices of units.
+//! need. A [`Stream`] takes a code that arrives in parts. [`calls`] are the C calls themselves on lent slices of units.
 //! A table is only read by showing, so that many threads may show by one.
 
 mod answer;
