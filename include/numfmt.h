@@ -68,7 +68,7 @@ extern "C" {
 
 /*
  * Stack that is enough for each call, whatever is lent: none of them recurses.
- * Measured on x86-64: some 3,300 bytes for numfmt_prepare, 3,200 for
+ * Measured on x86-64: some 3,400 bytes for numfmt_prepare, 3,300 for
  * numfmt_section, 2,500 for the calls that show, 2,700 for those that ask why,
  * 4,900 for those that put a row, 2,300 for numfmt_board_clear, 500, 1,600 and
  * 5,500 to start, feed and end a stream, and 300 for numfmt_check, the boards and
