@@ -116,6 +116,20 @@ static void print_boards(void)
     printf("\n\n");
 }
 
+/* A code that comes in parts beside the same prepared at once; a feed by what the code costs in more parts than one. */
+static void print_streams(void)
+{
+    if (!has_streams())
+        return;
+    printf("### Streams\n\nA code: nanoseconds / instructions\n\n| `%s` prepared | as a stream, in one part | more | in %zu parts | a part |\n|---|---|---|---|---|\n|",
+           specimens[0].code, jobs[STREAM].count);
+    print_cell(&jobs[PREPARE]);
+    print_cell(&jobs[STREAM]);
+    printf(" %.0f |", jobs[STREAM].best - jobs[PREPARE].best);
+    print_cell(&jobs[STREAM_BY_UNITS]);
+    printf(" %.0f |\n\n", (jobs[STREAM_BY_UNITS].best - jobs[STREAM].best) / (double)(jobs[STREAM].count - 1));
+}
+
 static double one_more(const double *counts, const job *grown, size_t at)
 {
     return (grown[at].best - grown[at - 1].best) / (counts[at] - counts[at - 1]);
@@ -190,6 +204,7 @@ static void print_tables(const char *counts_path, const char *data_path, unsigne
     measure_on(MIXED, JOBS, rounds, counts);
     print_showing("mixed numbers");
     print_preparing();
+    print_streams();
     print_growths(data);
     fclose(counts);
     if (fclose(data) != 0) {

@@ -9,6 +9,9 @@
 
 #pragma weak numfmt_board_put_number
 #pragma weak numfmt_board_clear
+#pragma weak numfmt_stream_start
+#pragma weak numfmt_stream_feed
+#pragma weak numfmt_stream_end
 
 specimen specimens[SPECIMENS] = {
     {.code = "#,##0", .number = plain_grouped},
@@ -221,6 +224,29 @@ int has_boards(void)
     return numfmt_board_put_number != NULL && numfmt_board_clear != NULL;
 }
 
+/* Batches on streams: a code that comes in parts of so many units, from the start to the end. */
+
+static uint64_t batch_of_streams(const job *one)
+{
+    static uint16_t table[NUMFMT_TABLE_WORDS];
+    uint64_t sum = 0;
+    size_t at, from;
+
+    for (at = 0; at < CALLS; at++) {
+        numfmt_stream stream = numfmt_stream_start();
+
+        for (from = 0; from < one->count; from += one->room_len)
+            stream = numfmt_stream_feed(stream, one->units + from, one->room_len).stream;
+        sum += numfmt_stream_end(stream, table, NUMFMT_TABLE_WORDS).prepared.words + table[0];
+    }
+    return sum;
+}
+
+int has_streams(void)
+{
+    return numfmt_stream_start != NULL && numfmt_stream_feed != NULL && numfmt_stream_end != NULL;
+}
+
 /* Jobs */
 
 static job show_job(const specimen *of, show_number *number, show_instant *instant, size_t room_len)
@@ -285,6 +311,17 @@ static void make_board_jobs(void)
     }
 }
 
+/* A stream ends as the first specimen's job prepares: its code comes at once, or unit by unit. */
+static void make_stream_jobs(void)
+{
+    jobs[STREAM] = jobs[STREAM_BY_UNITS] = jobs[PREPARE];
+    if (has_streams()) {
+        jobs[STREAM].batch = jobs[STREAM_BY_UNITS].batch = batch_of_streams;
+        jobs[STREAM].room_len = jobs[STREAM].count;
+        jobs[STREAM_BY_UNITS].room_len = 1;
+    }
+}
+
 void make_jobs(void)
 {
     size_t at;
@@ -305,6 +342,7 @@ void make_jobs(void)
     }
     jobs[PREPARE_LONGEST] = prepare_job(&longest);
     make_board_jobs();
+    make_stream_jobs();
     make_growth_jobs(jobs + BY_LITERALS, jobs + BY_LITERALS_SHORT, literals, LITERALS);
     make_growth_jobs(jobs + BY_PLACES, jobs + BY_PLACES_SHORT, places, PLACES);
     make_growth_jobs(jobs + BY_SECTIONS, jobs + BY_SECTIONS_SHORT, sections, SECTIONS);

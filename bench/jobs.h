@@ -48,6 +48,8 @@ enum {
     PUT,
     CLEAR,
     HANDED,
+    STREAM,
+    STREAM_BY_UNITS,
     COUNTED,
     BY_LITERALS = COUNTED,
     BY_LITERALS_SHORT = BY_LITERALS + LITERALS,
@@ -65,5 +67,8 @@ void make_jobs(void);
 
 /* Whether the archive has boards: one from before them has not, and its jobs PUT and CLEAR are HANDED's then. */
 int has_boards(void);
+
+/* Whether the archive has streams: one from before them has not, and its jobs STREAM and STREAM_BY_UNITS are PREPARE's then. */
+int has_streams(void);
 
 #endif

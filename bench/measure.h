@@ -16,7 +16,7 @@ typedef struct job {
     uint64_t (*batch)(const struct job *); /* gives a sum over all results, to be kept */
     const uint16_t *units;                 /* a table or a code */
     size_t count;
-    size_t room_len;
+    size_t room_len; /* of the room; of a stream's parts */
     show_number *number;
     show_instant *instant;
     plain_number *plain_number;
