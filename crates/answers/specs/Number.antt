@@ -26,18 +26,18 @@ number_of answer.Ended = 15
 number_of answer.Row = 16
 
 -- a table of so many words
-abbrev pub donePrepared : ℕ → Prepared
-donePrepared words = record { answer = answer.Done; place = 0; words = words }
+abbrev pub done_prepared : ℕ → Prepared
+done_prepared words = record { answer = answer.Done; place = 0; words = words }
 
 -- a text of this length, its colour and section, and whether it is exact
-abbrev pub doneShown : ℕ → ℕ → ℕ → Bool → Shown
-doneShown length colour section exact =
+abbrev pub done_shown : ℕ → ℕ → ℕ → Bool → Shown
+done_shown length colour section exact =
     record { answer = answer.Done; exact = exact; length = length; colour = colour; section = section }
 
 -- "On a refusal every returned number but the answer and the place is 0." (R7)
-abbrev pub refusedPrepared : Answer → ℕ → Prepared
-refusedPrepared a at = record { answer = a; place = at; words = 0 }
+abbrev pub refused_prepared : Answer → ℕ → Prepared
+refused_prepared a at = record { answer = a; place = at; words = 0 }
 
 -- and nothing is exact: "on a refusal it is 0" (R7)
-abbrev pub refusedShown : Answer → Shown
-refusedShown a = record { answer = a; exact = false; length = 0; colour = 0; section = 0 }
+abbrev pub refused_shown : Answer → Shown
+refused_shown a = record { answer = a; exact = false; length = 0; colour = 0; section = 0 }

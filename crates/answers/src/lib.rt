@@ -1,6 +1,6 @@
 // What a call answers: the answer list, and the results of preparing and of showing.
 ghost use Rattle.std.specs.Prelude.{◌≡◌};
-ghost use Rattle.answers.specs.Number.{number_of, donePrepared, doneShown, refusedPrepared, refusedShown};
+ghost use Rattle.answers.specs.Number.{number_of, done_prepared, done_shown, refused_prepared, refused_shown};
 
 // The answer list, in its order. `number_of` in specs/ gives each its number.
 #[derive(Drop)]
@@ -45,7 +45,7 @@ pub struct Shown {
 
 // What preparing returns where it has made a table of so many words.
 pub fn done_prepared(words: u32) -> Prepared
-    ensures { result ≡ donePrepared words }
+    ensures { result ≡ done_prepared words }
 {
     Prepared {
         answer: Answer::Done,
@@ -56,7 +56,7 @@ pub fn done_prepared(words: u32) -> Prepared
 
 // What preparing returns where it refuses.
 pub fn refused_prepared(answer: Answer, place: u32) -> Prepared
-    ensures { result ≡ refusedPrepared answer place }
+    ensures { result ≡ refused_prepared answer place }
 {
     Prepared {
         answer,
@@ -67,7 +67,7 @@ pub fn refused_prepared(answer: Answer, place: u32) -> Prepared
 
 // What showing returns where a text of this length is shown.
 pub fn done_shown(length: u32, colour: u16, section: u16, exact: bool) -> Shown
-    ensures { result ≡ doneShown length colour section exact }
+    ensures { result ≡ done_shown length colour section exact }
 {
     Shown {
         answer: Answer::Done,
@@ -80,7 +80,7 @@ pub fn done_shown(length: u32, colour: u16, section: u16, exact: bool) -> Shown
 
 // What showing returns where it refuses.
 pub fn refused_shown(answer: Answer) -> Shown
-    ensures { result ≡ refusedShown answer }
+    ensures { result ≡ refused_shown answer }
 {
     Shown {
         answer,

@@ -5,13 +5,13 @@ use Rattle.values.specs.Ranges.{between}
 use Rattle.tables.specs.Words.{Entry}
 
 -- the tag of the item that makes the section; a literal section has none of its own
-abbrev pub ownTag : ℕ → ℕ
-ownTag kind = cond (eqb kind 1) 9 (cond (eqb kind 3) 10 1)
+abbrev pub own_tag : ℕ → ℕ
+own_tag kind = cond (eqb kind 1) 9 (cond (eqb kind 3) 10 1)
 
 -- a literal, a blank, a fill, or that item
-unfoldable pub bareEntry : ℕ → Entry → Bool
-bareEntry own e = cond (between 1 3 e.tag) (ltb e.argument 65536) (eqb e.tag own && eqb e.argument 0)
+unfoldable pub bare_entry : ℕ → Entry → Bool
+bare_entry own e = cond (between 1 3 e.tag) (ltb e.argument 65536) (eqb e.tag own && eqb e.argument 0)
 
 -- how often it may stand: General once, `@` at least once
-abbrev pub ownsFit : ℕ → ℕ → Bool
-ownsFit kind n = cond (eqb kind 0) true (cond (eqb kind 1) (eqb n 1) (cond (eqb kind 3) (ltb 0 n) false))
+abbrev pub owns_fit : ℕ → ℕ → Bool
+owns_fit kind n = cond (eqb kind 0) true (cond (eqb kind 1) (eqb n 1) (cond (eqb kind 3) (ltb 0 n) false))

@@ -1,16 +1,16 @@
 // The items of a literal, General or text section: literals, blanks, one fill, and what makes the section.
 ghost use Rattle.std.specs.Prelude.{◌≡◌, ◌≤◌};
-ghost use Rattle.tables.specs.Words.{entriesIn};
+ghost use Rattle.tables.specs.Words.{entries_in};
 ghost use Rattle.tables.specs.Encode.{entry, bit};
 ghost use Rattle.tallies.specs.Tally.{items_of};
-ghost use Rattle.bare_rows.specs.BareRows.{ownTag, bareEntry, ownsFit};
+ghost use Rattle.bare_rows.specs.BareRows.{own_tag, bare_entry, owns_fit};
 
 use tables::{kinds, tags};
 use values::integers::is_between;
 
 // The tag of the item that makes the section. A literal section has none of its own.
 fn own_tag(kind: u16) -> u16
-    ensures { result ≡ ownTag kind }
+    ensures { result ≡ own_tag kind }
 {
     match kind {
         kinds::GENERAL => tags::GENERAL,
@@ -20,7 +20,7 @@ fn own_tag(kind: u16) -> u16
 }
 
 fn is_bare(own: u16, tag: u16, a: u16) -> bool
-    ensures { result ≡ bareEntry own (entry tag a) }
+    ensures { result ≡ bare_entry own (entry tag a) }
 {
     if is_between(tags::LITERAL, tags::FILL, tag) {
         return true;
@@ -36,7 +36,7 @@ fn one(b: bool) -> usize
 
 // General stands once, `@` at least once.
 fn owns_fit(kind: u16, owns: usize) -> bool
-    ensures { result ≡ ownsFit kind owns }
+    ensures { result ≡ owns_fit kind owns }
 {
     match kind {
         kinds::LITERAL => true,
@@ -48,7 +48,7 @@ fn owns_fit(kind: u16, owns: usize) -> bool
 
 // Whether these are the words of such a section's items.
 pub fn bare_fits(words: &[u16], kind: u16) -> bool
-    ensures { (kind ≡ 2 → ⊥) → (kind ≡ 4 → ⊥) → (kind ≡ 5 → ⊥) → (kind ≡ 6 → ⊥) → result ≡ items_of kind (entriesIn words.now) }
+    ensures { (kind ≡ 2 → ⊥) → (kind ≡ 4 → ⊥) → (kind ≡ 5 → ⊥) → (kind ≡ 6 → ⊥) → result ≡ items_of kind (entries_in words.now) }
 {
     let own = own_tag(kind);
     let n = words.len() / 2;

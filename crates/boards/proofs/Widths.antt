@@ -11,30 +11,30 @@ use lib.ListN.{length, get_or, drop, drop_of_length-le}
 use lib.Seq.{drop-cons}
 use borrow.Author.Tests.{ltb-true, ltb-false, leb-true, leb-false}
 use Rattle.lists.proofs.Bools.{no, by_cases, cond-case}
-use Rattle.boards.specs.Boards.{lengthIn, widestFrom}
+use Rattle.boards.specs.Boards.{length_in, widest_from}
 
 -- a row that is filled has its length
-filled-length : (f n : ℕ) → eqb f 0 ≡ false → lengthIn f n ≡ n
-unfolding lengthIn
+filled-length : (f n : ℕ) → eqb f 0 ≡ false → length_in f n ≡ n
+unfolding length_in
 filled-length f n e = rw e
 
 -- and one that has a length is filled
-length-filled : (f n : ℕ) → 0 < lengthIn f n → (eqb f 0 ≡ false) × (n ≡ lengthIn f n)
-unfolding lengthIn
+length-filled : (f n : ℕ) → 0 < length_in f n → (eqb f 0 ≡ false) × (n ≡ length_in f n)
+unfolding length_in
 length-filled f n = cond-case (λ (x : ℕ). 0 < x → (eqb f 0 ≡ false) × (n ≡ x)) (eqb f 0) (λ e h. absurd (omega arith)) (λ e h. (e, refl))
 
-pub least-widest : (w : ℕ) (fs ns : List ℕ) → w ≤ widestFrom w fs ns
-unfolding widestFrom
+pub least-widest : (w : ℕ) (fs ns : List ℕ) → w ≤ widest_from w fs ns
+unfolding widest_from
 least-widest w [] ns = omega arith
 least-widest w (f ∷ fs) [] = omega arith
-least-widest w (f ∷ fs) (n ∷ ns) = omega (arith, least-widest (max w (lengthIn f n)) fs ns)
+least-widest w (f ∷ fs) (n ∷ ns) = omega (arith, least-widest (max w (length_in f n)) fs ns)
 
-pub none-longer : (w : ℕ) (fs ns : List ℕ) (k : ℕ) → eqb (get_or fs k 0) 0 ≡ false → get_or ns k 0 ≤ widestFrom w fs ns
-unfolding widestFrom
+pub none-longer : (w : ℕ) (fs ns : List ℕ) (k : ℕ) → eqb (get_or fs k 0) 0 ≡ false → get_or ns k 0 ≤ widest_from w fs ns
+unfolding widest_from
 none-longer w [] ns k e = no (sym e)
 none-longer w (f ∷ fs) [] k e = omega arith
-none-longer w (f ∷ fs) (n ∷ ns) zero e = omega (arith, filled-length f n e, least-widest (max w (lengthIn f n)) fs ns)
-none-longer w (f ∷ fs) (n ∷ ns) (suc k) e = none-longer (max w (lengthIn f n)) fs ns k e
+none-longer w (f ∷ fs) (n ∷ ns) zero e = omega (arith, filled-length f n e, least-widest (max w (length_in f n)) fs ns)
+none-longer w (f ∷ fs) (n ∷ ns) (suc k) e = none-longer (max w (length_in f n)) fs ns k e
 
 -- a row that is filled and as long as this
 pub record Found (fs ns : List ℕ) (w : ℕ) : Type 0 where
@@ -46,37 +46,37 @@ pub record Found (fs ns : List ℕ) (w : ℕ) : Type 0 where
 later : {f n : ℕ} {fs ns : List ℕ} {w : ℕ} → Found fs ns w → Found (f ∷ fs) (n ∷ ns) w
 later x = record { row = suc x.row; there = omega (arith, x.there); filled = x.filled; is = x.is }
 
-found : (w : ℕ) (fs ns : List ℕ) → w < widestFrom w fs ns → Found fs ns (widestFrom w fs ns)
-unfolding widestFrom
+found : (w : ℕ) (fs ns : List ℕ) → w < widest_from w fs ns → Found fs ns (widest_from w fs ns)
+unfolding widest_from
 found w [] ns h = absurd (omega arith)
 found w (f ∷ fs) [] h = absurd (omega arith)
 found w (f ∷ fs) (n ∷ ns) h =
-    by_cases (ltb (max w (lengthIn f n)) (widestFrom (max w (lengthIn f n)) fs ns))
-    (λ e. later (found (max w (lengthIn f n)) fs ns (ltb-true (max w (lengthIn f n)) (widestFrom (max w (lengthIn f n)) fs ns) e)))
+    by_cases (ltb (max w (length_in f n)) (widest_from (max w (length_in f n)) fs ns))
+    (λ e. later (found (max w (length_in f n)) fs ns (ltb-true (max w (length_in f n)) (widest_from (max w (length_in f n)) fs ns) e)))
     (λ e.
-    let s : max w (lengthIn f n) ≡ widestFrom (max w (lengthIn f n)) fs ns = omega (arith, ltb-false (max w (lengthIn f n)) (widestFrom (max w (lengthIn f n)) fs ns) e, least-widest (max w (lengthIn f n)) fs ns) in
+    let s : max w (length_in f n) ≡ widest_from (max w (length_in f n)) fs ns = omega (arith, ltb-false (max w (length_in f n)) (widest_from (max w (length_in f n)) fs ns) e, least-widest (max w (length_in f n)) fs ns) in
     let d = length-filled f n (omega arith) in
     record { row = 0; there = omega arith; filled = d.0; is = d.1 ∙ omega arith })
 
 -- a width that was counted from 0 on, where it is not 0
-pub found_from : {w : ℕ} (fs ns : List ℕ) {x : ℕ} → x ≡ widestFrom w fs ns → w ≡ 0 → 0 < x → Found fs ns x
+pub found_from : {w : ℕ} (fs ns : List ℕ) {x : ℕ} → x ≡ widest_from w fs ns → w ≡ 0 → 0 < x → Found fs ns x
 found_from {w} fs ns e z h = rw e (found w fs ns (omega (arith, e)))
 
 -- ---- the walk over the rows
 -- the next row, where both lists have it
 pub widest-next : (w : ℕ) (fs ns : List ℕ) (k : ℕ) → k < length fs → k < length ns
-    → widestFrom (max w (lengthIn (get_or fs k 0) (get_or ns k 0))) (drop (k + 1) fs) (drop (k + 1) ns) ≡ widestFrom w (drop k fs) (drop k ns)
-unfolding widestFrom
+    → widest_from (max w (length_in (get_or fs k 0) (get_or ns k 0))) (drop (k + 1) fs) (drop (k + 1) ns) ≡ widest_from w (drop k fs) (drop k ns)
+unfolding widest_from
 widest-next w fs ns k f n = rw (drop-cons fs k 0 f, drop-cons ns k 0 n, add-one)
 
-none_left : (w : ℕ) (fs : List ℕ) → widestFrom w fs [] ≡ w
-unfolding widestFrom
+none_left : (w : ℕ) (fs : List ℕ) → widest_from w fs [] ≡ w
+unfolding widest_from
 none_left w [] = refl
 none_left w (f ∷ fs) = refl
 
 -- the end of the shorter list
-pub widest-end : (w : ℕ) (fs ns : List ℕ) (k : ℕ) → min (length fs) (length ns) ≤ k → widestFrom w (drop k fs) (drop k ns) ≡ w
-unfolding widestFrom
+pub widest-end : (w : ℕ) (fs ns : List ℕ) (k : ℕ) → min (length fs) (length ns) ≤ k → widest_from w (drop k fs) (drop k ns) ≡ w
+unfolding widest_from
 widest-end w fs ns k h =
     by_cases (leb (length fs) k)
     (λ e. rw (drop_of_length-le fs (leb-true (length fs) k e)))

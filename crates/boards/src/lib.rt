@@ -1,6 +1,6 @@
 // A board of sixty-four rows, each empty or with the length and colour last shown there, and the width kept beside them.
 ghost use Rattle.std.specs.Prelude.{◌≡◌, max, length};
-ghost use Rattle.boards.specs.Boards.{emptyBoard, lengthIn, widestOf, putRow, roomPut, clearRow};
+ghost use Rattle.boards.specs.Boards.{empty_board, length_in, widest_of, put_row, room_put, clear_row};
 
 use answers::{Answer, Shown, number, refused_shown};
 use showing::show;
@@ -36,7 +36,7 @@ const ROWS: u32 = 64;
 
 // The length of what is shown in a row.
 fn length_in(filled: u8, length: u32) -> u32
-    ensures { result ≡ lengthIn filled length }
+    ensures { result ≡ length_in filled length }
 {
     if filled == 0 { 0 } else { length }
 }
@@ -50,7 +50,7 @@ fn wider(a: u32, b: u32) -> u32
 // The greatest length of the rows that are filled. (Each row's length is told first and then compared, so that several rows are compared at
 // once.)
 fn widest_of<'a>(filled: &'a [u8], lengths: &'a [u32]) -> u32
-    ensures { result ≡ widestOf filled.now lengths.now }
+    ensures { result ≡ widest_of filled.now lengths.now }
 {
     let rows = least(filled.len(), lengths.len());
     let mut w: u32 = 0;
@@ -64,7 +64,7 @@ fn widest_of<'a>(filled: &'a [u8], lengths: &'a [u32]) -> u32
 
 impl Board {
     pub fn empty() -> Board
-        ensures { result ≡ emptyBoard }
+        ensures { result ≡ empty_board }
     {
         Board {
             filled: [0; 64],
@@ -84,8 +84,8 @@ impl Board {
         text: &[u16],
         room: &mut [u16],
     ) -> PutRow
-        ensures result { result ≡ putRow self row table.now ask text.now (length room.old) }
-        ensures room { room.new ≡ roomPut row table.now ask text.now room.old }
+        ensures result { result ≡ put_row self row table.now ask text.now (length room.old) }
+        ensures room { room.new ≡ room_put row table.now ask text.now room.old }
     {
         if ROWS <= row {
             return PutRow {
@@ -109,7 +109,7 @@ impl Board {
 
     // Empties a row; a row above 63 is answered 16.
     pub fn clear(mut self, row: u32) -> ClearedRow
-        ensures { result ≡ clearRow self row }
+        ensures { result ≡ clear_row self row }
     {
         if ROWS <= row {
             return ClearedRow {

@@ -10,51 +10,51 @@ use Rattle.lists.specs.Lists.{every, any, is_empty}
 use Rattle.lists.proofs.Bools.{T_true, and_left, and_right, every-head, every-tail}
 use Rattle.lists.proofs.Counts.{any-either}
 use Rattle.formats.specs.Tokens.{Token, literal}
-use Rattle.formats.specs.Items.{Item, Kind, fractionKind, kindRow, sameKind, itemAllowed, itemsKind, isSolidus, isFixed, fractionFits, itemsFit, settled}
-use Rattle.formats.specs.Kinds.{bodyKind, tokenItems, bodyItems, lastFill}
+use Rattle.formats.specs.Items.{Item, Kind, fraction_kind, kind_row, same_kind, item_allowed, items_kind, is_solidus, is_fixed, fraction_fits, items_fit, settled}
+use Rattle.formats.specs.Kinds.{body_kind, token_items, body_items, last_fill}
 use Rattle.formats.proofs.Each.{by_token, by-item}
-use Rattle.formats.proofs.TokenRanges.{tokenPasses}
+use Rattle.formats.proofs.TokenRanges.{token_passes}
 use Rattle.formats.proofs.FormedItems.{both-kept}
 use Rattle.formats.proofs.FormedKinds.{kind-of-body}
-use Rattle.bodies.specs.Fraction.{hasUnits}
+use Rattle.bodies.specs.Fraction.{has_units}
 
-pub units-passed : (test : ℕ → Bool) (t : Token) → T (tokenPasses test t) → T (hasUnits t)
-unfolding hasUnits tokenItems tokenPasses is_empty
+pub units-passed : (test : ℕ → Bool) (t : Token) → T (token_passes test t) → T (has_units t)
+unfolding has_units token_items token_passes is_empty
 units-passed test =
-    by_token (λ (t : Token). T (tokenPasses test t) → T (hasUnits t))
+    by_token (λ (t : Token). T (token_passes test t) → T (has_units t))
     go (λ u h. tt) (λ u h. tt) (λ u h. tt) (λ p h. tt) (λ h. tt) (λ h. tt) (λ h. tt) (λ h. tt) (λ h. tt) (λ h. tt)
     (λ x h. tt) (λ l n h. tt) (λ x n h. tt) (λ n h. tt) (λ w h. tt) (λ m h. tt) (λ p h. tt) (λ p n h. tt)
   where
-    go : (us : List ℕ) → T (every test us && not (is_empty us)) → T (hasUnits (literal us))
+    go : (us : List ℕ) → T (every test us && not (is_empty us)) → T (has_units (literal us))
     go [] h = and_right (every test []) false h
     go (u ∷ us) h = tt
 
 -- the items that only a fraction holds
-abbrev ofFraction : Item → Bool
-ofFraction i = isSolidus i || isFixed i
+abbrev of_fraction : Item → Bool
+of_fraction i = is_solidus i || is_fixed i
 
-module _ (k : Kind) (other : sameKind k fractionKind ≡ false) where
-  refused : T (sameKind fractionKind k) → true ≡ false
-  refused t = sym (rw (eqb-true 4 (kindRow k).number (T_true (sameKind fractionKind k) t)) (T_true _ (eqb_refl (kindRow k).number))) ∙ other
+module _ (k : Kind) (other : same_kind k fraction_kind ≡ false) where
+  refused : T (same_kind fraction_kind k) → true ≡ false
+  refused t = sym (rw (eqb-true 4 (kind_row k).number (T_true (same_kind fraction_kind k) t)) (T_true _ (eqb_refl (kind_row k).number))) ∙ other
 
-  held : (i : Item) → T (itemAllowed k i) → ofFraction i ≡ false
-  unfolding itemAllowed
+  held : (i : Item) → T (item_allowed k i) → of_fraction i ≡ false
+  unfolding item_allowed
   held =
-      by-item (λ (i : Item). T (itemAllowed k i) → ofFraction i ≡ false)
+      by-item (λ (i : Item). T (item_allowed k i) → of_fraction i ≡ false)
       (λ u t. refl) (λ u t. refl) (λ u t. refl) (λ p t. refl) (λ t. refl) (λ t. refl) (λ t. refl) (λ t. refl) (λ n t. refl) (λ n t. refl) (λ n t. refl)
       (λ n t. refl) (λ n t. refl) (λ n t. refl) (λ n t. refl) (λ e n t. refl) (λ h t. refl) (λ m t. refl)
       (λ t. absurd (true≢false (refused t))) (λ n t. absurd (true≢false (refused t)))
 
-  held_none : (is : List Item) → T (every (itemAllowed k) is) → any ofFraction is ≡ false
+  held_none : (is : List Item) → T (every (item_allowed k) is) → any of_fraction is ≡ false
   unfolding any every
   held_none [] t = refl
-  held_none (i ∷ is) t = rw (held i (every-head (itemAllowed k) i is t)) (held_none is (every-tail (itemAllowed k) i is t))
+  held_none (i ∷ is) t = rw (held i (every-head (item_allowed k) i is t)) (held_none is (every-tail (item_allowed k) i is t))
 
-pub others-fit : (ts : List Token) → sameKind (bodyKind ts) fractionKind ≡ false → T (itemsFit (settled (lastFill (bodyItems ts)))) → fractionFits (bodyItems ts) ≡ true
-unfolding itemsFit fractionFits any
+pub others-fit : (ts : List Token) → same_kind (body_kind ts) fraction_kind ≡ false → T (items_fit (settled (last_fill (body_items ts)))) → fraction_fits (body_items ts) ≡ true
+unfolding items_fit fraction_fits any
 others-fit ts other fit =
-    let is = bodyItems ts in
-    let allowed : T (every (itemAllowed (itemsKind (settled (lastFill is)))) (settled (lastFill is))) = search (and_left, and_right) depth 16 in
-    let none = held_none (bodyKind ts) other (settled (lastFill is)) (rw (kind-of-body ts) at allowed) in
-    let kept = both-kept (any ofFraction) (λ i js ks e. ap (λ (b : Bool). cond (ofFraction i) true b) e) (λ u js. refl) (λ n js. refl) is in
-    rw (sym (any-either isSolidus isFixed is) ∙ sym kept ∙ none)
+    let is = body_items ts in
+    let allowed : T (every (item_allowed (items_kind (settled (last_fill is)))) (settled (last_fill is))) = search (and_left, and_right) depth 16 in
+    let none = held_none (body_kind ts) other (settled (last_fill is)) (rw (kind-of-body ts) at allowed) in
+    let kept = both-kept (any of_fraction) (λ i js ks e. ap (λ (b : Bool). cond (of_fraction i) true b) e) (λ u js. refl) (λ n js. refl) is in
+    rw (sym (any-either is_solidus is_fixed is) ∙ sym kept ∙ none)

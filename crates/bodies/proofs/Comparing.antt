@@ -13,22 +13,22 @@ use lib.ListN.{length, take, drop, length-drop, length-map, drop_of_length-le}
 use lib.Seq.{length-take-le, take_all}
 use Rattle.lists.specs.Lists.{every}
 use Rattle.lists.proofs.Bools.{by_cases}
-use Rattle.formats.specs.Tokens.{leading, isDigit, digitOf, numberFrom}
-use Rattle.formats.specs.Kinds.{millionthsOf}
-use Rattle.formats.specs.Limits.{writtenWithin}
-use Rattle.tables.specs.Encode.{comparisonWord}
-use Rattle.tables.specs.Decode.{comparisonAt}
+use Rattle.formats.specs.Tokens.{leading, is_digit, digit_of, number_from}
+use Rattle.formats.specs.Kinds.{millionths_of}
+use Rattle.formats.specs.Limits.{written_within}
+use Rattle.tables.specs.Encode.{comparison_word}
+use Rattle.tables.specs.Decode.{comparison_at}
 use Rattle.tables.proofs.BackEntries.{span-at}
 use Rattle.bodies.specs.declared.conditions.Compared.{Compared}
-use Rattle.bodies.specs.Conditions.{wholeUnits, decimalUnits, written_of, paddedNumber, beyondLimits, ComparedBy}
+use Rattle.bodies.specs.Conditions.{whole_units, decimal_units, written_of, padded_number, beyond_limits, ComparedBy}
 use Rattle.formats.proofs.Lexing.{leading-most}
 use Rattle.bodies.proofs.Numbers.{leading-digits, padded-number}
 
-word_back : (n : ℕ) → n ≤ 6 → eqb n 0 ≡ false → n ≡ comparisonWord (comparisonAt n)
-unfolding comparisonWord comparisonAt
+word_back : (n : ℕ) → n ≤ 6 → eqb n 0 ≡ false → n ≡ comparison_word (comparison_at n)
+unfolding comparison_word comparison_at
 word_back n h e =
     let some = eqb-false n 0 e in
-    span-at (λ (m : ℕ). m ≡ comparisonWord (comparisonAt m)) 1 6 n (refl, (refl, (refl, (refl, (refl, (refl, tt)))))) (omega arith) (omega arith)
+    span-at (λ (m : ℕ). m ≡ comparison_word (comparison_at m)) 1 6 n (refl, (refl, (refl, (refl, (refl, (refl, tt)))))) (omega arith) (omega arith)
 
 -- the sign of a number that is not zero
 sign_of : (n w m : ℕ) → n ≡ w * 10 ^ 6 + m → ltb 0 (w + m) ≡ not (eqb n 0)
@@ -36,19 +36,19 @@ sign_of n w m e = by_cases (ltb 0 (w + m))
     (λ t. let p = ltb-true 0 (w + m) t in rw (t, ne_eqb n 0 (λ z. omega arith)))
     (λ t. let p = ltb-false 0 (w + m) t in rw (t, eq-eqb n 0 (omega arith)))
 
-module _ (us : List ℕ) (n b : ℕ) (e : n ≡ leading isDigit us) (f : b ≡ min (n + 1) (length us)) where
+module _ (us : List ℕ) (n b : ℕ) (e : n ≡ leading is_digit us) (f : b ≡ min (n + 1) (length us)) where
   pub whole_length : n ≡ length (take n us)
-  whole_length = let m = leading-most isDigit us in sym (length-take-le n us (omega arith))
+  whole_length = let m = leading-most is_digit us in sym (length-take-le n us (omega arith))
 
-  whole_part : take n us ≡ wholeUnits us
-  unfolding wholeUnits
-  whole_part = rw e
+  whole_part_lem : take n us ≡ whole_units us
+  unfolding whole_units
+  whole_part_lem = rw e
 
-  pub whole-digits : every isDigit (take n us) ≡ true
+  pub whole-digits : every is_digit (take n us) ≡ true
   whole-digits = rw e (leading-digits us)
 
-  pub decimals-part : take (length us - b) (drop b us) ≡ decimalUnits us
-  unfolding decimalUnits
+  pub decimals-part : take (length us - b) (drop b us) ≡ decimal_units us
+  unfolding decimal_units
   decimals-part =
       take_all (length us - b) (drop b us) (rw (length-drop b us) (omega arith))
       ∙ rw (← e) (by_cases (ltb n (length us))
@@ -56,12 +56,12 @@ module _ (us : List ℕ) (n b : ℕ) (e : n ≡ leading isDigit us) (f : b ≡ m
       (λ t. let h = ltb-false n (length us) t in drop_of_length-le us {i = b} (omega arith) ∙ sym (drop_of_length-le us {i = n + 1} (omega arith))))
 
   module _ (operator : ℕ) (negative : Bool) (most : operator ≤ 6) (compares : eqb operator 0 ≡ false) where
-    within-limits : writtenWithin (some (written_of operator negative us)) ≡ (leb n 9 && leb (length (take (length us - b) (drop b us))) 6)
-    unfolding writtenWithin written_of
+    within-limits : written_within (some (written_of operator negative us)) ≡ (leb n 9 && leb (length (take (length us - b) (drop b us))) 6)
+    unfolding written_within written_of
     within-limits =
-        rw (length-map (wholeUnits us) digitOf, length-map (decimalUnits us) digitOf, ← whole_part, ← whole_length, decimals-part)
+        rw (length-map (whole_units us) digit_of, length-map (decimal_units us) digit_of, ← whole_part_lem, ← whole_length, decimals-part)
 
-    beyond : (r : Compared) → r ≡ beyondLimits operator → (leb n 9 && leb (length (take (length us - b) (drop b us))) 6) ≡ false → ComparedBy (written_of operator negative us) r
+    beyond : (r : Compared) → r ≡ beyond_limits operator → (leb n 9 && leb (length (take (length us - b) (drop b us))) 6) ≡ false → ComparedBy (written_of operator negative us) r
     unfolding written_of
     beyond r s t =
         rw s (record {
@@ -74,30 +74,30 @@ module _ (us : List ℕ) (n b : ℕ) (e : n ≡ leading isDigit us) (f : b ≡ m
           outside = λ z. (refl, refl, refl);
         })
 
-    pub beyond-whole : (r : Compared) → r ≡ beyondLimits operator → 9 < n → ComparedBy (written_of operator negative us) r
+    pub beyond-whole : (r : Compared) → r ≡ beyond_limits operator → 9 < n → ComparedBy (written_of operator negative us) r
     beyond-whole r s h = beyond r s (rw (lt-leb n 9 h))
 
-    pub beyond-decimals : (r : Compared) → r ≡ beyondLimits operator → n ≤ 9 → 6 < length (take (length us - b) (drop b us)) → ComparedBy (written_of operator negative us) r
+    pub beyond-decimals : (r : Compared) → r ≡ beyond_limits operator → n ≤ 9 → 6 < length (take (length us - b) (drop b us)) → ComparedBy (written_of operator negative us) r
     beyond-decimals r s h k = beyond r s (rw (le-leb n 9 h, lt-leb (length (take (length us - b) (drop b us))) 6 k))
 
-    module _ (h : n ≤ 9) (k : length (take (length us - b) (drop b us)) ≤ 6) (w m : ℕ) (p : w ≡ paddedNumber n (take n us)) (q : w < 10 ^ n)
-        (s : m ≡ paddedNumber 6 (take (length us - b) (drop b us))) (t : m < 10 ^ 6) where
+    module _ (h : n ≤ 9) (k : length (take (length us - b) (drop b us)) ≤ 6) (w m : ℕ) (p : w ≡ padded_number n (take n us)) (q : w < 10 ^ n)
+        (s : m ≡ padded_number 6 (take (length us - b) (drop b us))) (t : m < 10 ^ 6) where
       whole-small : w < 10 ^ 9
       whole-small = let z : 10 ^ n ≤ 10 ^ 9 = pow-le-pow_right {n = 10} (omega arith) {i = n} {j = 9} h in omega arith
 
       pub whole_room : w + m < 4294967296
       whole_room = let z = whole-small in omega arith
 
-      written-number : millionthsOf (written_of operator negative us) ≡ w * 10 ^ 6 + m
-      unfolding millionthsOf written_of
+      written-number : millionths_of (written_of operator negative us) ≡ w * 10 ^ 6 + m
+      unfolding millionths_of written_of
       written-number =
           let l = whole_length in
           let d = ap length decimals-part in
           let z : n - length (take n us) ≡ 0 = omega arith in
-          let whole : w ≡ numberFrom 0 (map digitOf (take n us)) = p ∙ padded-number n (take n us) (omega arith) ∙ rw z (omega arith) in
-          let decimals : m ≡ numberFrom 0 (map digitOf (decimalUnits us)) * 10 ^ (6 - length (decimalUnits us))
-          = s ∙ ap (paddedNumber 6) decimals-part ∙ padded-number 6 (decimalUnits us) (omega arith) in
-          rw (length-map (decimalUnits us) digitOf, ← whole_part, ← whole, ← decimals)
+          let whole : w ≡ number_from 0 (map digit_of (take n us)) = p ∙ padded-number n (take n us) (omega arith) ∙ rw z (omega arith) in
+          let decimals : m ≡ number_from 0 (map digit_of (decimal_units us)) * 10 ^ (6 - length (decimal_units us))
+          = s ∙ ap (padded_number 6) decimals-part ∙ padded-number 6 (decimal_units us) (omega arith) in
+          rw (length-map (decimal_units us) digit_of, ← whole_part_lem, ← whole, ← decimals)
 
       pub compared : ComparedBy (written_of operator negative us) (record { operator = operator; negative = negative && ltb 0 (w + m); whole = w; millionths = m; within = true })
       unfolding written_of
@@ -106,7 +106,7 @@ module _ (us : List ℕ) (n b : ℕ) (e : n ≡ leading isDigit us) (f : b ≡ m
             operator = word_back operator most compares;
             within = sym (within-limits ∙ rw (le-leb n 9 h, le-leb (length (take (length us - b) (drop b us))) 6 k));
             number = λ z. written-number;
-            negative = λ z. ap (λ (c : Bool). negative && c) (sign_of (millionthsOf (written_of operator negative us)) w m written-number);
+            negative = λ z. ap (λ (c : Bool). negative && c) (sign_of (millionths_of (written_of operator negative us)) w m written-number);
             whole = whole-small;
             millionths = t;
             outside = λ z. absurd (true≢false z);

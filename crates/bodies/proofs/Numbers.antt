@@ -13,90 +13,90 @@ use lib.ListN.{length, take, drop, get_or, drop_of_length-le}
 use lib.Seq.{drop-cons}
 use Rattle.lists.specs.Lists.{every}
 use Rattle.lists.proofs.Bools.{by_cases}
-use Rattle.formats.specs.Tokens.{leading, isDigit, digitOf, numberFrom}
-use Rattle.bodies.specs.Conditions.{padded, digitAt, paddedNumber}
+use Rattle.formats.specs.Tokens.{leading, is_digit, digit_of, number_from}
+use Rattle.bodies.specs.Conditions.{padded, digit_at, padded_number}
 
 -- ---- how many digits lead
-pub leading-digits : (us : List ℕ) → every isDigit (take (leading isDigit us) us) ≡ true
+pub leading-digits : (us : List ℕ) → every is_digit (take (leading is_digit us) us) ≡ true
 unfolding leading every
 leading-digits [] = refl
-leading-digits (u ∷ us) = by_cases (isDigit u) (λ e. rw (e, e) (leading-digits us)) (λ e. rw e)
+leading-digits (u ∷ us) = by_cases (is_digit u) (λ e. rw (e, e) (leading-digits us)) (λ e. rw e)
 
 -- what the loop of `digits` keeps
 pub record Leading (us : List ℕ) (i : ℕ) : Type 0 where
   pub inside : i ≤ length us
-  pub same : leading isDigit us ≡ i + leading isDigit (drop i us)
+  pub same : leading is_digit us ≡ i + leading is_digit (drop i us)
 
 pub leading-start : (us : List ℕ) → Leading us 0
 leading-start us = record { inside = omega arith; same = omega arith }
 
 module _ (us : List ℕ) (i : ℕ) (inv : Leading us i) where
-  pub leading_end : length us ≤ i → i ≡ leading isDigit us
+  pub leading_end : length us ≤ i → i ≡ leading is_digit us
   unfolding leading
   leading_end h = let s = rw (drop_of_length-le us {i = i} h) at inv.same in omega arith
 
   module _ (h : i < length us) (d : Bool) (e : d ≡ (leb 48 (get_or us i 0) && leb (get_or us i 0) 57)) where
-    pub leading-found : d ≡ false → i ≡ leading isDigit us
-    unfolding leading isDigit
+    pub leading-found : d ≡ false → i ≡ leading is_digit us
+    unfolding leading is_digit
     leading-found t = let s = rw (drop-cons us i 0 h, sym e ∙ t) at inv.same in omega arith
 
     pub leading_step : d ≡ true → Leading us (i + 1)
-    unfolding leading isDigit
+    unfolding leading is_digit
     leading_step t =
         let s = rw (drop-cons us i 0 h, sym e ∙ t) at inv.same in
         record { inside = omega arith; same = rw (add-one i) (omega arith) }
 
 -- ---- digits in places
-pub digit-range : (us : List ℕ) (i : ℕ) → every isDigit us ≡ true → i < length us → (48 ≤ get_or us i 0) × (get_or us i 0 ≤ 57)
-unfolding every isDigit
+pub digit-range : (us : List ℕ) (i : ℕ) → every is_digit us ≡ true → i < length us → (48 ≤ get_or us i 0) × (get_or us i 0 ≤ 57)
+unfolding every is_digit
 digit-range [] i e h = absurd (omega arith)
 digit-range (u ∷ us) zero e h = by_cases (leb 48 u)
     (λ a. by_cases (leb u 57) (λ b. (leb-true 48 u a, leb-true u 57 b)) (λ b. absurd (true≢false (sym (rw (a, b) at e)))))
     (λ a. absurd (true≢false (sym (rw a at e))))
-digit-range (u ∷ us) (suc i) e h = by_cases (isDigit u)
+digit-range (u ∷ us) (suc i) e h = by_cases (is_digit u)
     (λ a. digit-range us i (rw a at e) (le_of_suc-le-suc h))
     (λ a. absurd (true≢false (sym (rw a at e))))
 
 module _ (us : List ℕ) (i : ℕ) where
-  pub digit-there : every isDigit us ≡ true → i < length us → (get_or us i 0 - 48 ≡ digitAt us i) × (get_or us i 0 - 48 ≤ 9)
-  unfolding digitAt digitOf
+  pub digit-there : every is_digit us ≡ true → i < length us → (get_or us i 0 - 48 ≡ digit_at us i) × (get_or us i 0 - 48 ≤ 9)
+  unfolding digit_at digit_of
   digit-there e h = let r = digit-range us i e h in (rw (lt-ltb i (length us) h), omega arith)
 
-  pub digit-past : length us ≤ i → (0 ≡ digitAt us i) × (0 ≤ 9)
-  unfolding digitAt
+  pub digit-past : length us ≤ i → (0 ≡ digit_at us i) × (0 ≤ 9)
+  unfolding digit_at
   digit-past h = (rw (le-ltb i (length us) h), omega arith)
 
-  padded-step : (k : ℕ) → padded (suc k) (drop i us) ≡ digitAt us i ∷ padded k (drop (i + 1) us)
-  unfolding padded digitAt
+  padded-step : (k : ℕ) → padded (suc k) (drop i us) ≡ digit_at us i ∷ padded k (drop (i + 1) us)
+  unfolding padded digit_at
   padded-step k = by_cases (ltb i (length us))
       (λ e. rw (e, add-one i, drop-cons us i 0 (ltb-true i (length us) e)))
       (λ e. let h = ltb-false i (length us) e in rw (e, drop_of_length-le us {i = i} h, drop_of_length-le us {i = i + 1} (omega arith)))
 
 -- what the loop of `number` keeps
 pub record Numbering (us : List ℕ) (places v i : ℕ) : Type 0 where
-  pub digits : every isDigit us ≡ true
+  pub digits : every is_digit us ≡ true
   pub most : places ≤ 9
   pub inside : i ≤ places
   pub small : v < 10 ^ i
-  pub same : paddedNumber places us ≡ numberFrom v (padded (places - i) (drop i us))
+  pub same : padded_number places us ≡ number_from v (padded (places - i) (drop i us))
 
-pub numbering_start : (us : List ℕ) (places : ℕ) → places ≤ 9 → every isDigit us ≡ true → Numbering us places 0 0
-unfolding paddedNumber
+pub numbering_start : (us : List ℕ) (places : ℕ) → places ≤ 9 → every is_digit us ≡ true → Numbering us places 0 0
+unfolding padded_number
 numbering_start us places h e = record { digits = e; most = h; inside = omega arith; small = omega arith; same = rw (sub-zero places) }
 
 module _ (us : List ℕ) (places v i : ℕ) (inv : Numbering us places v i) where
   pub numbering-room : i < places → 10 * v + 9 < 4294967296
   numbering-room h = let k = inv.small in let m = inv.most in let p : 10 ^ i ≤ 10 ^ 8 = pow-le-pow_right {n = 10} (omega arith) {i = i} {j = 8} (omega arith) in omega arith
 
-  pub numbering-end : places ≤ i → (v ≡ paddedNumber places us) × (v < 10 ^ places)
-  unfolding padded numberFrom
+  pub numbering-end : places ≤ i → (v ≡ padded_number places us) × (v < 10 ^ places)
+  unfolding padded number_from
   numbering-end h =
       let e : i ≡ places = let k = inv.inside in omega arith in
       let z : places - i ≡ 0 = omega arith in
       (sym (rw z at inv.same), rw (← e) inv.small)
 
-  pub numbering-step : i < places → (d : ℕ) → d ≡ digitAt us i → d ≤ 9 → Numbering us places (10 * v + d) (i + 1)
-  unfolding numberFrom
+  pub numbering-step : i < places → (d : ℕ) → d ≡ digit_at us i → d ≤ 9 → Numbering us places (10 * v + d) (i + 1)
+  unfolding number_from
   numbering-step h d e l =
       let z : places - i ≡ suc (places - (i + 1)) = omega arith in
       record {
@@ -111,20 +111,20 @@ module _ (us : List ℕ) (places v i : ℕ) (inv : Numbering us places v i) wher
 ten-times : (v p : ℕ) → (10 * v + 0) * p ≡ v * (p * 10)
 ten-times v p = omega arith
 
-zeros-number : (v k : ℕ) → numberFrom v (padded k []) ≡ v * 10 ^ k
-unfolding numberFrom padded
+zeros-number : (v k : ℕ) → number_from v (padded k []) ≡ v * 10 ^ k
+unfolding number_from padded
 zeros-number v zero = omega arith
 zeros-number v (suc k) = zeros-number (10 * v + 0) k ∙ ten-times v (10 ^ k) ∙ ap (λ (n : ℕ). v * n) (sym (pow-suc 10 k))
 
-padded-from : (v k : ℕ) (us : List ℕ) → length us ≤ k → numberFrom v (padded k us) ≡ numberFrom v (map digitOf us) * 10 ^ (k - length us)
-unfolding numberFrom padded
+padded-from : (v k : ℕ) (us : List ℕ) → length us ≤ k → number_from v (padded k us) ≡ number_from v (map digit_of us) * 10 ^ (k - length us)
+unfolding number_from padded
 padded-from v k [] h = rw (sub-zero k) (zeros-number v k)
 padded-from v zero (u ∷ us) h = absurd (omega arith)
 padded-from v (suc k) (u ∷ us) h =
     let z : suc k - suc (length us) ≡ k - length us = omega arith in
-    rw z (padded-from (10 * v + digitOf u) k us (le_of_suc-le-suc h))
+    rw z (padded-from (10 * v + digit_of u) k us (le_of_suc-le-suc h))
 
 -- the digits and zeros behind these
-pub padded-number : (k : ℕ) (us : List ℕ) → length us ≤ k → paddedNumber k us ≡ numberFrom 0 (map digitOf us) * 10 ^ (k - length us)
-unfolding paddedNumber
+pub padded-number : (k : ℕ) (us : List ℕ) → length us ≤ k → padded_number k us ≡ number_from 0 (map digit_of us) * 10 ^ (k - length us)
+unfolding padded_number
 padded-number k us h = padded-from 0 k us h

@@ -4,22 +4,22 @@ use Rattle.std.specs.Prelude.{ℕ, ◌≡◌, Bool, true, false, cond, not, ◌&
 use Rattle.values.specs.Ranges.{between}
 use Rattle.lists.specs.Lists.{every, is_empty}
 use Rattle.formats.specs.Tokens.{Token}
-use Rattle.formats.specs.Items.{fractionKind, sameKind, fractionFits}
-use Rattle.formats.specs.Kinds.{form_of, bodyKind, tokenItems, bodyItems}
+use Rattle.formats.specs.Items.{fraction_kind, same_kind, fraction_fits}
+use Rattle.formats.specs.Kinds.{form_of, body_kind, token_items, body_items}
 use Rattle.bodies.specs.declared.fraction.Walk.{Walk}
-use Rattle.bodies.specs.Forms.{placeForm, overForm}
+use Rattle.bodies.specs.Forms.{place_form, over_form}
 
 -- a literal has a unit or more, as each has that is read from a code
-unfoldable pub hasUnits : Token → Bool
-hasUnits t = not (eqb (form_of t) 0 && is_empty (tokenItems false t))
+unfoldable pub has_units : Token → Bool
+has_units t = not (eqb (form_of t) 0 && is_empty (token_items false t))
 
 -- r tells whether the body of a fraction keeps the rules for its solidus
 abbrev pub FractionTold : List Token → Bool → Type 0
-FractionTold ts r = T (every hasUnits ts) → sameKind (bodyKind ts) fractionKind ≡ true → r ≡ fractionFits (bodyItems ts)
+FractionTold ts r = T (every has_units ts) → same_kind (body_kind ts) fraction_kind ≡ true → r ≡ fraction_fits (body_items ts)
 
 -- a token of this form makes no item
-abbrev pub silentForm : ℕ → Bool
-silentForm f = eqb f 8 || eqb f 11 || eqb f 23 || eqb f 24
+abbrev pub silent_form : ℕ → Bool
+silent_form f = eqb f 8 || eqb f 11 || eqb f 23 || eqb f 24
 
 -- a place more
 abbrev pub at_place : Walk → Walk
@@ -33,8 +33,8 @@ at_place w =
     }
 
 -- another item more, which is a literal or not
-abbrev pub atItem : Bool → Walk → Walk
-atItem literal w =
+abbrev pub at_item : Bool → Walk → Walk
+at_item literal w =
     record {
       over = w.over;
       run = false;
@@ -44,8 +44,8 @@ atItem literal w =
     }
 
 -- a place and its solidus more, with a fixed number or not
-abbrev pub atOver : Bool → Walk → Walk
-atOver fixed w =
+abbrev pub at_over : Bool → Walk → Walk
+at_over fixed w =
     record {
       over = true;
       run = not fixed;
@@ -55,8 +55,8 @@ atOver fixed w =
     }
 
 -- one token more, by its form
-abbrev pub walkForm : Walk → ℕ → Walk
-walkForm w f =
-    cond (placeForm f) (at_place w)
-    (cond (overForm f) (atOver (leb 30 f) w)
-    (cond (silentForm f) w (atItem (not (between 2 26 f)) w)))
+abbrev pub walk_form : Walk → ℕ → Walk
+walk_form w f =
+    cond (place_form f) (at_place w)
+    (cond (over_form f) (at_over (leb 30 f) w)
+    (cond (silent_form f) w (at_item (not (between 2 26 f)) w)))

@@ -1,9 +1,9 @@
 // The uses of a body's commas, in one pass over its tokens.
 ghost use Rattle.std.specs.Prelude.{◌≡◌, List, ℕ, ◌≤◌, length};
 ghost use Rattle.lists.specs.Lists.{any};
-ghost use Rattle.formats.specs.Kinds.{isComma};
-ghost use Rattle.marks.specs.Marks.{tokensIn};
-ghost use Rattle.bodies.specs.Uses.{met, atComma, atPoint, at_place, scanForm, commasOf};
+ghost use Rattle.formats.specs.Kinds.{is_comma};
+ghost use Rattle.marks.specs.Marks.{tokens_in};
+ghost use Rattle.bodies.specs.Uses.{met, at_comma, at_point, at_place, scan_form, commas_of};
 
 use marks::forms::{COMMA, POINT, SPACE_PLACE, ZERO_PLACE};
 use values::integers::is_between;
@@ -30,7 +30,7 @@ struct Scan {
 // A comma is misplaced before the first place; behind it its use depends on what follows.
 fn at_comma(s: Scan) -> Scan
     requires { met s ≤ 762 }
-    ensures { result ≡ atComma s }
+    ensures { result ≡ at_comma s }
 {
     let mut t = s;
     if s.place {
@@ -44,7 +44,7 @@ fn at_comma(s: Scan) -> Scan
 // The commas held before the first point divide.
 fn at_point(s: Scan) -> Scan
     requires { met s ≤ 762 }
-    ensures { result ≡ atPoint s }
+    ensures { result ≡ at_point s }
 {
     if s.point {
         return s;
@@ -75,7 +75,7 @@ fn at_place(s: Scan) -> Scan
 // The commas with one token more.
 fn scan_token(s: Scan, form: u16) -> Scan
     requires { met s ≤ 762 }
-    ensures { result ≡ scanForm s form }
+    ensures { result ≡ scan_form s form }
 {
     if form == COMMA {
         return at_comma(s);
@@ -92,7 +92,7 @@ fn scan_token(s: Scan, form: u16) -> Scan
 // The commas of a body: at its end those held divide.
 fn scan_body(body: &[u16]) -> Commas
     requires { length body.now ≤ 762 }
-    ensures { (code : List ℕ) → result ≡ commasOf (tokensIn code body.now) }
+    ensures { (code : List ℕ) → result ≡ commas_of (tokens_in code body.now) }
 {
     let mut s = Scan {
         point: false,
@@ -116,8 +116,8 @@ fn scan_body(body: &[u16]) -> Commas
 
 // The commas of a body; `some` says whether there is one at all, and without one nothing is looked at.
 pub fn commas_of(body: &[u16], some: bool) -> Commas
-    requires { (length body.now ≤ 762) × ((code : List ℕ) → some ≡ any isComma (tokensIn code body.now)) }
-    ensures { (code : List ℕ) → result ≡ commasOf (tokensIn code body.now) }
+    requires { (length body.now ≤ 762) × ((code : List ℕ) → some ≡ any is_comma (tokens_in code body.now)) }
+    ensures { (code : List ℕ) → result ≡ commas_of (tokens_in code body.now) }
 {
     if some {
         return scan_body(body);

@@ -1,8 +1,8 @@
 // The condition that the units inside a bracket write.
 ghost use Rattle.std.specs.Prelude.{◌≡◌, true, false, suc, ◌+◌, ◌-◌, ◌^◌, ◌≤◌, ◌<◌, eqb, length, take, drop, get_or};
 ghost use Rattle.lists.specs.Lists.{every, is_some};
-ghost use Rattle.formats.specs.Tokens.{leading, isDigit, conditionInside};
-ghost use Rattle.bodies.specs.Conditions.{operatorBy, operatorWidth, digitAt, paddedNumber, decimalUnits, writtenInside, written_of, beyondLimits, ComparedBy};
+ghost use Rattle.formats.specs.Tokens.{leading, is_digit, condition_inside};
+ghost use Rattle.bodies.specs.Conditions.{operator_by, operator_width, digit_at, padded_number, decimal_units, written_inside, written_of, beyond_limits, ComparedBy};
 
 use values::integers::{is_between, least};
 
@@ -41,7 +41,7 @@ fn unit_at(us: &[u16], i: usize) -> u16
 
 // The number of the comparison that the units u and v start, in the order `= < > <= >= <>`.
 fn operator_by(u: u16, v: u16) -> u16
-    ensures { result ≡ operatorBy u v }
+    ensures { result ≡ operator_by u v }
 {
     match u {
         EQUAL => 1,
@@ -60,7 +60,7 @@ fn operator_by(u: u16, v: u16) -> u16
 
 // How many digits stand at the start.
 fn digits(us: &[u16]) -> usize
-    ensures { result ≡ leading isDigit us.now }
+    ensures { result ≡ leading is_digit us.now }
 {
     let mut i: usize = 0;
     while i < us.len() {
@@ -75,8 +75,8 @@ fn digits(us: &[u16]) -> usize
 
 // The digit at a place, 0 where the units end.
 fn digit_at(us: &[u16], i: usize) -> u32
-    requires { every isDigit us.now ≡ true }
-    ensures { (result ≡ digitAt us.now i) × (result ≤ 9) }
+    requires { every is_digit us.now ≡ true }
+    ensures { (result ≡ digit_at us.now i) × (result ≤ 9) }
 {
     if i < us.len() {
         return (us[i] - ZERO) as u32;
@@ -86,8 +86,8 @@ fn digit_at(us: &[u16], i: usize) -> u32
 
 // The digits as a number of so many places, with zeros where they end.
 fn number(us: &[u16], places: usize) -> u32
-    requires { (places ≤ 9) × (every isDigit us.now ≡ true) }
-    ensures { (result ≡ paddedNumber places us.now) × (result < 10 ^ places) }
+    requires { (places ≤ 9) × (every is_digit us.now ≡ true) }
+    ensures { (result ≡ padded_number places us.now) × (result < 10 ^ places) }
 {
     let mut v: u32 = 0;
     let mut i: usize = 0;
@@ -100,7 +100,7 @@ fn number(us: &[u16], places: usize) -> u32
 
 // A condition whose digits pass the limits.
 fn outside(operator: u16) -> Compared
-    ensures { result ≡ beyondLimits operator }
+    ensures { result ≡ beyond_limits operator }
 {
     Compared {
         operator,
@@ -113,7 +113,7 @@ fn outside(operator: u16) -> Compared
 
 // The condition of a comparison, a sign and a number.
 fn compared_number(operator: u16, negative: bool, us: &[u16]) -> Compared
-    requires { (operator ≤ 6) × (eqb operator 0 ≡ false) × (length us.now ≤ 254) × (every isDigit (decimalUnits us.now) ≡ true) }
+    requires { (operator ≤ 6) × (eqb operator 0 ≡ false) × (length us.now ≤ 254) × (every is_digit (decimal_units us.now) ≡ true) }
     ensures { ComparedBy (written_of operator negative us.now) result }
 {
     let n = digits(us);
@@ -138,15 +138,15 @@ fn compared_number(operator: u16, negative: bool, us: &[u16]) -> Compared
 
 // How many units a comparison takes.
 fn operator_width(operator: u16) -> usize
-    ensures { result ≡ operatorWidth operator }
+    ensures { result ≡ operator_width operator }
 {
     if operator <= 3 { 1 } else { 2 }
 }
 
 // The condition that the units inside a bracket write.
 fn written(us: &[u16]) -> Compared
-    requires { (length us.now ≤ 254) × (is_some (conditionInside us.now) ≡ true) }
-    ensures { ComparedBy (writtenInside us.now) result }
+    requires { (length us.now ≤ 254) × (is_some (condition_inside us.now) ≡ true) }
+    ensures { ComparedBy (written_inside us.now) result }
 {
     let operator = operator_by(unit_at(us, 0), unit_at(us, 1));
     let at = operator_width(operator);
@@ -159,8 +159,8 @@ fn written(us: &[u16]) -> Compared
 
 // The condition in the bracket at a place of the code, of so many units.
 pub fn condition_of(code: &[u16], start: u16, size: u16) -> Compared
-    requires { (length code.now ≤ 254) × (size + start + 1 ≤ length code.now) × (is_some (conditionInside (take size (drop (suc start) code.now))) ≡ true) }
-    ensures { ComparedBy (writtenInside (take size (drop (suc start) code.now))) result }
+    requires { (length code.now ≤ 254) × (size + start + 1 ≤ length code.now) × (is_some (condition_inside (take size (drop (suc start) code.now))) ≡ true) }
+    ensures { ComparedBy (written_inside (take size (drop (suc start) code.now))) result }
 {
     let from = start as usize + 1;
     let end = from + size as usize;

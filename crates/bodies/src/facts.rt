@@ -1,8 +1,8 @@
 // The facts of a body, in one pass over its tokens.
 ghost use Rattle.std.specs.Prelude.{◌≡◌, cond, ◌&&◌, true, List, ℕ, ◌≤◌, eqb, length};
-ghost use Rattle.marks.specs.Marks.{tokensIn};
-ghost use Rattle.bodies.specs.Forms.{weightForm};
-ghost use Rattle.bodies.specs.Bodies.{seen, seeCut, seeOther, seeForm, Roomy, facts_of};
+ghost use Rattle.marks.specs.Marks.{tokens_in};
+ghost use Rattle.bodies.specs.Forms.{weight_form};
+ghost use Rattle.bodies.specs.Bodies.{seen, see_cut, see_other, see_form, Roomy, facts_of};
 
 use marks::forms::{
     AT, COLOUR, COMMA, CONDITION, DAYS, ELAPSED_HOURS, ELAPSED_MINUTES, ELAPSED_SECONDS,
@@ -60,7 +60,7 @@ struct Seen {
 }
 
 fn weight_of(form: u16) -> u64
-    ensures { result ≡ weightForm form }
+    ensures { result ≡ weight_form form }
 {
     match form {
         GENERAL => GENERALS,
@@ -106,7 +106,7 @@ fn see_place(s: Seen) -> Seen
 // With an E more, or with a place and its solidus.
 fn see_cut(s: Seen, form: u16) -> Seen
     requires { Roomy s }
-    ensures { result ≡ seeCut s form }
+    ensures { result ≡ see_cut s form }
 {
     if form <= EXPONENT_MINUS {
         return Seen {
@@ -125,7 +125,7 @@ fn see_cut(s: Seen, form: u16) -> Seen
 // With another token more.
 fn see_other(s: Seen, form: u16) -> Seen
     requires { Roomy s }
-    ensures { result ≡ seeOther s form }
+    ensures { result ≡ see_other s form }
 {
     Seen {
         sum: s.sum + weight_of(form),
@@ -137,7 +137,7 @@ fn see_other(s: Seen, form: u16) -> Seen
 // What the tokens say with one more.
 fn see(s: Seen, form: u16) -> Seen
     requires { Roomy s }
-    ensures { result ≡ seeForm s form }
+    ensures { result ≡ see_form s form }
 {
     if is_between(ZERO_PLACE, SPACE_PLACE, form) {
         return see_place(s);
@@ -151,7 +151,7 @@ fn see(s: Seen, form: u16) -> Seen
 // The facts of a body.
 pub fn facts_of(body: &[u16]) -> Facts
     requires { length body.now ≤ 762 }
-    ensures { (code : List ℕ) → result ≡ facts_of (tokensIn code body.now) }
+    ensures { (code : List ℕ) → result ≡ facts_of (tokens_in code body.now) }
 {
     let mut s = Seen {
         sum: 0,

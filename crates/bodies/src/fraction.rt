@@ -1,7 +1,7 @@
 // The rules for the solidus of a fraction, in one pass over the tokens of its body.
 ghost use Rattle.std.specs.Prelude.{◌≡◌, List, ℕ, ◌≤◌, length};
-ghost use Rattle.marks.specs.Marks.{tokensIn};
-ghost use Rattle.bodies.specs.Fraction.{silentForm, at_place, atItem, atOver, walkForm, FractionTold};
+ghost use Rattle.marks.specs.Marks.{tokens_in};
+ghost use Rattle.bodies.specs.Fraction.{silent_form, at_place, at_item, at_over, walk_form, FractionTold};
 
 use marks::forms::{
     BLANK, COLOUR, COMMA, CONDITION, EXPONENT_MINUS, SEMICOLON, SPACE_OVER_FIXED, SPACE_PLACE,
@@ -23,7 +23,7 @@ struct Walk {
 
 // A token of this form makes no item.
 fn is_silent(form: u16) -> bool
-    ensures { result ≡ silentForm form }
+    ensures { result ≡ silent_form form }
 {
     (form == COMMA) | (form == SEMICOLON) | (form == COLOUR) | (form == CONDITION)
 }
@@ -43,7 +43,7 @@ fn at_place(w: Walk) -> Walk
 
 // With another item more, which ends a run of places: behind the solidus a run must stand before it.
 fn at_item(w: Walk, literal: bool) -> Walk
-    ensures { result ≡ atItem literal w }
+    ensures { result ≡ at_item literal w }
 {
     Walk {
         over: w.over,
@@ -56,7 +56,7 @@ fn at_item(w: Walk, literal: bool) -> Walk
 
 // With a place and its solidus more, the only one: a literal stands between the integer places and the numerator.
 fn at_over(w: Walk, fixed: bool) -> Walk
-    ensures { result ≡ atOver fixed w }
+    ensures { result ≡ at_over fixed w }
 {
     Walk {
         over: true,
@@ -69,7 +69,7 @@ fn at_over(w: Walk, fixed: bool) -> Walk
 
 // With one token more.
 fn walk_token(w: Walk, form: u16) -> Walk
-    ensures { result ≡ walkForm w form }
+    ensures { result ≡ walk_form w form }
 {
     if is_between(ZERO_PLACE, SPACE_PLACE, form) {
         return at_place(w);
@@ -86,7 +86,7 @@ fn walk_token(w: Walk, form: u16) -> Walk
 // The body of a fraction keeps the rules for its solidus.
 pub fn fraction_fits(body: &[u16]) -> bool
     requires { length body.now ≤ 762 }
-    ensures { (code : List ℕ) → FractionTold (tokensIn code body.now) result }
+    ensures { (code : List ℕ) → FractionTold (tokens_in code body.now) result }
 {
     let mut w = Walk {
         over: false,

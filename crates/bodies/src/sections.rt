@@ -1,6 +1,6 @@
 // Where a section ends, and what stands before its body.
 ghost use Rattle.std.specs.Prelude.{◌≡◌, ◌*◌, ◌≤◌, length};
-ghost use Rattle.bodies.specs.Sections.{bareHeading, SectionEnd, AfterColour, HeadingOf};
+ghost use Rattle.bodies.specs.Sections.{bare_heading, SectionEnd, AfterColour, HeadingOf};
 
 use marks::forms::{COLOUR, CONDITION, SEMICOLON};
 
@@ -34,7 +34,7 @@ pub struct Heading {
 
 // A heading without a condition.
 fn bare_heading(colour: u16, tokens: usize) -> Heading
-    ensures { result ≡ bareHeading colour tokens }
+    ensures { result ≡ bare_heading colour tokens }
 {
     Heading {
         colour,

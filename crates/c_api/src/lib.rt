@@ -1,13 +1,13 @@
 // The calls for C and Rust, as include/numfmt.h declares them. Each is the Rattle call with the answer as its number; a slice
 // is a pointer and a length, and a board or a stream goes in and comes back by value.
 ghost use Rattle.std.specs.Prelude.{◌≡◌, length, []};
-ghost use Rattle.formats.specs.Accept.{sectionSpan};
+ghost use Rattle.formats.specs.Accept.{section_span};
 ghost use Rattle.tables.specs.Rules.{passes};
-ghost use Rattle.tables.specs.Calls.{prepared, tableAfter, showing, roomAfter};
-ghost use Rattle.reasons.specs.Table.{tableWhy};
-ghost use Rattle.boards.specs.Boards.{emptyBoard, putRow, roomPut, clearRow};
-ghost use Rattle.streams.specs.Streams.{started, feeding, ending, endingRoom};
-ghost use Rattle.c_numbers.specs.Numbers.{preparedNumbers, fedNumbers, finishedNumbers, partNumbers, checkNumber, shownNumbers, whyNumbers, putNumbers, clearedNumbers, numberAsk, instantAsk, textAsk};
+ghost use Rattle.tables.specs.Calls.{prepared, table_after, showing, room_after};
+ghost use Rattle.reasons.specs.Table.{table_why};
+ghost use Rattle.boards.specs.Boards.{empty_board, put_row, room_put, clear_row};
+ghost use Rattle.streams.specs.Streams.{started, feeding, ending, ending_room};
+ghost use Rattle.c_numbers.specs.Numbers.{prepared_numbers, fed_numbers, finished_numbers, part_numbers, check_number, shown_numbers, why_numbers, put_numbers, cleared_numbers, number_ask, instant_ask, text_ask};
 
 use boards::Board;
 use c_numbers::{
@@ -26,8 +26,8 @@ use values::{Value, asked};
 
 #[unsafe(no_mangle)]
 pub extern "C" fn numfmt_prepare(code: &[u16], table: &mut [u16]) -> PreparedNumbers
-    ensures answer { result ≡ preparedNumbers (prepared code.now (length table.old)) }
-    ensures table { table.new ≡ tableAfter code.now table.old }
+    ensures answer { result ≡ prepared_numbers (prepared code.now (length table.old)) }
+    ensures table { table.new ≡ table_after code.now table.old }
 {
     prepared_numbers(prepare(code, table))
 }
@@ -43,7 +43,7 @@ pub extern "C" fn numfmt_stream_start() -> Stream
 // The stream with a part of a code behind what has come.
 #[unsafe(no_mangle)]
 pub extern "C" fn numfmt_stream_feed(stream: Stream, part: &[u16]) -> FedNumbers
-    ensures { result ≡ fedNumbers (feeding stream part.now) }
+    ensures { result ≡ fed_numbers (feeding stream part.now) }
 {
     fed_numbers(stream.feed(part))
 }
@@ -51,8 +51,8 @@ pub extern "C" fn numfmt_stream_feed(stream: Stream, part: &[u16]) -> FedNumbers
 // The stream when it has ended, and its code prepared.
 #[unsafe(no_mangle)]
 pub extern "C" fn numfmt_stream_end(stream: Stream, table: &mut [u16]) -> FinishedNumbers
-    ensures result { result ≡ finishedNumbers (ending stream (length table.old)) }
-    ensures table { table.new ≡ endingRoom stream table.old }
+    ensures result { result ≡ finished_numbers (ending stream (length table.old)) }
+    ensures table { table.new ≡ ending_room stream table.old }
 {
     finished_numbers(stream.end(table))
 }
@@ -60,7 +60,7 @@ pub extern "C" fn numfmt_stream_end(stream: Stream, table: &mut [u16]) -> Finish
 // Section n of a code: where it stands in it.
 #[unsafe(no_mangle)]
 pub extern "C" fn numfmt_section(code: &[u16], n: u32) -> PartNumbers
-    ensures { result ≡ partNumbers (sectionSpan n code.now) }
+    ensures { result ≡ part_numbers (section_span n code.now) }
 {
     let s = section_span(code, n as usize);
     part_numbers(s.start, s.size)
@@ -69,7 +69,7 @@ pub extern "C" fn numfmt_section(code: &[u16], n: u32) -> PartNumbers
 // Whether the words are a table: what the calls that show test first.
 #[unsafe(no_mangle)]
 pub extern "C" fn numfmt_check(table: &[u16]) -> u16
-    ensures { result ≡ checkNumber (passes table.now) }
+    ensures { result ≡ check_number (passes table.now) }
 {
     check_number(check(table))
 }
@@ -81,8 +81,8 @@ pub extern "C" fn numfmt_show_number(
     scale: u32,
     room: &mut [u16],
 ) -> ShownNumbers
-    ensures result { result ≡ shownNumbers (showing table.now (numberAsk coefficient scale) [] (length room.old)) }
-    ensures room { room.new ≡ roomAfter table.now (numberAsk coefficient scale) [] room.old }
+    ensures result { result ≡ shown_numbers (showing table.now (number_ask coefficient scale) [] (length room.old)) }
+    ensures room { room.new ≡ room_after table.now (number_ask coefficient scale) [] room.old }
 {
     shown_numbers(show(table, number_ask(coefficient, scale), &table[..0], room))
 }
@@ -94,16 +94,16 @@ pub extern "C" fn numfmt_show_instant(
     millisecond: u32,
     room: &mut [u16],
 ) -> ShownNumbers
-    ensures result { result ≡ shownNumbers (showing table.now (instantAsk day millisecond) [] (length room.old)) }
-    ensures room { room.new ≡ roomAfter table.now (instantAsk day millisecond) [] room.old }
+    ensures result { result ≡ shown_numbers (showing table.now (instant_ask day millisecond) [] (length room.old)) }
+    ensures room { room.new ≡ room_after table.now (instant_ask day millisecond) [] room.old }
 {
     shown_numbers(show(table, instant_ask(day, millisecond), &table[..0], room))
 }
 
 #[unsafe(no_mangle)]
 pub extern "C" fn numfmt_show_text(table: &[u16], text: &[u16], room: &mut [u16]) -> ShownNumbers
-    ensures result { result ≡ shownNumbers (showing table.now textAsk text.now (length room.old)) }
-    ensures room { room.new ≡ roomAfter table.now textAsk text.now room.old }
+    ensures result { result ≡ shown_numbers (showing table.now text_ask text.now (length room.old)) }
+    ensures room { room.new ≡ room_after table.now text_ask text.now room.old }
 {
     shown_numbers(show(table, asked(Value::Text), text, room))
 }
@@ -115,7 +115,7 @@ pub extern "C" fn numfmt_why_number(
     scale: u32,
     size: usize,
 ) -> WhyNumbers
-    ensures { result ≡ whyNumbers (tableWhy table.now (numberAsk coefficient scale) [] size) }
+    ensures { result ≡ why_numbers (table_why table.now (number_ask coefficient scale) [] size) }
 {
     why_numbers(why(table, number_ask(coefficient, scale), &table[..0], size))
 }
@@ -127,21 +127,21 @@ pub extern "C" fn numfmt_why_instant(
     millisecond: u32,
     size: usize,
 ) -> WhyNumbers
-    ensures { result ≡ whyNumbers (tableWhy table.now (instantAsk day millisecond) [] size) }
+    ensures { result ≡ why_numbers (table_why table.now (instant_ask day millisecond) [] size) }
 {
     why_numbers(why(table, instant_ask(day, millisecond), &table[..0], size))
 }
 
 #[unsafe(no_mangle)]
 pub extern "C" fn numfmt_why_text(table: &[u16], text: &[u16], size: usize) -> WhyNumbers
-    ensures { result ≡ whyNumbers (tableWhy table.now textAsk text.now size) }
+    ensures { result ≡ why_numbers (table_why table.now text_ask text.now size) }
 {
     why_numbers(why(table, asked(Value::Text), text, size))
 }
 
 #[unsafe(no_mangle)]
 pub extern "C" fn numfmt_board_empty() -> Board
-    ensures { result ≡ emptyBoard }
+    ensures { result ≡ empty_board }
 {
     Board::empty()
 }
@@ -155,8 +155,8 @@ pub extern "C" fn numfmt_board_put_number(
     scale: u32,
     room: &mut [u16],
 ) -> PutNumbers
-    ensures result { result ≡ putNumbers (putRow board row table.now (numberAsk coefficient scale) [] (length room.old)) }
-    ensures room { room.new ≡ roomPut row table.now (numberAsk coefficient scale) [] room.old }
+    ensures result { result ≡ put_numbers (put_row board row table.now (number_ask coefficient scale) [] (length room.old)) }
+    ensures room { room.new ≡ room_put row table.now (number_ask coefficient scale) [] room.old }
 {
     let ask = number_ask(coefficient, scale);
     put_numbers(board.put(row, table, ask, &table[..0], room))
@@ -171,8 +171,8 @@ pub extern "C" fn numfmt_board_put_instant(
     millisecond: u32,
     room: &mut [u16],
 ) -> PutNumbers
-    ensures result { result ≡ putNumbers (putRow board row table.now (instantAsk day millisecond) [] (length room.old)) }
-    ensures room { room.new ≡ roomPut row table.now (instantAsk day millisecond) [] room.old }
+    ensures result { result ≡ put_numbers (put_row board row table.now (instant_ask day millisecond) [] (length room.old)) }
+    ensures room { room.new ≡ room_put row table.now (instant_ask day millisecond) [] room.old }
 {
     let ask = instant_ask(day, millisecond);
     put_numbers(board.put(row, table, ask, &table[..0], room))
@@ -186,15 +186,15 @@ pub extern "C" fn numfmt_board_put_text(
     text: &[u16],
     room: &mut [u16],
 ) -> PutNumbers
-    ensures result { result ≡ putNumbers (putRow board row table.now textAsk text.now (length room.old)) }
-    ensures room { room.new ≡ roomPut row table.now textAsk text.now room.old }
+    ensures result { result ≡ put_numbers (put_row board row table.now text_ask text.now (length room.old)) }
+    ensures room { room.new ≡ room_put row table.now text_ask text.now room.old }
 {
     put_numbers(board.put(row, table, asked(Value::Text), text, room))
 }
 
 #[unsafe(no_mangle)]
 pub extern "C" fn numfmt_board_clear(board: Board, row: u32) -> ClearedNumbers
-    ensures { result ≡ clearedNumbers (clearRow board row) }
+    ensures { result ≡ cleared_numbers (clear_row board row) }
 {
     cleared_numbers(board.clear(row))
 }

@@ -17,7 +17,7 @@ use Rattle.c_numbers.specs.declared.PreparedNumbers.{PreparedNumbers}
 use Rattle.c_numbers.specs.declared.PartNumbers.{PartNumbers}
 use Rattle.grounds.specs.declared.Why.{Why}
 use Rattle.grounds.specs.declared.Why.TheVariants as why
-use Rattle.grounds.specs.Numbers.{choiceNumber, triedNumber, minusNumber}
+use Rattle.grounds.specs.Numbers.{choice_number, tried_number, minus_number}
 use Rattle.c_numbers.specs.declared.ShownNumbers.{ShownNumbers}
 use Rattle.c_numbers.specs.declared.WhyNumbers.{WhyNumbers}
 use Rattle.c_numbers.specs.declared.PutNumbers.{PutNumbers}
@@ -25,55 +25,55 @@ use Rattle.c_numbers.specs.declared.ClearedNumbers.{ClearedNumbers}
 use Rattle.c_numbers.specs.declared.FedNumbers.{FedNumbers}
 use Rattle.c_numbers.specs.declared.FinishedNumbers.{FinishedNumbers}
 
-abbrev pub preparedNumbers : Prepared → PreparedNumbers
-preparedNumbers p = record { answer = number_of p.answer; place = p.place; words = p.words }
+abbrev pub prepared_numbers : Prepared → PreparedNumbers
+prepared_numbers p = record { answer = number_of p.answer; place = p.place; words = p.words }
 
-abbrev pub partNumbers : Span → PartNumbers
-partNumbers s = record { start = s.start; length = s.size }
+abbrev pub part_numbers : Span → PartNumbers
+part_numbers s = record { start = s.start; length = s.size }
 
 -- of words that pass the table rules, or do not; 8: "the table breaks a table rule"
-abbrev pub checkNumber : Bool → ℕ
-checkNumber passed = cond passed (number_of answer.Done) (number_of answer.Table)
+abbrev pub check_number : Bool → ℕ
+check_number passed = cond passed (number_of answer.Done) (number_of answer.Table)
 
-abbrev pub shownNumbers : Shown → ShownNumbers
-shownNumbers s =
+abbrev pub shown_numbers : Shown → ShownNumbers
+shown_numbers s =
     record { answer = number_of s.answer; length = s.length; colour = s.colour; section = s.section; exact = cond s.exact 1 0 }
 
 -- a refusal has its answer alone, a reason the answer 0
-abbrev pub whyNumbers : Why → WhyNumbers
-whyNumbers (why.Refused a) =
+abbrev pub why_numbers : Why → WhyNumbers
+why_numbers (why.Refused a) =
     record { answer = number_of a; section = 0; choice = 0; first = 0; second = 0; minus = 0; cut = 0 }
-whyNumbers (why.Because g) =
+why_numbers (why.Because g) =
     record {
       answer = number_of answer.Done;
       section = g.section;
-      choice = choiceNumber g.choice;
-      first = triedNumber g.first;
-      second = triedNumber g.second;
-      minus = minusNumber g.minus;
+      choice = choice_number g.choice;
+      first = tried_number g.first;
+      second = tried_number g.second;
+      minus = minus_number g.minus;
       cut = g.cut;
     }
 
 -- the board itself is lent and handed back by value
-abbrev pub putNumbers : PutRow → PutNumbers
-putNumbers p = record { board = p.board; shown = shownNumbers p.shown }
+abbrev pub put_numbers : PutRow → PutNumbers
+put_numbers p = record { board = p.board; shown = shown_numbers p.shown }
 
-abbrev pub clearedNumbers : ClearedRow → ClearedNumbers
-clearedNumbers c = record { board = c.board; answer = number_of c.answer }
+abbrev pub cleared_numbers : ClearedRow → ClearedNumbers
+cleared_numbers c = record { board = c.board; answer = number_of c.answer }
 
 -- a stream too
-abbrev pub fedNumbers : Fed → FedNumbers
-fedNumbers f = record { stream = f.stream; answer = number_of f.answer; place = f.place }
+abbrev pub fed_numbers : Fed → FedNumbers
+fed_numbers f = record { stream = f.stream; answer = number_of f.answer; place = f.place }
 
-abbrev pub finishedNumbers : Finished → FinishedNumbers
-finishedNumbers f = record { stream = f.stream; prepared = preparedNumbers f.prepared }
+abbrev pub finished_numbers : Finished → FinishedNumbers
+finished_numbers f = record { stream = f.stream; prepared = prepared_numbers f.prepared }
 
 -- what is asked for: a number, an instant, a text
-abbrev pub numberAsk : ℤ → ℕ → Ask
-numberAsk coefficient scale = asked (value.Number (record { coefficient = coefficient; scale = scale }))
+abbrev pub number_ask : ℤ → ℕ → Ask
+number_ask coefficient scale = asked (value.Number (record { coefficient = coefficient; scale = scale }))
 
-abbrev pub instantAsk : ℕ → ℕ → Ask
-instantAsk day millisecond = asked (value.Instant (record { 0 = day }) (record { 0 = millisecond }))
+abbrev pub instant_ask : ℕ → ℕ → Ask
+instant_ask day millisecond = asked (value.Instant (record { 0 = day }) (record { 0 = millisecond }))
 
-abbrev pub textAsk : Ask
-textAsk = asked value.Text
+abbrev pub text_ask : Ask
+text_ask = asked value.Text

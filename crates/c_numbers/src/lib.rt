@@ -2,7 +2,7 @@
 // numbers. It stands apart from the calls, so that a must-fail edit of a number does not pay for all that they call.
 ghost use Rattle.std.specs.Prelude.{◌≡◌, ◌+◌, ◌≤◌};
 ghost use Rattle.grounds.specs.declared.Why.TheVariants as why;
-ghost use Rattle.c_numbers.specs.Numbers.{preparedNumbers, partNumbers, checkNumber, shownNumbers, whyNumbers, putNumbers, clearedNumbers, fedNumbers, finishedNumbers, numberAsk, instantAsk};
+ghost use Rattle.c_numbers.specs.Numbers.{prepared_numbers, part_numbers, check_number, shown_numbers, why_numbers, put_numbers, cleared_numbers, fed_numbers, finished_numbers, number_ask, instant_ask};
 
 use answers::{Answer, Prepared, Shown, number};
 use boards::{Board, ClearedRow, PutRow};
@@ -85,7 +85,7 @@ pub struct FinishedNumbers {
 }
 
 pub fn prepared_numbers(p: Prepared) -> PreparedNumbers
-    ensures { result ≡ preparedNumbers p }
+    ensures { result ≡ prepared_numbers p }
 {
     let answer = p.answer;
     PreparedNumbers {
@@ -98,7 +98,7 @@ pub fn prepared_numbers(p: Prepared) -> PreparedNumbers
 // A section stands among the 254 units that a code may have.
 pub fn part_numbers(start: usize, size: usize) -> PartNumbers
     requires { start + size ≤ 254 }
-    ensures { result ≡ partNumbers (record { start = start; size = size }) }
+    ensures { result ≡ part_numbers (record { start = start; size = size }) }
 {
     PartNumbers {
         start: start as u32,
@@ -107,7 +107,7 @@ pub fn part_numbers(start: usize, size: usize) -> PartNumbers
 }
 
 pub fn check_number(passed: bool) -> u16
-    ensures { result ≡ checkNumber passed }
+    ensures { result ≡ check_number passed }
 {
     if passed {
         number(Answer::Done)
@@ -117,7 +117,7 @@ pub fn check_number(passed: bool) -> u16
 }
 
 pub fn shown_numbers(s: Shown) -> ShownNumbers
-    ensures { result ≡ shownNumbers s }
+    ensures { result ≡ shown_numbers s }
 {
     let answer = s.answer;
     ShownNumbers {
@@ -130,20 +130,20 @@ pub fn shown_numbers(s: Shown) -> ShownNumbers
 }
 
 pub fn number_ask(coefficient: i64, scale: u32) -> Ask
-    ensures { result ≡ numberAsk coefficient scale }
+    ensures { result ≡ number_ask coefficient scale }
 {
     asked(Value::Number(Number { coefficient, scale }))
 }
 
 pub fn instant_ask(day: u32, millisecond: u32) -> Ask
-    ensures { result ≡ instantAsk day millisecond }
+    ensures { result ≡ instant_ask day millisecond }
 {
     asked(Value::Instant(Day(day), Millisecond(millisecond)))
 }
 
 // Of a refused show the answer alone is told.
 fn refused_numbers(answer: Answer) -> WhyNumbers
-    ensures { result ≡ whyNumbers (why.Refused answer) }
+    ensures { result ≡ why_numbers (why.Refused answer) }
 {
     WhyNumbers {
         answer: number(answer),
@@ -157,7 +157,7 @@ fn refused_numbers(answer: Answer) -> WhyNumbers
 }
 
 fn because_numbers(g: Grounds) -> WhyNumbers
-    ensures { result ≡ whyNumbers (why.Because g) }
+    ensures { result ≡ why_numbers (why.Because g) }
 {
     let choice = g.choice;
     let first = g.first;
@@ -175,7 +175,7 @@ fn because_numbers(g: Grounds) -> WhyNumbers
 }
 
 pub fn why_numbers(w: Why) -> WhyNumbers
-    ensures { result ≡ whyNumbers w }
+    ensures { result ≡ why_numbers w }
 {
     match w {
         Why::Refused(answer) => refused_numbers(answer),
@@ -184,7 +184,7 @@ pub fn why_numbers(w: Why) -> WhyNumbers
 }
 
 pub fn put_numbers(p: PutRow) -> PutNumbers
-    ensures { result ≡ putNumbers p }
+    ensures { result ≡ put_numbers p }
 {
     let board = p.board;
     let shown = p.shown;
@@ -195,7 +195,7 @@ pub fn put_numbers(p: PutRow) -> PutNumbers
 }
 
 pub fn cleared_numbers(c: ClearedRow) -> ClearedNumbers
-    ensures { result ≡ clearedNumbers c }
+    ensures { result ≡ cleared_numbers c }
 {
     let board = c.board;
     let answer = c.answer;
@@ -206,7 +206,7 @@ pub fn cleared_numbers(c: ClearedRow) -> ClearedNumbers
 }
 
 pub fn fed_numbers(f: Fed) -> FedNumbers
-    ensures { result ≡ fedNumbers f }
+    ensures { result ≡ fed_numbers f }
 {
     let stream = f.stream;
     let answer = f.answer;
@@ -218,7 +218,7 @@ pub fn fed_numbers(f: Fed) -> FedNumbers
 }
 
 pub fn finished_numbers(f: Finished) -> FinishedNumbers
-    ensures { result ≡ finishedNumbers f }
+    ensures { result ≡ finished_numbers f }
 {
     let stream = f.stream;
     let p = f.prepared;

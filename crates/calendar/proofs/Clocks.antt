@@ -5,7 +5,7 @@ use mathlib.Core.Bool.{Bool, true, false}
 use mathlib.Core.List.{List, [], ◌∷◌}
 use Prim.Native.Nat.{ℕ}
 use Rattle.lists.specs.Lists.{All}
-use Rattle.calendar.specs.Clock.{clockOf, twelveHour, afternoon}
+use Rattle.calendar.specs.Clock.{clock_of, twelve_hour, afternoon}
 
 pub record Time : Type 0 where
   pub ms : ℕ
@@ -28,8 +28,8 @@ times =
     ∷ []
 
 abbrev pub shown : ℕ → Time
-shown n = let c = clockOf n in time n (twelveHour c.hour) c.minute (afternoon c.hour)
+shown n = let c = clock_of n in time n (twelve_hour c.hour) c.minute (afternoon c.hour)
 
 pub times-right : All (λ (t : Time). shown t.ms ≡ t) times
-unfolding clockOf twelveHour afternoon
+unfolding clock_of twelve_hour afternoon
 times-right = (refl, (refl, (refl, (refl, (refl, (refl, tt))))))

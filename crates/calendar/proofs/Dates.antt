@@ -4,15 +4,15 @@ use mathlib.Core.Path.{◌≡◌, refl}
 use mathlib.Core.List.{List, [], ◌∷◌}
 use Prim.Native.Nat.{ℕ}
 use Rattle.lists.specs.Lists.{All}
-use Rattle.calendar.specs.Year.{gregorianLeap, leap, yearDays, yearDayFrom, yearDayOf}
-use Rattle.calendar.specs.Date.{monthDays, monthDayFrom, Date, dateOf}
+use Rattle.calendar.specs.Year.{gregorian_leap, leap, year_days, year_day_from, year_day_of}
+use Rattle.calendar.specs.Date.{month_days, month_day_from, Date, date_of}
 
 pub record Row : Type 0 where
   pub day : ℕ
   pub date : Date
 
 abbrev pub row : ℕ → ℕ → ℕ → ℕ → ℕ → Row
-row n y m d w = record { day = n; date = record { year = y; month = m; dayOfMonth = d; weekday = w } }
+row n y m d w = record { day = n; date = record { year = y; month = m; day_of_month = d; weekday = w } }
 
 -- day, year, month, day of the month, weekday
 abbrev pub rows : List Row
@@ -28,6 +28,6 @@ rows =
     ∷ row 2958465 9999 12 31 6
     ∷ []
 
-pub rows_right : All (λ (r : Row). dateOf r.day ≡ r.date) rows
-unfolding gregorianLeap leap yearDays yearDayFrom yearDayOf monthDays monthDayFrom dateOf
+pub rows_right : All (λ (r : Row). date_of r.day ≡ r.date) rows
+unfolding gregorian_leap leap year_days year_day_from year_day_of month_days month_day_from date_of
 rows_right = (refl, (refl, (refl, (refl, (refl, (refl, (refl, (refl, (refl, tt)))))))))

@@ -5,15 +5,15 @@ use mathlib.Core.List.{List}
 use Prim.Native.Nat.{ℕ, ◌≤◌, ◌<◌}
 use native.Mathlib.Omega.{arith}
 use lib.ListN.{get_or}
-use Rattle.calendar.specs.Year.{firstDay}
-use Rattle.calendar.specs.Tables.{firstDays}
+use Rattle.calendar.specs.Year.{first_day}
+use Rattle.calendar.specs.Tables.{first_days}
 use Rattle.lists.specs.Tables.{values}
 use Rattle.lists.proofs.Tables.{value-at}
 
 -- what the table of first days says of each of its years
-pub first-at : (l : List ℕ) (k : ℕ) → l ≡ firstDays → k ≤ 400 → get_or l k 0 ≡ firstDay k
-unfolding firstDays
-first-at l k e h = ap (λ (x : List ℕ). get_or x k 0) e ∙ value-at firstDay 401 k (omega arith)
+pub first-at : (l : List ℕ) (k : ℕ) → l ≡ first_days → k ≤ 400 → get_or l k 0 ≡ first_day k
+unfolding first_days
+first-at l k e h = ap (λ (x : List ℕ). get_or x k 0) e ∙ value-at first_day 401 k (omega arith)
 
 -- two rules whose values are the same agree at each place
 pub same-values : (f g : ℕ → ℕ) (n i : ℕ) → values f 0 n ≡ values g 0 n → i < n → f i ≡ g i

@@ -9,8 +9,8 @@ pub record Clock : Type 0 where
   pub thousandth : ℕ
 
 -- the millisecond of the day cut to whole units (R86)
-unfoldable pub clockOf : ℕ → Clock
-clockOf ms =
+unfoldable pub clock_of : ℕ → Clock
+clock_of ms =
     record {
       hour = ms / 3600000;
       minute = ms / 60000 % 60;
@@ -19,23 +19,23 @@ clockOf ms =
     }
 
 -- "a 12-hour clock (12, 1 to 11)" (R87)
-unfoldable pub twelveHour : ℕ → ℕ
-twelveHour h = cond (eqb (h % 12) 0) 12 (h % 12)
+unfoldable pub twelve_hour : ℕ → ℕ
+twelve_hour h = cond (eqb (h % 12) 0) 12 (h % 12)
 
 -- from noon on (R87)
 unfoldable pub afternoon : ℕ → Bool
 afternoon h = leb 12 h
 
 -- the milliseconds since the start of day 0
-unfoldable pub sinceDayZero : ℕ → ℕ → ℕ
-sinceDayZero day ms = day * 86400000 + ms
+unfoldable pub since_day_zero : ℕ → ℕ → ℕ
+since_day_zero day ms = day * 86400000 + ms
 
 -- "Elapsed tokens count all whole units since day 0" (R88)
-unfoldable pub elapsedHours : ℕ → ℕ
-elapsedHours total = total / 3600000
+unfoldable pub elapsed_hours : ℕ → ℕ
+elapsed_hours total = total / 3600000
 
-unfoldable pub elapsedMinutes : ℕ → ℕ
-elapsedMinutes total = total / 60000
+unfoldable pub elapsed_minutes : ℕ → ℕ
+elapsed_minutes total = total / 60000
 
-unfoldable pub elapsedSeconds : ℕ → ℕ
-elapsedSeconds total = total / 1000
+unfoldable pub elapsed_seconds : ℕ → ℕ
+elapsed_seconds total = total / 1000

@@ -2,5 +2,5 @@
 -- Assumes nothing.
 use Rattle.std.specs.Prelude.{ℕ, ◌+◌, Bool, cond, leb}
 
-unfoldable pub movedBy : Bool → ℕ → ℕ
-movedBy long n = cond (leb n (cond long 60 59)) n (n + cond long 1 2)
+unfoldable pub moved_by : Bool → ℕ → ℕ
+moved_by long n = cond (leb n (cond long 60 59)) n (n + cond long 1 2)

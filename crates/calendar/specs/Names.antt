@@ -9,26 +9,26 @@ unfoldable pub units : String → List ℕ
 units []ˢ = []
 units (c ∷ˢ s) = code c ∷ units s
 
-unfoldable pub monthNames : List String
-monthNames =
+unfoldable pub month_names : List String
+month_names =
     "January" ∷ "February" ∷ "March" ∷ "April" ∷ "May" ∷ "June"
     ∷ "July" ∷ "August" ∷ "September" ∷ "October" ∷ "November" ∷ "December" ∷ []
 
 -- by the weekday's number, which is 0 for Saturday
-unfoldable pub weekdayNames : List String
-weekdayNames = "Saturday" ∷ "Sunday" ∷ "Monday" ∷ "Tuesday" ∷ "Wednesday" ∷ "Thursday" ∷ "Friday" ∷ []
+unfoldable pub weekday_names : List String
+weekday_names = "Saturday" ∷ "Sunday" ∷ "Monday" ∷ "Tuesday" ∷ "Wednesday" ∷ "Thursday" ∷ "Friday" ∷ []
 
 -- months are numbered from 1
-unfoldable pub monthName : ℕ → List ℕ
-monthName m = units (get_or monthNames (pred m) "")
+unfoldable pub month_name : ℕ → List ℕ
+month_name m = units (get_or month_names (pred m) "")
 
-unfoldable pub weekdayName : ℕ → List ℕ
-weekdayName w = units (get_or weekdayNames w "")
+unfoldable pub weekday_name : ℕ → List ℕ
+weekday_name w = units (get_or weekday_names w "")
 
 -- a short name is the first three letters (R84)
-unfoldable pub shortName : List ℕ → List ℕ
-shortName name = take 3 name
+unfoldable pub short_name : List ℕ → List ℕ
+short_name name = take 3 name
 
 -- "mmmmm is the month's first letter" (R85)
-unfoldable pub firstLetter : List ℕ → List ℕ
-firstLetter name = take 1 name
+unfoldable pub first_letter : List ℕ → List ℕ
+first_letter name = take 1 name

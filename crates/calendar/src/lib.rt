@@ -5,12 +5,12 @@ ghost use Rattle.std.specs.Prelude.{◌≡◌, ℕ, suc, ◌+◌, ◌-◌, ◌*�
 ghost use Rattle.std.proofs.Math.Option.{some};
 ghost use Rattle.searching.specs.Machine.{started};
 ghost use Rattle.searching.specs.Search.{driven, answered};
-ghost use Rattle.calendar.specs.Year.{leap, firstDay, yearDayOf};
-ghost use Rattle.calendar.specs.Date.{monthDays, monthDayFrom, dateOf};
-ghost use Rattle.calendar.specs.Clock.{twelveHour, afternoon, sinceDayZero};
-ghost use Rattle.calendar.specs.Tables.{firstDays};
-ghost use Rattle.calendar.specs.Moved.{movedBy};
-ghost use Rattle.calendar.specs.Made.{madeYearDay, madeMonthDay, madeDate};
+ghost use Rattle.calendar.specs.Year.{leap, first_day, year_day_of};
+ghost use Rattle.calendar.specs.Date.{month_days, month_day_from, date_of};
+ghost use Rattle.calendar.specs.Clock.{twelve_hour, afternoon, since_day_zero};
+ghost use Rattle.calendar.specs.Tables.{first_days};
+ghost use Rattle.calendar.specs.Moved.{moved_by};
+ghost use Rattle.calendar.specs.Made.{made_year_day, made_month_day, made_date};
 
 use searching::Turn;
 use values::{Day, Millisecond};
@@ -54,7 +54,7 @@ pub struct Date {
 
 // The table: its rule is computed once over it, and carried to each year by law.
 fn first_days() -> [u32; 401]
-    ensures { result ≡ firstDays }
+    ensures { result ≡ first_days }
 {
     tables::FIRST_DAYS
 }
@@ -73,7 +73,7 @@ fn kept(day: u32, number: u32, before: u32) -> u32
 // anew. From day 1 on the search finds a year, so the other answers are not given.
 fn driven_year(day: u32) -> YearStart
     requires { 1 ≤ day }
-    ensures { (driven 10 firstDays (started day) ≡ answered (some result.years)) × (result.first ≡ get_or firstDays result.years 0) }
+    ensures { (driven 10 first_days (started day) ≡ answered (some result.years)) × (result.first ≡ get_or first_days result.years 0) }
 {
     let firsts = first_days();
     let mut turn = searching::start(day);
@@ -112,7 +112,7 @@ fn driven_year(day: u32) -> YearStart
 // The year of a day of the table's years, 1900 to 2300.
 fn year_within(day: u32) -> YearStart
     requires { (1 ≤ day) × (day < 146464) }
-    ensures { (result.years ≤ 400) × (result.first ≡ firstDay result.years) × (result.first ≤ day) × (day < firstDay (suc result.years)) }
+    ensures { (result.years ≤ 400) × (result.first ≡ first_day result.years) × (result.first ≤ day) × (day < first_day (suc result.years)) }
 {
     driven_year(day)
 }
@@ -134,7 +134,7 @@ fn in_table(day: u32) -> Cycled
 
 // The year of a day number.
 fn year_day_of(d: Day) -> YearDay
-    ensures { result ≡ madeYearDay (yearDayOf d.0) }
+    ensures { result ≡ made_year_day (year_day_of d.0) }
 {
     let day = d.0;
     if day < 367 {
@@ -169,7 +169,7 @@ fn is_leap(years: u32) -> bool
 // A day of a year in a year whose February has 30 days, so that months of 31 and 30 days take turns but at July and August.
 fn moved(long: bool, n: u32) -> u32
     requires { n ≤ 366 }
-    ensures { (result ≡ movedBy long n) × (n ≤ result) × (result ≤ n + 2) }
+    ensures { (result ≡ moved_by long n) × (n ≤ result) × (result ≤ n + 2) }
 {
     if long {
         if n <= 60 {
@@ -186,7 +186,7 @@ fn moved(long: bool, n: u32) -> u32
 // What is no day of any year: day 0 stands in January, the days behind December in a month 13.
 fn outside_year(long: bool, n: u32) -> MonthDay
     requires { n ≤ 366 → n ≡ 0 }
-    ensures { (k : ℕ) → long ≡ leap k → result ≡ madeMonthDay (monthDayFrom 1 (monthDays k) n) }
+    ensures { (k : ℕ) → long ≡ leap k → result ≡ made_month_day (month_day_from 1 (month_days k) n) }
 {
     if n <= 366 {
         return MonthDay { month: 1, day: 0 };
@@ -207,7 +207,7 @@ fn outside_year(long: bool, n: u32) -> MonthDay
 // their numbers and first days go by a straight line.
 fn month_day_of(years: u32, n: u32) -> MonthDay
     requires { 1900 + years < 2 ^ 32 }
-    ensures { result ≡ madeMonthDay (monthDayFrom 1 (monthDays years) n) }
+    ensures { result ≡ made_month_day (month_day_from 1 (month_days years) n) }
 {
     let long = is_leap(years);
     if (n == 0) | (366 < n) {
@@ -223,7 +223,7 @@ fn month_day_of(years: u32, n: u32) -> MonthDay
 
 // The date of a day number. "Weekday is day mod 7, 1 for Sunday, 0 for Saturday."
 pub fn date_of(d: Day) -> Date
-    ensures { result ≡ madeDate (dateOf d.0) }
+    ensures { result ≡ made_date (date_of d.0) }
 {
     let weekday = d.0 % 7;
     let y = year_day_of(d);
@@ -238,7 +238,7 @@ pub fn date_of(d: Day) -> Date
 
 // The hour on "a 12-hour clock (12, 1 to 11)".
 pub fn twelve_hour(hour: u64) -> u64
-    ensures { result ≡ twelveHour hour }
+    ensures { result ≡ twelve_hour hour }
 {
     let h = hour % 12;
     if h == 0 {
@@ -255,7 +255,7 @@ pub fn is_afternoon(hour: u64) -> bool
 
 // The milliseconds since the start of day 0, of which "elapsed tokens count all whole units".
 pub fn since_day_zero(d: Day, m: Millisecond) -> u64
-    ensures { result ≡ sinceDayZero d.0 m.0 }
+    ensures { result ≡ since_day_zero d.0 m.0 }
 {
     d.0 as u64 * 86400000 + m.0 as u64
 }

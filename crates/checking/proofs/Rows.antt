@@ -10,55 +10,55 @@ use borrow.Author.Tests.{eqb-true, eqb-false, eq-eqb, ne_eqb, lt-ltb, lt-leb, le
 use Rattle.lists.specs.Lists.{every, any, count}
 use Rattle.lists.proofs.Bools.{and_left, and_right, and_in, carry, same_test, by_cases, true-T}
 use Rattle.lists.proofs.Counts.{every-weaker, none-count}
-use Rattle.formats.specs.Items.{Item, Kind, dateKind, scientificKind, fractionKind, numberKind, sameKind, showsPlaces, kind_of, itemsKind, itemAllowed, itemInRange, isPlace, isPercent, itemsFit, integerPlaces, decimalPlaces, placesBehind, wholeItems, mainItems}
+use Rattle.formats.specs.Items.{Item, Kind, date_kind, scientific_kind, fraction_kind, number_kind, same_kind, shows_places, kind_of, items_kind, item_allowed, item_in_range, is_place, is_percent, items_fit, integer_places, decimal_places, places_behind, whole_items, main_items}
 use Rattle.formats.specs.Where.{implies}
-use Rattle.formats.specs.Limits.{elapsedShort, fixedSmall, sectionWithin}
-use Rattle.formats.specs.WellFormed.{oneFill, partsFollow, isSettled, groupingFits, sectionFits}
+use Rattle.formats.specs.Limits.{elapsed_short, fixed_small, section_within}
+use Rattle.formats.specs.WellFormed.{one_fill, parts_follow, is_settled, grouping_fits, section_fits}
 use Rattle.formats.proofs.Cutting.{bare-from, whole-none, main-all, no-decimals}
 use Rattle.formats.proofs.Each.{by-item}
 use Rattle.tables.specs.Words.{Head, Entry, Row}
-use Rattle.tables.specs.Encode.{kindWord, hasHalf, decimalsWord}
-use Rattle.tables.specs.Decode.{whole_at, millionthsAt, itemsAt, groupedAt, thousandsAt, sectionAt}
-use Rattle.tables.specs.Rules.{headInRange, entryInRange, rowInRange, conditionFits, powersRunDown, shiftTells, shiftFits, kindFits, decimalsFit, rowFits}
+use Rattle.tables.specs.Encode.{kind_word, has_half, decimals_word}
+use Rattle.tables.specs.Decode.{whole_at, millionths_at, items_at, grouped_at, thousands_at, section_at}
+use Rattle.tables.specs.Rules.{head_in_range, entry_in_range, row_in_range, condition_fits, powers_run_down, shift_tells, shift_fits, kind_fits, decimals_fit, row_fits}
 use Rattle.tables.proofs.Ranges.{HeadRanges, head-ranges, head-in-ranges}
 use Rattle.tables.proofs.Back.{RowFacts, row-facts}
 use Rattle.tables.proofs.BackEntries.{items-ranged, span-at}
 use Rattle.tables.proofs.Standing.{same_word, kind-most, number_word}
 use Rattle.date_rows.specs.declared.DatedRow.{DatedRow}
 use Rattle.number_rows.specs.declared.NumberRow.{NumberRow}
-use Rattle.tallies.specs.Tally.{makesFraction, soundEntries, items_of}
+use Rattle.tallies.specs.Tally.{makes_fraction, sound_entries, items_of}
 use Rattle.date_rows.specs.DateRows.{DateTold}
-use Rattle.number_rows.specs.NumberRows.{numberItems, NumberTold}
-use Rattle.scientific_rows.specs.ScientificRows.{scientificItems}
-use Rattle.fraction_rows.specs.FractionRows.{fractionItems}
+use Rattle.number_rows.specs.NumberRows.{number_items, NumberTold}
+use Rattle.scientific_rows.specs.ScientificRows.{scientific_items}
+use Rattle.fraction_rows.specs.FractionRows.{fraction_items}
 use Rattle.tallies.proofs.Places.{places-counted}
-use Rattle.tallies.proofs.Held.{takesPoint, Apart, apart, no-dates, no-solidi, uncut}
+use Rattle.tallies.proofs.Held.{takes_point, Apart, apart, no-dates, no-solidi, uncut}
 use Rattle.tallies.proofs.Told.{places-word}
 use Rattle.table_words.specs.declared.HeadWords.{HeadWords}
-use Rattle.table_words.specs.Sections.{headFrom}
-use Rattle.checking.specs.Checking.{agree, conditionTold, numberTold, scientificTold, otherItems, otherTold, cutTold, rowWith, halfFits, rowGood}
+use Rattle.table_words.specs.Sections.{head_from}
+use Rattle.checking.specs.Checking.{agree, condition_told, number_told, scientific_told, other_items, other_told, cut_told, row_with, half_fits, row_good}
 
 -- ---- the words that every head must pass
-abbrev noneTest : Head → Bool
-noneTest h = implies (eqb h.operator 0) (eqb h.negative 0 && eqb (whole_at h) 0 && eqb (millionthsAt h) 0)
+abbrev none_test : Head → Bool
+none_test h = implies (eqb h.operator 0) (eqb h.negative 0 && eqb (whole_at h) 0 && eqb (millionths_at h) 0)
 
-abbrev signTest : Head → Bool
-signTest h = implies (eqb (whole_at h) 0 && eqb (millionthsAt h) 0) (eqb h.negative 0)
+abbrev sign_test : Head → Bool
+sign_test h = implies (eqb (whole_at h) 0 && eqb (millionths_at h) 0) (eqb h.negative 0)
 
 record Compared (h : Head) : Type 0 where
   operator : T (leb h.operator 6)
   negative : T (leb h.negative 1)
   whole : T (leb (whole_at h) 999999999)
-  millionths : T (leb (millionthsAt h) 999999)
-  none : T (noneTest h)
-  sign : T (signTest h)
+  millionths : T (leb (millionths_at h) 999999)
+  none : T (none_test h)
+  sign : T (sign_test h)
 
-compared : (h : Head) → T (conditionTold h) → Compared h
-unfolding conditionTold
+compared : (h : Head) → T (condition_told h) → Compared h
+unfolding condition_told
 compared h t = search (and_left, and_right) depth 8
 
-condition-out : (h : Head) → T (headInRange h) → T (conditionFits h) → T (conditionTold h)
-unfolding conditionFits conditionTold
+condition-out : (h : Head) → T (head_in_range h) → T (condition_fits h) → T (condition_told h)
+unfolding condition_fits condition_told
 condition-out h range fits =
     let r : HeadRanges h = head-ranges h range in
     let c : Compared h = record {
@@ -66,25 +66,25 @@ condition-out h range fits =
       negative = le→leb _ _ r.negative;
       whole = le→leb _ _ r.whole;
       millionths = le→leb _ _ r.millionths;
-      none = and_left (noneTest h) (signTest h) fits;
-      sign = and_right (noneTest h) (signTest h) fits;
+      none = and_left (none_test h) (sign_test h) fits;
+      sign = and_right (none_test h) (sign_test h) fits;
     } in
     search and_in depth 8
 
 -- what is known of a head behind these tests
 pub record Front (h : Head) : Type 0 where
   pub items : h.items ≤ 254
-  pub words : (h.wholeLow < 65536) × (h.wholeHigh < 65536) × (h.millionthsLow < 65536) × (h.millionthsHigh < 65536)
+  pub words : (h.whole_low < 65536) × (h.whole_high < 65536) × (h.millionths_low < 65536) × (h.millionths_high < 65536)
   pub colour : h.colour ≤ 56
-  pub condition : conditionTold h ≡ true
+  pub condition : condition_told h ≡ true
 
-condition-in : (h : Head) → Front h → T (conditionFits h)
-unfolding conditionFits
+condition-in : (h : Head) → Front h → T (condition_fits h)
+unfolding condition_fits
 condition-in h f =
     let c : Compared h = compared h (true-T f.condition) in
-    and_in (noneTest h) (signTest h) c.none c.sign
+    and_in (none_test h) (sign_test h) c.none c.sign
 
-range-in : (h : Head) → Front h → h.kind ≤ 6 → h.shift ≤ 25 → h.flags ≤ 7 → h.decimals ≤ 15 → T (headInRange h)
+range-in : (h : Head) → Front h → h.kind ≤ 6 → h.shift ≤ 25 → h.flags ≤ 7 → h.decimals ≤ 15 → T (head_in_range h)
 range-in h f k s g d =
     let c : Compared h = compared h (true-T f.condition) in
     head-in-ranges h (record {
@@ -92,11 +92,11 @@ range-in h f k s g d =
       colour = f.colour;
       operator = leb→le _ _ c.operator;
       negative = leb→le _ _ c.negative;
-      wholeLow = f.words.0;
-      wholeHigh = f.words.1;
+      whole_low = f.words.0;
+      whole_high = f.words.1;
       whole = leb→le _ _ c.whole;
-      millionthsLow = f.words.2;
-      millionthsHigh = f.words.3;
+      millionths_low = f.words.2;
+      millionths_high = f.words.3;
       millionths = leb→le _ _ c.millionths;
       shift = s;
       flags = g;
@@ -122,215 +122,215 @@ ungrouped true t = t
 ungrouped false t = tt
 
 -- neither grouping nor twelve-hour
-few-flags : (flags : ℕ) → T (eqb flags 0 || eqb flags 2) → (flags < 4) × T (not (groupedAt flags))
-unfolding groupedAt
+few-flags : (flags : ℕ) → T (eqb flags 0 || eqb flags 2) → (flags < 4) × T (not (grouped_at flags))
+unfolding grouped_at
 few-flags flags t =
     by_cases (eqb flags 0) (λ e. rw (eqb-true flags 0 e) (omega arith, tt))
     (λ e. let two : flags ≡ 2 = eqb→eq flags 2 (rw e at t) in rw two (omega arith, tt))
 
-no-other-flags : (flags : ℕ) → flags < 4 → T (not (groupedAt flags)) → T (eqb flags 0 || eqb flags 2)
-unfolding groupedAt
+no-other-flags : (flags : ℕ) → flags < 4 → T (not (grouped_at flags)) → T (eqb flags 0 || eqb flags 2)
+unfolding grouped_at
 no-other-flags flags h =
-    span-at (λ (n : ℕ). T (not (groupedAt n)) → T (eqb n 0 || eqb n 2)) 0 4 flags ((λ t. tt), ((λ t. absurd t), ((λ t. tt), ((λ t. absurd t), tt)))) (omega arith) h
+    span-at (λ (n : ℕ). T (not (grouped_at n)) → T (eqb n 0 || eqb n 2)) 0 4 flags ((λ t. tt), ((λ t. absurd t), ((λ t. tt), ((λ t. absurd t), tt)))) (omega arith) h
 
-shift-most : (shift percents : ℕ) → T (shiftTells shift percents) → percents ≤ 5 → (shift ≤ 25) × T (leb (thousandsAt shift percents) 5)
-unfolding shiftTells
+shift-most : (shift percents : ℕ) → T (shift_tells shift percents) → percents ≤ 5 → (shift ≤ 25) × T (leb (thousands_at shift percents) 5)
+unfolding shift_tells
 shift-most shift percents t m =
-    let e : shift + 3 * thousandsAt shift percents ≡ 15 + 2 * percents = search (and_right, eqb→eq) in
+    let e : shift + 3 * thousands_at shift percents ≡ 15 + 2 * percents = search (and_right, eqb→eq) in
     (omega (arith, e, m), search and_left)
 
-short-ranged : (i : Item) → T (itemInRange i) → T (elapsedShort i)
-unfolding itemInRange elapsedShort
+short-ranged : (i : Item) → T (item_in_range i) → T (elapsed_short i)
+unfolding item_in_range elapsed_short
 short-ranged =
-    by-item (λ i. T (itemInRange i) → T (elapsedShort i)) (λ u t. tt) (λ u t. tt) (λ u t. tt) (λ p t. tt) (λ t. tt) (λ t. tt) (λ t. tt) (λ t. tt)
+    by-item (λ i. T (item_in_range i) → T (elapsed_short i)) (λ u t. tt) (λ u t. tt) (λ u t. tt) (λ p t. tt) (λ t. tt) (λ t. tt) (λ t. tt) (λ t. tt)
     (λ n t. tt) (λ n t. tt) (λ n t. tt) (λ n t. tt) (λ n t. tt) (λ n t. tt) (λ n t. tt) (λ e n t. and_right (leb 1 n) (leb n 9) t) (λ h t. tt) (λ m t. tt)
     (λ t. tt) (λ n t. tt)
 
-small-ranged : (i : Item) → T (itemInRange i) → T (fixedSmall i)
-unfolding itemInRange fixedSmall
+small-ranged : (i : Item) → T (item_in_range i) → T (fixed_small i)
+unfolding item_in_range fixed_small
 small-ranged =
-    by-item (λ i. T (itemInRange i) → T (fixedSmall i)) (λ u t. tt) (λ u t. tt) (λ u t. tt) (λ p t. tt) (λ t. tt) (λ t. tt) (λ t. tt) (λ t. tt)
+    by-item (λ i. T (item_in_range i) → T (fixed_small i)) (λ u t. tt) (λ u t. tt) (λ u t. tt) (λ p t. tt) (λ t. tt) (λ t. tt) (λ t. tt) (λ t. tt)
     (λ n t. tt) (λ n t. tt) (λ n t. tt) (λ n t. tt) (λ n t. tt) (λ n t. tt) (λ n t. tt) (λ e n t. tt) (λ h t. tt) (λ m t. tt)
     (λ t. tt) (λ n t. and_right (leb 1 n) (leb n 999) t)
 
 -- ---- the rules for the items as facts
 record ItemFacts (k : ℕ) (es : List Entry) : Type 0 where
-  parts : T (partsFollow (itemsAt es))
-  settled : T (isSettled (itemsAt es))
-  powers : T (powersRunDown es)
-  ranges : T (every entryInRange es)
-  kind : T (eqb k (kindWord (itemsKind (itemsAt es))))
-  items : T (itemsFit (itemsAt es))
-  fill : T (oneFill (itemsAt es))
+  parts : T (parts_follow (items_at es))
+  settled : T (is_settled (items_at es))
+  powers : T (powers_run_down es)
+  ranges : T (every entry_in_range es)
+  kind : T (eqb k (kind_word (items_kind (items_at es))))
+  items : T (items_fit (items_at es))
+  fill : T (one_fill (items_at es))
 
 item-facts : (k : ℕ) (es : List Entry) → T (items_of k es) → ItemFacts k es
-unfolding items_of soundEntries
+unfolding items_of sound_entries
 item-facts k es t = search (and_left, and_right) depth 8
 
 module _ (h : Head) (es : List Entry) where
   abbrev is : List Item
-  is = itemsAt es
+  is = items_at es
 
   abbrev row : Row
-  row = rowWith h es
+  row = row_with h es
 
   items-out : RowFacts row → T (items_of h.kind es)
-  unfolding items_of soundEntries kindFits sectionAt kind_of
+  unfolding items_of sound_entries kind_fits section_at kind_of
   items-out f =
-      let kind : T (eqb h.kind (kindWord (itemsKind is))) = f.kind in
-      let items : T (itemsFit is) = f.items in
-      let parts : T (partsFollow is) = f.parts in
-      let fill : T (oneFill is) = f.fill in
-      let settled : T (isSettled is) = f.settled in
-      let powers : T (powersRunDown es) = f.powers in
-      let entries : T (every entryInRange es) = f.entries in
+      let kind : T (eqb h.kind (kind_word (items_kind is))) = f.kind in
+      let items : T (items_fit is) = f.items in
+      let parts : T (parts_follow is) = f.parts in
+      let fill : T (one_fill is) = f.fill in
+      let settled : T (is_settled is) = f.settled in
+      let powers : T (powers_run_down es) = f.powers in
+      let entries : T (every entry_in_range es) = f.entries in
       search and_in depth 8
 
-  good-in : ItemFacts h.kind es → T (headInRange h) → T (conditionFits h) → T (groupingFits (sectionAt row)) → T (sectionWithin (sectionAt row))
-      → T (shiftFits row) → T (decimalsFit row) → T (halfFits row) → T (rowGood row)
-  unfolding rowGood rowFits sectionFits rowInRange kindFits sectionAt kind_of
+  good-in : ItemFacts h.kind es → T (head_in_range h) → T (condition_fits h) → T (grouping_fits (section_at row)) → T (section_within (section_at row))
+      → T (shift_fits row) → T (decimals_fit row) → T (half_fits row) → T (row_good row)
+  unfolding row_good row_fits section_fits row_in_range kind_fits section_at kind_of
   good-in f range condition grouping within shift decimals half = search and_in depth 16
 
   -- ---- the words by whether the section is a number section
-  module _ (b : Bool) (e : sameKind (itemsKind is) numberKind ≡ b) where
-    shift_by : shiftFits row ≡ cond b (shiftTells h.shift (count isPercent is)) (eqb h.shift 0)
-    unfolding shiftFits sectionAt kind_of
+  module _ (b : Bool) (e : same_kind (items_kind is) number_kind ≡ b) where
+    shift_by : shift_fits row ≡ cond b (shift_tells h.shift (count is_percent is)) (eqb h.shift 0)
+    unfolding shift_fits section_at kind_of
     shift_by = rw e
 
-    grouping-by : groupingFits (sectionAt row) ≡ implies (groupedAt h.flags) (b && leb 2 (integerPlaces is))
-    unfolding groupingFits sectionAt kind_of
+    grouping-by : grouping_fits (section_at row) ≡ implies (grouped_at h.flags) (b && leb 2 (integer_places is))
+    unfolding grouping_fits section_at kind_of
     grouping-by = rw e
 
-    within_by : sectionWithin (sectionAt row)
-        ≡ (leb (integerPlaces (wholeItems is)) 20 && leb (integerPlaces (mainItems is)) 20 && leb (decimalPlaces is) 15 && leb (placesBehind is) 3 && leb (count isPercent is) 5
-        && leb (cond b (thousandsAt h.shift (count isPercent is)) 0) 5 && every elapsedShort is && every fixedSmall is)
-    unfolding sectionWithin sectionAt
+    within_by : section_within (section_at row)
+        ≡ (leb (integer_places (whole_items is)) 20 && leb (integer_places (main_items is)) 20 && leb (decimal_places is) 15 && leb (places_behind is) 3 && leb (count is_percent is) 5
+        && leb (cond b (thousands_at h.shift (count is_percent is)) 0) 5 && every elapsed_short is && every fixed_small is)
+    unfolding section_within section_at
     within_by = rw e
 
-  decimals-by : (b : Bool) → showsPlaces (itemsKind is) ≡ b → decimalsFit row ≡ eqb h.decimals (cond b (decimalPlaces is) 0)
-  unfolding decimalsFit decimalsWord sectionAt kind_of
+  decimals-by : (b : Bool) → shows_places (items_kind is) ≡ b → decimals_fit row ≡ eqb h.decimals (cond b (decimal_places is) 0)
+  unfolding decimals_fit decimals_word section_at kind_of
   decimals-by b e = rw e
 
   module _ (f : ItemFacts h.kind es) where
-    word : kindWord (itemsKind is) ≡ h.kind
-    word = sym (eqb→eq h.kind (kindWord (itemsKind is)) f.kind)
+    word : kind_word (items_kind is) ≡ h.kind
+    word = sym (eqb→eq h.kind (kind_word (items_kind is)) f.kind)
 
-    short : T (every elapsedShort is)
-    short = every-weaker itemInRange elapsedShort short-ranged is (items-ranged es f.ranges)
+    short : T (every elapsed_short is)
+    short = every-weaker item_in_range elapsed_short short-ranged is (items-ranged es f.ranges)
 
-    small : T (every fixedSmall is)
-    small = every-weaker itemInRange fixedSmall small-ranged is (items-ranged es f.ranges)
+    small : T (every fixed_small is)
+    small = every-weaker item_in_range fixed_small small-ranged is (items-ranged es f.ranges)
 
-    allowed : T (every (itemAllowed (itemsKind is)) is)
-    unfolding itemsFit
+    allowed : T (every (item_allowed (items_kind is)) is)
+    unfolding items_fit
     allowed = let items = f.items in search and_left depth 6
 
-    kept : Apart (itemsKind is) is
-    kept = apart (itemsKind is) is allowed
+    kept : Apart (items_kind is) is
+    kept = apart (items_kind is) is allowed
 
-    number-kind : h.kind ≡ 2 → sameKind (itemsKind is) numberKind ≡ true
-    number-kind e = sym (number_word (itemsKind is)) ∙ eq-eqb (kindWord (itemsKind is)) 2 (word ∙ e)
+    number-kind : h.kind ≡ 2 → same_kind (items_kind is) number_kind ≡ true
+    number-kind e = sym (number_word (items_kind is)) ∙ eq-eqb (kind_word (items_kind is)) 2 (word ∙ e)
 
-    other-kind : (h.kind ≡ 2 → ⊥) → sameKind (itemsKind is) numberKind ≡ false
-    other-kind n = sym (number_word (itemsKind is)) ∙ ne_eqb (kindWord (itemsKind is)) 2 (λ e. n (sym word ∙ e))
+    other-kind : (h.kind ≡ 2 → ⊥) → same_kind (items_kind is) number_kind ≡ false
+    other-kind n = sym (number_word (items_kind is)) ∙ ne_eqb (kind_word (items_kind is)) 2 (λ e. n (sym word ∙ e))
 
     -- whether its places show digits
-    places-kind : showsPlaces (itemsKind is) ≡ (eqb h.kind 2 || (eqb h.kind 5 || eqb h.kind 6))
-    places-kind = sym (places-word (itemsKind is)) ∙ ap (λ (n : ℕ). eqb n 2 || (eqb n 5 || eqb n 6)) word
+    places-kind : shows_places (items_kind is) ≡ (eqb h.kind 2 || (eqb h.kind 5 || eqb h.kind 6))
+    places-kind = sym (places-word (items_kind is)) ∙ ap (λ (n : ℕ). eqb n 2 || (eqb n 5 || eqb n 6)) word
 
-    shown : (b : Bool) → (eqb h.kind 2 || (eqb h.kind 5 || eqb h.kind 6)) ≡ b → showsPlaces (itemsKind is) ≡ b
+    shown : (b : Bool) → (eqb h.kind 2 || (eqb h.kind 5 || eqb h.kind 6)) ≡ b → shows_places (items_kind is) ≡ b
     shown b e = places-kind ∙ e
 
-    not-kind : (j : Kind) → (h.kind ≡ kindWord j → ⊥) → sameKind j (itemsKind is) ≡ false
-    not-kind j n = sym (same_word j (itemsKind is)) ∙ ne_eqb (kindWord j) (kindWord (itemsKind is)) (λ e. n (sym word ∙ sym e))
+    not-kind : (j : Kind) → (h.kind ≡ kind_word j → ⊥) → same_kind j (items_kind is) ≡ false
+    not-kind j n = sym (same_word j (items_kind is)) ∙ ne_eqb (kind_word j) (kind_word (items_kind is)) (λ e. n (sym word ∙ sym e))
 
-    none-half : (h.kind ≡ 4 → ⊥) → hasHalf is ≡ false
-    unfolding kindWord
-    none-half n = unfold hasHalf in (no-dates is (kept.dates (not-kind dateKind n))).1
+    none-half : (h.kind ≡ 4 → ⊥) → has_half is ≡ false
+    unfolding kind_word
+    none-half n = unfold has_half in (no-dates is (kept.dates (not-kind date_kind n))).1
 
-    none-percent : (h.kind ≡ 2 → ⊥) → count isPercent is ≡ 0
-    unfolding kindWord
-    none-percent n = none-count isPercent is (kept.percents (not-kind numberKind n))
+    none-percent : (h.kind ≡ 2 → ⊥) → count is_percent is ≡ 0
+    unfolding kind_word
+    none-percent n = none-count is_percent is (kept.percents (not-kind number_kind n))
 
-    none-placed : showsPlaces (itemsKind is) ≡ false → (integerPlaces is ≡ 0) × (decimalPlaces is ≡ 0)
+    none-placed : shows_places (items_kind is) ≡ false → (integer_places is ≡ 0) × (decimal_places is ≡ 0)
     none-placed e =
-        let none = none-count isPlace is (kept.places e) in
+        let none = none-count is_place is (kept.places e) in
         let places = places-counted is in
         (omega (arith, none, places), omega (arith, none, places))
 
     -- a point stands in number and scientific sections only, a solidus in fractions only
-    none-decimal : (h.kind ≡ 2 → ⊥) → (h.kind ≡ 5 → ⊥) → decimalPlaces is ≡ 0
-    unfolding kindWord
+    none-decimal : (h.kind ≡ 2 → ⊥) → (h.kind ≡ 5 → ⊥) → decimal_places is ≡ 0
+    unfolding kind_word
     none-decimal k n =
-        let other : takesPoint (itemsKind is) ≡ false = rw (not-kind numberKind k, not-kind scientificKind n) in
+        let other : takes_point (items_kind is) ≡ false = rw (not-kind number_kind k, not-kind scientific_kind n) in
         no-decimals is (kept.points other)
 
     module _ (s : h.kind ≡ 6 → ⊥) where
-      none-solidus : any makesFraction is ≡ false
-      unfolding kindWord
-      none-solidus = kept.solidi (not-kind fractionKind s)
+      none-solidus : any makes_fraction is ≡ false
+      unfolding kind_word
+      none-solidus = kept.solidi (not-kind fraction_kind s)
 
-      none-whole : integerPlaces (wholeItems is) ≡ 0
-      unfolding integerPlaces
-      none-whole = ap integerPlaces (whole-none is (no-solidi is none-solidus).0)
+      none-whole : integer_places (whole_items is) ≡ 0
+      unfolding integer_places
+      none-whole = ap integer_places (whole-none is (no-solidi is none-solidus).0)
 
-      wholes-few : T (leb (integerPlaces (wholeItems is)) 20)
+      wholes-few : T (leb (integer_places (whole_items is)) 20)
       wholes-few = rw none-whole tt
 
-      main-places : integerPlaces (mainItems is) ≡ integerPlaces is
-      main-places = ap integerPlaces (main-all is (no-solidi is none-solidus).0)
+      main-places : integer_places (main_items is) ≡ integer_places is
+      main-places = ap integer_places (main-all is (no-solidi is none-solidus).0)
 
-      none-behind : (h.kind ≡ 5 → ⊥) → T (leb (placesBehind is) 3)
-      unfolding kindWord placesBehind count
+      none-behind : (h.kind ≡ 5 → ⊥) → T (leb (places_behind is) 3)
+      unfolding kind_word places_behind count
       none-behind n =
-          rw (bare-from is (uncut is (kept.exponents (not-kind scientificKind n)) none-solidus)) tt
+          rw (bare-from is (uncut is (kept.exponents (not-kind scientific_kind n)) none-solidus)) tt
 
   -- ---- a number section
   module _ (k : h.kind ≡ 2) where
-    number_in : Front h → T (numberItems es) → T (numberTold h (integerPlaces is) (decimalPlaces is) (count isPercent is))
-        → T (rowGood row)
-    unfolding numberItems numberTold halfFits
+    number_in : Front h → T (number_items es) → T (number_told h (integer_places is) (decimal_places is) (count is_percent is))
+        → T (row_good row)
+    unfolding number_items number_told half_fits
     number_in front items t =
         let f : ItemFacts h.kind es = rw k (item-facts 2 es (and_left (items_of 2 es) _ items)) in
         let number = number-kind f k in
-        let integers : T (leb (integerPlaces is) 20) = search (and_left, and_right) depth 8 in
-        let places : T (leb (decimalPlaces is) 15) = search (and_left, and_right) depth 8 in
+        let integers : T (leb (integer_places is) 20) = search (and_left, and_right) depth 8 in
+        let places : T (leb (decimal_places is) 15) = search (and_left, and_right) depth 8 in
         let whole : h.kind ≡ 6 → ⊥ = λ e. absurd (omega (arith, k, e)) in
         let wholes = wholes-few f whole in
-        let mains : T (leb (integerPlaces (mainItems is)) 20) = rw (main-places f whole) integers in
-        let behind : T (leb (placesBehind is) 3) = none-behind f whole (λ e. absurd (omega (arith, k, e))) in
-        let percents : T (leb (count isPercent is) 5) = search (and_left, and_right) depth 8 in
-        let shifted : T (shiftTells h.shift (count isPercent is)) = search and_left in
-        let same : T (eqb h.decimals (decimalPlaces is)) = search (and_left, and_right) depth 8 in
+        let mains : T (leb (integer_places (main_items is)) 20) = rw (main-places f whole) integers in
+        let behind : T (leb (places_behind is) 3) = none-behind f whole (λ e. absurd (omega (arith, k, e))) in
+        let percents : T (leb (count is_percent is) 5) = search (and_left, and_right) depth 8 in
+        let shifted : T (shift_tells h.shift (count is_percent is)) = search and_left in
+        let same : T (eqb h.decimals (decimal_places is)) = search (and_left, and_right) depth 8 in
         let flags : h.flags < 4 = search (and_left, and_right, ltb→lt) depth 8 in
-        let grouping : T (not (groupedAt h.flags) || leb 2 (integerPlaces is)) = search and_right depth 8 in
-        let most = shift-most h.shift (count isPercent is) shifted (leb→le (count isPercent is) 5 percents) in
-        let thousands : T (leb (thousandsAt h.shift (count isPercent is)) 5) = most.1 in
+        let grouping : T (not (grouped_at h.flags) || leb 2 (integer_places is)) = search and_right depth 8 in
+        let most = shift-most h.shift (count is_percent is) shifted (leb→le (count is_percent is) 5 percents) in
+        let thousands : T (leb (thousands_at h.shift (count is_percent is)) 5) = most.1 in
         let shorts = short f in
         let smalls = small f in
-        let decimals : h.decimals ≤ 15 = omega (arith, eqb→eq h.decimals (decimalPlaces is) same, leb→le (decimalPlaces is) 15 places) in
+        let decimals : h.decimals ≤ 15 = omega (arith, eqb→eq h.decimals (decimal_places is) same, leb→le (decimal_places is) 15 places) in
         good-in f (range-in h front (omega (arith, k)) most.0 (omega arith) decimals) (condition-in h front) (carry (sym (grouping-by true number)) grouping)
         (carry (sym (within_by true number)) (search and_in depth 9)) (carry (sym (shift_by true number)) shifted)
         (carry (sym (decimals-by true (shown f true (rw k)))) same)
-        (neither (leb 4 h.flags) (hasHalf is) (lt-leb 4 h.flags flags) (none-half f (λ e. absurd (omega (arith, k, e)))))
+        (neither (leb 4 h.flags) (has_half is) (lt-leb 4 h.flags flags) (none-half f (λ e. absurd (omega (arith, k, e)))))
 
-    number-out : RowFacts row → T (halfFits row)
-        → T (numberItems es) × T (numberTold h (integerPlaces is) (decimalPlaces is) (count isPercent is))
-    unfolding numberItems numberTold halfFits
+    number-out : RowFacts row → T (half_fits row)
+        → T (number_items es) × T (number_told h (integer_places is) (decimal_places is) (count is_percent is))
+    unfolding number_items number_told half_fits
     number-out r half =
         let held : T (items_of 2 es) = rw k at (items-out r) in
         let f = item-facts h.kind es (items-out r) in
         let number = number-kind f k in
         let limits = carry (within_by true number) r.within in
-        let shifted : T (shiftTells h.shift (count isPercent is)) = carry (shift_by true number) r.shift in
-        let mains : T (leb (integerPlaces (mainItems is)) 20) = search (and_left, and_right) depth 10 in
-        let integers : T (leb (integerPlaces is) 20) = rw (← main-places f (λ e. absurd (omega (arith, k, e)))) mains in
-        let places : T (leb (decimalPlaces is) 15) = search (and_left, and_right) depth 10 in
-        let percents : T (leb (count isPercent is) 5) = search (and_left, and_right) depth 10 in
-        let same : T (eqb h.decimals (decimalPlaces is)) = carry (decimals-by true (shown f true (rw k))) r.decimals in
+        let shifted : T (shift_tells h.shift (count is_percent is)) = carry (shift_by true number) r.shift in
+        let mains : T (leb (integer_places (main_items is)) 20) = search (and_left, and_right) depth 10 in
+        let integers : T (leb (integer_places is) 20) = rw (← main-places f (λ e. absurd (omega (arith, k, e)))) mains in
+        let places : T (leb (decimal_places is) 15) = search (and_left, and_right) depth 10 in
+        let percents : T (leb (count is_percent is) 5) = search (and_left, and_right) depth 10 in
+        let same : T (eqb h.decimals (decimal_places is)) = carry (decimals-by true (shown f true (rw k))) r.decimals in
         let none = none-half f (λ e. absurd (omega (arith, k, e))) in
-        let flags : T (ltb h.flags 4) = true-T (lt-ltb _ _ (leb-false 4 h.flags (not-either (leb 4 h.flags) (hasHalf is) none half))) in
-        let grouping : T (not (groupedAt h.flags) || leb 2 (integerPlaces is)) = carry (grouping-by true number) r.grouping in
+        let flags : T (ltb h.flags 4) = true-T (lt-ltb _ _ (leb-false 4 h.flags (not-either (leb 4 h.flags) (has_half is) none half))) in
+        let grouping : T (not (grouped_at h.flags) || leb 2 (integer_places is)) = carry (grouping-by true number) r.grouping in
         (search and_in depth 8, search and_in depth 8)
 
   -- ---- a scientific section
@@ -341,81 +341,81 @@ module _ (h : Head) (es : List Entry) where
     no-fraction-kind : h.kind ≡ 6 → ⊥
     no-fraction-kind e = absurd (omega (arith, k, e))
 
-    scientific-in : Front h → T (scientificItems es) → T (scientificTold h (decimalPlaces is)) → T (rowGood row)
-    unfolding scientificItems scientificTold halfFits
+    scientific-in : Front h → T (scientific_items es) → T (scientific_told h (decimal_places is)) → T (row_good row)
+    unfolding scientific_items scientific_told half_fits
     scientific-in front items t =
         let f : ItemFacts h.kind es = rw k (item-facts 5 es (and_left (items_of 5 es) _ items)) in
         let other = other-kind f no-number-kind in
         let shift : T (eqb h.shift 0) = search and_left depth 8 in
-        let integers : T (leb (integerPlaces is) 20) = search (and_left, and_right) depth 8 in
-        let places : T (leb (decimalPlaces is) 15) = search (and_left, and_right) depth 8 in
+        let integers : T (leb (integer_places is) 20) = search (and_left, and_right) depth 8 in
+        let places : T (leb (decimal_places is) 15) = search (and_left, and_right) depth 8 in
         let wholes = wholes-few f no-fraction-kind in
-        let mains : T (leb (integerPlaces (mainItems is)) 20) = rw (main-places f no-fraction-kind) integers in
-        let behind : T (leb (placesBehind is) 3) = search (and_left, and_right) depth 8 in
-        let percents : T (leb (count isPercent is) 5) = le→leb (count isPercent is) 5 (omega (arith, none-percent f no-number-kind)) in
-        let same : T (eqb h.decimals (decimalPlaces is)) = search (and_left, and_right) depth 8 in
+        let mains : T (leb (integer_places (main_items is)) 20) = rw (main-places f no-fraction-kind) integers in
+        let behind : T (leb (places_behind is) 3) = search (and_left, and_right) depth 8 in
+        let percents : T (leb (count is_percent is) 5) = le→leb (count is_percent is) 5 (omega (arith, none-percent f no-number-kind)) in
+        let same : T (eqb h.decimals (decimal_places is)) = search (and_left, and_right) depth 8 in
         let flags = few-flags h.flags (search and_right) in
         let shorts = short f in
         let smalls = small f in
-        let decimals : h.decimals ≤ 15 = omega (arith, eqb→eq h.decimals (decimalPlaces is) same, leb→le (decimalPlaces is) 15 places) in
+        let decimals : h.decimals ≤ 15 = omega (arith, eqb→eq h.decimals (decimal_places is) same, leb→le (decimal_places is) 15 places) in
         good-in f (range-in h front (omega (arith, k)) (omega (arith, eqb→eq h.shift 0 shift)) (omega (arith, flags.0)) decimals) (condition-in h front)
-        (carry (sym (grouping-by false other)) (or_left (not (groupedAt h.flags)) false flags.1))
+        (carry (sym (grouping-by false other)) (or_left (not (grouped_at h.flags)) false flags.1))
         (carry (sym (within_by false other)) (search (and_in, le→leb) depth 9)) (carry (sym (shift_by false other)) shift)
         (carry (sym (decimals-by true (shown f true (rw k)))) same)
-        (neither (leb 4 h.flags) (hasHalf is) (lt-leb 4 h.flags flags.0) (none-half f (λ e. absurd (omega (arith, k, e)))))
+        (neither (leb 4 h.flags) (has_half is) (lt-leb 4 h.flags flags.0) (none-half f (λ e. absurd (omega (arith, k, e)))))
 
-    scientific-out : RowFacts row → T (halfFits row) → T (scientificItems es) × T (scientificTold h (decimalPlaces is))
-    unfolding scientificItems scientificTold halfFits
+    scientific-out : RowFacts row → T (half_fits row) → T (scientific_items es) × T (scientific_told h (decimal_places is))
+    unfolding scientific_items scientific_told half_fits
     scientific-out r half =
         let held : T (items_of 5 es) = rw k at (items-out r) in
         let f = item-facts h.kind es (items-out r) in
         let other = other-kind f no-number-kind in
         let limits = carry (within_by false other) r.within in
         let shift : T (eqb h.shift 0) = carry (shift_by false other) r.shift in
-        let mains : T (leb (integerPlaces (mainItems is)) 20) = search (and_left, and_right) depth 10 in
-        let integers : T (leb (integerPlaces is) 20) = rw (← main-places f no-fraction-kind) mains in
-        let places : T (leb (decimalPlaces is) 15) = search (and_left, and_right) depth 10 in
-        let behind : T (leb (placesBehind is) 3) = search (and_left, and_right) depth 10 in
-        let same : T (eqb h.decimals (decimalPlaces is)) = carry (decimals-by true (shown f true (rw k))) r.decimals in
+        let mains : T (leb (integer_places (main_items is)) 20) = search (and_left, and_right) depth 10 in
+        let integers : T (leb (integer_places is) 20) = rw (← main-places f no-fraction-kind) mains in
+        let places : T (leb (decimal_places is) 15) = search (and_left, and_right) depth 10 in
+        let behind : T (leb (places_behind is) 3) = search (and_left, and_right) depth 10 in
+        let same : T (eqb h.decimals (decimal_places is)) = carry (decimals-by true (shown f true (rw k))) r.decimals in
         let none = none-half f (λ e. absurd (omega (arith, k, e))) in
-        let few : h.flags < 4 = leb-false 4 h.flags (not-either (leb 4 h.flags) (hasHalf is) none half) in
-        let flags : T (eqb h.flags 0 || eqb h.flags 2) = no-other-flags h.flags few (ungrouped (groupedAt h.flags) (carry (grouping-by false other) r.grouping)) in
+        let few : h.flags < 4 = leb-false 4 h.flags (not-either (leb 4 h.flags) (has_half is) none half) in
+        let flags : T (eqb h.flags 0 || eqb h.flags 2) = no-other-flags h.flags few (ungrouped (grouped_at h.flags) (carry (grouping-by false other) r.grouping)) in
         (search and_in depth 8, search and_in depth 8)
 
   -- ---- another section
   module _ (k : h.kind ≡ 2 → ⊥) (n : h.kind ≡ 5 → ⊥) where
     -- it has no decimal place
-    decimals-none : ItemFacts h.kind es → decimalsFit row ≡ eqb h.decimals 0
+    decimals-none : ItemFacts h.kind es → decimals_fit row ≡ eqb h.decimals 0
     decimals-none f =
-        decimals-by (showsPlaces (itemsKind is)) refl ∙ rw (none-decimal f k n) (by_cases (showsPlaces (itemsKind is)) (λ e. rw e) (λ e. rw e))
+        decimals-by (shows_places (items_kind is)) refl ∙ rw (none-decimal f k n) (by_cases (shows_places (items_kind is)) (λ e. rw e) (λ e. rw e))
 
     -- the limits of its places
-    few-in : T (otherItems h.kind es) → ItemFacts h.kind es × T (leb (integerPlaces (wholeItems is)) 20) × T (leb (integerPlaces (mainItems is)) 20) × T (leb (placesBehind is) 3)
-    unfolding otherItems fractionItems
+    few-in : T (other_items h.kind es) → ItemFacts h.kind es × T (leb (integer_places (whole_items is)) 20) × T (leb (integer_places (main_items is)) 20) × T (leb (places_behind is) 3)
+    unfolding other_items fraction_items
     few-in t =
         by_cases (eqb h.kind 6)
         (λ e. let six = eqb-true h.kind 6 e in
-        let all : T (fractionItems es) = rw e at t in
+        let all : T (fraction_items es) = rw e at t in
         (rw six (item-facts 6 es (and_left (items_of 6 es) _ all)), search (and_left, and_right) depth 6, search (and_left, and_right) depth 6, search (and_left, and_right) depth 6))
         (λ e. let f = item-facts h.kind es (rw e at t) in
         let no_six = eqb-false h.kind 6 e in
         let none = none-placed f (shown f false (rw (ne_eqb h.kind 2 k, ne_eqb h.kind 5 n, e))) in
         (f, wholes-few f no_six, rw (main-places f no_six, none.0) tt, none-behind f no_six n))
 
-    few-out : RowFacts row → T (otherItems h.kind es)
-    unfolding otherItems fractionItems
+    few-out : RowFacts row → T (other_items h.kind es)
+    unfolding other_items fraction_items
     few-out r =
         let held = items-out r in
         let limits = carry (within_by false (other-kind (item-facts h.kind es held) k)) r.within in
-        let wholes : T (leb (integerPlaces (wholeItems is)) 20) = search (and_left, and_right) depth 10 in
-        let mains : T (leb (integerPlaces (mainItems is)) 20) = search (and_left, and_right) depth 10 in
-        let behind : T (leb (placesBehind is) 3) = search (and_left, and_right) depth 10 in
+        let wholes : T (leb (integer_places (whole_items is)) 20) = search (and_left, and_right) depth 10 in
+        let mains : T (leb (integer_places (main_items is)) 20) = search (and_left, and_right) depth 10 in
+        let behind : T (leb (places_behind is) 3) = search (and_left, and_right) depth 10 in
         by_cases (eqb h.kind 6)
         (λ e. let six : T (items_of 6 es) = rw (eqb-true h.kind 6 e) at held in rw e (search and_in depth 6))
         (λ e. rw e held)
 
-    other-in : Front h → T (otherItems h.kind es) → T (otherTold h (hasHalf is)) → T (rowGood row)
-    unfolding otherTold halfFits
+    other-in : Front h → T (other_items h.kind es) → T (other_told h (has_half is)) → T (row_good row)
+    unfolding other_told half_fits
     other-in front items t =
         let few = few-in items in
         let f = few.0 in
@@ -426,98 +426,98 @@ module _ (h : Head) (es : List Entry) where
         let shift : T (eqb h.shift 0) = search and_left depth 6 in
         let decimals : T (eqb h.decimals 0) = search (and_left, and_right) depth 6 in
         let flags : h.flags ≤ 7 = search (and_left, and_right, leb→le) depth 6 in
-        let plain : T (not (groupedAt h.flags)) = search (and_left, and_right) depth 6 in
-        let places : T (leb (decimalPlaces is) 15) = le→leb (decimalPlaces is) 15 (omega (arith, none-decimal f k n)) in
-        let percents : T (leb (count isPercent is) 5) = le→leb (count isPercent is) 5 (omega (arith, none-percent f k)) in
+        let plain : T (not (grouped_at h.flags)) = search (and_left, and_right) depth 6 in
+        let places : T (leb (decimal_places is) 15) = le→leb (decimal_places is) 15 (omega (arith, none-decimal f k n)) in
+        let percents : T (leb (count is_percent is) 5) = le→leb (count is_percent is) 5 (omega (arith, none-percent f k)) in
         let shorts = short f in
         let smalls = small f in
         good-in f
-        (range-in h front (omega (arith, word f, kind-most (itemsKind is))) (omega (arith, eqb→eq h.shift 0 shift)) flags (omega (arith, eqb→eq h.decimals 0 decimals)))
-        (condition-in h front) (carry (sym (grouping-by false other)) (or_left (not (groupedAt h.flags)) false plain))
+        (range-in h front (omega (arith, word f, kind-most (items_kind is))) (omega (arith, eqb→eq h.shift 0 shift)) flags (omega (arith, eqb→eq h.decimals 0 decimals)))
+        (condition-in h front) (carry (sym (grouping-by false other)) (or_left (not (grouped_at h.flags)) false plain))
         (carry (sym (within_by false other)) (search (and_in, le→leb) depth 9)) (carry (sym (shift_by false other)) shift)
         (carry (sym (decimals-none f)) decimals) (search and_right)
 
-    other-out : RowFacts row → T (halfFits row) → T (otherTold h (hasHalf is))
-    unfolding otherTold halfFits
+    other-out : RowFacts row → T (half_fits row) → T (other_told h (has_half is))
+    unfolding other_told half_fits
     other-out r half =
         let f = item-facts h.kind es (items-out r) in
         let other = other-kind f k in
         let shift : T (eqb h.shift 0) = carry (shift_by false other) r.shift in
         let decimals : T (eqb h.decimals 0) = carry (decimals-none f) r.decimals in
         let flags : T (leb h.flags 7) = le→leb _ _ (head-ranges h r.head).flags in
-        let plain : T (not (groupedAt h.flags)) = ungrouped (groupedAt h.flags) (carry (grouping-by false other) r.grouping) in
+        let plain : T (not (grouped_at h.flags)) = ungrouped (grouped_at h.flags) (carry (grouping-by false other) r.grouping) in
         search and_in depth 6
 
   -- ---- the answers
-  pub refused : (RowFacts row → T (conditionTold h) → ⊥) → false ≡ rowGood row
-  unfolding rowGood
+  pub refused : (RowFacts row → T (condition_told h) → ⊥) → false ≡ row_good row
+  unfolding row_good
   refused refuted =
-      by_cases (rowGood row)
-      (λ e. let r = row-facts row (and_left (rowFits row) (halfFits row) (true-T e)) in
+      by_cases (row_good row)
+      (λ e. let r = row-facts row (and_left (row_fits row) (half_fits row) (true-T e)) in
       absurd (refuted r (condition-out h r.head r.condition)))
       (λ e. sym e)
 
   row_number : h.kind ≡ 2 → Front h
-      → (numberItems es && numberTold h (integerPlaces is) (decimalPlaces is) (count isPercent is)) ≡ rowGood row
-  unfolding rowGood
+      → (number_items es && number_told h (integer_places is) (decimal_places is) (count is_percent is)) ≡ row_good row
+  unfolding row_good
   row_number k front =
-      let told = numberTold h (integerPlaces is) (decimalPlaces is) (count isPercent is) in
-      same_test (numberItems es && told) (rowGood row)
-      (λ t. number_in k front (and_left (numberItems es) told t) (and_right (numberItems es) told t))
-      (λ t. let o = number-out k (row-facts row (and_left (rowFits row) (halfFits row) t)) (and_right (rowFits row) (halfFits row) t) in
-      and_in (numberItems es) told o.0 o.1)
+      let told = number_told h (integer_places is) (decimal_places is) (count is_percent is) in
+      same_test (number_items es && told) (row_good row)
+      (λ t. number_in k front (and_left (number_items es) told t) (and_right (number_items es) told t))
+      (λ t. let o = number-out k (row-facts row (and_left (row_fits row) (half_fits row) t)) (and_right (row_fits row) (half_fits row) t) in
+      and_in (number_items es) told o.0 o.1)
 
-  row-scientific : h.kind ≡ 5 → Front h → (scientificItems es && scientificTold h (decimalPlaces is)) ≡ rowGood row
-  unfolding rowGood
+  row-scientific : h.kind ≡ 5 → Front h → (scientific_items es && scientific_told h (decimal_places is)) ≡ row_good row
+  unfolding row_good
   row-scientific k front =
-      let told = scientificTold h (decimalPlaces is) in
-      same_test (scientificItems es && told) (rowGood row)
-      (λ t. scientific-in k front (and_left (scientificItems es) told t) (and_right (scientificItems es) told t))
-      (λ t. let o = scientific-out k (row-facts row (and_left (rowFits row) (halfFits row) t)) (and_right (rowFits row) (halfFits row) t) in
-      and_in (scientificItems es) told o.0 o.1)
+      let told = scientific_told h (decimal_places is) in
+      same_test (scientific_items es && told) (row_good row)
+      (λ t. scientific-in k front (and_left (scientific_items es) told t) (and_right (scientific_items es) told t))
+      (λ t. let o = scientific-out k (row-facts row (and_left (row_fits row) (half_fits row) t)) (and_right (row_fits row) (half_fits row) t) in
+      and_in (scientific_items es) told o.0 o.1)
 
-  row_other : (h.kind ≡ 2 → ⊥) → (h.kind ≡ 5 → ⊥) → Front h → (half : Bool) → (T (otherItems h.kind es) → half ≡ hasHalf is)
-      → (otherTold h half && otherItems h.kind es) ≡ rowGood row
-  unfolding rowGood
+  row_other : (h.kind ≡ 2 → ⊥) → (h.kind ≡ 5 → ⊥) → Front h → (half : Bool) → (T (other_items h.kind es) → half ≡ has_half is)
+      → (other_told h half && other_items h.kind es) ≡ row_good row
+  unfolding row_good
   row_other k n front half same =
-      let told : Bool → Bool = λ b. otherTold h b in
-      same_test (told half && otherItems h.kind es) (rowGood row)
-      (λ t. let i = and_right (told half) (otherItems h.kind es) t in
-      other-in k n front i (carry (ap told (same i)) (and_left (told half) (otherItems h.kind es) t)))
-      (λ t. let r = row-facts row (and_left (rowFits row) (halfFits row) t) in
+      let told : Bool → Bool = λ b. other_told h b in
+      same_test (told half && other_items h.kind es) (row_good row)
+      (λ t. let i = and_right (told half) (other_items h.kind es) t in
+      other-in k n front i (carry (ap told (same i)) (and_left (told half) (other_items h.kind es) t)))
+      (λ t. let r = row-facts row (and_left (row_fits row) (half_fits row) t) in
       let i = few-out k n r in
-      and_in (told half) (otherItems h.kind es) (carry (sym (ap told (same i))) (other-out k n r (and_right (rowFits row) (halfFits row) t))) i)
+      and_in (told half) (other_items h.kind es) (carry (sym (ap told (same i))) (other-out k n r (and_right (row_fits row) (half_fits row) t))) i)
 
-  other-answer : (h.kind ≡ 2 → ⊥) → (h.kind ≡ 5 → ⊥) → Front h → (half : Bool) → (T (otherItems h.kind es) → half ≡ hasHalf is) → otherItems h.kind es ≡ true
-      → otherTold h half ≡ rowGood row
-  other-answer k n front half same held = sym (and-true (otherTold h half)) ∙ rw held at (row_other k n front half same)
+  other-answer : (h.kind ≡ 2 → ⊥) → (h.kind ≡ 5 → ⊥) → Front h → (half : Bool) → (T (other_items h.kind es) → half ≡ has_half is) → other_items h.kind es ≡ true
+      → other_told h half ≡ row_good row
+  other-answer k n front half same held = sym (and-true (other_told h half)) ∙ rw held at (row_other k n front half same)
 
   -- by what the items and the tests of the head answered
-  pub no_number : h.kind ≡ 2 → Front h → (n : NumberRow) → NumberTold es n → n.fits ≡ false → false ≡ rowGood row
-  no_number k front n t e = rw (sym t.fits ∙ e) at (row_number k front)
+  pub no_number_lem : h.kind ≡ 2 → Front h → (n : NumberRow) → NumberTold es n → n.fits ≡ false → false ≡ row_good row
+  no_number_lem k front n t e = rw (sym t.fits ∙ e) at (row_number k front)
 
   pub number-answer : h.kind ≡ 2 → Front h → (n : NumberRow) → NumberTold es n → n.fits ≡ true
-      → (r : Bool) → r ≡ numberTold h n.integers n.decimals n.percents → r ≡ rowGood row
+      → (r : Bool) → r ≡ number_told h n.integers n.decimals n.percents → r ≡ row_good row
   number-answer k front n t e r told =
       told ∙ rw (t.integers e, t.decimals e, t.percents e) (rw (sym t.fits ∙ e) at (row_number k front))
 
-  pub no-dated : h.kind ≡ 4 → (n : DatedRow) → DateTold es n → n.fits ≡ false → false ≡ rowGood row
+  pub no-dated : h.kind ≡ 4 → (n : DatedRow) → DateTold es n → n.fits ≡ false → false ≡ row_good row
   no-dated k n t e = refused (λ r c. carry (ap (λ (x : ℕ). items_of x es) k ∙ sym t.fits ∙ e) (items-out r))
 
   pub dated-answer : h.kind ≡ 4 → Front h → (n : DatedRow) → DateTold es n → n.fits ≡ true
-      → (r : Bool) → r ≡ otherTold h n.halves → r ≡ rowGood row
+      → (r : Bool) → r ≡ other_told h n.halves → r ≡ row_good row
   dated-answer k front n t f r e =
-      let held : otherItems h.kind es ≡ true = unfold otherItems in (ap (λ (x : ℕ). otherItems x es) k ∙ sym t.fits ∙ f) in
+      let held : other_items h.kind es ≡ true = unfold other_items in (ap (λ (x : ℕ). other_items x es) k ∙ sym t.fits ∙ f) in
       e ∙ other-answer (λ x. absurd (omega (arith, k, x))) (λ x. absurd (omega (arith, k, x))) front n.halves (λ i. t.halves f) held
 
   -- no kind has a number above 6
   no_kind : 6 < h.kind → items_of h.kind es ≡ false
   unfolding items_of
-  no_kind m = let other = ne_eqb h.kind (kindWord (itemsKind is)) (λ e. absurd (omega (arith, e, kind-most (itemsKind is)))) in
-      rw other (and-false (soundEntries es))
+  no_kind m = let other = ne_eqb h.kind (kind_word (items_kind is)) (λ e. absurd (omega (arith, e, kind-most (items_kind is)))) in
+      rw other (and-false (sound_entries es))
 
-  cut-answer : 5 ≤ h.kind → Front h → cutTold h es ≡ rowGood row
-  unfolding cutTold otherItems
+  cut-answer : 5 ≤ h.kind → Front h → cut_told h es ≡ row_good row
+  unfolding cut_told other_items
   cut-answer m front =
       by_cases (eqb h.kind 5)
       (λ e. rw e (row-scientific (eqb-true h.kind 5 e) front))
@@ -527,48 +527,48 @@ module _ (h : Head) (es : List Entry) where
       let whole = row_other k n front false (λ i. sym (none-half (few-in k n i).0 d)) in
       rw e
       (by_cases (eqb h.kind 6)
-      (λ six. rw six (and_comm (fractionItems es) (otherTold h false) ∙ (rw six at whole)))
+      (λ six. rw six (and_comm (fraction_items es) (other_told h false) ∙ (rw six at whole)))
       (λ six. rw six
-      (sym (and-false (otherTold h false)) ∙ (rw (six, no_kind (omega (arith, m, n, eqb-false h.kind 6 six))) at whole)))))
+      (sym (and-false (other_told h false)) ∙ (rw (six, no_kind (omega (arith, m, n, eqb-false h.kind 6 six))) at whole)))))
 
   -- a section that is neither cut nor a number's
   module _ (k : h.kind ≡ 2 → ⊥) (m : h.kind < 5) where
     no-five : h.kind ≡ 5 → ⊥
     no-five e = absurd (omega (arith, m, e))
 
-    bare-items : items_of h.kind es ≡ otherItems h.kind es
-    unfolding otherItems
+    bare-items : items_of h.kind es ≡ other_items h.kind es
+    unfolding other_items
     bare-items = rw (ne_eqb h.kind 6 (λ e. absurd (omega (arith, m, e))))
 
-    pub no_bare : (b : Bool) → b ≡ items_of h.kind es → not b ≡ true → false ≡ rowGood row
+    pub no_bare : (b : Bool) → b ≡ items_of h.kind es → not b ≡ true → false ≡ row_good row
     no_bare b e x = refused (λ r c. carry (sym (e ∙ bare-items) ∙ not-true b x) (few-out k no-five r))
 
     -- only a date-time section has a half-day mark
     pub bare-answer : (h.kind ≡ 4 → ⊥) → Front h → (b : Bool) → b ≡ items_of h.kind es → not b ≡ false
-        → (r : Bool) → r ≡ otherTold h false → r ≡ rowGood row
+        → (r : Bool) → r ≡ other_told h false → r ≡ row_good row
     bare-answer d front b e t r told =
         told ∙ other-answer k no-five front false (λ i. sym (none-half (few-in k no-five i).0 d)) (sym (e ∙ bare-items) ∙ not-false b t)
 
 -- ---- the head as it was read
-pub rowed : (h : HeadWords) (head : Head) (es : List Entry) (r : Bool) → headFrom h ≡ head → r ≡ rowGood (rowWith (headFrom h) es) → r ≡ rowGood (rowWith head es)
-rowed h head es r e g = g ∙ ap (λ (x : Head). rowGood (rowWith x es)) e
+pub rowed : (h : HeadWords) (head : Head) (es : List Entry) (r : Bool) → head_from h ≡ head → r ≡ row_good (row_with (head_from h) es) → r ≡ row_good (row_with head es)
+rowed h head es r e g = g ∙ ap (λ (x : Head). row_good (row_with x es)) e
 
-pub cut-rowed : (h : HeadWords) (head : Head) (es : List Entry) (r : Bool) → headFrom h ≡ head → 5 ≤ h.kind → Front (headFrom h)
-    → r ≡ cutTold head es → r ≡ rowGood (rowWith head es)
+pub cut-rowed : (h : HeadWords) (head : Head) (es : List Entry) (r : Bool) → head_from h ≡ head → 5 ≤ h.kind → Front (head_from h)
+    → r ≡ cut_told head es → r ≡ row_good (row_with head es)
 cut-rowed h head es r e m front told =
-    told ∙ ap (λ (x : Head). cutTold x es) (sym e) ∙ rowed h head es _ e (cut-answer (headFrom h) es m front)
+    told ∙ ap (λ (x : Head). cut_told x es) (sym e) ∙ rowed h head es _ e (cut-answer (head_from h) es m front)
 
 -- what was tested of it before the items
-pub front_of : (h : HeadWords) (head : Head) → headFrom h ≡ head → head.items ≤ 254
+pub front_of : (h : HeadWords) (head : Head) → head_from h ≡ head → head.items ≤ 254
     → (h.whole_low < 65536) × (h.whole_high < 65536) × (h.millionths_low < 65536) × (h.millionths_high < 65536)
-    → h.colour ≤ 56 → conditionTold (headFrom h) ≡ true → Front (headFrom h)
+    → h.colour ≤ 56 → condition_told (head_from h) ≡ true → Front (head_from h)
 front_of h head e few words colour condition =
     record { items = omega (arith, ap (λ (x : Head). x.items) e); words = words; colour = colour; condition = condition }
 
 -- what is tested of it behind them, where it is read again
-module _ (h again : HeadWords) (head : Head) (e : headFrom h ≡ head) (f : headFrom again ≡ head) (r : Bool) where
-  pub number-again : (i d p : ℕ) → r ≡ numberTold (headFrom again) i d p → r ≡ numberTold (headFrom h) i d p
-  number-again i d p t = t ∙ ap (λ (x : Head). numberTold x i d p) (f ∙ sym e)
+module _ (h again : HeadWords) (head : Head) (e : head_from h ≡ head) (f : head_from again ≡ head) (r : Bool) where
+  pub number-again : (i d p : ℕ) → r ≡ number_told (head_from again) i d p → r ≡ number_told (head_from h) i d p
+  number-again i d p t = t ∙ ap (λ (x : Head). number_told x i d p) (f ∙ sym e)
 
-  pub other-again : (half : Bool) → r ≡ otherTold (headFrom again) half → r ≡ otherTold (headFrom h) half
-  other-again half t = t ∙ ap (λ (x : Head). otherTold x half) (f ∙ sym e)
+  pub other-again : (half : Bool) → r ≡ other_told (head_from again) half → r ≡ other_told (head_from h) half
+  other-again half t = t ∙ ap (λ (x : Head). other_told x half) (f ∙ sym e)

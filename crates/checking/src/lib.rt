@@ -1,14 +1,14 @@
 // Whether words are a table: every table rule, those for items by a walk for each sort of section.
 ghost use Rattle.std.specs.Prelude.{◌≡◌, false, ◌&&◌, ◌+◌, ◌*◌, ◌≤◌, ◌<◌, eqb, length, get_or, drop};
-ghost use Rattle.formats.specs.Minus.{exceptionA};
+ghost use Rattle.formats.specs.Minus.{exception_a};
 ghost use Rattle.lists.specs.Lists.{every};
-ghost use Rattle.tables.specs.Words.{headAt, entriesIn, headsIn, rowsIn, itemsSaid};
-ghost use Rattle.tables.specs.Standing.{countedOne, countedKinds};
-ghost use Rattle.tables.specs.Decode.{thousandsAt};
-ghost use Rattle.tables.specs.Rules.{shiftTells, passes};
-ghost use Rattle.table_words.specs.Sections.{headFrom};
-ghost use Rattle.fraction_rows.specs.FractionRows.{fractionItems};
-ghost use Rattle.checking.specs.Checking.{agree, sized, Sized, comparedTold, conditionTold, numberTold, scientificTold, otherTold, cutTold, rowWith, rowGood, comparedStands, plainFits, placeFits, kindsIn, placesFit};
+ghost use Rattle.tables.specs.Words.{head_at, entries_in, heads_in, rows_in, items_said};
+ghost use Rattle.tables.specs.Standing.{counted_one, counted_kinds};
+ghost use Rattle.tables.specs.Decode.{thousands_at};
+ghost use Rattle.tables.specs.Rules.{shift_tells, passes};
+ghost use Rattle.table_words.specs.Sections.{head_from};
+ghost use Rattle.fraction_rows.specs.FractionRows.{fraction_items};
+ghost use Rattle.checking.specs.Checking.{agree, sized, Sized, compared_told, condition_told, number_told, scientific_told, other_told, cut_told, row_with, row_good, compared_stands, plain_fits, place_fits, kinds_in, places_fit};
 
 use bare_rows::bare_fits;
 use date_rows::dated_row;
@@ -26,7 +26,7 @@ fn agree(a: bool, b: bool) -> bool
 
 // No number without a comparison, no sign without a number.
 fn compared_fits(operator: u16, negative: u16, whole: u32, millionths: u32) -> bool
-    ensures { result ≡ comparedTold operator negative whole millionths }
+    ensures { result ≡ compared_told operator negative whole millionths }
 {
     let nothing = (whole == 0) & (millionths == 0);
     (operator <= 6)
@@ -39,7 +39,7 @@ fn compared_fits(operator: u16, negative: u16, whole: u32, millionths: u32) -> b
 
 // Most sections have no condition: then the numbers are not made.
 fn condition_fits(h: HeadWords) -> bool
-    ensures { result ≡ conditionTold (headFrom h) }
+    ensures { result ≡ condition_told (head_from h) }
 {
     if h.operator == 0 {
         return h.negative as u32
@@ -59,7 +59,7 @@ fn condition_fits(h: HeadWords) -> bool
 
 // The dividing commas that a shift tells beside the percents.
 fn thousands_at(shift: u16, percents: u16) -> u16
-    ensures { result ≡ thousandsAt shift percents }
+    ensures { result ≡ thousands_at shift percents }
 {
     let most = 15 + 2 * percents as u32;
     let given = shift as u32;
@@ -71,7 +71,7 @@ fn thousands_at(shift: u16, percents: u16) -> u16
 
 // Most number sections have neither percents nor dividing commas.
 fn shift_tells(shift: u16, percents: u16) -> bool
-    ensures { result ≡ shiftTells shift percents }
+    ensures { result ≡ shift_tells shift percents }
 {
     if (shift == 15) & (percents == 0) {
         return true;
@@ -82,7 +82,7 @@ fn shift_tells(shift: u16, percents: u16) -> bool
 
 // The words of a number section's head that its items tell: grouping needs two integer places.
 fn number_fits(h: HeadWords, items: NumberRow) -> bool
-    ensures { result ≡ numberTold (headFrom h) items.integers items.decimals items.percents }
+    ensures { result ≡ number_told (head_from h) items.integers items.decimals items.percents }
 {
     if !shift_tells(h.shift, items.percents) {
         return false;
@@ -94,7 +94,7 @@ fn number_fits(h: HeadWords, items: NumberRow) -> bool
 
 // Those of a scientific section's: nothing is shifted, and no digits are grouped.
 fn scientific_fits(h: HeadWords, items: ScientificRow) -> bool
-    ensures { result ≡ scientificTold (headFrom h) items.decimals }
+    ensures { result ≡ scientific_told (head_from h) items.decimals }
 {
     (h.shift == 0)
         & (h.decimals == items.decimals)
@@ -103,7 +103,7 @@ fn scientific_fits(h: HeadWords, items: ScientificRow) -> bool
 
 // Those of another section's head: nothing is shifted, and no digits are grouped.
 fn other_fits(h: HeadWords, half: bool) -> bool
-    ensures { result ≡ otherTold (headFrom h) half }
+    ensures { result ≡ other_told (head_from h) half }
 {
     (h.shift == 0)
         & (h.decimals == 0)
@@ -114,7 +114,7 @@ fn other_fits(h: HeadWords, half: bool) -> bool
 
 // The items of a fraction, where that is the kind.
 fn is_fraction(items: &[u16], kind: u16) -> bool
-    ensures { result ≡ (eqb kind 6 && fractionItems (entriesIn items.now)) }
+    ensures { result ≡ (eqb kind 6 && fraction_items (entries_in items.now)) }
 {
     if kind == kinds::FRACTION {
         return fraction_row(items);
@@ -125,7 +125,7 @@ fn is_fraction(items: &[u16], kind: u16) -> bool
 // What is left to test of section i, which is scientific, a fraction or of no kind.
 fn cut_fits(table: &[u16], i: usize, items: &[u16]) -> bool
     requires { (i ≤ 3) × (13 + 12 * i ≤ length table.now) }
-    ensures { result ≡ cutTold (headAt (drop (1 + 12 * i) table.now)) (entriesIn items.now) }
+    ensures { result ≡ cut_told (head_at (drop (1 + 12 * i) table.now)) (entries_in items.now) }
 {
     let h = head_at(table, i);
     if h.kind == kinds::SCIENTIFIC {
@@ -144,8 +144,8 @@ fn cut_fits(table: &[u16], i: usize, items: &[u16]) -> bool
 // The rules for section i that do not speak of where it stands. A word that another word or the items tell is in its range
 // where they are. The head is read again behind the items: what is kept over them costs more than a second reading.
 fn row_fits(table: &[u16], i: usize, items: &[u16]) -> bool
-    requires { (i ≤ 3) × (13 + 12 * i ≤ length table.now) × ((headAt (drop (1 + 12 * i) table.now)).items ≤ 254) }
-    ensures { result ≡ rowGood (rowWith (headAt (drop (1 + 12 * i) table.now)) (entriesIn items.now)) }
+    requires { (i ≤ 3) × (13 + 12 * i ≤ length table.now) × ((head_at (drop (1 + 12 * i) table.now)).items ≤ 254) }
+    ensures { result ≡ row_good (row_with (head_at (drop (1 + 12 * i) table.now)) (entries_in items.now)) }
 {
     let h = head_at(table, i);
     if 56 < h.colour {
@@ -180,7 +180,7 @@ fn row_fits(table: &[u16], i: usize, items: &[u16]) -> bool
 // The items of all heads.
 fn items_said(table: &[u16], n: usize) -> usize
     requires { (n ≡ get_or table.now 0 0) × (n ≤ 4) × (1 + 12 * n ≤ length table.now) }
-    ensures { (result ≡ itemsSaid (headsIn table.now)) × (result ≤ 262140) }
+    ensures { (result ≡ items_said (heads_in table.now)) × (result ≤ 262140) }
 {
     let mut sum: usize = 0;
     let mut i: usize = 0;
@@ -217,7 +217,7 @@ fn is_sized(table: &[u16]) -> bool
 // The rules for each section that do not speak of where it stands.
 fn rows_fit(table: &[u16]) -> bool
     requires { Sized table.now }
-    ensures { result ≡ every rowGood (rowsIn table.now) }
+    ensures { result ≡ every row_good (rows_in table.now) }
 {
     let n = section_count(table);
     let mut at = 1 + heads::WORDS * n;
@@ -235,7 +235,7 @@ fn rows_fit(table: &[u16]) -> bool
 }
 
 fn counted_one(i: usize, kind: u16) -> u16
-    ensures { result ≡ countedOne i kind }
+    ensures { result ≡ counted_one i kind }
 {
     if (kind == kinds::TEXT) | (i == 3) {
         return 0;
@@ -246,7 +246,7 @@ fn counted_one(i: usize, kind: u16) -> u16
 // N, by the kind words.
 fn counted(table: &[u16], n: usize) -> u16
     requires { Sized table.now × (n ≡ get_or table.now 0 0) }
-    ensures { result ≡ countedKinds 0 (kindsIn (headsIn table.now)) }
+    ensures { result ≡ counted_kinds 0 (kinds_in (heads_in table.now)) }
 {
     let mut count: u16 = 0;
     let mut i: usize = 0;
@@ -260,14 +260,14 @@ fn counted(table: &[u16], n: usize) -> u16
 
 // Where a section with a condition may stand: first or second; not of text; alone only as General.
 fn compared_stands(n: usize, i: usize, kind: u16) -> bool
-    ensures { result ≡ comparedStands n i kind }
+    ensures { result ≡ compared_stands n i kind }
 {
     !(kind == kinds::TEXT) & ((!(n == 1) | (kind == kinds::GENERAL)) & (i < 2))
 }
 
 // Exception (a) of the added minus, of the second section, which has no condition.
 fn excepted(counted: u16, first_has: bool) -> bool
-    ensures { result ≡ exceptionA counted 1 false first_has }
+    ensures { result ≡ exception_a counted 1 false first_has }
 {
     (counted == 3) | ((counted == 2) & !first_has)
 }
@@ -283,7 +283,7 @@ fn plain_fits(
     flag: bool,
 ) -> bool
     requires { i ≤ 3 }
-    ensures { result ≡ plainFits n counted first_has i kind colour flag }
+    ensures { result ≡ plain_fits n counted first_has i kind colour flag }
 {
     if (kind == kinds::TEXT) & !(i + 1 == n) {
         return false;
@@ -301,7 +301,7 @@ fn plain_fits(
 
 fn place_fits(n: usize, counted: u16, first_has: bool, i: usize, h: HeadWords) -> bool
     requires { i ≤ 3 }
-    ensures { result ≡ placeFits n counted first_has i (headFrom h) }
+    ensures { result ≡ place_fits n counted first_has i (head_from h) }
 {
     let flag = h.flags / flags::NO_MINUS % 2 == 1;
     if h.operator == 0 {
@@ -316,7 +316,7 @@ fn place_fits(n: usize, counted: u16, first_has: bool, i: usize, h: HeadWords) -
 // Where the sections stand, and the flags of exception (a).
 fn places_fit(table: &[u16]) -> bool
     requires { Sized table.now }
-    ensures { result ≡ placesFit (headsIn table.now) }
+    ensures { result ≡ places_fit (heads_in table.now) }
 {
     let n = section_count(table);
     if n == 1 {

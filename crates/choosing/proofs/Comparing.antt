@@ -11,28 +11,28 @@ use Rattle.lists.proofs.Bools.{by_cases}
 use Rattle.figures.specs.Rounding.{Magnitude}
 use Rattle.figures.proofs.Tens.{ten-pos, ten-le, ten-split}
 use Rattle.formats.specs.Tokens.{Comparison, equal, less, greater, at_most, at_least, unequal}
-use Rattle.formats.specs.Choice.{Exact, smaller, lessThan, compared}
+use Rattle.formats.specs.Choice.{Exact, smaller, less_than, compared}
 use Rattle.choosing.specs.declared.Order.{Order}
 use Rattle.choosing.specs.declared.Order.TheVariants.{Less, Equal, Greater}
 use Rattle.choosing.specs.declared.Sought.{Sought}
-use Rattle.choosing.specs.Seeking.{partsOfOne, exactOf}
-use Rattle.choosing.specs.Comparing.{order_of, wholeOrder, partsOrder, fraction, millionthsSize, reversed, signedOrder, isLess, isGreater, isEqual, holdsFor}
+use Rattle.choosing.specs.Seeking.{parts_of_one, exact_of}
+use Rattle.choosing.specs.Comparing.{order_of, whole_order, parts_order, fraction, millionths_size, reversed, signed_order, is_less, is_greater, is_equal, holds_for}
 
 -- how two numbers stand, by what is known of them
-pub whole-less : (a b : ℕ) → a < b → wholeOrder a b ≡ Less
-unfolding wholeOrder
+pub whole-less : (a b : ℕ) → a < b → whole_order a b ≡ Less
+unfolding whole_order
 whole-less a b h = rw (lt-ltb a b h)
 
-pub whole-greater : (a b : ℕ) → b < a → wholeOrder a b ≡ Greater
-unfolding wholeOrder
+pub whole-greater : (a b : ℕ) → b < a → whole_order a b ≡ Greater
+unfolding whole_order
 whole-greater a b h = rw (le-ltb a b (omega arith), lt-ltb b a h)
 
-pub whole-equal : (a b : ℕ) → a ≡ b → wholeOrder a b ≡ Equal
-unfolding wholeOrder
+pub whole-equal : (a b : ℕ) → a ≡ b → whole_order a b ≡ Equal
+unfolding whole_order
 whole-equal a b h = rw (le-ltb a b (omega arith), le-ltb b a (omega arith))
 
 -- numbers that stand to each other as two others do
-whole_same : (a b c d : ℕ) → (a < b → c < d) → (b < a → d < c) → (a ≡ b → c ≡ d) → wholeOrder c d ≡ wholeOrder a b
+whole_same : (a b c d : ℕ) → (a < b → c < d) → (b < a → d < c) → (a ≡ b → c ≡ d) → whole_order c d ≡ whole_order a b
 whole_same a b c d f g h =
     by_cases (ltb a b)
     (λ e. let l : a < b = ltb-true a b e in whole-less c d (f l) ∙ sym (whole-less a b l))
@@ -44,11 +44,11 @@ whole_same a b c d f g h =
     let s : a ≡ b = omega arith in
     whole-equal c d (h s) ∙ sym (whole-equal a b s)))
 
-whole-times : (a b e : ℕ) → 0 < e → wholeOrder (a * e) (b * e) ≡ wholeOrder a b
+whole-times : (a b e : ℕ) → 0 < e → whole_order (a * e) (b * e) ≡ whole_order a b
 whole-times a b e h =
     whole_same a b (a * e) (b * e) (λ l. mul-lt-mul_of_pos_right l h) (λ l. mul-lt-mul_of_pos_right l h) (λ s. ap (λ (x : ℕ). x * e) s)
 
-whole-plus : (k a b : ℕ) → wholeOrder (k + a) (k + b) ≡ wholeOrder a b
+whole-plus : (k a b : ℕ) → whole_order (k + a) (k + b) ≡ whole_order a b
 whole-plus k a b = whole_same a b (k + a) (k + b) (λ l. omega arith) (λ l. omega arith) (λ s. omega arith)
 
 -- q + r/p and w + m/u, where e and f bring the rests to one denominator
@@ -66,7 +66,7 @@ module _ (q r p w m u : ℕ) (rest : r < p) (part : m < u) where
       omega arith
 
   parts-rest : (e f : ℕ) → 0 < e → e * p ≡ f * u → q ≡ w
-      → wholeOrder ((q * p + r) * u) ((w * u + m) * p) ≡ wholeOrder (r * e) (m * f)
+      → whole_order ((q * p + r) * u) ((w * u + m) * p) ≡ whole_order (r * e) (m * f)
   parts-rest e f least common s =
       let a : (q * p + r) * u ≡ q * p * u + r * u = omega arith in
       let b : (q * u + m) * p ≡ q * p * u + m * p = omega arith in
@@ -82,8 +82,8 @@ module _ (q r p w m u : ℕ) (rest : r < p) (part : m < u) where
           x ∙ ap (λ (n : ℕ). m * n) common ∙ y
 
   parts-order : (e f : ℕ) → 0 < e → e * p ≡ f * u
-      → wholeOrder ((q * p + r) * u) ((w * u + m) * p) ≡ partsOrder q (r * e) w (m * f)
-  unfolding partsOrder
+      → whole_order ((q * p + r) * u) ((w * u + m) * p) ≡ parts_order q (r * e) w (m * f)
+  unfolding parts_order
   parts-order e f least common =
       by_cases (ltb q w)
       (λ k. rw k (whole-less ((q * p + r) * u) ((w * u + m) * p) (parts-less (ltb-true q w k))))
@@ -96,14 +96,14 @@ module _ (q r p w m u : ℕ) (rest : r < p) (part : m < u) where
 
 -- a fraction and one with whole part and rest
 pub order-by-parts : (a p w m u e f : ℕ) → 0 < p → m < u → 0 < e → e * p ≡ f * u
-    → order_of (fraction a p) (fraction (w * u + m) u) ≡ partsOrder (a / p) (a % p * e) w (m * f)
-unfolding order_of smaller wholeOrder
+    → order_of (fraction a p) (fraction (w * u + m) u) ≡ parts_order (a / p) (a % p * e) w (m * f)
+unfolding order_of smaller whole_order
 order-by-parts a p w m u e f one part least common =
-    ap (λ (x : ℕ). wholeOrder (x * u) ((w * u + m) * p)) (sym (div-add-mod' a p))
+    ap (λ (x : ℕ). whole_order (x * u) ((w * u + m) * p)) (sym (div-add-mod' a p))
     ∙ parts-order (a / p) (a % p) p w m u (mod-lt a one) part e f least common
 
 -- what the order of two fractions says
-order-less : (x y : Magnitude) → smaller x y ≡ isLess (order_of x y)
+order-less : (x y : Magnitude) → smaller x y ≡ is_less (order_of x y)
 unfolding order_of
 order-less x y = by_cases (smaller x y) (λ h. rw h) (λ h. by_cases (smaller y x) (λ k. rw (h, k)) (λ k. rw (h, k)))
 
@@ -113,7 +113,7 @@ smaller-once x y h =
     let l : x.above * y.below < y.above * x.below = ltb-true (x.above * y.below) (y.above * x.below) h in
     le-ltb (y.above * x.below) (x.above * y.below) (omega arith)
 
-order-greater : (x y : Magnitude) → smaller y x ≡ isGreater (order_of x y)
+order-greater : (x y : Magnitude) → smaller y x ≡ is_greater (order_of x y)
 unfolding order_of
 order-greater x y =
     by_cases (smaller x y) (λ h. rw (h, smaller-once x y h)) (λ h. by_cases (smaller y x) (λ k. rw (h, k)) (λ k. rw (h, k)))
@@ -123,98 +123,98 @@ by_order P l e g Less = l
 by_order P l e g Equal = e
 by_order P l e g Greater = g
 
-reversed-less : (o : Order) → isLess (reversed o) ≡ isGreater o
-reversed-less = by_order (λ (o : Order). isLess (reversed o) ≡ isGreater o) refl refl refl
+reversed-less : (o : Order) → is_less (reversed o) ≡ is_greater o
+reversed-less = by_order (λ (o : Order). is_less (reversed o) ≡ is_greater o) refl refl refl
 
-reversed-greater : (o : Order) → isGreater (reversed o) ≡ isLess o
-reversed-greater = by_order (λ (o : Order). isGreater (reversed o) ≡ isLess o) refl refl refl
+reversed-greater : (o : Order) → is_greater (reversed o) ≡ is_less o
+reversed-greater = by_order (λ (o : Order). is_greater (reversed o) ≡ is_less o) refl refl refl
 
 -- with the signs
-unfoldable pub exactOrder : Exact → Exact → Order
-exactOrder x y = signedOrder x.negative y.negative (order_of x.size y.size)
+unfoldable pub exact_order : Exact → Exact → Order
+exact_order x y = signed_order x.negative y.negative (order_of x.size y.size)
 
 less-signed : (a b : Bool) (x y : Magnitude)
-    → cond a (cond b (smaller y x) true) (cond b false (smaller x y)) ≡ isLess (signedOrder a b (order_of x y))
+    → cond a (cond b (smaller y x) true) (cond b false (smaller x y)) ≡ is_less (signed_order a b (order_of x y))
 less-signed true true x y = order-greater x y ∙ sym (reversed-less (order_of x y))
 less-signed true false x y = refl
 less-signed false true x y = refl
 less-signed false false x y = order-less x y
 
 greater-signed : (a b : Bool) (x y : Magnitude)
-    → cond b (cond a (smaller x y) true) (cond a false (smaller y x)) ≡ isGreater (signedOrder a b (order_of x y))
+    → cond b (cond a (smaller x y) true) (cond a false (smaller y x)) ≡ is_greater (signed_order a b (order_of x y))
 greater-signed true true x y = order-less x y ∙ sym (reversed-greater (order_of x y))
 greater-signed true false x y = refl
 greater-signed false true x y = refl
 greater-signed false false x y = order-greater x y
 
-pub less-order : (x y : Exact) → lessThan x y ≡ isLess (exactOrder x y)
-unfolding lessThan exactOrder
+pub less-order : (x y : Exact) → less_than x y ≡ is_less (exact_order x y)
+unfolding less_than exact_order
 less-order x y = less-signed x.negative y.negative x.size y.size
 
-pub greater-order : (x y : Exact) → lessThan y x ≡ isGreater (exactOrder x y)
-unfolding lessThan exactOrder
+pub greater-order : (x y : Exact) → less_than y x ≡ is_greater (exact_order x y)
+unfolding less_than exact_order
 greater-order x y = greater-signed x.negative y.negative x.size y.size
 
 -- a comparison by the order
-equal-holds : (o : Order) → not (isLess o) && not (isGreater o) ≡ isEqual o
-equal-holds = by_order (λ (o : Order). not (isLess o) && not (isGreater o) ≡ isEqual o) refl refl refl
+equal-holds : (o : Order) → not (is_less o) && not (is_greater o) ≡ is_equal o
+equal-holds = by_order (λ (o : Order). not (is_less o) && not (is_greater o) ≡ is_equal o) refl refl refl
 
-unequal-holds : (o : Order) → isLess o || isGreater o ≡ not (isEqual o)
-unequal-holds = by_order (λ (o : Order). isLess o || isGreater o ≡ not (isEqual o)) refl refl refl
+unequal-holds : (o : Order) → is_less o || is_greater o ≡ not (is_equal o)
+unequal-holds = by_order (λ (o : Order). is_less o || is_greater o ≡ not (is_equal o)) refl refl refl
 
-pub compared-order : (c : Comparison) (x y : Exact) → compared c x y ≡ holdsFor c (exactOrder x y)
-unfolding compared holdsFor
-compared-order equal x y = rw (less-order x y, greater-order x y) (equal-holds (exactOrder x y))
+pub compared-order : (c : Comparison) (x y : Exact) → compared c x y ≡ holds_for c (exact_order x y)
+unfolding compared holds_for
+compared-order equal x y = rw (less-order x y, greater-order x y) (equal-holds (exact_order x y))
 compared-order less x y = less-order x y
 compared-order greater x y = greater-order x y
 compared-order at_most x y = rw (greater-order x y)
 compared-order at_least x y = rw (less-order x y)
-compared-order unequal x y = rw (less-order x y, greater-order x y) (unequal-holds (exactOrder x y))
+compared-order unequal x y = rw (less-order x y, greater-order x y) (unequal-holds (exact_order x y))
 
 -- the magnitude of what is sought, by its kind
 pub instant-size : (v : Sought) (y : Magnitude) (o : Order) → v.instant ≡ true
-    → o ≡ order_of (fraction v.above 86400000) y → o ≡ order_of (exactOf v).size y
-unfolding exactOf partsOfOne
+    → o ≡ order_of (fraction v.above 86400000) y → o ≡ order_of (exact_of v).size y
+unfolding exact_of parts_of_one
 instant-size v y o h e = rw h e
 
 pub number_size : (v : Sought) (y : Magnitude) (o : Order) → v.instant ≡ false
-    → o ≡ order_of (fraction v.above (10 ^ v.scale)) y → o ≡ order_of (exactOf v).size y
-unfolding exactOf partsOfOne
+    → o ≡ order_of (fraction v.above (10 ^ v.scale)) y → o ≡ order_of (exact_of v).size y
+unfolding exact_of parts_of_one
 number_size v y o h e = rw h e
 
 -- a number of few decimals against millionths: its rest becomes millionths
 pub few-decimals : (a k w m p e : ℕ) (o : Order) → k ≤ 6 → m ≤ 999999 → p ≡ 10 ^ k → e ≡ 10 ^ (6 - k)
-    → o ≡ partsOrder (a / p) (a % p * e) w m → o ≡ order_of (fraction a (10 ^ k)) (millionthsSize w m)
-few-decimals a k w m p e o h part isPower isUp same =
+    → o ≡ parts_order (a / p) (a % p * e) w m → o ≡ order_of (fraction a (10 ^ k)) (millionths_size w m)
+few-decimals a k w m p e o h part is_power is_up same =
     same
-    ∙ rw (isPower, isUp) (sym (order-by-parts a (10 ^ k) w m (10 ^ 6) (10 ^ (6 - k)) 1 (ten-pos k) (omega arith) (ten-pos (6 - k))
+    ∙ rw (is_power, is_up) (sym (order-by-parts a (10 ^ k) w m (10 ^ 6) (10 ^ (6 - k)) 1 (ten-pos k) (omega arith) (ten-pos (6 - k))
     (sym (ten-split k 6 h) ∙ sym (one-mul (10 ^ 6))) ∙ rw (mul-one m)))
 
 -- a number of many decimals: the millionths become parts of its denominator
 pub many-decimals : (a k w m p e : ℕ) (o : Order) → 6 < k → m ≤ 999999 → p ≡ 10 ^ k → e ≡ 10 ^ (k - 6)
-    → o ≡ partsOrder (a / p) (a % p) w (m * e) → o ≡ order_of (fraction a (10 ^ k)) (millionthsSize w m)
-many-decimals a k w m p e o h part isPower isUp same =
+    → o ≡ parts_order (a / p) (a % p) w (m * e) → o ≡ order_of (fraction a (10 ^ k)) (millionths_size w m)
+many-decimals a k w m p e o h part is_power is_up same =
     same
-    ∙ rw (isPower, isUp) (sym (order-by-parts a (10 ^ k) w m (10 ^ 6) 1 (10 ^ (k - 6)) (ten-pos k) (omega arith) (omega arith)
+    ∙ rw (is_power, is_up) (sym (order-by-parts a (10 ^ k) w m (10 ^ 6) 1 (10 ^ (k - 6)) (ten-pos k) (omega arith) (omega arith)
     (one-mul (10 ^ k) ∙ ten-split 6 k (omega arith)) ∙ rw (mul-one (a % 10 ^ k))))
 
 pub instant-parts : (a w m : ℕ) (o : Order) → m ≤ 999999
-    → o ≡ partsOrder (a / 86400000) (a % 86400000 * 1000000) w (m * 86400000) → o ≡ order_of (fraction a 86400000) (millionthsSize w m)
+    → o ≡ parts_order (a / 86400000) (a % 86400000 * 1000000) w (m * 86400000) → o ≡ order_of (fraction a 86400000) (millionths_size w m)
 instant-parts a w m o part same =
     same ∙ sym (order-by-parts a 86400000 w m (10 ^ 6) 1000000 86400000 (omega arith) (omega arith) (omega arith) refl)
 
 -- no product passes 64 bits
 pub rest-small : (a k p e : ℕ) → k ≤ 6 → p ≡ 10 ^ k → e ≡ 10 ^ (6 - k) → a % p * e ≤ 10 ^ 12
-rest-small a k p e h isPower isUp =
+rest-small a k p e h is_power is_up =
     let r : a % 10 ^ k < 10 ^ k = mod-lt a (ten-pos k) in
     let s : 10 ^ k ≤ 10 ^ 6 = ten-le k 6 h in
     let t : 10 ^ (6 - k) ≤ 10 ^ 6 = ten-le (6 - k) 6 (omega arith) in
-    rw (isPower, isUp) (mul-le-mul {n₂ = 10 ^ 6} {m₂ = 10 ^ 6} (omega arith) t)
+    rw (is_power, is_up) (mul-le-mul {n₂ = 10 ^ 6} {m₂ = 10 ^ 6} (omega arith) t)
 
 pub millionths-small : (m k e : ℕ) → m ≤ 999999 → k ≤ 15 → e ≡ 10 ^ (k - 6) → m * e ≤ 10 ^ 15
-millionths-small m k e h most isUp =
+millionths-small m k e h most is_up =
     let p : 10 ^ (k - 6) ≤ 10 ^ 9 = ten-le (k - 6) 9 (omega arith) in
-    rw isUp (mul-le-mul {n₂ = 10 ^ 6} {m₂ = 10 ^ 9} (omega arith) p)
+    rw is_up (mul-le-mul {n₂ = 10 ^ 6} {m₂ = 10 ^ 9} (omega arith) p)
 
 pub power-positive : (p k : ℕ) → p ≡ 10 ^ k → 0 < p
-power-positive p k isPower = rw isPower (ten-pos k)
+power-positive p k is_power = rw is_power (ten-pos k)

@@ -3,9 +3,9 @@
 use Rattle.std.specs.Prelude.{ℕ, ◌^◌, Bool, true, false, cond}
 use Rattle.values.specs.declared.Day.{Day}
 use Rattle.values.specs.declared.Millisecond.{Millisecond}
-use Rattle.calendar.specs.Clock.{sinceDayZero}
+use Rattle.calendar.specs.Clock.{since_day_zero}
 use Rattle.formats.specs.Items.{Section}
-use Rattle.formats.specs.Choice.{Exact, Choice, nothing, chosen, TextChoice, itself, textIn, reasonFor, reasonHolds}
+use Rattle.formats.specs.Choice.{Exact, Choice, nothing, chosen, TextChoice, itself, text_in, reason_for, reason_holds}
 use Rattle.choosing.specs.declared.Sought.{Sought}
 use Rattle.choosing.specs.declared.Found.{Found}
 use Rattle.choosing.specs.declared.Found.TheVariants as found
@@ -13,26 +13,26 @@ use Rattle.choosing.specs.declared.TextFound.{TextFound}
 use Rattle.choosing.specs.declared.TextFound.TheVariants as text
 
 -- in how many parts one is divided
-unfoldable pub partsOfOne : Sought → ℕ
-partsOfOne v = cond v.instant 86400000 (10 ^ v.scale)
+unfoldable pub parts_of_one : Sought → ℕ
+parts_of_one v = cond v.instant 86400000 (10 ^ v.scale)
 
 -- the number that is meant
-unfoldable pub exactOf : Sought → Exact
-exactOf v = record { negative = v.negative; size = record { above = v.above; below = partsOfOne v } }
+unfoldable pub exact_of : Sought → Exact
+exact_of v = record { negative = v.negative; size = record { above = v.above; below = parts_of_one v } }
 
 -- what is asked for an instant
-unfoldable pub instantSought : Day → Millisecond → Sought
-instantSought d m = record { negative = false; instant = true; above = sinceDayZero d.0 m.0; scale = 0 }
+unfoldable pub instant_sought : Day → Millisecond → Sought
+instant_sought d m = record { negative = false; instant = true; above = since_day_zero d.0 m.0; scale = 0 }
 
 -- a choice as the function answers it
-unfoldable pub foundOf : Choice → Found
-foundOf nothing = found.Nothing
-foundOf (chosen i s why) = found.At i
+unfoldable pub found_of : Choice → Found
+found_of nothing = found.Nothing
+found_of (chosen i s why) = found.At i
 
-unfoldable pub textFoundOf : TextChoice → TextFound
-textFoundOf itself = text.Itself
-textFoundOf (textIn i s) = text.At i
+unfoldable pub text_found_of : TextChoice → TextFound
+text_found_of itself = text.Itself
+text_found_of (text_in i s) = text.At i
 
 -- whether section i, which counts, takes a value, where N sections count
 unfoldable pub takes : ℕ → ℕ → Section → Exact → Bool
-takes counted i s x = reasonHolds (reasonFor counted i s) s x
+takes counted i s x = reason_holds (reason_for counted i s) s x

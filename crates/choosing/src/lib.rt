@@ -1,12 +1,12 @@
 // The section of a table that a number, an instant or a text goes to, read off the table's words.
 ghost use Rattle.std.specs.Prelude.{◌≡◌, ◌^◌, ◌≤◌, ◌<◌, true, T, get_or};
-ghost use Rattle.choosing.specs.Comparing.{order_of, partsOrder, fraction, millionthsSize, reversed, signedOrder, isLess, isGreater, isEqual, holdsFor};
-ghost use Rattle.table_words.specs.Sections.{sectionIn};
-ghost use Rattle.choosing.specs.Seeking.{exactOf, foundOf, textFoundOf, takes};
+ghost use Rattle.choosing.specs.Comparing.{order_of, parts_order, fraction, millionths_size, reversed, signed_order, is_less, is_greater, is_equal, holds_for};
+ghost use Rattle.table_words.specs.Sections.{section_in};
+ghost use Rattle.choosing.specs.Seeking.{exact_of, found_of, text_found_of, takes};
 ghost use Rattle.formats.specs.Items.{Section};
-ghost use Rattle.formats.specs.Where.{hasCondition};
-ghost use Rattle.formats.specs.Choice.{lessThan, zeroExact, counted, fallback, conditionHolds, reasonHolds, choose, chooseText};
-ghost use Rattle.tables.specs.Decode.{comparisonAt, decode};
+ghost use Rattle.formats.specs.Where.{has_condition};
+ghost use Rattle.formats.specs.Choice.{less_than, zero_exact, counted, fallback, condition_holds, reason_holds, choose, choose_text};
+ghost use Rattle.tables.specs.Decode.{comparison_at, decode};
 ghost use Rattle.tables.specs.Rules.{passes};
 
 use figures::power;
@@ -45,7 +45,7 @@ pub enum TextFound {
 
 // By the whole parts, and by the rests where these are the same.
 fn compare_parts(whole: u64, rest: u64, limit: u64, over: u64) -> Order
-    ensures { result ≡ partsOrder whole rest limit over }
+    ensures { result ≡ parts_order whole rest limit over }
 {
     if whole < limit {
         return Order::Less;
@@ -66,7 +66,7 @@ fn compare_parts(whole: u64, rest: u64, limit: u64, over: u64) -> Order
 // none passes 10^15.
 fn compare_number(above: u64, scale: u32, whole: u32, millionths: u32) -> Order
     requires { (scale ≤ 15) × (millionths ≤ 999999) }
-    ensures { result ≡ order_of (fraction above (10 ^ scale)) (millionthsSize whole millionths) }
+    ensures { result ≡ order_of (fraction above (10 ^ scale)) (millionths_size whole millionths) }
 {
     let p = power(scale);
     let rest = above % p;
@@ -89,7 +89,7 @@ fn compare_number(above: u64, scale: u32, whole: u32, millionths: u32) -> Order
 // above / 86,400,000 against a whole number and millionths.
 fn compare_instant(above: u64, whole: u32, millionths: u32) -> Order
     requires { millionths ≤ 999999 }
-    ensures { result ≡ order_of (fraction above 86400000) (millionthsSize whole millionths) }
+    ensures { result ≡ order_of (fraction above 86400000) (millionths_size whole millionths) }
 {
     let rest = above % 86400000 * 1000000;
     compare_parts(
@@ -103,7 +103,7 @@ fn compare_instant(above: u64, whole: u32, millionths: u32) -> Order
 // The magnitude of what is sought against a whole number and millionths.
 fn compare(v: Sought, whole: u32, millionths: u32) -> Order
     requires { (v.scale ≤ 15) × (millionths ≤ 999999) }
-    ensures { result ≡ order_of (exactOf v).size (millionthsSize whole millionths) }
+    ensures { result ≡ order_of (exact_of v).size (millionths_size whole millionths) }
 {
     if v.instant {
         return compare_instant(v.above, whole, millionths);
@@ -123,7 +123,7 @@ fn reversed(order: Order) -> Order
 
 // How two numbers stand by their signs, and by how their magnitudes stand.
 fn signed(negative: bool, other: bool, order: Order) -> Order
-    ensures { result ≡ signedOrder negative other order }
+    ensures { result ≡ signed_order negative other order }
 {
     if negative {
         if other {
@@ -138,7 +138,7 @@ fn signed(negative: bool, other: bool, order: Order) -> Order
 }
 
 fn is_less(order: Order) -> bool
-    ensures { result ≡ isLess order }
+    ensures { result ≡ is_less order }
 {
     match order {
         Order::Less => true,
@@ -148,7 +148,7 @@ fn is_less(order: Order) -> bool
 }
 
 fn is_greater(order: Order) -> bool
-    ensures { result ≡ isGreater order }
+    ensures { result ≡ is_greater order }
 {
     match order {
         Order::Less => false,
@@ -158,7 +158,7 @@ fn is_greater(order: Order) -> bool
 }
 
 fn is_equal(order: Order) -> bool
-    ensures { result ≡ isEqual order }
+    ensures { result ≡ is_equal order }
 {
     match order {
         Order::Less => false,
@@ -169,7 +169,7 @@ fn is_equal(order: Order) -> bool
 
 // Whether the comparison of an operator word holds: 1 to 6 are `= < > <= >= <>`.
 fn holds(operator: u16, order: Order) -> bool
-    ensures { result ≡ holdsFor (comparisonAt operator) order }
+    ensures { result ≡ holds_for (comparison_at operator) order }
 {
     let less = is_less(order);
     let equal = is_equal(order);
@@ -186,8 +186,8 @@ fn holds(operator: u16, order: Order) -> bool
 
 // Whether the condition of section i, which has one, holds.
 fn condition_holds(table: &[u16], i: usize, v: Sought) -> bool
-    requires { T (passes table.now) × (i < get_or table.now 0 0) × (hasCondition (sectionIn table.now i) ≡ true) × (v.scale ≤ 15) }
-    ensures { result ≡ conditionHolds (sectionIn table.now i).condition (exactOf v) }
+    requires { T (passes table.now) × (i < get_or table.now 0 0) × (has_condition (section_in table.now i) ≡ true) × (v.scale ≤ 15) }
+    ensures { result ≡ condition_holds (section_in table.now i).condition (exact_of v) }
 {
     let h = head_of(table, i);
     let whole = number(h.whole_low, h.whole_high);
@@ -198,7 +198,7 @@ fn condition_holds(table: &[u16], i: usize, v: Sought) -> bool
 
 // Whether the number is above 0.
 fn is_positive(v: Sought) -> bool
-    ensures { result ≡ lessThan zeroExact (exactOf v) }
+    ensures { result ≡ less_than zero_exact (exact_of v) }
 {
     if v.negative {
         return false;
@@ -208,7 +208,7 @@ fn is_positive(v: Sought) -> bool
 
 // Whether section i of N, which has no condition, takes the value.
 fn fallback_holds(counted: u16, i: usize, v: Sought) -> bool
-    ensures { (s : Section) → result ≡ reasonHolds (fallback counted i) s (exactOf v) }
+    ensures { (s : Section) → result ≡ reason_holds (fallback counted i) s (exact_of v) }
 {
     if counted == 1 {
         return true;
@@ -231,7 +231,7 @@ fn fallback_holds(counted: u16, i: usize, v: Sought) -> bool
 // Whether section i takes the value, where N sections count.
 fn takes(table: &[u16], counted: u16, i: usize, v: Sought) -> bool
     requires { T (passes table.now) × (i < get_or table.now 0 0) × (v.scale ≤ 15) }
-    ensures { result ≡ takes counted i (sectionIn table.now i) (exactOf v) }
+    ensures { result ≡ takes counted i (section_in table.now i) (exact_of v) }
 {
     if has_condition(table, i) {
         return condition_holds(table, i, v);
@@ -256,8 +256,8 @@ pub fn counted(table: &[u16], n: usize) -> u16
 
 // The section among several, or of one with a condition. The first N count, and only the first two may have a condition.
 fn choose_among(table: &[u16], v: Sought) -> Found
-    requires { T (passes table.now) × (v.scale ≤ 15) × (get_or table.now 0 0 ≡ 1 → hasCondition (sectionIn table.now 0) ≡ true) }
-    ensures { result ≡ foundOf (choose (decode table.now) (exactOf v)) }
+    requires { T (passes table.now) × (v.scale ≤ 15) × (get_or table.now 0 0 ≡ 1 → has_condition (section_in table.now 0) ≡ true) }
+    ensures { result ≡ found_of (choose (decode table.now) (exact_of v)) }
 {
     let counted = counted(table, section_count(table));
     if takes(table, counted, 0, v) {
@@ -278,7 +278,7 @@ fn choose_among(table: &[u16], v: Sought) -> Found
 // The section of a number or an instant. One that stands alone without a condition, as in most tables, takes every value.
 pub fn choose(table: &[u16], v: Sought) -> Found
     requires { T (passes table.now) × (v.scale ≤ 15) }
-    ensures { result ≡ foundOf (choose (decode table.now) (exactOf v)) }
+    ensures { result ≡ found_of (choose (decode table.now) (exact_of v)) }
 {
     if has_condition(table, 0) {
         return choose_among(table, v);
@@ -292,7 +292,7 @@ pub fn choose(table: &[u16], v: Sought) -> Found
 // The section of a text.
 pub fn choose_text(table: &[u16]) -> TextFound
     requires { T (passes table.now) }
-    ensures { result ≡ textFoundOf (chooseText (decode table.now)) }
+    ensures { result ≡ text_found_of (choose_text (decode table.now)) }
 {
     let n = section_count(table);
     if n == 4 {

@@ -10,12 +10,12 @@ use borrow.Author.Tests.{eqb-true, eq-eqb, ne_eqb}
 use lib.Pow.{pow-add}
 use lib.Dec.{eqb}
 use Rattle.lists.proofs.Bools.{cond-case, true-T}
-use Rattle.figures.specs.Rounding.{Magnitude, nearest, rounded, roundsExactly}
+use Rattle.figures.specs.Rounding.{Magnitude, nearest, rounded, rounds_exactly}
 use Rattle.figures.proofs.Tens.{ten-pos, ten-split}
 use Rattle.figures.proofs.Filling.{lt-or-le}
 use Rattle.figures.proofs.Rounding.{nearest-exact}
 use Rattle.figures.proofs.Exactly.{eqb_same, eqb-scale}
-use Rattle.cuts.specs.Cut.{whole_at, decimalsFrom, decimalsOf, decimalsCut}
+use Rattle.cuts.specs.Cut.{whole_at, decimals_from, decimals_of, decimals_cut}
 use Rattle.cuts.specs.Beyond.{CutOf}
 
 -- n is the least number that passes
@@ -60,14 +60,14 @@ module _ (x : Magnitude) where
       ∙ ap (λ (a : ℕ). a * 10 ^ k) (whole-quotient j h)
       ∙ mul_right_comm q x.below (10 ^ k))
 
-  from-whole : (j more k : ℕ) → k ≡ j + more → whole_at x k ≡ true → whole_at x (decimalsFrom x j more) ≡ true
-  unfolding decimalsFrom
+  from-whole : (j more k : ℕ) → k ≡ j + more → whole_at x k ≡ true → whole_at x (decimals_from x j more) ≡ true
+  unfolding decimals_from
   from-whole j zero k e h = let same : k ≡ j = omega arith in rw (sym same) h
   from-whole j (suc more) k e h =
       cond-case (λ (n : ℕ). whole_at x n ≡ true) (whole_at x j) (λ t. t) (λ t. from-whole (suc j) more k (omega arith) h)
 
-  from-fewer : (j more k : ℕ) → j ≤ k → k < decimalsFrom x j more → whole_at x k ≡ false
-  unfolding decimalsFrom
+  from-fewer : (j more k : ℕ) → j ≤ k → k < decimals_from x j more → whole_at x k ≡ false
+  unfolding decimals_from
   from-fewer j zero k h = λ less. absurd (omega arith)
   from-fewer j (suc more) k h =
       cond-case (λ (n : ℕ). k < n → whole_at x k ≡ false) (whole_at x j) (λ t less. absurd (omega arith))
@@ -77,8 +77,8 @@ module _ (x : Magnitude) where
       (λ (g : k ≤ j). let same : k ≡ j = omega arith in rw same t)
       (lt-or-le j k))
 
-  pub decimals-least : whole_at x 30 ≡ true → Least (whole_at x) (decimalsOf x)
-  unfolding decimalsOf
+  pub decimals-least : whole_at x 30 ≡ true → Least (whole_at x) (decimals_of x)
+  unfolding decimals_of
   decimals-least h = record { passes = from-whole 0 30 30 refl h; fewer = λ k less. from-fewer 0 30 k (omega arith) less }
 
   -- those beyond the kept ones are the least number of further ones that is enough
@@ -113,27 +113,27 @@ module _ (x : Magnitude) where
   last-decimal (suc j) l some = no-end-zero j l.passes (l.fewer j (omega arith))
 
   -- what is promised of them
-  pub cut_of : (kept : ℕ) → whole_at x 30 ≡ true → 0 < x.below → CutOf x kept (decimalsCut x kept)
-  unfolding decimalsCut
+  pub cut_of : (kept : ℕ) → whole_at x 30 ≡ true → 0 < x.below → CutOf x kept (decimals_cut x kept)
+  unfolding decimals_cut
   cut_of kept h pos =
-      let n : ℕ = decimalsOf x in
+      let n : ℕ = decimals_of x in
       let l : Least (whole_at x) n = decimals-least h in
       let c : Least (λ (k : ℕ). whole_at x (kept + k)) (n - kept) = cut-least kept n l in
       record {
         decimals = n;
         figures = x.above * 10 ^ n / x.below;
         written = sym (whole-quotient n l.passes);
-        noEndZero = last-decimal n l;
+        no_end_zero = last-decimal n l;
         beyond = refl;
         enough = true-T c.passes;
         fewer = c.fewer;
       }
 
   -- nothing is cut where the kept ones are enough
-  pub none-cut : (kept : ℕ) → whole_at x 30 ≡ true → whole_at x kept ≡ eqb (decimalsCut x kept) 0
-  unfolding decimalsCut
+  pub none-cut : (kept : ℕ) → whole_at x 30 ≡ true → whole_at x kept ≡ eqb (decimals_cut x kept) 0
+  unfolding decimals_cut
   none-cut kept h =
-      let n : ℕ = decimalsOf x in
+      let n : ℕ = decimals_of x in
       let l : Least (whole_at x) n = decimals-least h in
       ⊎_elim
       (λ (less : kept < n). l.fewer kept less ∙ sym (ne_eqb (n - kept) 0 (λ e. absurd (omega arith))))
@@ -143,8 +143,8 @@ module _ (x : Magnitude) where
       (lt-or-le kept n)
 
   -- the rounded number is the exact one where the kept decimals are enough
-  pub rounds-whole : (d : ℕ) → d ≤ 15 → 0 < x.below → roundsExactly x d ≡ whole_at x d
-  unfolding roundsExactly rounded whole_at
+  pub rounds-whole : (d : ℕ) → d ≤ 15 → 0 < x.below → rounds_exactly x d ≡ whole_at x d
+  unfolding rounds_exactly rounded whole_at
   rounds-whole d most pos =
       let b : ℕ = x.below in
       let a : ℕ = x.above * 10 ^ d in
@@ -163,5 +163,5 @@ module _ (x : Magnitude) where
       ap (λ (y : ℕ). y * b) (ap (λ (y : ℕ). nearest y b) quotient ∙ nearest-exact (a / b) b pos) ∙ sym quotient)
 
   -- for the rounder "exact" and "nothing is cut" are the same
-  pub exact-uncut : (d : ℕ) → d ≤ 15 → 0 < x.below → whole_at x 30 ≡ true → roundsExactly x d ≡ eqb (decimalsCut x d) 0
+  pub exact-uncut : (d : ℕ) → d ≤ 15 → 0 < x.below → whole_at x 30 ≡ true → rounds_exactly x d ≡ eqb (decimals_cut x d) 0
   exact-uncut d most pos h = rounds-whole d most pos ∙ none-cut d h

@@ -10,7 +10,7 @@ pub record CutOf (x : Magnitude) (kept cut : ℕ) : Type 0 where
   pub decimals : ℕ
   pub figures : ℕ
   pub written : figures * x.below ≡ x.above * 10 ^ decimals
-  pub noEndZero : 0 < decimals → 0 < figures % 10
+  pub no_end_zero : 0 < decimals → 0 < figures % 10
   pub beyond : cut ≡ decimals - kept
   pub enough : T (whole_at x (kept + cut))
   pub fewer : (k : ℕ) → k < cut → whole_at x (kept + k) ≡ false

@@ -3,16 +3,16 @@
 ghost use Rattle.std.specs.Prelude.{◌≡◌, ◌^◌, ◌≤◌, ◌<◌, eqb};
 ghost use Rattle.figures.specs.Rounding.{rounded};
 ghost use Rattle.figures.specs.Powers.{powered};
-ghost use Rattle.figures.specs.General.{generalDecimals, generalRounded};
+ghost use Rattle.figures.specs.General.{general_decimals, general_rounded};
 ghost use Rattle.exponents.specs.Exponent.{decimal};
-ghost use Rattle.cuts.specs.Cut.{decimalsCut, generalCut, mantissaCut};
+ghost use Rattle.cuts.specs.Cut.{decimals_cut, general_cut, mantissa_cut};
 
 use values::integers::excess;
 
 // Of m times 10^up / 10^down, where so many decimals are kept: the digits behind them, without the zeros at the end of m.
 pub fn decimals_cut(m: u64, up: u32, down: u32, kept: u32) -> u16
     requires { (up ≤ 100) × (down ≤ 30) × (kept ≤ 15) }
-    ensures { result ≡ decimalsCut (powered m up down) kept }
+    ensures { result ≡ decimals_cut (powered m up down) kept }
 {
     let mut rest = m;
     let mut k = excess(down, up + kept);
@@ -42,7 +42,7 @@ pub fn rounds_to_nought(m: u64, up: u32, down: u32, kept: u32) -> bool
 // To how many decimals General rounds m / 10^scale.
 fn general_kept(m: u64, scale: u32) -> u32
     requires { scale ≤ 15 }
-    ensures { (result ≤ 15) × (result ≡ generalDecimals (powered m 0 scale)) }
+    ensures { (result ≤ 15) × (result ≡ general_decimals (powered m 0 scale)) }
 {
     let n = figures::width_of(m / figures::power(scale));
     excess(10, n)
@@ -51,7 +51,7 @@ fn general_kept(m: u64, scale: u32) -> u32
 // Of m / 10^scale, as General rounds it.
 pub fn general_cut(m: u64, scale: u32) -> u16
     requires { scale ≤ 15 }
-    ensures { result ≡ generalCut (powered m 0 scale) }
+    ensures { result ≡ general_cut (powered m 0 scale) }
 {
     decimals_cut(m, 0, scale, general_kept(m, scale))
 }
@@ -59,7 +59,7 @@ pub fn general_cut(m: u64, scale: u32) -> u16
 // Whether that rounds to nought.
 pub fn general_nought(m: u64, scale: u32) -> bool
     requires { scale ≤ 15 }
-    ensures { result ≡ eqb (generalRounded (powered m 0 scale)) 0 }
+    ensures { result ≡ eqb (general_rounded (powered m 0 scale)) 0 }
 {
     rounds_to_nought(m, 0, scale, general_kept(m, scale))
 }
@@ -67,7 +67,7 @@ pub fn general_nought(m: u64, scale: u32) -> bool
 // Of m / 10^scale in scientific form: of the mantissa before it is rounded, with the exponent that is shown.
 pub fn scientific_cut(m: u64, scale: u32, integers: u32, decimals: u32) -> u16
     requires { (m < 10 ^ 15) × (scale ≤ 15) × (1 ≤ integers) × (integers ≤ 20) × (decimals ≤ 15) }
-    ensures { result ≡ mantissaCut (decimal m scale) integers decimals }
+    ensures { result ≡ mantissa_cut (decimal m scale) integers decimals }
 {
     let x = exponents::round_scientific(m, scale, integers, decimals);
     let e = x.exponent;

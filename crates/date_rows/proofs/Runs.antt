@@ -8,18 +8,18 @@ use lib.Dec.{leb, eqb}
 use borrow.Author.Tests.{eqb-true}
 use Rattle.lists.proofs.Bools.{by_cases}
 use Rattle.formats.specs.Tokens.{Elapsed}
-use Rattle.formats.specs.Items.{Item, month, minute, elapsed, itemNumber, Run, secondRun, otherRun, isHourRun, isSecondRun, run_of, runOfElapsed, nearer, firstRun, meansMinutes, monthOrMinute, settledItem}
-use Rattle.formats.specs.WellFormed.{settledTest, isSettled}
+use Rattle.formats.specs.Items.{Item, month, minute, elapsed, item_number, Run, second_run, other_run, is_hour_run, is_second_run, run_of, run_of_elapsed, nearer, first_run, means_minutes, month_or_minute, settled_item}
+use Rattle.formats.specs.WellFormed.{settled_test, is_settled}
 use Rattle.formats.proofs.Each.{by-item, by-elapsed}
-use Rattle.date_rows.specs.Runs.{run_at, runAfter, earlierAfter, mayStand, answers}
+use Rattle.date_rows.specs.Runs.{run_at, run_after, earlier_after, may_stand, answers}
 
 -- what an m that waits asks of the nearest later run
 waits : ℕ → Run → Bool
-waits n later = cond (eqb n 4) (not (isSecondRun later)) (cond (eqb n 5) (isSecondRun later) true)
+waits n later = cond (eqb n 4) (not (is_second_run later)) (cond (eqb n 5) (is_second_run later) true)
 
 -- every m is what the rule says, the one that waits too
-pub runsFrom : ℕ → List Item → Bool
-runsFrom n is = waits n (firstRun is) && settledTest (run_at n) is
+pub runs_from : ℕ → List Item → Bool
+runs_from n is = waits n (first_run is) && settled_test (run_at n) is
 
 -- a number by the tests that are made of it: 1, 4, 5 or another
 by-waiting : (P : ℕ → Type 0) (n : ℕ) → P 1 → P 4 → P 5 → ((eqb n 1 ≡ false) → (eqb n 4 ≡ false) → (eqb n 5 ≡ false) → P n) → P n
@@ -27,57 +27,57 @@ by-waiting P n a b c d =
     by_cases (eqb n 1) (λ e. rw (eqb-true n 1 e) a)
     (λ e. by_cases (eqb n 4) (λ f. rw (eqb-true n 4 f) b) (λ f. by_cases (eqb n 5) (λ g. rw (eqb-true n 5 g) c) (λ g. d e f g)))
 
-hour-number : (n : ℕ) → isHourRun (run_at n) ≡ eqb n 1
+hour-number : (n : ℕ) → is_hour_run (run_at n) ≡ eqb n 1
 unfolding run_at
 hour-number n =
     by_cases (eqb n 1) (λ e. rw (eqb-true n 1 e))
     (λ e. rw e (by_cases (eqb n 0) (λ f. rw f) (λ f. rw f (by_cases (eqb n 2) (λ g. rw g) (λ g. rw g)))))
 
 -- the run behind an item
-run-behind : (n : ℕ) (i : Item) → run_at (earlierAfter n i) ≡ nearer (run_of i) (run_at n)
-unfolding earlierAfter runAfter run_of runOfElapsed nearer run_at
+run-behind : (n : ℕ) (i : Item) → run_at (earlier_after n i) ≡ nearer (run_of i) (run_at n)
+unfolding earlier_after run_after run_of run_of_elapsed nearer run_at
 run-behind n =
-    by-item (λ i. run_at (earlierAfter n i) ≡ nearer (run_of i) (run_at n)) (λ u. refl) (λ u. refl) (λ u. refl) (λ p. refl) refl refl refl refl (λ a. refl)
+    by-item (λ i. run_at (earlier_after n i) ≡ nearer (run_of i) (run_at n)) (λ u. refl) (λ u. refl) (λ u. refl) (λ p. refl) refl refl refl refl (λ a. refl)
     (λ a. by_cases (leb a 2) (λ e. rw e) (λ e. rw e)) (λ a. refl) (λ a. refl) (λ a. by_cases (eqb n 1) (λ e. rw e) (λ e. rw e)) (λ a. refl) (λ a. refl)
-    (λ x a. by-elapsed (λ (d : Elapsed). run_at (earlierAfter n (elapsed d a)) ≡ nearer (run_of (elapsed d a)) (run_at n)) refl refl refl x) (λ h. refl) (λ m. refl)
+    (λ x a. by-elapsed (λ (d : Elapsed). run_at (earlier_after n (elapsed d a)) ≡ nearer (run_of (elapsed d a)) (run_at n)) refl refl refl x) (λ h. refl) (λ m. refl)
     refl (λ n. refl)
 
 -- an item's test by the rule and what waits before it are told by the tests that are made at once and by what waits behind it
 abbrev Told : ℕ → Run → Item → Type 0
 Told n l i =
-    (eqb (itemNumber (settledItem (run_at n) l i)) (itemNumber i) && waits n (nearer (run_of i) l))
-    ≡ ((mayStand n i && answers n (run_of i)) && waits (earlierAfter n i) l)
+    (eqb (item_number (settled_item (run_at n) l i)) (item_number i) && waits n (nearer (run_of i) l))
+    ≡ ((may_stand n i && answers n (run_of i)) && waits (earlier_after n i) l)
 
 -- a run that is no m
-second-told : (n : ℕ) → waits n secondRun ≡ (answers n secondRun && true)
+second-told : (n : ℕ) → waits n second_run ≡ (answers n second_run && true)
 unfolding waits answers
-second-told n = by-waiting (λ m. waits m secondRun ≡ (answers m secondRun && true)) n refl refl refl (λ a b c. rw (b, c))
+second-told n = by-waiting (λ m. waits m second_run ≡ (answers m second_run && true)) n refl refl refl (λ a b c. rw (b, c))
 
-other-told : (n : ℕ) → waits n otherRun ≡ (answers n otherRun && true)
+other-told : (n : ℕ) → waits n other_run ≡ (answers n other_run && true)
 unfolding waits answers
-other-told n = by-waiting (λ m. waits m otherRun ≡ (answers m otherRun && true)) n refl refl refl (λ a b c. rw (b, c))
+other-told n = by-waiting (λ m. waits m other_run ≡ (answers m other_run && true)) n refl refl refl (λ a b c. rw (b, c))
 
 -- a run of m
 month-told : (n a : ℕ) (l : Run) → Told n l (month a)
-unfolding waits mayStand answers earlierAfter runAfter run_of nearer settledItem monthOrMinute meansMinutes
+unfolding waits may_stand answers earlier_after run_after run_of nearer settled_item month_or_minute means_minutes
 month-told n a l =
     by_cases (leb a 2)
-    (λ k. by_cases (isSecondRun l)
+    (λ k. by_cases (is_second_run l)
     (λ s. by-waiting (λ m. Told m l (month a)) n (simp (hour-number 1, k, s)) (simp (hour-number 4, k, s)) (simp (hour-number 5, k, s)) (λ x y z. simp (hour-number n, k, s, x, y, z)))
     (λ s. by-waiting (λ m. Told m l (month a)) n (simp (hour-number 1, k, s)) (simp (hour-number 4, k, s)) (simp (hour-number 5, k, s)) (λ x y z. simp (hour-number n, k, s, x, y, z))))
     (λ k. by-waiting (λ m. Told m l (month a)) n (simp (k, and-false)) (simp (k, and-false)) (simp (k, and-false)) (λ x y z. simp (k, x, y, z, and-false)))
 
 minute-told : (n a : ℕ) (l : Run) → Told n l (minute a)
-unfolding waits mayStand answers earlierAfter runAfter run_of nearer settledItem monthOrMinute meansMinutes
+unfolding waits may_stand answers earlier_after run_after run_of nearer settled_item month_or_minute means_minutes
 minute-told n a l =
     by_cases (leb a 2)
-    (λ k. by_cases (isSecondRun l)
+    (λ k. by_cases (is_second_run l)
     (λ s. by-waiting (λ m. Told m l (minute a)) n (simp (hour-number 1, k, s)) (simp (hour-number 4, k, s)) (simp (hour-number 5, k, s)) (λ x y z. simp (hour-number n, k, s, x, y, z)))
     (λ s. by-waiting (λ m. Told m l (minute a)) n (simp (hour-number 1, k, s)) (simp (hour-number 4, k, s)) (simp (hour-number 5, k, s)) (λ x y z. simp (hour-number n, k, s, x, y, z))))
     (λ k. by-waiting (λ m. Told m l (minute a)) n (simp (k, and-false)) (simp (k, and-false)) (simp (k, and-false)) (λ x y z. simp (k, x, y, z, and-false)))
 
 told : (n : ℕ) (l : Run) (i : Item) → Told n l i
-unfolding waits mayStand answers earlierAfter runAfter run_of runOfElapsed nearer settledItem
+unfolding waits may_stand answers earlier_after run_after run_of run_of_elapsed nearer settled_item
 told n l =
     by-item (Told n l) (λ u. refl) (λ u. refl) (λ u. refl) (λ p. refl) refl refl refl refl (λ a. other-told n) (λ a. month-told n a l) (λ a. other-told n) (λ a. other-told n)
     (λ a. minute-told n a l) (λ a. second-told n) (λ a. refl)
@@ -96,15 +96,15 @@ in-front o w s x y h = swapped o w s ∙ ap (λ (b : Bool). b && s) h ∙ taken 
     taken true y s = refl
     taken false y s = refl
 
-pub runs-front : (n : ℕ) (i : Item) (is : List Item) → runsFrom n (i ∷ is) ≡ ((mayStand n i && answers n (run_of i)) && runsFrom (earlierAfter n i) is)
-unfolding runsFrom settledTest firstRun
-runs-front n i is = rw (run-behind n i) (in-front (eqb (itemNumber (settledItem (run_at n) (firstRun is) i)) (itemNumber i)) (waits n (nearer (run_of i) (firstRun is))) _
-    (mayStand n i && answers n (run_of i)) (waits (earlierAfter n i) (firstRun is)) (told n (firstRun is) i))
+pub runs-front : (n : ℕ) (i : Item) (is : List Item) → runs_from n (i ∷ is) ≡ ((may_stand n i && answers n (run_of i)) && runs_from (earlier_after n i) is)
+unfolding runs_from settled_test first_run
+runs-front n i is = rw (run-behind n i) (in-front (eqb (item_number (settled_item (run_at n) (first_run is) i)) (item_number i)) (waits n (nearer (run_of i) (first_run is))) _
+    (may_stand n i && answers n (run_of i)) (waits (earlier_after n i) (first_run is)) (told n (first_run is) i))
 
-pub runs-end : (n : ℕ) → runsFrom n [] ≡ not (eqb n 5)
-unfolding runsFrom waits firstRun settledTest
-runs-end n = by-waiting (λ m. runsFrom m [] ≡ not (eqb m 5)) n refl refl refl (λ a b c. rw (b, c))
+pub runs-end : (n : ℕ) → runs_from n [] ≡ not (eqb n 5)
+unfolding runs_from waits first_run settled_test
+runs-end n = by-waiting (λ m. runs_from m [] ≡ not (eqb m 5)) n refl refl refl (λ a b c. rw (b, c))
 
-pub runs-start : (is : List Item) → runsFrom 0 is ≡ isSettled is
-unfolding runsFrom waits isSettled run_at
+pub runs-start : (is : List Item) → runs_from 0 is ≡ is_settled is
+unfolding runs_from waits is_settled run_at
 runs-start is = refl

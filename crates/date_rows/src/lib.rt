@@ -2,9 +2,9 @@
 mod earlier_runs;
 
 ghost use Rattle.std.specs.Prelude.{◌≡◌};
-ghost use Rattle.tables.specs.Words.{entriesIn};
+ghost use Rattle.tables.specs.Words.{entries_in};
 ghost use Rattle.tables.specs.Encode.{entry};
-ghost use Rattle.date_rows.specs.DateRows.{DateTold, noDates, noDate, dateNext, passed, ran, plainTold, elapsedTaken};
+ghost use Rattle.date_rows.specs.DateRows.{DateTold, no_dates, no_date, date_next, passed, ran, plain_told, elapsed_taken};
 
 use earlier_runs::{
     HOUR_RUN, MINUTES_WAIT, NO_RUN, OTHER_BEFORE, OTHER_RUN, SECOND_RUN, SECONDS_BEFORE, answers,
@@ -38,7 +38,7 @@ struct DateWalk {
 }
 
 fn start() -> DateWalk
-    ensures { result ≡ passed noDate 0 0 }
+    ensures { result ≡ passed no_date 0 0 }
 {
     DateWalk {
         fits: true,
@@ -51,7 +51,7 @@ fn start() -> DateWalk
 }
 
 fn refused() -> DateWalk
-    ensures { result ≡ noDate }
+    ensures { result ≡ no_date }
 {
     DateWalk {
         fits: false,
@@ -77,7 +77,7 @@ fn pass(s: DateWalk, earlier: u64, behind: u64) -> DateWalk
 }
 
 fn fill(s: DateWalk, a: u16) -> DateWalk
-    ensures { result ≡ dateNext s (entry 3 a) }
+    ensures { result ≡ date_next s (entry 3 a) }
 {
     if s.fills == 0 {
         return DateWalk {
@@ -107,7 +107,7 @@ fn run(s: DateWalk, sound: bool, run: u64, behind: u64) -> DateWalk
 
 // A month of 1 or 2 does not stand behind hours.
 fn month(s: DateWalk, a: u16) -> DateWalk
-    ensures { result ≡ dateNext s (entry 12 a) }
+    ensures { result ≡ date_next s (entry 12 a) }
 {
     let short = a <= 2;
     if short & (s.earlier == HOUR_RUN) {
@@ -118,7 +118,7 @@ fn month(s: DateWalk, a: u16) -> DateWalk
 }
 
 fn minute(s: DateWalk, a: u16) -> DateWalk
-    ensures { result ≡ dateNext s (entry 15 a) }
+    ensures { result ≡ date_next s (entry 15 a) }
 {
     let waits = minutes_run(s.earlier == HOUR_RUN);
     run(s, is_between(1, 2, a), waits, OTHER_BEFORE)
@@ -126,7 +126,7 @@ fn minute(s: DateWalk, a: u16) -> DateWalk
 
 // A part of a second stands directly behind seconds.
 fn part(s: DateWalk, a: u16) -> DateWalk
-    ensures { result ≡ dateNext s (entry 17 a) }
+    ensures { result ≡ date_next s (entry 17 a) }
 {
     if (s.behind == SECONDS_BEFORE) & is_between(1, 3, a) {
         return pass(s, s.earlier, OTHER_BEFORE);
@@ -136,7 +136,7 @@ fn part(s: DateWalk, a: u16) -> DateWalk
 
 // The one elapsed item.
 fn elapsed(s: DateWalk, tag: u16, a: u16, run: u64, behind: u64) -> DateWalk
-    ensures { result ≡ elapsedTaken s tag a run behind }
+    ensures { result ≡ elapsed_taken s tag a run behind }
 {
     let right = answers(s.earlier, run);
     if (s.elapsed == 0) & (is_between(1, 9, a) & right) {
@@ -153,7 +153,7 @@ fn elapsed(s: DateWalk, tag: u16, a: u16, run: u64, behind: u64) -> DateWalk
 }
 
 fn half_day(s: DateWalk, a: u16) -> DateWalk
-    ensures { result ≡ dateNext s (entry 21 a) }
+    ensures { result ≡ date_next s (entry 21 a) }
 {
     if is_between(1, 2, a) {
         return DateWalk {
@@ -170,7 +170,7 @@ fn half_day(s: DateWalk, a: u16) -> DateWalk
 
 // The walk by one item, with its tag and its argument. An item of another kind, and a tag of none, is refused.
 fn step(s: DateWalk, tag: u16, a: u16) -> DateWalk
-    ensures { result ≡ dateNext s (entry tag a) }
+    ensures { result ≡ date_next s (entry tag a) }
 {
     match tag {
         tags::LITERAL => pass(s, s.earlier, OTHER_BEFORE),
@@ -193,7 +193,7 @@ fn step(s: DateWalk, tag: u16, a: u16) -> DateWalk
 
 // Whether the plain equivalent of the elapsed item is there, whose tag is 4 below.
 fn has_plain(words: &[u16], elapsed: u16) -> bool
-    ensures { result ≡ plainTold (entriesIn words.now) elapsed }
+    ensures { result ≡ plain_told (entries_in words.now) elapsed }
 {
     if elapsed < tags::ELAPSED_HOURS {
         return false;
@@ -202,7 +202,7 @@ fn has_plain(words: &[u16], elapsed: u16) -> bool
 }
 
 fn no_row() -> DatedRow
-    ensures { result ≡ noDates }
+    ensures { result ≡ no_dates }
 {
     DatedRow {
         fits: false,
@@ -213,7 +213,7 @@ fn no_row() -> DatedRow
 // What the items of a date-time section tell, whose words these are. Few sections have an elapsed item: its plain equivalent is
 // looked for then.
 pub fn dated_row(words: &[u16]) -> DatedRow
-    ensures { DateTold (entriesIn words.now) result }
+    ensures { DateTold (entries_in words.now) result }
 {
     let n = words.len() / 2;
     let mut s = start();

@@ -1,7 +1,7 @@
 -- What a date-time section's items are shown from: a moment, and that it is what a context shows.
 -- Assumes nothing.
 use Rattle.std.specs.Prelude.{◌≡◌, Bool, true, List, ℕ}
-use Rattle.formats.specs.Items.{Kind, dateKind}
+use Rattle.formats.specs.Items.{Kind, date_kind}
 use Rattle.formats.specs.Text.{Context}
 use Rattle.date_text.specs.Moment.{ClockIs, DateIs}
 
@@ -12,7 +12,7 @@ pub record MomentIs (m : List ℕ) (dated : Bool) (c : Context) : Type 0 where
 
 -- the property of a date-time section
 abbrev pub DatedIs : List ℕ → Bool → Kind → Context → Type 0
-DatedIs m dated k c = (k ≡ dateKind) × MomentIs m dated c
+DatedIs m dated k c = (k ≡ date_kind) × MomentIs m dated c
 
 -- there is a context that the moment is of
 pub record DatedKnown (m : List ℕ) (dated : Bool) : Type 0 where

@@ -1,20 +1,20 @@
 // The text of a date-time section, shown whole in a room or not at all; section_text says of which room.
 ghost use Rattle.std.specs.Prelude.{◌≡◌, false, ◌%◌, ◌≤◌, ◌<◌, ◌^◌, min, T, leb, eqb, length, get_or};
 ghost use Rattle.lists.specs.Lists.{any};
-ghost use Rattle.formats.specs.Items.{dateKind, kind_of, integerPlaces};
-ghost use Rattle.formats.specs.Reading.{look_of, within, daySpan, itemSpan, finestSpan, instantExactly};
+ghost use Rattle.formats.specs.Items.{date_kind, kind_of, integer_places};
+ghost use Rattle.formats.specs.Reading.{look_of, within, day_span, item_span, finest_span, instant_exactly};
 ghost use Rattle.formats.specs.Text.{Context};
-ghost use Rattle.tables.specs.Words.{entriesIn};
-ghost use Rattle.tables.specs.Encode.{entry, entriesOf};
+ghost use Rattle.tables.specs.Words.{entries_in};
+ghost use Rattle.tables.specs.Encode.{entry, entries_of};
 ghost use Rattle.tables.specs.Decode.{item_at};
-ghost use Rattle.tables.specs.Rules.{entryInRange, passes};
-ghost use Rattle.table_words.specs.Sections.{sectionIn};
+ghost use Rattle.tables.specs.Rules.{entry_in_range, passes};
+ghost use Rattle.table_words.specs.Sections.{section_in};
 ghost use Rattle.writing.specs.Put.{Put};
-ghost use Rattle.date_text.specs.Moment.{datedEntry};
+ghost use Rattle.date_text.specs.Moment.{dated_entry};
 ghost use Rattle.table_words.specs.Runs.{items_in};
 ghost use Rattle.date_sections.specs.Dated.{MomentIs, DatedIs, DatedKnown};
 ghost use Rattle.section_text.specs.Walk.{Ready, ItemPut, OfText};
-ghost use Rattle.section_text.specs.Show.{sectionReading, Shows};
+ghost use Rattle.section_text.specs.Show.{section_reading, Shows};
 
 use answers::{Answer, Shown, done_shown, refused_shown};
 use date_text::Written;
@@ -34,9 +34,9 @@ fn put_dated_item(
     m: &[u64; 7],
     finest: u32,
 ) -> Written
-    requires { (at < 2 ^ 61) × T (entryInRange (entry tag word)) × (tag < 22) × (finest ≤ daySpan) }
-    ensures put { ItemPut (DatedIs m.now (datedEntry (entry tag word))) (entry tag word) room.old at result.end room.new }
-    ensures finest { result.finest ≡ min finest (itemSpan (item_at (entry tag word))) }
+    requires { (at < 2 ^ 61) × T (entry_in_range (entry tag word)) × (tag < 22) × (finest ≤ day_span) }
+    ensures put { ItemPut (DatedIs m.now (dated_entry (entry tag word))) (entry tag word) room.old at result.end room.new }
+    ensures finest { result.finest ≡ min finest (item_span (item_at (entry tag word))) }
 {
     if tags::AT < tag {
         return date_text::put_moment_item(room, at, tag, word, m, finest);
@@ -56,10 +56,10 @@ fn put_dated_item(
 
 // Puts the text of a date-time section's items, whose words these are, and tells the finest unit that they show.
 fn put_dated_items(room: &mut [u16], items: &[u16], m: &[u64; 7]) -> Written
-    requires { (length items.now ≤ 508) × Ready (DatedIs m.now (any datedEntry (entriesIn items.now))) items.now }
+    requires { (length items.now ≤ 508) × Ready (DatedIs m.now (any dated_entry (entries_in items.now))) items.now }
     ensures within { result.end ≤ 260096 }
-    ensures put { OfText (DatedIs m.now (any datedEntry (entriesIn items.now))) items.now (λ us. Put room.old 0 us result.end room.new) }
-    ensures finest { result.finest ≡ finestSpan (items_in items.now) }
+    ensures put { OfText (DatedIs m.now (any dated_entry (entries_in items.now))) items.now (λ us. Put room.old 0 us result.end room.new) }
+    ensures finest { result.finest ≡ finest_span (items_in items.now) }
 {
     let n = items.len() / 2;
     let mut k: usize = 0;
@@ -78,8 +78,8 @@ fn put_dated_items(room: &mut [u16], items: &[u16], m: &[u64; 7]) -> Written
 
 // Whether a room of this size takes a date-time section's text.
 fn takes_dated(size: usize, items: &[u16], m: &[u64; 7]) -> bool
-    requires { (length items.now ≤ 508) × Ready (DatedIs m.now (any datedEntry (entriesIn items.now))) items.now }
-    ensures { OfText (DatedIs m.now (any datedEntry (entriesIn items.now))) items.now (λ us. result ≡ leb (length us) size) }
+    requires { (length items.now ≤ 508) × Ready (DatedIs m.now (any dated_entry (entries_in items.now))) items.now }
+    ensures { OfText (DatedIs m.now (any dated_entry (entries_in items.now))) items.now (λ us. result ≡ leb (length us) size) }
 {
     if is_roomy(size, items.len(), false) {
         return true;
@@ -99,9 +99,9 @@ fn show_dated_items(
     colour: u16,
     section: u16,
 ) -> Shown
-    requires { (length items.now ≤ 508) × Ready (DatedIs m.now (any datedEntry (entriesIn items.now))) items.now }
-    ensures { OfText (DatedIs m.now (any datedEntry (entriesIn items.now))) items.now
-        (λ us. Shows (within size (look_of us colour section (eqb (ms.0 % finestSpan (items_in items.now)) 0)))
+    requires { (length items.now ≤ 508) × Ready (DatedIs m.now (any dated_entry (entries_in items.now))) items.now }
+    ensures { OfText (DatedIs m.now (any dated_entry (entries_in items.now))) items.now
+        (λ us. Shows (within size (look_of us colour section (eqb (ms.0 % finest_span (items_in items.now)) 0)))
         room.old result room.new) }
 {
     if takes_dated(size, items, m) {
@@ -120,11 +120,11 @@ pub fn show_dated_section(
     m: &[u64; 7],
     ms: Millisecond,
 ) -> Shown
-    requires { T (passes table.now) × (i < get_or table.now 0 0) × (kind_of (sectionIn table.now i) ≡ dateKind)
-        × DatedKnown m.now (any datedEntry (entriesOf (sectionIn table.now i).items)) }
-    ensures { (c : Context) → MomentIs m.now (any datedEntry (entriesOf (sectionIn table.now i).items)) c
-        → c.integerPlaces ≡ integerPlaces (sectionIn table.now i).items
-        → Shows (sectionReading size (sectionIn table.now i) i false (instantExactly (sectionIn table.now i) ms) c)
+    requires { T (passes table.now) × (i < get_or table.now 0 0) × (kind_of (section_in table.now i) ≡ date_kind)
+        × DatedKnown m.now (any dated_entry (entries_of (section_in table.now i).items)) }
+    ensures { (c : Context) → MomentIs m.now (any dated_entry (entries_of (section_in table.now i).items)) c
+        → c.integer_places ≡ integer_places (section_in table.now i).items
+        → Shows (section_reading size (section_in table.now i) i false (instant_exactly (section_in table.now i) ms) c)
         room.old result room.new }
 {
     let h = head_of(table, i as usize);

@@ -3,18 +3,18 @@ pub mod numbers;
 
 ghost use Rattle.std.specs.Prelude.{◌≡◌, true, false, cond, ◌||◌, ℕ, ◌-◌, ◌/◌, ◌%◌, ◌≤◌, ◌<◌, ◌^◌, min, get_or};
 ghost use Rattle.figures.specs.Digits.{numeral};
-ghost use Rattle.formats.specs.Text.{Context, yearUnits, hourShown, partUnits, halfUnits, itemUnits};
-ghost use Rattle.formats.specs.Reading.{daySpan, itemSpan};
+ghost use Rattle.formats.specs.Text.{Context, year_units, hour_shown, part_units, half_units, item_units};
+ghost use Rattle.formats.specs.Reading.{day_span, item_span};
 ghost use Rattle.lists.specs.Lists.{any};
 ghost use Rattle.calendar.specs.Clock.{afternoon};
-ghost use Rattle.calendar.specs.Made.{madeDate};
-ghost use Rattle.calendar.specs.Names.{monthName, weekdayName};
-ghost use Rattle.tables.specs.Words.{entriesIn};
+ghost use Rattle.calendar.specs.Made.{made_date};
+ghost use Rattle.calendar.specs.Names.{month_name, weekday_name};
+ghost use Rattle.tables.specs.Words.{entries_in};
 ghost use Rattle.tables.specs.Encode.{entry};
-ghost use Rattle.tables.specs.Decode.{halfAt, item_at};
+ghost use Rattle.tables.specs.Decode.{half_at, item_at};
 ghost use Rattle.writing.specs.Put.{Put};
-ghost use Rattle.date_text.specs.Letters.{packed, lettersUpTo, mostLetters};
-ghost use Rattle.date_text.specs.Moment.{datedEntry, dateShown, momentOf, isNamed, DateIs, ClockIs};
+ghost use Rattle.date_text.specs.Letters.{packed, letters_up_to, most_letters};
+ghost use Rattle.date_text.specs.Moment.{dated_entry, date_shown, moment_of, is_named, DateIs, ClockIs};
 
 use calendar::Date;
 use tables::tags;
@@ -41,7 +41,7 @@ const LETTER_P: u16 = 80;
 
 // Whether an item among these words shows the date: a year, a month or a day.
 pub fn shows_date(items: &[u16]) -> bool
-    ensures { result ≡ any datedEntry (entriesIn items.now) }
+    ensures { result ≡ any dated_entry (entries_in items.now) }
 {
     let n = items.len() / 2;
     let mut k: usize = 0;
@@ -76,7 +76,7 @@ fn part_span(n: u32) -> u32
 
 // The date of a day where it is shown. Where it is not the calendar is not asked.
 fn date_shown(dated: bool, d: Day) -> Date
-    ensures { result ≡ madeDate (dateShown dated d.0) }
+    ensures { result ≡ made_date (date_shown dated d.0) }
 {
     if dated {
         return calendar::date_of(d);
@@ -92,7 +92,7 @@ fn date_shown(dated: bool, d: Day) -> Date
 // What items show of a day and a millisecond of it, at the places that `numbers` names. The date is found here, where `dated` says
 // that one is shown; hours, minutes and counts are found by the item that shows them.
 pub fn moment_of(twelve: bool, dated: bool, d: Day, m: Millisecond) -> [u64; 7]
-    ensures moment { result ≡ momentOf twelve dated d m }
+    ensures moment { result ≡ moment_of twelve dated d m }
     ensures small { m.0 < 4294967296 }
 {
     let date = date_shown(dated, d);
@@ -110,7 +110,7 @@ pub fn moment_of(twelve: bool, dated: bool, d: Day, m: Millisecond) -> [u64; 7]
 // The letters of a month's name in one number; none from month 13 on, and month 0 is named as month 1.
 // (No table: a constant array would be built anew at each reading.)
 fn month_letters(month: u64) -> u64
-    ensures { result ≡ packed (monthName month) }
+    ensures { result ≡ packed (month_name month) }
 {
     match month {
         0 => 536106923438282,
@@ -132,7 +132,7 @@ fn month_letters(month: u64) -> u64
 
 // The letters of a weekday's name in one number, Saturday being 0; none from weekday 7 on.
 fn weekday_letters(weekday: u64) -> u64
-    ensures { result ≡ packed (weekdayName weekday) }
+    ensures { result ≡ packed (weekday_name weekday) }
 {
     match weekday {
         0 => 68547021698314451,
@@ -149,7 +149,7 @@ fn weekday_letters(weekday: u64) -> u64
 // Puts the first letters of a name, at most `most` of them.
 fn put_letters(room: &mut [u16], at: usize, most: u32, letters: u64) -> usize
     requires { at < 2 ^ 62 }
-    ensures { Put room.old at (lettersUpTo most letters) result room.new }
+    ensures { Put room.old at (letters_up_to most letters) result room.new }
 {
     let mut left = most;
     let mut rest = letters;
@@ -167,7 +167,7 @@ fn put_letters(room: &mut [u16], at: usize, most: u32, letters: u64) -> usize
 
 // How many letters of a name a run of n shows, from three on: three, all of them, or the first.
 fn most_letters(n: u32) -> u32
-    ensures { result ≡ mostLetters n }
+    ensures { result ≡ most_letters n }
 {
     if n == 3 {
         return 3;
@@ -181,7 +181,7 @@ fn most_letters(n: u32) -> u32
 // Whether an item is a month or a day that is shown by its name. (By returns: with `|`
 // and `&` a text takes some twenty instructions more.)
 fn is_named(tag: u16, n: u32) -> bool
-    ensures { result ≡ isNamed tag n }
+    ensures { result ≡ is_named tag n }
 {
     if tag == tags::MONTH {
         return 2 < n;
@@ -195,9 +195,9 @@ fn is_named(tag: u16, n: u32) -> bool
 // Puts the name of a moment's month, or of its day. (Two calls of `put_letters`: one
 // behind a choice of the name takes some ten instructions more.)
 fn put_name(room: &mut [u16], at: usize, tag: u16, n: u32, m: &[u64; 7]) -> usize
-    requires { (at < 2 ^ 62) × (isNamed tag n ≡ true) }
-    ensures { (c : Context) (q : ℕ) → (datedEntry (entry tag n) ≡ true → DateIs m.now c)
-        → Put room.old at (itemUnits c q (item_at (entry tag n))) result room.new }
+    requires { (at < 2 ^ 62) × (is_named tag n ≡ true) }
+    ensures { (c : Context) (q : ℕ) → (dated_entry (entry tag n) ≡ true → DateIs m.now c)
+        → Put room.old at (item_units c q (item_at (entry tag n))) result room.new }
 {
     let most = most_letters(n);
     if tag == tags::MONTH {
@@ -220,7 +220,7 @@ fn cut_part(n: u32, thousandth: u64) -> u64
 
 fn put_part(room: &mut [u16], at: usize, n: u32, thousandth: u64) -> usize
     requires { at < 2 ^ 62 }
-    ensures { Put room.old at (partUnits n thousandth) result room.new }
+    ensures { Put room.old at (part_units n thousandth) result room.new }
 {
     let a = put_unit(room, at, units::POINT);
     writing::put_digits(room, a, n, cut_part(n, thousandth))
@@ -241,7 +241,7 @@ const SHORT_MARK: u32 = 1;
 
 fn put_half(room: &mut [u16], at: usize, mark: u32, hour: u64) -> usize
     requires { at < 2 ^ 62 }
-    ensures { Put room.old at (halfUnits (halfAt mark) (afternoon hour)) result room.new }
+    ensures { Put room.old at (half_units (half_at mark) (afternoon hour)) result room.new }
 {
     let a = put_unit(room, at, half_letter(hour));
     if mark == SHORT_MARK {
@@ -251,7 +251,7 @@ fn put_half(room: &mut [u16], at: usize, mark: u32, hour: u64) -> usize
 }
 
 fn hour_shown(twelve: bool, hour: u64) -> u64
-    ensures { result ≡ hourShown twelve hour }
+    ensures { result ≡ hour_shown twelve hour }
 {
     if twelve {
         return calendar::twelve_hour(hour);
@@ -261,7 +261,7 @@ fn hour_shown(twelve: bool, hour: u64) -> u64
 
 // Two digits of the year, or four.
 fn year_numeral(n: u32, year: u64, finest: u32) -> Numeral
-    ensures { (yearUnits n year ≡ numeral result.0 result.1) × (result.2 ≡ finest) }
+    ensures { (year_units n year ≡ numeral result.0 result.1) × (result.2 ≡ finest) }
 {
     if n == 2 {
         return Numeral(2, year % 100, finest);
@@ -278,10 +278,10 @@ fn millisecond_of(m: &[u64; 7]) -> u32
 
 // The numeral of an item that is shown by digits.
 fn numeral_of(tag: u16, n: u32, m: &[u64; 7], finest: u32) -> Numeral
-    requires { (10 < tag) × (¬ (tag ≡ 17)) × (tag < 21) × (isNamed tag n ≡ false) × (finest ≤ daySpan) }
-    ensures units { (c : Context) (q : ℕ) → ClockIs m.now c → (datedEntry (entry tag n) ≡ true → DateIs m.now c)
-        → itemUnits c q (item_at (entry tag n)) ≡ numeral result.0 result.1 }
-    ensures finest { result.2 ≡ min finest (itemSpan (item_at (entry tag n))) }
+    requires { (10 < tag) × (¬ (tag ≡ 17)) × (tag < 21) × (is_named tag n ≡ false) × (finest ≤ day_span) }
+    ensures units { (c : Context) (q : ℕ) → ClockIs m.now c → (dated_entry (entry tag n) ≡ true → DateIs m.now c)
+        → item_units c q (item_at (entry tag n)) ≡ numeral result.0 result.1 }
+    ensures finest { result.2 ≡ min finest (item_span (item_at (entry tag n))) }
 {
     match tag {
         tags::YEAR => year_numeral(n, m[numbers::YEAR], finest),
@@ -322,10 +322,10 @@ pub fn put_moment_item(
     m: &[u64; 7],
     finest: u32,
 ) -> Written
-    requires { (at < 2 ^ 62) × (10 < tag) × (tag < 22) × (finest ≤ daySpan) }
-    ensures put { (c : Context) (q : ℕ) → ClockIs m.now c → (datedEntry (entry tag argument) ≡ true → DateIs m.now c)
-        → Put room.old at (itemUnits c q (item_at (entry tag argument))) result.end room.new }
-    ensures finest { result.finest ≡ min finest (itemSpan (item_at (entry tag argument))) }
+    requires { (at < 2 ^ 62) × (10 < tag) × (tag < 22) × (finest ≤ day_span) }
+    ensures put { (c : Context) (q : ℕ) → ClockIs m.now c → (dated_entry (entry tag argument) ≡ true → DateIs m.now c)
+        → Put room.old at (item_units c q (item_at (entry tag argument))) result.end room.new }
+    ensures finest { result.finest ≡ min finest (item_span (item_at (entry tag argument))) }
 {
     let n = argument as u32;
     if tag == tags::PART {

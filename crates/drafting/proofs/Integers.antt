@@ -14,20 +14,20 @@ use Rattle.lists.proofs.Bools.{by_cases, and_parts}
 use Rattle.lists.proofs.Counts.{count-least}
 use Rattle.formats.specs.Tokens.{Token, literal, run, Letter}
 use Rattle.formats.specs.Items as item
-use Rattle.formats.specs.Items.{Item, fromCut, integerPlaces, placesBehind, sameKind, dateKind}
-use Rattle.formats.specs.Kinds.{form_of, integerPlaceTokens, isPlace, isPoint, isExponent, is_over, is_zero, isSecondsToken, leading_zeros, partZeros, Piece, whole, secondPart, piecesFrom, runItem, tokenItems, pieceItems, plainItems, dateItems, bodyKind, bodyItems}
+use Rattle.formats.specs.Items.{Item, from_cut, integer_places, places_behind, same_kind, date_kind}
+use Rattle.formats.specs.Kinds.{form_of, integer_place_tokens, is_place, is_point, is_exponent, is_over, is_zero, is_seconds_token, leading_zeros, part_zeros, Piece, whole, second_part, pieces_from, run_item, token_items, piece_items, plain_items, date_items, body_kind, body_items}
 use Rattle.formats.proofs.Each.{by_token, by-letter}
 use Rattle.formats.proofs.FormedGrouping.{token-places, places-plain}
-use Rattle.marks.specs.Marks.{markRows, markToken, conditionOf, tokenAt, tokensIn}
+use Rattle.marks.specs.Marks.{mark_rows, mark_token, condition_of, token_at, tokens_in}
 use Rattle.marks.proofs.ByForm.{by_form, zero-form, place-form, point-form, seconds-form, over-form}
 use Rattle.marks.proofs.Words.{tokens-first, tokens-end, tokens-length}
 use Rattle.bodies.specs.declared.facts.Facts.{Facts}
-use Rattle.bodies.specs.Forms.{cutForm}
-use Rattle.bodies.specs.Bodies.{hasPlace, exponentPlaceTokens, facts_of}
+use Rattle.bodies.specs.Forms.{cut_form}
+use Rattle.bodies.specs.Bodies.{has_place, exponent_place_tokens, facts_of}
 use Rattle.bodies.proofs.Bodies.{integers-few}
 use Rattle.drafting.specs.declared.places.Parting.{Parting}
 use Rattle.drafting.specs.declared.places.Places.{Places}
-use Rattle.drafting.specs.Places.{places_of, isCut, isAside, datePlaces, datePlacesOf, hasPlaceForm, part_form}
+use Rattle.drafting.specs.Places.{places_of, is_cut, is_aside, date_places, date_places_of, has_place_form, part_form}
 
 -- one more where it is a place
 abbrev more : Bool → ℕ → ℕ
@@ -37,100 +37,100 @@ more b n = cond b (suc n) n
 -- all places, and those behind the first E or solidus
 abbrev Counted : Token → List Item → List Item → Type 0
 Counted t js is =
-    (count item.isPlace js ≡ more (hasPlace t) (count item.isPlace is)) × (placesBehind js ≡ cond (isCut t) (count item.isPlace is) (placesBehind is))
+    (count item.is_place js ≡ more (has_place t) (count item.is_place is)) × (places_behind js ≡ cond (is_cut t) (count item.is_place is) (places_behind is))
 
 literals-counted : (us : List ℕ) (is : List Item) → Counted (literal us) (map item.literal us ++ is) is
-unfolding placesBehind fromCut count
+unfolding places_behind from_cut count
 literals-counted [] is = (refl, refl)
 literals-counted (u ∷ us) is = literals-counted us is
 
-token-counted : (date : Bool) (t : Token) (is : List Item) → Counted t (tokenItems date t ++ is) is
-unfolding placesBehind fromCut count tokenItems runItem
+token-counted : (date : Bool) (t : Token) (is : List Item) → Counted t (token_items date t ++ is) is
+unfolding places_behind from_cut count token_items run_item
 token-counted date t is =
-    by_token (λ (t : Token). Counted t (tokenItems date t ++ is) is)
+    by_token (λ (t : Token). Counted t (token_items date t ++ is) is)
     (λ us. literals-counted us is) (λ u. (refl, refl)) (λ u. (refl, refl)) (λ u. (refl, refl)) (λ p. (refl, refl))
     (by_cases date (λ e. rw e (refl, refl)) (λ e. rw e (refl, refl))) (by_cases date (λ e. rw e (refl, refl)) (λ e. rw e (refl, refl)))
     (refl, refl) (refl, refl) (refl, refl) (refl, refl) (λ h. (refl, refl))
-    (λ l n. by-letter (λ (k : Letter). Counted (run k n) (runItem k n ∷ is) is) (refl, refl) (refl, refl) (refl, refl) (refl, refl) (refl, refl) l)
+    (λ l n. by-letter (λ (k : Letter). Counted (run k n) (run_item k n ∷ is) is) (refl, refl) (refl, refl) (refl, refl) (refl, refl) (refl, refl) l)
     (λ e n. (refl, refl)) (λ n. (refl, refl)) (λ w. (refl, refl)) (λ m. (refl, refl)) (λ p. (refl, refl)) (λ p n. (refl, refl)) t
 
 -- the places of items on one side of the first cut, where one stands before them or not
-abbrev sidePlaces : Bool → Bool → List Item → ℕ
-sidePlaces false false is = integerPlaces is
-sidePlaces false true is = 0
-sidePlaces true false is = placesBehind is
-sidePlaces true true is = count item.isPlace is
+abbrev side_places : Bool → Bool → List Item → ℕ
+side_places false false is = integer_places is
+side_places false true is = 0
+side_places true false is = places_behind is
+side_places true true is = count item.is_place is
 
 token-side : (b met : Bool) (t : Token) (is : List Item)
-    → sidePlaces b met (tokenItems true t ++ is) ≡ more (hasPlace t && isAside b met) (sidePlaces b (met || isCut t) is)
+    → side_places b met (token_items true t ++ is) ≡ more (has_place t && is_aside b met) (side_places b (met || is_cut t) is)
 token-side false false t is =
     token-places true t is
-    ∙ by_cases (isPoint t) (λ p. rw (eqb-true (form_of t) 7 p))
-    (λ p. by_cases (isExponent t) (λ e. rw (eqb-true (form_of t) 25 e))
-    (λ e. by_cases (isPlace t) (λ q. rw (eqb-true (form_of t) 4 q)) (λ q. by_cases (is_over t) (λ o. rw (p, e, q, o)) (λ o. rw (p, e, q, o)))))
-token-side false true t is = by_cases (hasPlace t) (λ q. rw q) (λ q. rw q)
-token-side true false t is = (token-counted true t is).1 ∙ by_cases (hasPlace t) (λ q. rw q (by_cases (isCut t) (λ e. rw e) (λ e. rw e))) (λ q. rw q (by_cases (isCut t) (λ e. rw e) (λ e. rw e)))
-token-side true true t is = (token-counted true t is).0 ∙ by_cases (hasPlace t) (λ q. rw q) (λ q. rw q)
+    ∙ by_cases (is_point t) (λ p. rw (eqb-true (form_of t) 7 p))
+    (λ p. by_cases (is_exponent t) (λ e. rw (eqb-true (form_of t) 25 e))
+    (λ e. by_cases (is_place t) (λ q. rw (eqb-true (form_of t) 4 q)) (λ q. by_cases (is_over t) (λ o. rw (p, e, q, o)) (λ o. rw (p, e, q, o)))))
+token-side false true t is = by_cases (has_place t) (λ q. rw q) (λ q. rw q)
+token-side true false t is = (token-counted true t is).1 ∙ by_cases (has_place t) (λ q. rw q (by_cases (is_cut t) (λ e. rw e) (λ e. rw e))) (λ q. rw q (by_cases (is_cut t) (λ e. rw e) (λ e. rw e)))
+token-side true true t is = (token-counted true t is).0 ∙ by_cases (has_place t) (λ q. rw q) (λ q. rw q)
 
-part-side : (b met : Bool) (n : ℕ) (is : List Item) → sidePlaces b met (item.part n ∷ is) ≡ sidePlaces b met is
-unfolding integerPlaces placesBehind fromCut count
+part-side : (b met : Bool) (n : ℕ) (is : List Item) → side_places b met (item.part n ∷ is) ≡ side_places b met is
+unfolding integer_places places_behind from_cut count
 part-side false false n is = refl
 part-side false true n is = refl
 part-side true false n is = refl
 part-side true true n is = refl
 
-none-side : (b met : Bool) → sidePlaces b met [] ≡ 0
-unfolding integerPlaces placesBehind fromCut count
+none-side : (b met : Bool) → side_places b met [] ≡ 0
+unfolding integer_places places_behind from_cut count
 none-side false false = refl
 none-side false true = refl
 none-side true false = refl
 none-side true true = refl
 
-zeros-room : (b : Bool) (t : Token) (ts : List Token) → partZeros b t ts ≡ min (cond (b && isPoint t) 3 0) (leading_zeros ts)
-unfolding partZeros
-zeros-room b t ts = by_cases (b && isPoint t) (λ e. rw e) (λ e. rw (e, zero-min (leading_zeros ts)))
+zeros-room : (b : Bool) (t : Token) (ts : List Token) → part_zeros b t ts ≡ min (cond (b && is_point t) 3 0) (leading_zeros ts)
+unfolding part_zeros
+zeros-room b t ts = by_cases (b && is_point t) (λ e. rw e) (λ e. rw (e, zero-min (leading_zeros ts)))
 
 -- a token that starts a part is a point
-part-point : (b : Bool) (t : Token) (ts : List Token) → eqb (partZeros b t ts) 0 ≡ false → isPoint t ≡ true
-unfolding partZeros
-part-point b t ts e = by_cases (b && isPoint t)
-    (λ p. (and_parts b (isPoint t) p).1)
+part-point : (b : Bool) (t : Token) (ts : List Token) → eqb (part_zeros b t ts) 0 ≡ false → is_point t ≡ true
+unfolding part_zeros
+part-point b t ts e = by_cases (b && is_point t)
+    (λ p. (and_parts b (is_point t) p).1)
     (λ p. absurd (true≢false (rw p at e)))
 
 -- ---- the places of a date
 module _ (b : Bool) where
   -- the items of a token that belongs to no part, with those that follow
-  piece-places : (met : Bool) (n : ℕ) (t : Token) (ps : List Piece) → (eqb n 0 ≡ false → isPoint t ≡ true)
-      → sidePlaces b met (dateItems (cond (eqb n 0) (whole t ∷ ps) (secondPart n ∷ ps)))
-      ≡ more (hasPlace t && isAside b met) (sidePlaces b (met || isCut t) (dateItems ps))
-  unfolding dateItems pieceItems
+  piece-places : (met : Bool) (n : ℕ) (t : Token) (ps : List Piece) → (eqb n 0 ≡ false → is_point t ≡ true)
+      → side_places b met (date_items (cond (eqb n 0) (whole t ∷ ps) (second_part n ∷ ps)))
+      ≡ more (has_place t && is_aside b met) (side_places b (met || is_cut t) (date_items ps))
+  unfolding date_items piece_items
   piece-places met n t ps h = by_cases (eqb n 0)
-      (λ e. rw e (token-side b met t (dateItems ps)))
-      (λ e. rw (e, eqb-true (form_of t) 7 (h e)) (part-side b met n (dateItems ps) ∙ by_cases met (λ m. rw m) (λ m. rw m)))
+      (λ e. rw e (token-side b met t (date_items ps)))
+      (λ e. rw (e, eqb-true (form_of t) 7 (h e)) (part-side b met n (date_items ps) ∙ by_cases met (λ m. rw m) (λ m. rw m)))
 
   -- a token that belongs to no part
   module _ (met behind : Bool) (t : Token) (ts : List Token) where
     abbrev room : ℕ
-    room = cond (behind && isPoint t) 3 0
+    room = cond (behind && is_point t) 3 0
 
     abbrev later : ℕ
-    later = datePlaces b (met || isCut t) (isSecondsToken t) room ts
+    later = date_places b (met || is_cut t) (is_seconds_token t) room ts
 
-    other-date : sidePlaces b (met || isCut t) (dateItems (piecesFrom (isSecondsToken t) (min room (leading_zeros ts)) ts)) ≡ later
-        → sidePlaces b met (dateItems (piecesFrom behind 0 (t ∷ ts))) ≡ more (hasPlace t && isAside b met) later
-    unfolding piecesFrom
+    other-date : side_places b (met || is_cut t) (date_items (pieces_from (is_seconds_token t) (min room (leading_zeros ts)) ts)) ≡ later
+        → side_places b met (date_items (pieces_from behind 0 (t ∷ ts))) ≡ more (has_place t && is_aside b met) later
+    unfolding pieces_from
     other-date ih =
-        piece-places met (partZeros behind t ts) t (piecesFrom (isSecondsToken t) (partZeros behind t ts) ts) (part-point behind t ts)
-        ∙ ap (λ (n : ℕ). more (hasPlace t && isAside b met) n) (rw (zeros-room behind t ts) ih)
+        piece-places met (part_zeros behind t ts) t (pieces_from (is_seconds_token t) (part_zeros behind t ts) ts) (part-point behind t ts)
+        ∙ ap (λ (n : ℕ). more (has_place t && is_aside b met) n) (rw (zeros-room behind t ts) ih)
 
   -- the zeros that belong to a part are passed over
   places-skip : (met behind : Bool) (left : ℕ) (ts : List Token) (skip : ℕ) → skip ≡ min left (leading_zeros ts)
-      → sidePlaces b met (dateItems (piecesFrom behind skip ts)) ≡ datePlaces b met behind left ts
-  unfolding datePlaces piecesFrom dateItems leading_zeros
+      → side_places b met (date_items (pieces_from behind skip ts)) ≡ date_places b met behind left ts
+  unfolding date_places pieces_from date_items leading_zeros
   places-skip met behind left [] skip e = none-side b met
   places-skip met behind left (t ∷ ts) zero e =
       let n = room met behind t ts in
-      let all = other-date met behind t ts (places-skip (met || isCut t) (isSecondsToken t) n ts (min n (leading_zeros ts)) refl) in
+      let all = other-date met behind t ts (places-skip (met || is_cut t) (is_seconds_token t) n ts (min n (leading_zeros ts)) refl) in
       by_cases (is_zero t)
       (λ z. let y = rw z at e in let none : ltb 0 left ≡ false = le-ltb 0 left (omega arith) in rw (z, none) all)
       (λ z. rw z all)
@@ -142,72 +142,72 @@ module _ (b : Bool) where
       (λ z. let y = rw z at e in absurd (omega arith))
 
 -- ---- the places of a body
-count-plain : (ts : List Token) → count item.isPlace (plainItems ts) ≡ count hasPlace ts
-unfolding plainItems count
+count-plain : (ts : List Token) → count item.is_place (plain_items ts) ≡ count has_place ts
+unfolding plain_items count
 count-plain [] = refl
-count-plain (t ∷ ts) = (token-counted false t (plainItems ts)).0 ∙ rw (count-plain ts)
+count-plain (t ∷ ts) = (token-counted false t (plain_items ts)).0 ∙ rw (count-plain ts)
 
-exponents-plain : (ts : List Token) → placesBehind (plainItems ts) ≡ exponentPlaceTokens ts
-unfolding plainItems placesBehind fromCut exponentPlaceTokens count
+exponents-plain : (ts : List Token) → places_behind (plain_items ts) ≡ exponent_place_tokens ts
+unfolding plain_items places_behind from_cut exponent_place_tokens count
 exponents-plain [] = refl
-exponents-plain (t ∷ ts) = (token-counted false t (plainItems ts)).1 ∙ rw (exponents-plain ts, count-plain ts)
+exponents-plain (t ∷ ts) = (token-counted false t (plain_items ts)).1 ∙ rw (exponents-plain ts, count-plain ts)
 
 -- the places of a body by whether it is a date
 abbrev places_by : Bool → List Token → Places
-places_by date ts = cond date (datePlacesOf ts) (record { integers = integerPlaceTokens ts; exponents = exponentPlaceTokens ts })
+places_by date ts = cond date (date_places_of ts) (record { integers = integer_place_tokens ts; exponents = exponent_place_tokens ts })
 
-places-body : (ts : List Token) → places_of (bodyItems ts) ≡ places_by (sameKind (bodyKind ts) dateKind) ts
-unfolding bodyItems
+places-body : (ts : List Token) → places_of (body_items ts) ≡ places_by (same_kind (body_kind ts) date_kind) ts
+unfolding body_items
 places-body ts =
     let start = sym (zero-min (leading_zeros ts)) in
-    by_cases (sameKind (bodyKind ts) dateKind)
+    by_cases (same_kind (body_kind ts) date_kind)
     (λ e. rw (e, places-skip false false false 0 ts 0 start, places-skip true false false 0 ts 0 start))
     (λ e. rw (e, places-plain ts, exponents-plain ts))
 
-exponents-few : (ts : List Token) → exponentPlaceTokens ts ≤ length ts
-unfolding exponentPlaceTokens
+exponents-few : (ts : List Token) → exponent_place_tokens ts ≤ length ts
+unfolding exponent_place_tokens
 exponents-few [] = omega arith
 exponents-few (t ∷ ts) =
     let r = exponents-few ts in
-    let s = count-least hasPlace ts in
-    by_cases (isCut t) (λ e. rw e (omega arith)) (λ e. rw e (omega arith))
+    let s = count-least has_place ts in
+    by_cases (is_cut t) (λ e. rw e (omega arith)) (λ e. rw e (omega arith))
 
-module _ (f : Facts) (ws : List ℕ) (same : (code : List ℕ) → f ≡ facts_of (tokensIn code ws)) where
-  date-told : (code : List ℕ) → sameKind (bodyKind (tokensIn code ws)) dateKind ≡ f.date
+module _ (f : Facts) (ws : List ℕ) (same : (code : List ℕ) → f ≡ facts_of (tokens_in code ws)) where
+  date-told : (code : List ℕ) → same_kind (body_kind (tokens_in code ws)) date_kind ≡ f.date
   unfolding facts_of
   date-told code = sym (ap (λ (g : Facts). g.date) (same code))
 
-  places-told : (code : List ℕ) → integerPlaceTokens (tokensIn code ws) ≡ f.places
+  places-told : (code : List ℕ) → integer_place_tokens (tokens_in code ws) ≡ f.places
   unfolding facts_of
   places-told code = sym (ap (λ (g : Facts). g.places) (same code))
 
-  exponents-told : (code : List ℕ) → exponentPlaceTokens (tokensIn code ws) ≡ f.exponents
+  exponents-told : (code : List ℕ) → exponent_place_tokens (tokens_in code ws) ≡ f.exponents
   unfolding facts_of
   exponents-told code = sym (ap (λ (g : Facts). g.exponents) (same code))
 
-  pub places-dated : (r : Places) → ((code : List ℕ) → r ≡ datePlacesOf (tokensIn code ws)) → f.date ≡ true
-      → (code : List ℕ) → r ≡ places_of (bodyItems (tokensIn code ws))
-  places-dated r h e code = h code ∙ sym (places-body (tokensIn code ws) ∙ rw (date-told code, e))
+  pub places-dated : (r : Places) → ((code : List ℕ) → r ≡ date_places_of (tokens_in code ws)) → f.date ≡ true
+      → (code : List ℕ) → r ≡ places_of (body_items (tokens_in code ws))
+  places-dated r h e code = h code ∙ sym (places-body (tokens_in code ws) ∙ rw (date-told code, e))
 
-  pub places-other : f.date ≡ false → (code : List ℕ) → record { integers = f.places; exponents = f.exponents } ≡ places_of (bodyItems (tokensIn code ws))
-  places-other e code = rw (← (places-told code), ← (exponents-told code)) (sym (places-body (tokensIn code ws) ∙ rw (date-told code, e)))
+  pub places-other : f.date ≡ false → (code : List ℕ) → record { integers = f.places; exponents = f.exponents } ≡ places_of (body_items (tokens_in code ws))
+  places-other e code = rw (← (places-told code), ← (exponents-told code)) (sym (places-body (tokens_in code ws) ∙ rw (date-told code, e)))
 
   pub places-bound : length ws ≤ 762 → (f.places ≤ 254) × (f.exponents ≤ 254)
   places-bound h =
       let n = tokens-length [] ws in
-      (omega (arith, places-told [], integers-few (tokensIn [] ws)), omega (arith, exponents-told [], exponents-few (tokensIn [] ws)))
+      (omega (arith, places-told [], integers-few (tokens_in [] ws)), omega (arith, exponents-told [], exponents-few (tokens_in [] ws)))
 
 -- ---- the pass over a date's tokens
 -- the places met on one side of the cut
 abbrev aside : Bool → Parting → ℕ
-aside behindCut s = cond behindCut s.exponents s.integers
+aside behind_cut s = cond behind_cut s.exponents s.integers
 
 -- those, and those of the tokens behind
 abbrev total : Bool → Parting → List Token → ℕ
-total behindCut s ts = aside behindCut s + datePlaces behindCut s.cut s.behind s.left ts
+total behind_cut s ts = aside behind_cut s + date_places behind_cut s.cut s.behind s.left ts
 
 step-more : (b met p : Bool) (i e n : ℕ)
-    → cond b e i + cond (p && isAside b met) (suc n) n ≡ cond b (cond (p && met) (e + 1) e) (cond (p && not met) (i + 1) i) + n
+    → cond b e i + cond (p && is_aside b met) (suc n) n ≡ cond b (cond (p && met) (e + 1) e) (cond (p && not met) (i + 1) i) + n
 step-more true true true i e n = omega arith
 step-more true false true i e n = omega arith
 step-more false true true i e n = omega arith
@@ -215,18 +215,18 @@ step-more false false true i e n = omega arith
 step-more true met false i e n = refl
 step-more false met false i e n = refl
 
-cut-form : (f a : ℕ) (us : List ℕ) → isCut (markToken f a us) ≡ cutForm f
-unfolding markRows conditionOf
-cut-form f a us = by_form isCut cutForm a us refl (λ n h. sym (simp (le-leb 25 n (omega arith), lt-leb n 32 (omega arith)))) f
+cut-form : (f a : ℕ) (us : List ℕ) → is_cut (mark_token f a us) ≡ cut_form f
+unfolding mark_rows condition_of
+cut-form f a us = by_form is_cut cut_form a us refl (λ n h. sym (simp (le-leb 25 n (omega arith), lt-leb n 32 (omega arith)))) f
 
-part_step : (b : Bool) (s : Parting) (f a : ℕ) (us : List ℕ) (ts : List Token) → total b s (markToken f a us ∷ ts) ≡ total b (part_form s f) ts
-unfolding datePlaces
+part_step : (b : Bool) (s : Parting) (f a : ℕ) (us : List ℕ) (ts : List Token) → total b s (mark_token f a us ∷ ts) ≡ total b (part_form s f) ts
+unfolding date_places
 part_step b s f a us ts =
     rw (zero-form f a us, seconds-form f a us, point-form f a us, cut-form f a us, place-form f a us, over-form f a us)
-    (by_cases (eqb f 4 && ltb 0 s.left) (λ e. rw e) (λ e. rw e (step-more b s.cut (hasPlaceForm f) s.integers s.exponents _)))
+    (by_cases (eqb f 4 && ltb 0 s.left) (λ e. rw e) (λ e. rw e (step-more b s.cut (has_place_form f) s.integers s.exponents _)))
 
 part-few : (s : Parting) (f : ℕ) → (part_form s f).integers + (part_form s f).exponents ≤ s.integers + s.exponents + 1
-part-few s f = by_cases (eqb f 4 && ltb 0 s.left) (λ e. rw e (omega arith)) (λ e. rw e (go (hasPlaceForm f) s.cut s.integers s.exponents))
+part-few s f = by_cases (eqb f 4 && ltb 0 s.left) (λ e. rw e (omega arith)) (λ e. rw e (go (has_place_form f) s.cut s.integers s.exponents))
   where
     go : (p met : Bool) (i e : ℕ) → cond (p && not met) (i + 1) i + cond (p && met) (e + 1) e ≤ i + e + 1
     go true true i e = omega arith
@@ -238,30 +238,30 @@ pub record Passing (ws : List ℕ) (i : ℕ) (s : Parting) : Type 0 where
   pub small : length ws ≤ 762
   pub inside : i ≤ length ws
   pub few : 3 * (s.integers + s.exponents) ≤ i
-  pub same : (b : Bool) (code : List ℕ) → datePlaces b false false 0 (tokensIn code ws) ≡ total b s (tokensIn code (drop i ws))
+  pub same : (b : Bool) (code : List ℕ) → date_places b false false 0 (tokens_in code ws) ≡ total b s (tokens_in code (drop i ws))
 
-abbrev pub nothingParted : Parting
-nothingParted = record { behind = false; left = 0; cut = false; integers = 0; exponents = 0 }
+abbrev pub nothing_parted : Parting
+nothing_parted = record { behind = false; left = 0; cut = false; integers = 0; exponents = 0 }
 
-pub passing-start : (ws : List ℕ) → length ws ≤ 762 → Passing ws 0 nothingParted
+pub passing-start : (ws : List ℕ) → length ws ≤ 762 → Passing ws 0 nothing_parted
 passing-start ws h =
     record { small = h; inside = omega arith; few = omega arith; same = λ b code. by_cases b (λ e. rw e (omega arith)) (λ e. rw e (omega arith)) }
 
 module _ {ws : List ℕ} {i : ℕ} {s : Parting} (inv : Passing ws i s) where
-  passing-side : length ws ≤ i + 2 → (b : Bool) (code : List ℕ) → aside b s ≡ datePlaces b false false 0 (tokensIn code ws)
-  unfolding datePlaces
+  passing-side : length ws ≤ i + 2 → (b : Bool) (code : List ℕ) → aside b s ≡ date_places b false false 0 (tokens_in code ws)
+  unfolding date_places
   passing-side h b code = let e = rw (tokens-end code ws i h) at (inv.same b code) in omega arith
 
   pub passing-end : length ws ≤ i + 2
-      → ((code : List ℕ) → record { integers = s.integers; exponents = s.exponents } ≡ datePlacesOf (tokensIn code ws)) × (s.integers ≤ 254) × (s.exponents ≤ 254)
+      → ((code : List ℕ) → record { integers = s.integers; exponents = s.exponents } ≡ date_places_of (tokens_in code ws)) × (s.integers ≤ 254) × (s.exponents ≤ 254)
   passing-end h =
       ((λ code. rw (passing-side h false code, passing-side h true code)), omega (arith, inv.few, inv.inside, inv.small), omega (arith, inv.few, inv.inside, inv.small))
 
   pub passing_step : i + 2 < length ws → (r : Parting) → r ≡ part_form s (get_or ws i 0) → Passing ws (i + 3) r
-  unfolding tokenAt
+  unfolding token_at
   passing_step h r e = rw e (record {
     small = inv.small;
     inside = omega arith;
     few = omega (arith, part-few s (get_or ws i 0), inv.few);
-    same = λ b code. inv.same b code ∙ rw (tokens-first code ws i h) (part_step b s (get_or ws i 0) (get_or ws (i + 1) 0) (drop (suc (get_or ws (i + 2) 0)) code) (tokensIn code (drop (i + 3) ws)));
+    same = λ b code. inv.same b code ∙ rw (tokens-first code ws i h) (part_step b s (get_or ws i 0) (get_or ws (i + 1) 0) (drop (suc (get_or ws (i + 2) 0)) code) (tokens_in code (drop (i + 3) ws)));
   })

@@ -15,80 +15,80 @@ use mir.Val.{bool_byte}
 use Rattle.lists.specs.Lists.{every}
 use Rattle.lists.proofs.Bools.{by_cases}
 use Rattle.formats.specs.Tokens.{Token}
-use Rattle.formats.specs.Kinds.{Parts, isSemicolon, parts_of, sectionOf}
-use Rattle.formats.specs.Accept.{split, parts_in, sectionsIn}
-use Rattle.formats.specs.WellFormed.{itemsInAll}
+use Rattle.formats.specs.Kinds.{Parts, is_semicolon, parts_of, section_of}
+use Rattle.formats.specs.Accept.{split, parts_in, sections_in}
+use Rattle.formats.specs.WellFormed.{items_in_all}
 use Rattle.formats.proofs.ItemCount.{items-most}
-use Rattle.marks.specs.Marks.{tokensIn}
+use Rattle.marks.specs.Marks.{tokens_in}
 use Rattle.writing.specs.Put.{Put, Rest}
 use Rattle.writing.proofs.Laws.{rest-start, rest_put, rest-done}
-use Rattle.bodies.specs.Sections.{firstSection, laterSections, SectionEnd}
+use Rattle.bodies.specs.Sections.{first_section, later_sections, SectionEnd}
 use Rattle.marks.proofs.Words.{tokens-drop, tokens-take, tokens-length}
 use Rattle.bodies.proofs.Endings.{split-first}
 use Rattle.drafting.specs.declared.Draft.{Draft}
-use Rattle.drafting.specs.Draft.{bodyWords, draftWords, draftFrom, draftIn, DraftOf, Drafted, itemWords, AllDrafted, Lexes, isRead}
+use Rattle.drafting.specs.Draft.{body_words, draft_words, draft_from, draft_in, DraftOf, Drafted, item_words, AllDrafted, Lexes, is_read}
 use Rattle.drafting.proofs.Settled.{put-read}
 use Rattle.drafting.proofs.Drafting.{body-length}
 use Rattle.drafting.proofs.Digits.{read_all, read-drop, read_take}
 
-abbrev noParts : Parts
-noParts = record { colour = 0; condition = none; body = [] }
+abbrev no_parts : Parts
+no_parts = record { colour = 0; condition = none; body = [] }
 
 -- ---- the draft of a section in its room
 byte-back : (b : Bool) → eqb (bool_byte b) 1 ≡ b
 byte-back true = refl
 byte-back false = refl
 
-draft-back : (d : Draft) → draftFrom d.colour (λ j. get_or (draftWords d) j 0) ≡ d
+draft-back : (d : Draft) → draft_from d.colour (λ j. get_or (draft_words d) j 0) ≡ d
 draft-back d =
     rw (byte-back d.negative, byte-back d.within, byte-back d.body.fits, byte-back d.body.within, byte-back d.body.grouped, byte-back d.body.twelve)
 
-draft-same : {c e : ℕ} {w v : ℕ → ℕ} → c ≡ e → ((j : ℕ) → j < 16 → w j ≡ v j) → draftFrom c w ≡ draftFrom e v
+draft-same : {c e : ℕ} {w v : ℕ → ℕ} → c ≡ e → ((j : ℕ) → j < 16 → w j ≡ v j) → draft_from c w ≡ draft_from e v
 draft-same {w = w} {v = v} x h =
     let first : (j : ℕ) → cond (ltb j 16) (w j) 0 ≡ cond (ltb j 16) (v j) 0 = λ j. by_cases (ltb j 16) (λ t. rw t (h j (ltb-true j 16 t))) (λ t. rw t) in
-    λ t. draftFrom (x t) (λ j. first j t)
+    λ t. draft_from (x t) (λ j. first j t)
 
 kept-below : (vs ws : List ℕ) (at j : ℕ) → j < at → get_or (sets ws at vs) j 0 ≡ get_or ws j 0
 kept-below [] ws at j h = refl
 kept-below (v ∷ vs) ws at j h = kept-below vs (set ws at v) (suc at) j (omega arith) ∙ get_or-set_other ws at j v 0 (λ e. omega arith)
 
-module _ (ws : List ℕ) {out : List ℕ} (k : ℕ) (d : Draft) (e : out ≡ sets ws (16 * k) (draftWords d)) where
-  put : Put ws (16 * k) (draftWords d) (16 * k + 16) out
+module _ (ws : List ℕ) {out : List ℕ} (k : ℕ) (d : Draft) (e : out ≡ sets ws (16 * k) (draft_words d)) where
+  put : Put ws (16 * k) (draft_words d) (16 * k + 16) out
   put = record { next = refl; room = e }
 
-  draft-kept : (i : ℕ) → i < k → draftIn out i ≡ draftIn ws i
+  draft-kept : (i : ℕ) → i < k → draft_in out i ≡ draft_in ws i
   draft-kept i h =
-      let kept : (j : ℕ) → j < 16 * k → get_or out j 0 ≡ get_or ws j 0 = λ j l. rw e (kept-below (draftWords d) ws (16 * k) j l) in
+      let kept : (j : ℕ) → j < 16 * k → get_or out j 0 ≡ get_or ws j 0 = λ j l. rw e (kept-below (draft_words d) ws (16 * k) j l) in
       draft-same (kept (16 * i) (omega arith)) (λ j l. kept (j + 16 * i) (omega arith))
 
-  draft-put : 16 * k + 16 ≤ length ws → draftIn out k ≡ d
+  draft-put : 16 * k + 16 ≤ length ws → draft_in out k ≡ d
   draft-put h =
-      let read : (j at : ℕ) → at ≡ 16 * k + j → j < 16 → get_or out at 0 ≡ get_or (draftWords d) j 0
+      let read : (j at : ℕ) → at ≡ 16 * k + j → j < 16 → get_or out at 0 ≡ get_or (draft_words d) j 0
       = λ j at a l. rw (a, ← get_or-drop (16 * k) out j 0, ← get_or-take (16 * k + 16 - 16 * k) (drop (16 * k) out) j 0 (omega arith), put-read put h) in
       draft-same (read 0 (16 * k) (omega arith) (omega arith)) (λ j l. read j (j + 16 * k) (omega arith) l) ∙ draft-back d
 
 -- ---- the items' words of all sections
-items-length : (ps : List Parts) → length (itemWords ps) ≡ 2 * itemsInAll (map sectionOf ps)
-unfolding itemWords itemsInAll sectionOf
+items-length : (ps : List Parts) → length (item_words ps) ≡ 2 * items_in_all (map section_of ps)
+unfolding item_words items_in_all section_of
 items-length [] = refl
-items-length (p ∷ ps) = omega (arith, length-append (bodyWords p.body) (itemWords ps), body-length p.body, items-length ps)
+items-length (p ∷ ps) = omega (arith, length-append (body_words p.body) (item_words ps), body-length p.body, items-length ps)
 
-pub items-room : (code : List ℕ) → length code ≤ 254 → length (itemWords (parts_in code)) ≤ 508
-unfolding sectionsIn
+pub items-room : (code : List ℕ) → length code ≤ 254 → length (item_words (parts_in code)) ≤ 508
+unfolding sections_in
 items-room code h = omega (arith, items-length (parts_in code), items-most code)
 
 -- ---- one section more
 drafted-next : (ps : List Parts) (ws out : List ℕ) (i k at : ℕ) → at ≡ i + k → Drafted (take k ps) i ws → k < length ps
-    → ((j : ℕ) → j < at → draftIn out j ≡ draftIn ws j) → DraftOf (get_or ps k noParts) (draftIn out at) → Drafted (take (suc k) ps) i out
+    → ((j : ℕ) → j < at → draft_in out j ≡ draft_in ws j) → DraftOf (get_or ps k no_parts) (draft_in out at) → Drafted (take (suc k) ps) i out
 drafted-next [] ws out i k at e a h kept x = absurd (omega arith)
-drafted-next (p ∷ ps) ws out i zero at e a h kept x = (subst (λ (j : ℕ). DraftOf p (draftIn out j)) (omega arith) x, tt)
+drafted-next (p ∷ ps) ws out i zero at e a h kept x = (subst (λ (j : ℕ). DraftOf p (draft_in out j)) (omega arith) x, tt)
 drafted-next (p ∷ ps) ws out i (suc k) at e a h kept x =
     (subst (DraftOf p) (sym (kept i (omega arith))) a.0, drafted-next ps ws out (i + 1) k at (omega arith) a.1 (omega arith) kept x)
 
-first-few : (ts : List Token) → firstSection ts ≤ length ts
-unfolding firstSection
+first-few : (ts : List Token) → first_section ts ≤ length ts
+unfolding first_section
 first-few [] = omega arith
-first-few (t ∷ ts) = let r = first-few ts in by_cases (isSemicolon t) (λ e. rw e (omega arith)) (λ e. rw e (omega arith))
+first-few (t ∷ ts) = let r = first-few ts in by_cases (is_semicolon t) (λ e. rw e (omega arith)) (λ e. rw e (omega arith))
 
 -- what the loop keeps: the sections from k on are those of the tokens from `first` on
 pub record Sectioning (code words old room ds : List ℕ) (n first at k : ℕ) : Type 0 where
@@ -100,9 +100,9 @@ pub record Sectioning (code words old room ds : List ℕ) (n first at k : ℕ) :
   pub size : length ds ≡ 64
   pub wide : length old ≡ 508
   pub place : k < n → 3 * first ≤ length words
-  pub tokens : k < n → drop k (parts_in code) ≡ map parts_of (split (tokensIn code (drop (3 * first) words)))
+  pub tokens : k < n → drop k (parts_in code) ≡ map parts_of (split (tokens_in code (drop (3 * first) words)))
   pub done : Drafted (take k (parts_in code)) 0 ds
-  pub rest : Rest old 0 (itemWords (parts_in code)) room at (itemWords (drop k (parts_in code)))
+  pub rest : Rest old 0 (item_words (parts_in code)) room at (item_words (drop k (parts_in code)))
 
 pub sectioning-start : (code words old ds : List ℕ) (n : ℕ)
     → (length code ≤ 254) × (length words ≤ 762) × (length old ≡ 508) × (length ds ≡ 64) × (n ≤ 4) → Lexes code words n → Sectioning code words old old ds n 0 0 0
@@ -126,7 +126,7 @@ module _ {code words old room ds : List ℕ} {n first at k : ℕ} (inv : Section
   ps = parts_in code
 
   abbrev ts : List Token
-  ts = tokensIn code (drop (3 * first) words)
+  ts = tokens_in code (drop (3 * first) words)
 
   -- the part of the buffer that is left
   abbrev left : List ℕ
@@ -138,49 +138,49 @@ module _ {code words old room ds : List ℕ} {n first at k : ℕ} (inv : Section
   more : k < length ps
   more = omega (arith, inv.lexes.many)
 
-  parted : drop k ps ≡ parts_of (take (firstSection ts) ts) ∷ map parts_of (laterSections (firstSection ts) ts)
+  parted : drop k ps ≡ parts_of (take (first_section ts) ts) ∷ map parts_of (later_sections (first_section ts) ts)
   parted = inv.tokens less ∙ rw (split-first ts)
 
-  here : get_or ps k noParts ≡ parts_of (take (firstSection ts) ts)
-  here = ap (λ (qs : List Parts). get_or qs 0 noParts) (sym (drop-cons ps k noParts more) ∙ parted)
+  here : get_or ps k no_parts ≡ parts_of (take (first_section ts) ts)
+  here = ap (λ (qs : List Parts). get_or qs 0 no_parts) (sym (drop-cons ps k no_parts more) ∙ parted)
 
-  later : drop (suc k) ps ≡ map parts_of (laterSections (firstSection ts) ts)
-  later = ap (λ (qs : List Parts). drop 1 qs) (sym (drop-cons ps k noParts more) ∙ parted)
+  later : drop (suc k) ps ≡ map parts_of (later_sections (first_section ts) ts)
+  later = ap (λ (qs : List Parts). drop 1 qs) (sym (drop-cons ps k no_parts more) ∙ parted)
 
-  words-here : itemWords (drop k ps) ≡ bodyWords (parts_of (take (firstSection ts) ts)).body ++ itemWords (drop (suc k) ps)
-  unfolding itemWords
-  words-here = rw (drop-cons ps k noParts more, here)
+  words-here : item_words (drop k ps) ≡ body_words (parts_of (take (first_section ts) ts)).body ++ item_words (drop (suc k) ps)
+  unfolding item_words
+  words-here = rw (drop-cons ps k no_parts more, here)
 
-  next-room : at + length (bodyWords (parts_of (take (firstSection ts) ts)).body) ≤ length room
+  next-room : at + length (body_words (parts_of (take (first_section ts) ts)).body) ≤ length room
   next-room =
-      let l = ap length words-here ∙ length-append (bodyWords (parts_of (take (firstSection ts) ts)).body) (itemWords (drop (suc k) ps)) in
+      let l = ap length words-here ∙ length-append (body_words (parts_of (take (first_section ts) ts)).body) (item_words (drop (suc k) ps)) in
       omega (arith, l, inv.rest.ends, inv.rest.size, inv.wide, items-room code inv.small)
 
   -- the sections behind it, where there are any
-  later-split : suc k < n → eqb (firstSection ts) (length ts) ≡ false
-  unfolding laterSections
-  later-split l = by_cases (eqb (firstSection ts) (length ts))
+  later-split : suc k < n → eqb (first_section ts) (length ts) ≡ false
+  unfolding later_sections
+  later-split l = by_cases (eqb (first_section ts) (length ts))
       (λ e. let none = ap length (rw e at later) in absurd (omega (arith, none, length-drop (suc k) ps, inv.lexes.many)))
       (λ e. e)
 
-  behind : (s : ℕ) → drop (suc s) ts ≡ tokensIn code (drop (3 * (first + (s + 1))) words)
+  behind : (s : ℕ) → drop (suc s) ts ≡ tokens_in code (drop (3 * (first + (s + 1))) words)
   behind s =
       let m : first + (s + 1) ≡ first + suc s = omega arith in
-      rw (m, tokens-drop code words (first + suc s), tokens-drop code words first) (drop-drop (suc s) first (tokensIn code words))
+      rw (m, tokens-drop code words (first + suc s), tokens-drop code words first) (drop-drop (suc s) first (tokens_in code words))
 
-  tokens-behind : suc k < n → drop (suc k) ps ≡ map parts_of (split (tokensIn code (drop (3 * (first + (firstSection ts + 1))) words)))
-  unfolding laterSections
-  tokens-behind l = later ∙ rw (later-split l, behind (firstSection ts))
+  tokens-behind : suc k < n → drop (suc k) ps ≡ map parts_of (split (tokens_in code (drop (3 * (first + (first_section ts + 1))) words)))
+  unfolding later_sections
+  tokens-behind l = later ∙ rw (later-split l, behind (first_section ts))
 
-  place-behind : suc k < n → 3 * (first + (firstSection ts + 1)) ≤ length words
+  place-behind : suc k < n → 3 * (first + (first_section ts + 1)) ≤ length words
   place-behind l =
-      omega (arith, eqb-false (firstSection ts) (length ts) (later-split l), first-few ts, tokens-length code (drop (3 * first) words), length-drop (3 * first) words, inv.place less)
+      omega (arith, eqb-false (first_section ts) (length ts) (later-split l), first-few ts, tokens-length code (drop (3 * first) words), length-drop (3 * first) words, inv.place less)
 
   module _ (size : ℕ) (e : SectionEnd left size) where
-    same : size ≡ firstSection ts
+    same : size ≡ first_section ts
     same = e.same code ∙ rw left-all
 
-    part : tokensIn code (take (3 * size) left) ≡ take (firstSection ts) ts
+    part : tokens_in code (take (3 * size) left) ≡ take (first_section ts) ts
     part = tokens-take code left size ∙ rw (left-all, same)
 
     pub next-size : 3 * size ≤ 762
@@ -188,35 +188,35 @@ module _ {code words old room ds : List ℕ} {n first at k : ℕ} (inv : Section
 
     -- what drafting the next section asks
     pub next-asks : ((length code ≤ 254) × (length (take (3 * size) left) ≤ 762) × (length room ≤ 508))
-        × ((at + length (bodyWords (parts_of (tokensIn code (take (3 * size) left))).body) ≤ length room) × T (every isRead (tokensIn code (take (3 * size) left))))
+        × ((at + length (body_words (parts_of (tokens_in code (take (3 * size) left))).body) ≤ length room) × T (every is_read (tokens_in code (take (3 * size) left))))
     next-asks = (
       (inv.small, omega (arith, length-take (3 * size) left, next-size), omega (arith, inv.rest.size, inv.wide)),
       (rw part next-room, read_take code left size (rw left-all (read-drop code words first (rw inv.lexes.same (read_all code))))),
     )
 
-    module _ (d : Draft) (out : List ℕ) (drafted : DraftOf (parts_of (tokensIn code (take (3 * size) left))) d)
-        (put : Put room at (bodyWords (parts_of (tokensIn code (take (3 * size) left))).body) (at + 2 * d.body.items) out) where
+    module _ (d : Draft) (out : List ℕ) (drafted : DraftOf (parts_of (tokens_in code (take (3 * size) left))) d)
+        (put : Put room at (body_words (parts_of (tokens_in code (take (3 * size) left))).body) (at + 2 * d.body.items) out) where
       pub next-items : at + 2 * d.body.items ≤ 508
       next-items = omega (arith, put.next, next-asks.1.0, inv.rest.size, inv.wide)
 
-      pub sectioning-step : {ds' : List ℕ} → ds' ≡ sets ds (16 * k) (draftWords d) → Sectioning code words old out ds' n (first + (size + 1)) (at + 2 * d.body.items) (k + 1)
+      pub sectioning-step : {ds' : List ℕ} → ds' ≡ sets ds (16 * k) (draft_words d) → Sectioning code words old out ds' n (first + (size + 1)) (at + 2 * d.body.items) (k + 1)
       sectioning-step {ds'} x = rw (add-one k) (record {
         small = inv.small;
         words_small = inv.words_small;
         few = inv.few;
         lexes = inv.lexes;
         inside = omega arith;
-        size = rw x (length-sets ds (16 * k) (draftWords d)) ∙ inv.size;
+        size = rw x (length-sets ds (16 * k) (draft_words d)) ∙ inv.size;
         wide = inv.wide;
         place = λ l. rw same (place-behind l);
         tokens = λ l. rw same (tokens-behind l);
-        done = drafted-next ps ds ds' 0 k k (omega arith) inv.done more (draft-kept ds k d x) (subst (DraftOf (get_or ps k noParts)) (sym (draft-put ds k d x (omega (arith, inv.size, inv.few)))) (rw (here, ← part) drafted));
+        done = drafted-next ps ds ds' 0 k k (omega arith) inv.done more (draft-kept ds k d x) (subst (DraftOf (get_or ps k no_parts)) (sym (draft-put ds k d x (omega (arith, inv.size, inv.few)))) (rw (here, ← part) drafted));
         rest = rest_put (rw words-here at inv.rest) (rw part at put);
       })
 
 pub sectioning-end : {code words old room ds : List ℕ} {n first at k : ℕ} → Sectioning code words old room ds n first at k → n ≤ k
     → AllDrafted (parts_in code) old at room ds
-unfolding itemWords
+unfolding item_words
 sectioning-end {code} {k = k} inv h =
     let ps : List Parts = parts_in code in
     let all : k ≡ length ps = omega (arith, inv.inside, inv.lexes.many) in

@@ -11,108 +11,108 @@ use Rattle.lists.specs.Lists.{every, any}
 use Rattle.lists.proofs.Bools.{by_cases, cond_both, and_left, T_true, true-T}
 use Rattle.lists.proofs.Counts.{any_append, positive-count}
 use Rattle.formats.specs.Tokens.{Token, Letter}
-use Rattle.formats.specs.Items.{Item, literal, point, dateKind, fractionKind, sameKind, itemAllowed, isSolidus, fractionFits, itemsFit, settled}
-use Rattle.formats.specs.Kinds.{Piece, whole, secondPart, piecesFrom, bodyKind, runItem, tokenItems, pieceItems, plainItems, dateItems, bodyItems, lastFill}
+use Rattle.formats.specs.Items.{Item, literal, point, date_kind, fraction_kind, same_kind, item_allowed, is_solidus, fraction_fits, items_fit, settled}
+use Rattle.formats.specs.Kinds.{Piece, whole, second_part, pieces_from, body_kind, run_item, token_items, piece_items, plain_items, date_items, body_items, last_fill}
 use Rattle.formats.proofs.Each.{by_token, by-letter}
 use Rattle.formats.proofs.Cutting.{no-solidus}
 use Rattle.formats.proofs.FormedKinds.{kind-of-body}
 use Rattle.grammar.proofs.Kept.{any-kept, allowed-kept}
 use Rattle.grammar.proofs.Fractions.{parts-kept}
 use Rattle.tables.specs.Words.{Entry}
-use Rattle.tables.specs.Encode.{runEntries}
-use Rattle.tables.specs.Decode.{itemsAt}
+use Rattle.tables.specs.Encode.{run_entries}
+use Rattle.tables.specs.Decode.{items_at}
 use Rattle.tables.proofs.MadeItems.{items_back}
-use Rattle.tallies.specs.Tally.{makesFraction, tally_of, allowedTold, itemsFitTold}
+use Rattle.tallies.specs.Tally.{makes_fraction, tally_of, allowed_told, items_fit_told}
 use Rattle.tallies.proofs.Held.{no_fraction}
 use Rattle.tallies.proofs.Told.{allowed-told, items-fit-told, bare-items-told}
 
 -- ---- a fixed number stands only behind a solidus
 abbrev Alike : List Item → Type 0
-Alike is = any isSolidus is ≡ any makesFraction is
+Alike is = any is_solidus is ≡ any makes_fraction is
 
 literals-alike : (us : List ℕ) → Alike (map literal us)
 unfolding any
 literals-alike [] = refl
 literals-alike (u ∷ us) = literals-alike us
 
-token-alike : (date : Bool) (t : Token) → Alike (tokenItems date t)
-unfolding any tokenItems runItem
+token-alike : (date : Bool) (t : Token) → Alike (token_items date t)
+unfolding any token_items run_item
 token-alike date =
-    by_token (λ (t : Token). Alike (tokenItems date t)) literals-alike (λ u. refl) (λ u. refl) (λ u. refl) (λ p. refl)
+    by_token (λ (t : Token). Alike (token_items date t)) literals-alike (λ u. refl) (λ u. refl) (λ u. refl) (λ p. refl)
     (cond_both (λ (i : Item). Alike (i ∷ [])) date {x = literal 46} {y = point} refl refl)
     (cond_both Alike date {x = literal 44 ∷ []} {y = []} refl refl)
-    refl refl refl refl (λ h. refl) (λ l n. by-letter (λ (k : Letter). Alike (runItem k n ∷ [])) refl refl refl refl refl l)
+    refl refl refl refl (λ h. refl) (λ l n. by-letter (λ (k : Letter). Alike (run_item k n ∷ [])) refl refl refl refl refl l)
     (λ e n. refl) (λ n. refl) (λ w. refl) (λ m. refl) (λ p. refl) (λ p n. refl)
 
 joined-alike : (xs ys : List Item) → Alike xs → Alike ys → Alike (xs ++ ys)
-joined-alike xs ys a b = any_append isSolidus xs ys ∙ rw (a, b) (sym (any_append makesFraction xs ys))
+joined-alike xs ys a b = any_append is_solidus xs ys ∙ rw (a, b) (sym (any_append makes_fraction xs ys))
 
-plain-alike : (ts : List Token) → Alike (plainItems ts)
-unfolding plainItems any
+plain-alike : (ts : List Token) → Alike (plain_items ts)
+unfolding plain_items any
 plain-alike [] = refl
-plain-alike (t ∷ ts) = joined-alike (tokenItems false t) (plainItems ts) (token-alike false t) (plain-alike ts)
+plain-alike (t ∷ ts) = joined-alike (token_items false t) (plain_items ts) (token-alike false t) (plain-alike ts)
 
-date-alike : (ps : List Piece) → Alike (dateItems ps)
-unfolding dateItems pieceItems any
+date-alike : (ps : List Piece) → Alike (date_items ps)
+unfolding date_items piece_items any
 date-alike [] = refl
-date-alike (whole t ∷ ps) = joined-alike (tokenItems true t) (dateItems ps) (token-alike true t) (date-alike ps)
-date-alike (secondPart n ∷ ps) = date-alike ps
+date-alike (whole t ∷ ps) = joined-alike (token_items true t) (date_items ps) (token-alike true t) (date-alike ps)
+date-alike (second_part n ∷ ps) = date-alike ps
 
 module _ (ts : List Token) where
   abbrev pub items : List Item
-  items = settled (lastFill (bodyItems ts))
+  items = settled (last_fill (body_items ts))
 
   abbrev pub entries : List Entry
-  entries = runEntries items
+  entries = run_entries items
 
-  pub entries-back : itemsAt entries ≡ items
-  unfolding runEntries
+  pub entries-back : items_at entries ≡ items
+  unfolding run_entries
   entries-back = items_back _ _ items
 
-  fraction-kept : any makesFraction items ≡ any makesFraction (bodyItems ts)
-  fraction-kept = any-kept makesFraction (λ u. refl) (λ n. refl) (bodyItems ts)
+  fraction-kept : any makes_fraction items ≡ any makes_fraction (body_items ts)
+  fraction-kept = any-kept makes_fraction (λ u. refl) (λ n. refl) (body_items ts)
 
-  alike : any isSolidus items ≡ any makesFraction items
-  unfolding bodyItems
+  alike : any is_solidus items ≡ any makes_fraction items
+  unfolding body_items
   alike =
-      any-kept isSolidus (λ u. refl) (λ n. refl) (bodyItems ts)
-      ∙ cond_both Alike (sameKind (bodyKind ts) dateKind) (date-alike (piecesFrom false 0 ts)) (plain-alike ts)
+      any-kept is_solidus (λ u. refl) (λ n. refl) (body_items ts)
+      ∙ cond_both Alike (same_kind (body_kind ts) date_kind) (date-alike (pieces_from false 0 ts)) (plain-alike ts)
       ∙ sym fraction-kept
 
   -- ---- whether a solidus is there is told by the tally
-  solidus-told : any isSolidus items ≡ ltb 0 (tally_of entries).solidi
+  solidus-told : any is_solidus items ≡ ltb 0 (tally_of entries).solidi
   unfolding tally_of
-  solidus-told = alike ∙ ap (any makesFraction) (sym entries-back) ∙ sym (positive-count makesFraction (itemsAt entries))
+  solidus-told = alike ∙ ap (any makes_fraction) (sym entries-back) ∙ sym (positive-count makes_fraction (items_at entries))
 
-  pub solidus-none : (tally_of entries).solidi ≤ 0 → any isSolidus items ≡ false
+  pub solidus-none : (tally_of entries).solidi ≤ 0 → any is_solidus items ≡ false
   solidus-none h = solidus-told ∙ le-ltb 0 _ h
 
-  pub solidus-some : ((tally_of entries).solidi ≡ 0 → ⊥) → any isSolidus items ≡ true
+  pub solidus-some : ((tally_of entries).solidi ≡ 0 → ⊥) → any is_solidus items ≡ true
   solidus-some h = solidus-told ∙ lt-ltb 0 (tally_of entries).solidi (omega (arith, h))
 
   -- ---- whether the items fit
-  pub bare-fits : (tally_of entries).solidi ≤ 0 → itemsFitTold (tally_of entries) ≡ (fractionFits (bodyItems ts) && itemsFit items)
-  bare-fits h = rw (no_fraction (bodyItems ts) (sym fraction-kept ∙ sym alike ∙ solidus-none h)) (bare-items-told entries h ∙ rw entries-back)
+  pub bare-fits : (tally_of entries).solidi ≤ 0 → items_fit_told (tally_of entries) ≡ (fraction_fits (body_items ts) && items_fit items)
+  bare-fits h = rw (no_fraction (body_items ts) (sym fraction-kept ∙ sym alike ∙ solidus-none h)) (bare-items-told entries h ∙ rw entries-back)
 
-  fit-told : itemsFit items ≡ (itemsFitTold (tally_of entries) && fractionFits items)
+  fit-told : items_fit items ≡ (items_fit_told (tally_of entries) && fraction_fits items)
   fit-told = sym (rw entries-back at (items-fit-told entries))
 
-  held : itemsFitTold (tally_of entries) ≡ true → every (itemAllowed (bodyKind ts)) items ≡ true
+  held : items_fit_told (tally_of entries) ≡ true → every (item_allowed (body_kind ts)) items ≡ true
   held h =
-      let allowed : T (allowedTold (tally_of entries)) = and_left (allowedTold (tally_of entries)) _ (true-T h) in
+      let allowed : T (allowed_told (tally_of entries)) = and_left (allowed_told (tally_of entries)) _ (true-T h) in
       sym (rw (entries-back, kind-of-body ts) at (allowed-told entries)) ∙ T_true _ allowed
 
   -- those of a fraction do that keep its rules; no other kind holds a solidus
-  pub cut_fits : (cond (sameKind (bodyKind ts) fractionKind) (fractionFits (bodyItems ts)) (eqb (tally_of entries).solidi 0) && itemsFitTold (tally_of entries))
-      ≡ (fractionFits (bodyItems ts) && itemsFit items)
+  pub cut_fits : (cond (same_kind (body_kind ts) fraction_kind) (fraction_fits (body_items ts)) (eqb (tally_of entries).solidi 0) && items_fit_told (tally_of entries))
+      ≡ (fraction_fits (body_items ts) && items_fit items)
   cut_fits =
-      by_cases (sameKind (bodyKind ts) fractionKind)
-      (λ k. rw (k, fit-told) (by_cases (itemsFitTold (tally_of entries))
-      (λ a. by_cases (fractionFits (bodyItems ts))
-      (λ f. rw (f, a) (sym (parts-kept (bodyKind ts) (bodyItems ts) (sym (allowed-kept (bodyKind ts) (bodyItems ts)) ∙ held a) f).fits)) (λ f. rw f))
+      by_cases (same_kind (body_kind ts) fraction_kind)
+      (λ k. rw (k, fit-told) (by_cases (items_fit_told (tally_of entries))
+      (λ a. by_cases (fraction_fits (body_items ts))
+      (λ f. rw (f, a) (sym (parts-kept (body_kind ts) (body_items ts) (sym (allowed-kept (body_kind ts) (body_items ts)) ∙ held a) f).fits)) (λ f. rw f))
       (λ a. rw a)))
       (λ k. rw k (by_cases (eqb (tally_of entries).solidi 0)
       (λ z. rw z (bare-fits (omega (arith, eqb-true (tally_of entries).solidi 0 z))))
-      (λ z. rw (z, fit-told) (by_cases (itemsFitTold (tally_of entries))
-      (λ a. absurd (true≢false (sym (solidus-some (eqb-false (tally_of entries).solidi 0 z)) ∙ no-solidus (bodyKind ts) items k (true-T (held a)))))
-      (λ a. rw a (sym (and-false (fractionFits (bodyItems ts)))))))))
+      (λ z. rw (z, fit-told) (by_cases (items_fit_told (tally_of entries))
+      (λ a. absurd (true≢false (sym (solidus-some (eqb-false (tally_of entries).solidi 0 z)) ∙ no-solidus (body_kind ts) items k (true-T (held a)))))
+      (λ a. rw a (sym (and-false (fraction_fits (body_items ts)))))))))

@@ -1,16 +1,16 @@
 // One section of a code: what its tokens say of it, with the words of its items.
 ghost use Rattle.std.specs.Prelude.{◌≡◌, true, ◌&&◌, List, ℕ, suc, ◌+◌, ◌*◌, ◌≤◌, T, length, take, drop};
 ghost use Rattle.lists.specs.Lists.{every, is_some};
-ghost use Rattle.formats.specs.Tokens.{Token, conditionInside};
+ghost use Rattle.formats.specs.Tokens.{Token, condition_inside};
 ghost use Rattle.formats.specs.Items.{settled};
-ghost use Rattle.formats.specs.Kinds.{parts_of, bodyItems, lastFill};
-ghost use Rattle.marks.specs.Marks.{tokensIn};
-ghost use Rattle.tables.specs.Encode.{runEntries};
+ghost use Rattle.formats.specs.Kinds.{parts_of, body_items, last_fill};
+ghost use Rattle.marks.specs.Marks.{tokens_in};
+ghost use Rattle.tables.specs.Encode.{run_entries};
 ghost use Rattle.writing.specs.Put.{Put};
 ghost use Rattle.bodies.specs.Bodies.{facts_of};
-ghost use Rattle.bodies.specs.Fraction.{hasUnits};
-ghost use Rattle.drafting.specs.Draft.{bodyWords, settledWords, ConditionAs, headingCondition, noCondition, thousandsBy, shiftTold, commasFitBy, bodyBy, bareBody, keptBy, Parted, BodyRead, Drafts, DraftOf, isRead};
-ghost use Rattle.tallies.specs.Tally.{tally_of, Uncut, Cut, itemsFitTold, withinTold};
+ghost use Rattle.bodies.specs.Fraction.{has_units};
+ghost use Rattle.drafting.specs.Draft.{body_words, settled_words, ConditionAs, heading_condition, no_condition, thousands_by, shift_told, commas_fit_by, body_by, bare_body, kept_by, Parted, BodyRead, Drafts, DraftOf, is_read};
+ghost use Rattle.tallies.specs.Tally.{tally_of, Uncut, Cut, items_fit_told, within_told};
 ghost use Rattle.drafting.specs.Places.{places_of};
 
 use super::places::{Places, places_of};
@@ -30,7 +30,7 @@ use tallies::{
 };
 
 pub fn no_condition() -> Compared
-    ensures { result ≡ noCondition }
+    ensures { result ≡ no_condition }
 {
     Compared {
         operator: 0,
@@ -43,8 +43,8 @@ pub fn no_condition() -> Compared
 
 // The condition of a section with this heading.
 fn heading_condition(code: &[u16], h: Heading) -> Compared
-    requires { (length code.now ≤ 254) × (h.condition ≡ true → is_some (conditionInside (take h.argument (drop (suc h.start) code.now))) ≡ true) }
-    ensures { ConditionAs (headingCondition code.now h) result }
+    requires { (length code.now ≤ 254) × (h.condition ≡ true → is_some (condition_inside (take h.argument (drop (suc h.start) code.now))) ≡ true) }
+    ensures { ConditionAs (heading_condition code.now h) result }
 {
     if !h.condition {
         return no_condition();
@@ -58,7 +58,7 @@ fn heading_condition(code: &[u16], h: Heading) -> Compared
 
 // How many commas divide: only those of a number do.
 fn thousands_of(f: Facts, c: Commas) -> u16
-    ensures { result ≡ thousandsBy f c }
+    ensures { result ≡ thousands_by f c }
 {
     if f.number { c.thousands } else { 0 }
 }
@@ -66,7 +66,7 @@ fn thousands_of(f: Facts, c: Commas) -> u16
 // The head's shift, of a section within the limits.
 fn shift_of(t: Tally, thousands: u16) -> u16
     requires { Uncut t }
-    ensures { result ≡ shiftTold t (withinTold t thousands) thousands }
+    ensures { result ≡ shift_told t (within_told t thousands) thousands }
 {
     if !within(t, thousands) {
         return 0;
@@ -79,7 +79,7 @@ fn shift_of(t: Tally, thousands: u16) -> u16
 
 // A scientific section or a fraction has no comma, a date any; elsewhere none is misplaced.
 fn commas_fit(f: Facts, c: Commas) -> bool
-    ensures { result ≡ commasFitBy f c }
+    ensures { result ≡ commas_fit_by f c }
 {
     if f.scientific | f.fraction {
         return !f.commas;
@@ -89,7 +89,7 @@ fn commas_fit(f: Facts, c: Commas) -> bool
 
 // Whether a body fits whose items do, or do not.
 fn fits(f: Facts, c: Commas, items: bool) -> bool
-    ensures { result ≡ (f.plain && commasFitBy f c && items) }
+    ensures { result ≡ (f.plain && commas_fit_by f c && items) }
 {
     f.plain & commas_fit(f, c) & items
 }
@@ -97,7 +97,7 @@ fn fits(f: Facts, c: Commas, items: bool) -> bool
 // A body with neither E nor solidus among its items, by what its tokens and its items say.
 fn body_of(f: Facts, c: Commas, t: Tally, items: u16) -> Body
     requires { Uncut t }
-    ensures { result ≡ bareBody f c t items }
+    ensures { result ≡ bare_body f c t items }
 {
     let thousands = thousands_of(f, c);
     Body {
@@ -115,7 +115,7 @@ fn body_of(f: Facts, c: Commas, t: Tally, items: u16) -> Body
 // A body with an E or a solidus among its items: whether the rules for a solidus are kept, and whether it is within the limits.
 fn cut_body(f: Facts, c: Commas, t: Tally, kept: bool, within: bool, items: u16) -> Body
     requires { Cut t }
-    ensures { result ≡ bodyBy f c t (kept && itemsFitTold t) within items }
+    ensures { result ≡ body_by f c t (kept && items_fit_told t) within items }
 {
     Body {
         fits: fits(f, c, kept & cut_items_fit(t)),
@@ -132,8 +132,8 @@ fn cut_body(f: Facts, c: Commas, t: Tally, kept: bool, within: bool, items: u16)
 // Whether the rules for a solidus are kept.
 fn solidus_kept(body: &[u16], f: Facts, t: Tally) -> bool
     requires { length body.now ≤ 762 }
-    ensures { (code : List ℕ) → T (every hasUnits (tokensIn code body.now)) → f ≡ facts_of (tokensIn code body.now)
-        → result ≡ keptBy (tokensIn code body.now) f t }
+    ensures { (code : List ℕ) → T (every has_units (tokens_in code body.now)) → f ≡ facts_of (tokens_in code body.now)
+        → result ≡ kept_by (tokens_in code body.now) f t }
 {
     if f.fraction {
         return fraction_fits(body);
@@ -145,7 +145,7 @@ fn solidus_kept(body: &[u16], f: Facts, t: Tally) -> bool
 // powers of a fraction's parts are written over the words of its items.
 fn part_places(t: Tally, words: &mut [u16]) -> Numbered
     requires { length words.old ≤ 508 }
-    ensures { (ts : List Token) → t ≡ tally_of (runEntries (settled (lastFill (bodyItems ts)))) → words.old ≡ settledWords ts → Parted ts result words.new }
+    ensures { (ts : List Token) → t ≡ tally_of (run_entries (settled (last_fill (body_items ts)))) → words.old ≡ settled_words ts → Parted ts result words.new }
 {
     if t.solidi == 0 {
         return Numbered {
@@ -159,8 +159,8 @@ fn part_places(t: Tally, words: &mut [u16]) -> Numbered
 // Drafts a body with an E or a solidus among its items, which have these words.
 fn draft_cut(body: &[u16], f: Facts, c: Commas, t: Tally, words: &mut [u16], items: u16) -> Body
     requires { (length body.now ≤ 762) × (length words.old ≤ 508) × Cut t }
-    ensures { (code : List ℕ) → BodyRead (tokensIn code body.now) f c t items → words.old ≡ settledWords (tokensIn code body.now)
-        → Drafts (tokensIn code body.now) result × (words.new ≡ bodyWords (tokensIn code body.now)) }
+    ensures { (code : List ℕ) → BodyRead (tokens_in code body.now) f c t items → words.old ≡ settled_words (tokens_in code body.now)
+        → Drafts (tokens_in code body.now) result × (words.new ≡ body_words (tokens_in code body.now)) }
 {
     let places = part_places(t, words);
     let within = fraction_within(t, thousands_of(f, c), places.wholes, places.numerators);
@@ -176,9 +176,9 @@ fn put_settled(
     items: &mut [u16],
     at: usize,
 ) -> usize
-    requires code_len_bound { (length code.now ≤ 254) × (length body.now ≤ 762) × (length items.old ≤ 508) × (at + length (settledWords (tokensIn code.now body.now)) ≤ length items.old) }
-    requires f_value { (f ≡ facts_of (tokensIn code.now body.now)) × (places ≡ places_of (bodyItems (tokensIn code.now body.now))) × (places.integers ≤ 254) × (places.exponents ≤ 254) }
-    ensures { Put items.old at (settledWords (tokensIn code.now body.now)) result items.new }
+    requires code_len_bound { (length code.now ≤ 254) × (length body.now ≤ 762) × (length items.old ≤ 508) × (at + length (settled_words (tokens_in code.now body.now)) ≤ length items.old) }
+    requires f_value { (f ≡ facts_of (tokens_in code.now body.now)) × (places ≡ places_of (body_items (tokens_in code.now body.now))) × (places.integers ≤ 254) × (places.exponents ≤ 254) }
+    ensures { Put items.old at (settled_words (tokens_in code.now body.now)) result items.new }
 {
     let end = put_items(
         code,
@@ -196,10 +196,10 @@ fn put_settled(
 
 // Drafts a body, and puts the words of its items at `at`. (Most have neither E nor solidus, and pay for this test alone.)
 fn draft_body(code: &[u16], body: &[u16], items: &mut [u16], at: usize) -> Body
-    requires code_len_bound { (length code.now ≤ 254) × (length body.now ≤ 762) × (length items.old ≤ 508) × (at + length (bodyWords (tokensIn code.now body.now)) ≤ length items.old) }
-    requires t { T (every hasUnits (tokensIn code.now body.now)) }
-    ensures draft { Drafts (tokensIn code.now body.now) result }
-    ensures put { Put items.old at (bodyWords (tokensIn code.now body.now)) (at + 2 * result.items) items.new }
+    requires code_len_bound { (length code.now ≤ 254) × (length body.now ≤ 762) × (length items.old ≤ 508) × (at + length (body_words (tokens_in code.now body.now)) ≤ length items.old) }
+    requires t { T (every has_units (tokens_in code.now body.now)) }
+    ensures draft { Drafts (tokens_in code.now body.now) result }
+    ensures put { Put items.old at (body_words (tokens_in code.now body.now)) (at + 2 * result.items) items.new }
 {
     let f = facts_of(body);
     let c = commas_of(body, f.commas);
@@ -217,10 +217,10 @@ fn draft_body(code: &[u16], body: &[u16], items: &mut [u16], at: usize) -> Body
 // Drafts the section of these tokens, and puts the words of its items at `at`.
 pub fn draft_section(code: &[u16], part: &[u16], items: &mut [u16], at: usize) -> Draft
     requires code_len_bound { (length code.now ≤ 254) × (length part.now ≤ 762) × (length items.old ≤ 508) }
-    requires part_in_bounds { at + length (bodyWords (parts_of (tokensIn code.now part.now)).body) ≤ length items.old }
-    requires t { T (every isRead (tokensIn code.now part.now)) }
-    ensures draft { DraftOf (parts_of (tokensIn code.now part.now)) result }
-    ensures put { Put items.old at (bodyWords (parts_of (tokensIn code.now part.now)).body) (at + 2 * result.body.items) items.new }
+    requires part_in_bounds { at + length (body_words (parts_of (tokens_in code.now part.now)).body) ≤ length items.old }
+    requires t { T (every is_read (tokens_in code.now part.now)) }
+    ensures draft { DraftOf (parts_of (tokens_in code.now part.now)) result }
+    ensures put { Put items.old at (body_words (parts_of (tokens_in code.now part.now)).body) (at + 2 * result.body.items) items.new }
 {
     let h = heading_of(part);
     let from = 3 * h.tokens;

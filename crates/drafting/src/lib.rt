@@ -5,7 +5,7 @@ pub mod sections;
 pub mod words;
 
 ghost use Rattle.std.specs.Prelude.{◌≡◌};
-ghost use Rattle.drafting.specs.Draft.{hasConditionBy};
+ghost use Rattle.drafting.specs.Draft.{has_condition_by};
 
 // The body of a section: whether it fits its kind and is within the limits; its head's words that its tokens and items tell.
 #[derive(Drop)]
@@ -35,7 +35,7 @@ pub struct Draft {
 }
 
 pub fn has_condition(d: Draft) -> bool
-    ensures { result ≡ hasConditionBy d }
+    ensures { result ≡ has_condition_by d }
 {
     d.operator != 0
 }

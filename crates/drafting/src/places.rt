@@ -1,9 +1,9 @@
 // How many integer places the items of a body have, and how many behind its E or solidus.
 ghost use Rattle.std.specs.Prelude.{◌≡◌, cond, List, ℕ, ◌+◌, ◌≤◌, length};
-ghost use Rattle.formats.specs.Kinds.{bodyItems};
-ghost use Rattle.marks.specs.Marks.{tokensIn};
+ghost use Rattle.formats.specs.Kinds.{body_items};
+ghost use Rattle.marks.specs.Marks.{tokens_in};
 ghost use Rattle.bodies.specs.Bodies.{facts_of};
-ghost use Rattle.drafting.specs.Places.{places_of, part_form, datePlacesOf};
+ghost use Rattle.drafting.specs.Places.{places_of, part_form, date_places_of};
 
 use bodies::facts::Facts;
 use marks::forms;
@@ -88,7 +88,7 @@ fn part_token(s: Parting, form: u16) -> Parting
 // The places of a date's items: the zeros of a part of a second are none.
 fn date_places(body: &[u16]) -> Places
     requires { length body.now ≤ 762 }
-    ensures { ((code : List ℕ) → result ≡ datePlacesOf (tokensIn code body.now)) × (result.integers ≤ 254) × (result.exponents ≤ 254) }
+    ensures { ((code : List ℕ) → result ≡ date_places_of (tokens_in code body.now)) × (result.integers ≤ 254) × (result.exponents ≤ 254) }
 {
     let mut s = Parting {
         behind: false,
@@ -110,8 +110,8 @@ fn date_places(body: &[u16]) -> Places
 
 // The places of a body whose facts these are.
 pub fn places_of(body: &[u16], f: Facts) -> Places
-    requires { (length body.now ≤ 762) × ((code : List ℕ) → f ≡ facts_of (tokensIn code body.now)) }
-    ensures { ((code : List ℕ) → result ≡ places_of (bodyItems (tokensIn code body.now))) × (result.integers ≤ 254) × (result.exponents ≤ 254) }
+    requires { (length body.now ≤ 762) × ((code : List ℕ) → f ≡ facts_of (tokens_in code body.now)) }
+    ensures { ((code : List ℕ) → result ≡ places_of (body_items (tokens_in code body.now))) × (result.integers ≤ 254) × (result.exponents ≤ 254) }
 {
     if f.date {
         return date_places(body);

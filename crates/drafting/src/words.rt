@@ -1,14 +1,14 @@
 // The words of drafts in a lent room, sixteen a section.
 ghost use Rattle.std.specs.Prelude.{◌≡◌, ◌*◌, ◌≤◌, length};
 ghost use Rattle.std.proofs.lemmas.List.Edits.{sets};
-ghost use Rattle.drafting.specs.Draft.{draftWords, draftIn};
+ghost use Rattle.drafting.specs.Draft.{draft_words, draft_in};
 
 use super::{Body, Draft};
 
 // Puts the draft of section k. Each word has its place in the room, so that none is tested against the room's end.
 pub fn put_draft(room: &mut [u16], k: usize, d: Draft)
     requires { (k ≤ 3) × (length room.old ≡ 64) }
-    ensures { room.new ≡ sets room.old (16 * k) (draftWords d) }
+    ensures { room.new ≡ sets room.old (16 * k) (draft_words d) }
 {
     let a = 16 * k;
     let b = d.body;
@@ -33,7 +33,7 @@ pub fn put_draft(room: &mut [u16], k: usize, d: Draft)
 // The draft of section k.
 pub fn draft_at(room: &[u16], k: usize) -> Draft
     requires { (k ≤ 3) × (length room.now ≡ 64) }
-    ensures { result ≡ draftIn room.now k }
+    ensures { result ≡ draft_in room.now k }
 {
     let a = 16 * k;
     Draft {

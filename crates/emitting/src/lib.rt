@@ -1,11 +1,11 @@
 // Writes the words of a section's items into a lent room, token by token.
 ghost use Rattle.std.specs.Prelude.{◌≡◌, false, cond, ◌&&◌, [], ◌∷◌, suc, ◌+◌, ◌-◌, ◌≤◌, ◌<◌, ◌^◌, min, length, take, drop, ltb, eqb};
 ghost use Rattle.lists.specs.Lists.{count};
-ghost use Rattle.formats.specs.Items.{dateKind, sameKind, integerPlaces, placesBehind};
-ghost use Rattle.formats.specs.Kinds.{isFillToken, bodyKind, bodyItems, leading_zeros};
-ghost use Rattle.marks.specs.Marks.{tokenAt, tokensIn};
+ghost use Rattle.formats.specs.Items.{date_kind, same_kind, integer_places, places_behind};
+ghost use Rattle.formats.specs.Kinds.{is_fill_token, body_kind, body_items, leading_zeros};
+ghost use Rattle.marks.specs.Marks.{token_at, tokens_in};
 ghost use Rattle.writing.specs.Put.{Put};
-ghost use Rattle.emitting.specs.Emit.{emittedWords, formWords, literalWords, madeWords, overWords, formSeconds, formDigit, formFills, piece_of, walkAfter, walkPast, fillsLeft, Emitted};
+ghost use Rattle.emitting.specs.Emit.{emitted_words, form_words, literal_words, made_words, over_words, form_seconds, form_digit, form_fills, piece_of, walk_after, walk_past, fills_left, Emitted};
 
 use marks::forms;
 use tables::tags;
@@ -44,7 +44,7 @@ fn put_entry(room: &mut [u16], at: usize, tag: u16, argument: u16) -> usize
 // Puts the words of an item, where there is one.
 fn put_made(room: &mut [u16], at: usize, m: Made) -> usize
     requires { at < 2 ^ 62 }
-    ensures { Put room.old at (madeWords m) result room.new }
+    ensures { Put room.old at (made_words m) result room.new }
 {
     if m.0 == 0 {
         return at;
@@ -55,7 +55,7 @@ fn put_made(room: &mut [u16], at: usize, m: Made) -> usize
 // Puts the literals of `count` units from the place `from` of the code on, or of as many as there are.
 fn put_literals(room: &mut [u16], at: usize, code: &[u16], from: usize, count: u16) -> usize
     requires { (at < 2 ^ 61) × (length code.now ≤ 254) }
-    ensures { Put room.old at (literalWords (take count (drop from code.now))) result room.new }
+    ensures { Put room.old at (literal_words (take count (drop from code.now))) result room.new }
 {
     let mut o = at;
     let mut i = from;
@@ -73,7 +73,7 @@ fn put_literals(room: &mut [u16], at: usize, code: &[u16], from: usize, count: u
 
 // One of two items.
 fn made_if(b: bool, first: Made, second: Made) -> Made
-    ensures { madeWords result ≡ cond b (madeWords first) (madeWords second) }
+    ensures { made_words result ≡ cond b (made_words first) (made_words second) }
 {
     if b {
         return first;
@@ -85,7 +85,7 @@ fn made_if(b: bool, first: Made, second: Made) -> Made
 // comma makes no item; every run of m is put as a month, and settled where all items stand.
 fn item_of(form: u16, argument: u16, date: bool, digit: u16) -> Made
     requires { digit < 2 ^ 15 }
-    ensures { madeWords result ≡ formWords date digit argument form }
+    ensures { made_words result ≡ form_words date digit argument form }
 {
     match form {
         forms::BARE => Made(tags::LITERAL, argument),
@@ -127,7 +127,7 @@ fn put_place_over(room: &mut [u16], at: usize, tag: u16, digit: u16) -> usize
 // Puts the words of a place with a solidus directly behind it, and of the fixed number behind that, where there is one.
 fn put_over(room: &mut [u16], at: usize, form: u16, argument: u16, digit: u16) -> usize
     requires { (at < 2 ^ 60) × (digit < 2 ^ 15) × (27 ≤ form) }
-    ensures { Put room.old at (overWords digit argument form) result room.new }
+    ensures { Put room.old at (over_words digit argument form) result room.new }
 {
     if form <= forms::SPACE_OVER {
         return put_place_over(room, at, form - forms::ZERO_OVER + tags::ZERO_PLACE, digit);
@@ -146,7 +146,7 @@ fn put_over(room: &mut [u16], at: usize, form: u16, argument: u16, digit: u16) -
 
 // Whether a token is s, ss or an elapsed s.
 fn seconds_at(form: u16) -> bool
-    ensures { result ≡ formSeconds form }
+    ensures { result ≡ form_seconds form }
 {
     (form == forms::SECONDS) | (form == forms::ELAPSED_SECONDS)
 }
@@ -154,7 +154,7 @@ fn seconds_at(form: u16) -> bool
 // The power of the next digit behind a token, and 15: behind an E or solidus the digits begin anew. Behind the fifteenth decimal place it stays at
 // 0, as the table's definition has it; such a section is refused elsewhere. (A `match`, which is one jump for all forms.)
 fn digit_after(form: u16, digit: u16, anew: u16) -> u16
-    ensures { result ≡ formDigit anew form digit }
+    ensures { result ≡ form_digit anew form digit }
 {
     match form {
         forms::ZERO_PLACE => lowered(digit),
@@ -174,7 +174,7 @@ fn digit_after(form: u16, digit: u16, anew: u16) -> u16
 
 // How many fills follow behind a token.
 fn fills_after(form: u16, fills: u16) -> u16
-    ensures { result ≡ formFills form fills }
+    ensures { result ≡ form_fills form fills }
 {
     if form == forms::FILL {
         if fills == 0 {
@@ -195,7 +195,7 @@ fn fill_goes(form: u16, fills: u16) -> bool
 // How many zeros follow from the place i of the body on, up to three.
 fn zeros_from(body: &[u16], i: usize) -> u16
     requires { (length body.now ≤ 762) × (i ≤ 800) }
-    ensures { result ≡ min 3 (leading_zeros (tokensIn [] (drop i body.now))) }
+    ensures { result ≡ min 3 (leading_zeros (tokens_in [] (drop i body.now))) }
 {
     let mut n = 0;
     let mut j = i;
@@ -216,7 +216,7 @@ fn zeros_from(body: &[u16], i: usize) -> u16
 // and the tokens from the place i of the body on.
 fn part_zeros(body: &[u16], i: usize, form: u16, date: bool, behind: bool) -> u16
     requires { (length body.now ≤ 762) × (i ≤ 800) }
-    ensures { result ≡ cond (date && behind && eqb form 7) (min 3 (leading_zeros (tokensIn [] (drop i body.now)))) 0 }
+    ensures { result ≡ cond (date && behind && eqb form 7) (min 3 (leading_zeros (tokens_in [] (drop i body.now)))) 0 }
 {
     if date & behind & (form == forms::POINT) {
         return zeros_from(body, i);
@@ -236,7 +236,7 @@ fn put_form(
     n: u16,
 ) -> usize
     requires { (w.at < 2 ^ 60) × (w.digit < 2 ^ 15) × (length code.now ≤ 254) }
-    ensures put { Put room.old w.at (piece_of date w.digit w.fills n (tokenAt code.now form argument start)) result room.new }
+    ensures put { Put room.old w.at (piece_of date w.digit w.fills n (token_at code.now form argument start)) result room.new }
     ensures near { result ≤ w.at + 510 }
 {
     if 0 < n {
@@ -257,7 +257,7 @@ fn put_form(
 // The walk behind a token whose words end at the place `at`, where the next n tokens belong to its part of a second, and `anew` is the digit
 // behind an E or solidus.
 fn walked(w: Walk, form: u16, n: u16, at: usize, anew: u16) -> Walk
-    ensures { result ≡ walkAfter anew w form n at }
+    ensures { result ≡ walk_after anew w form n at }
 {
     Walk {
         at: at,
@@ -271,7 +271,7 @@ fn walked(w: Walk, form: u16, n: u16, at: usize, anew: u16) -> Walk
 // The walk behind a token that belongs to a part of a second.
 fn passed(w: Walk) -> Walk
     requires { 0 < w.skip }
-    ensures { result ≡ walkPast w }
+    ensures { result ≡ walk_past w }
 {
     Walk {
         at: w.at,
@@ -293,8 +293,8 @@ fn put_token(
     anew: u16,
 ) -> Walk
     requires at_bound { (w.at < 2 ^ 60) × (w.digit ≤ 268) × (length code.now ≤ 254) × (length body.now ≤ 762) × (i + 2 < length body.now) × (anew ≤ 268) }
-    requires fills_value { w.fills ≡ fillsLeft date w (tokensIn code.now (drop i body.now)) }
-    ensures { Emitted date anew (tokensIn code.now (drop i body.now)) (tokensIn code.now (drop (i + 3) body.now)) room.old w result room.new }
+    requires fills_value { w.fills ≡ fills_left date w (tokens_in code.now (drop i body.now)) }
+    ensures { Emitted date anew (tokens_in code.now (drop i body.now)) (tokens_in code.now (drop (i + 3) body.now)) room.old w result room.new }
 {
     if 0 < w.skip {
         return passed(w);
@@ -319,11 +319,11 @@ pub fn put_items(
     at: usize,
 ) -> usize
     requires at_bound { (at < 2 ^ 59) × (length code.now ≤ 254) × (length body.now ≤ 762) × (integers ≤ 254) × (exponents ≤ 254) }
-    requires date_value { date ≡ sameKind (bodyKind (tokensIn code.now body.now)) dateKind }
-    requires fills_value { fills ≡ count isFillToken (tokensIn code.now body.now) }
-    requires integers_value { integers ≡ integerPlaces (bodyItems (tokensIn code.now body.now)) }
-    requires exponents_value { exponents ≡ placesBehind (bodyItems (tokensIn code.now body.now)) }
-    ensures { Put room.old at (emittedWords (tokensIn code.now body.now)) result room.new }
+    requires date_value { date ≡ same_kind (body_kind (tokens_in code.now body.now)) date_kind }
+    requires fills_value { fills ≡ count is_fill_token (tokens_in code.now body.now) }
+    requires integers_value { integers ≡ integer_places (body_items (tokens_in code.now body.now)) }
+    requires exponents_value { exponents ≡ places_behind (body_items (tokens_in code.now body.now)) }
+    ensures { Put room.old at (emitted_words (tokens_in code.now body.now)) result room.new }
 {
     let anew = 14 + exponents;
     let mut w = Walk {

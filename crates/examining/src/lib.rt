@@ -3,9 +3,9 @@ mod verdicts;
 
 ghost use Rattle.std.specs.Prelude.{◌≡◌, ◌*◌, ◌≤◌, length, take};
 ghost use Rattle.formats.specs.Accept.{verdict};
-ghost use Rattle.lexing.specs.Buffer.{semicolonsIn};
+ghost use Rattle.lexing.specs.Buffer.{semicolons_in};
 ghost use Rattle.drafting.specs.Draft.{Lexes};
-ghost use Rattle.examining.specs.Examine.{sectionsVerdict, Buffered, ExaminedAs};
+ghost use Rattle.examining.specs.Examine.{sections_verdict, Buffered, ExaminedAs};
 
 use answers::Answer;
 use drafting::sections::draft_all;
@@ -46,7 +46,7 @@ fn examine_sections(
     requires len { (length items.old ≡ 508) × (length drafts.old ≡ 64) × (n ≤ 4) }
     requires buffered { Buffered code.now tokens.now count }
     requires lexes { Lexes code.now tokens.now n }
-    requires code_value { verdict code.now ≡ sectionsVerdict code.now }
+    requires code_value { verdict code.now ≡ sections_verdict code.now }
     ensures { ExaminedAs code.now tokens.now result items.new drafts.new }
 {
     let words = draft_all(code, tokens, n, items, drafts);
@@ -82,7 +82,7 @@ fn examine_tokens(
 ) -> Examined
     requires len { (length items.old ≡ 508) × (length drafts.old ≡ 64) }
     requires buffered { Buffered code.now tokens.now count }
-    requires semicolons_value { semicolons ≡ length (semicolonsIn (take (3 * count) tokens.now)) }
+    requires semicolons_value { semicolons ≡ length (semicolons_in (take (3 * count) tokens.now)) }
     ensures { ExaminedAs code.now tokens.now result items.new drafts.new }
 {
     if 3 < semicolons {

@@ -1,9 +1,9 @@
 // The tests on the drafts of a code's sections.
 ghost use Rattle.std.specs.Prelude.{◌≡◌, ◌+◌, ◌≤◌, length};
-ghost use Rattle.lists.specs.Lists.{firstFailing};
-ghost use Rattle.tables.specs.Standing.{headStands};
-ghost use Rattle.drafting.specs.Draft.{draftsIn, hasConditionBy};
-ghost use Rattle.examining.specs.Examine.{passesBy, foundBelow};
+ghost use Rattle.lists.specs.Lists.{first_failing};
+ghost use Rattle.tables.specs.Standing.{head_stands};
+ghost use Rattle.drafting.specs.Draft.{drafts_in, has_condition_by};
+ghost use Rattle.examining.specs.Examine.{passes_by, found_below};
 
 use drafting::words::draft_at;
 use drafting::{Draft, has_condition};
@@ -19,7 +19,7 @@ pub const LIMIT: u16 = 6;
 // Section i of n may stand where it does.
 fn stands(d: Draft, n: usize, i: usize) -> bool
     requires { i ≤ 4 }
-    ensures { result ≡ headStands n i d.body.kind d.colour (hasConditionBy d) }
+    ensures { result ≡ head_stands n i d.body.kind d.colour (has_condition_by d) }
 {
     let body = d.body;
     let text = body.kind == kinds::TEXT;
@@ -38,7 +38,7 @@ fn stands(d: Draft, n: usize, i: usize) -> bool
 // Section i of n passes the test of the answer of this number.
 fn passes(d: Draft, test: u16, n: usize, i: usize) -> bool
     requires { i ≤ 4 }
-    ensures { result ≡ passesBy test n i d }
+    ensures { result ≡ passes_by test n i d }
 {
     if test == KIND {
         let body = d.body;
@@ -53,7 +53,7 @@ fn passes(d: Draft, test: u16, n: usize, i: usize) -> bool
 // The place of the first of n sections that fails a test, or n.
 pub fn first_failing(drafts: &[u16], n: usize, test: u16) -> usize
     requires { (n ≤ 4) × (length drafts.now ≡ 64) }
-    ensures { firstFailing (passesBy test n) 0 (draftsIn n 0 drafts.now) ≡ foundBelow n result }
+    ensures { first_failing (passes_by test n) 0 (drafts_in n 0 drafts.now) ≡ found_below n result }
 {
     let mut place: usize = 0;
     while place < n {

@@ -4,8 +4,8 @@ use mathlib.Core.Path.{◌≡◌, refl}
 use mathlib.Core.Bool.{Bool, true, false}
 use mathlib.Core.List.{List, [], ◌∷◌, map}
 use Prim.Native.Nat.{ℕ, ◌*◌, ◌^◌}
-use Rattle.figures.specs.Rounding.{nearest, rounded, roundsExactly}
-use Rattle.exponents.specs.Exponent.{Exponent, under, over, decimal, divided_by, mantissaAt, leaves, multiple, exponentFrom, exponentOf, mantissaOf, mantissaExactly}
+use Rattle.figures.specs.Rounding.{nearest, rounded, rounds_exactly}
+use Rattle.exponents.specs.Exponent.{Exponent, under, over, decimal, divided_by, mantissa_at, leaves, multiple, exponent_from, exponent_of, mantissa_of, mantissa_exactly}
 
 -- the exponent, the mantissa as a count of 10^-15, and whether it is exact
 pub record Form : Type 0 where
@@ -32,13 +32,13 @@ abbrev pub row : ℕ → ℕ → ℕ → ℕ → Form → Case
 row m s n d form = record { number = m; scale = s; integers = n; decimals = d; form = form }
 
 unfoldable pub form_of : Case → Form
-unfolding nearest rounded roundsExactly under over divided_by mantissaAt leaves multiple exponentFrom exponentOf mantissaOf mantissaExactly
+unfolding nearest rounded rounds_exactly under over divided_by mantissa_at leaves multiple exponent_from exponent_of mantissa_of mantissa_exactly
 form_of c =
     let x = decimal c.number c.scale in
     record {
-      exponent = exponentOf x c.integers c.decimals;
-      mantissa = mantissaOf x c.integers c.decimals;
-      exact = mantissaExactly x c.integers c.decimals;
+      exponent = exponent_of x c.integers c.decimals;
+      mantissa = mantissa_of x c.integers c.decimals;
+      exact = mantissa_exactly x c.integers c.decimals;
     }
 
 unfoldable pub cases : List Case

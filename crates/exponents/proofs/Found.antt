@@ -9,25 +9,25 @@ use borrow.Author.Tests.{ne_eqb, le-ltb, ltb-true, ltb-false}
 use lib.Pow.{pow-add}
 use lib.Dec.{ltb}
 use Rattle.lists.proofs.Bools.{cond-case}
-use Rattle.figures.specs.Rounding.{Magnitude, rounded, roundsExactly}
+use Rattle.figures.specs.Rounding.{Magnitude, rounded, rounds_exactly}
 use Rattle.figures.specs.Powers.{powered}
 use Rattle.figures.proofs.Tens.{ten-le}
 use Rattle.figures.proofs.Rounding.{powered-net}
 use Rattle.figures.proofs.Exactly.{exactly-net}
-use Rattle.exponents.specs.Exponent.{under, over, decimal, divided_by, mantissaAt}
+use Rattle.exponents.specs.Exponent.{under, over, decimal, divided_by, mantissa_at}
 use Rattle.exponents.specs.Least.{LeastExponent}
-use Rattle.exponents.specs.Leading.{exponentBy, MultipleBy, Leading, Next}
+use Rattle.exponents.specs.Leading.{exponent_by, MultipleBy, Leading, Next}
 use Rattle.exponents.proofs.Powered.{powered-least, powered-most, powered-step}
 use Rattle.exponents.proofs.Least.{divided-powered, leaves_in, least_by, sum-multiple}
 
 -- the two distances of an exponent made of them
-under-by : (u o : ℕ) → (0 < u → o ≡ 0) → under (exponentBy u o) ≡ u
-unfolding under exponentBy
+under-by : (u o : ℕ) → (0 < u → o ≡ 0) → under (exponent_by u o) ≡ u
+unfolding under exponent_by
 under-by u o h =
     cond-case (λ (x : ℕ). x ≡ u) (ltb 0 u) (λ t. omega (arith, h (ltb-true 0 u t))) (λ t. omega (arith, ltb-false 0 u t))
 
-over_by : (u o : ℕ) → (0 < u → o ≡ 0) → over (exponentBy u o) ≡ o
-unfolding over exponentBy
+over_by : (u o : ℕ) → (0 < u → o ≡ 0) → over (exponent_by u o) ≡ o
+unfolding over exponent_by
 over_by u o h =
     cond-case (λ (x : ℕ). x ≡ o) (ltb 0 u) (λ t. omega (arith, h (ltb-true 0 u t))) (λ t. omega (arith, ltb-false 0 u t))
 
@@ -35,30 +35,30 @@ module _ (m s n d : ℕ) {u o : ℕ} (by : MultipleBy n u o) where
   abbrev at : ℕ
   at = rounded (powered m u (s + o)) d
 
-  divided-by : divided_by (decimal m s) (exponentBy u o) ≡ powered m u (s + o)
+  divided-by : divided_by (decimal m s) (exponent_by u o) ≡ powered m u (s + o)
   divided-by =
-      divided-powered m s (exponentBy u o)
-      ∙ ap₂ (λ (x y : ℕ). powered m x (s + y)) (under-by u o by.oneSide) (over_by u o by.oneSide)
+      divided-powered m s (exponent_by u o)
+      ∙ ap₂ (λ (x y : ℕ). powered m x (s + y)) (under-by u o by.one_side) (over_by u o by.one_side)
 
-  pub mantissa-by : mantissaAt (decimal m s) d (exponentBy u o) ≡ rounded (powered m u (s + o)) d
-  unfolding mantissaAt
+  pub mantissa-by : mantissa_at (decimal m s) d (exponent_by u o) ≡ rounded (powered m u (s + o)) d
+  unfolding mantissa_at
   mantissa-by = ap (λ (x : Magnitude). rounded x d) divided-by
 
-  pub exactly-by : roundsExactly (divided_by (decimal m s) (exponentBy u o)) d ≡ roundsExactly (powered m u (s + o)) d
-  exactly-by = ap (λ (x : Magnitude). roundsExactly x d) divided-by
+  pub exactly-by : rounds_exactly (divided_by (decimal m s) (exponent_by u o)) d ≡ rounds_exactly (powered m u (s + o)) d
+  exactly-by = ap (λ (x : Magnitude). rounds_exactly x d) divided-by
 
   -- it is the exponent where it leaves 1 to n digits and the multiple before leaves more
   by-least : 10 ^ 15 ≤ at → at < 10 ^ (15 + n) → 10 ^ (15 + n) ≤ rounded (powered m (u + n) (s + o)) d
-      → LeastExponent (decimal m s) n d (exponentBy u o)
-  unfolding exponentBy
+      → LeastExponent (decimal m s) n d (exponent_by u o)
+  unfolding exponent_by
   by-least h g before =
-      least_by m s n d (exponentBy u o) (λ e. le-ltb 0 u (omega arith)) (sum-multiple n u o by.below by.above)
-      (leaves_in (decimal m s) n d (exponentBy u o) (rw mantissa-by h) (rw mantissa-by g))
-      (rw (under-by u o by.oneSide, over_by u o by.oneSide) before)
+      least_by m s n d (exponent_by u o) (λ e. le-ltb 0 u (omega arith)) (sum-multiple n u o by.below by.above)
+      (leaves_in (decimal m s) n d (exponent_by u o) (rw mantissa-by h) (rw mantissa-by g))
+      (rw (under-by u o by.one_side, over_by u o by.one_side) before)
 
 module _ {m s n u o : ℕ} (d : ℕ) (most : d ≤ 15) (l : Leading m s n u o) where
   -- rounding does not carry
-  pub found-least : rounded (powered m u (s + o)) d < 10 ^ (15 + n) → LeastExponent (decimal m s) n d (exponentBy u o)
+  pub found-least : rounded (powered m u (s + o)) d < 10 ^ (15 + n) → LeastExponent (decimal m s) n d (exponent_by u o)
   found-least h =
       let v : ℕ = s + o in
       let less : 10 ^ (v + n) ≤ m * 10 ^ (u + n) =
@@ -78,15 +78,15 @@ module _ {m s n u o : ℕ} (d : ℕ) (most : d ≤ 15) (l : Leading m s n u o) w
     carried-one = powered-net m u' (s + o') u (s + o + n) d (omega (arith, next.net)) ∙ carried-net
 
     -- and it is not exact: the number is below
-    pub carried-cut : false ≡ roundsExactly (powered m u' (s + o')) d
-    unfolding roundsExactly powered
+    pub carried-cut : false ≡ rounds_exactly (powered m u' (s + o')) d
+    unfolding rounds_exactly powered
     carried-cut =
         let v : ℕ = s + o + n in
         let below : ¬ (rounded (powered m u v) d * 10 ^ v ≡ m * 10 ^ u * 10 ^ 15) =
         λ e. omega (arith, l.most, e, ap (λ (x : ℕ). x * 10 ^ v) carried-net) in
         sym (exactly-net m u' (s + o') u v d (omega (arith, next.net)) ∙ ne_eqb (rounded (powered m u v) d * 10 ^ v) (m * 10 ^ u * 10 ^ 15) below)
 
-    pub carried-least : 1 ≤ n → LeastExponent (decimal m s) n d (exponentBy u' o')
+    pub carried-least : 1 ≤ n → LeastExponent (decimal m s) n d (exponent_by u' o')
     carried-least one =
         let digits : 10 ^ 15 < 10 ^ (15 + n) = omega (arith, ten-le 16 (15 + n) (omega arith)) in
         by-least m s n d next.multiple (omega (arith, carried-one)) (omega (arith, carried-one))

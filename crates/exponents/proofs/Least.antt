@@ -11,7 +11,7 @@ use lib.Dec.{T, leb, ltb, leb→le, ltb→lt}
 use Rattle.lists.proofs.Bools.{by_cases, cond_both, true-T, and_left, and_right, and_in}
 use Rattle.figures.specs.Rounding.{Magnitude, rounded}
 use Rattle.figures.specs.Powers.{powered}
-use Rattle.exponents.specs.Exponent.{Exponent, under, over, decimal, divided_by, mantissaAt, leaves}
+use Rattle.exponents.specs.Exponent.{Exponent, under, over, decimal, divided_by, mantissa_at, leaves}
 use Rattle.exponents.specs.Least.{at_most, LeastExponent}
 use Rattle.exponents.proofs.Powered.{powered-monotone}
 
@@ -20,28 +20,28 @@ pub divided-powered : (m s : ℕ) (e : Exponent) → divided_by (decimal m s) e 
 unfolding divided_by powered
 divided-powered m s e = ap (λ (b : ℕ). record { above = m * 10 ^ under e; below = b }) (sym (pow-add 10 s (over e)))
 
-pub mantissa-powered : (m s d : ℕ) (e : Exponent) → mantissaAt (decimal m s) d e ≡ rounded (powered m (under e) (s + over e)) d
-unfolding mantissaAt
+pub mantissa-powered : (m s d : ℕ) (e : Exponent) → mantissa_at (decimal m s) d e ≡ rounded (powered m (under e) (s + over e)) d
+unfolding mantissa_at
 mantissa-powered m s d e = ap (λ (x : Magnitude). rounded x d) (divided-powered m s e)
 
 -- what "1 to n integer digits" says
 module _ (x : Magnitude) (n d : ℕ) (e : Exponent) where
-  pub leaves-least : T (leaves x n d e) → 10 ^ 15 ≤ mantissaAt x d e
+  pub leaves-least : T (leaves x n d e) → 10 ^ 15 ≤ mantissa_at x d e
   unfolding leaves
   leaves-least t = search (and_left, leb→le)
 
-  pub leaves-most : T (leaves x n d e) → mantissaAt x d e < 10 ^ (15 + n)
+  pub leaves-most : T (leaves x n d e) → mantissa_at x d e < 10 ^ (15 + n)
   unfolding leaves
   leaves-most t = search (and_right, ltb→lt)
 
-  pub leaves_in : 10 ^ 15 ≤ mantissaAt x d e → mantissaAt x d e < 10 ^ (15 + n) → T (leaves x n d e)
+  pub leaves_in : 10 ^ 15 ≤ mantissa_at x d e → mantissa_at x d e < 10 ^ (15 + n) → T (leaves x n d e)
   unfolding leaves
   leaves_in h g =
-      and_in (leb (10 ^ 15) (mantissaAt x d e)) (ltb (mantissaAt x d e) (10 ^ (15 + n))) (true-T (le-leb _ _ h)) (true-T (lt-ltb _ _ g))
+      and_in (leb (10 ^ 15) (mantissa_at x d e)) (ltb (mantissa_at x d e) (10 ^ (15 + n))) (true-T (le-leb _ _ h)) (true-T (lt-ltb _ _ g))
 
-  pub leaves-not : leaves x n d e ≡ false → 10 ^ 15 ≤ mantissaAt x d e → 10 ^ (15 + n) ≤ mantissaAt x d e
+  pub leaves-not : leaves x n d e ≡ false → 10 ^ 15 ≤ mantissa_at x d e → 10 ^ (15 + n) ≤ mantissa_at x d e
   unfolding leaves
-  leaves-not f h = ltb-false (mantissaAt x d e) (10 ^ (15 + n)) (rw (le-leb (10 ^ 15) (mantissaAt x d e) h) at f)
+  leaves-not f h = ltb-false (mantissa_at x d e) (10 ^ (15 + n)) (rw (le-leb (10 ^ 15) (mantissa_at x d e) h) at f)
 
 -- multiples of n
 module _ (n : ℕ) where
@@ -87,7 +87,7 @@ module _ (m s n d : ℕ) where
         by_cases (leb (over e + under f) (over f + under e)) true-T
         (λ no.
         let lower = lower-multiple n e f whole g (leb-false (over e + under f) (over f + under e) no) in
-        let more : 10 ^ (15 + n) ≤ mantissaAt (decimal m s) d f =
+        let more : 10 ^ (15 + n) ≤ mantissa_at (decimal m s) d f =
         rw (mantissa-powered m s d f) (le_trans before (powered-monotone m (under e + n) (s + over e) (under f) (s + over f) d (omega arith))) in
         absurd (lt_irrefl _ (lt_of_lt_of_le (leaves-most (decimal m s) n d f t) more)));
   }

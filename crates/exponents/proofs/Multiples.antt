@@ -31,14 +31,14 @@ module _ {n u o : ℕ} (by : MultipleBy n u o) where
   next_under h =
       let room = next-room h in
       record {
-        multiple = record { oneSide = λ _. by.oneSide h; below = sym (mod-eq-sub-mod room) ∙ by.below; above = by.above };
+        multiple = record { one_side = λ _. by.one_side h; below = sym (mod-eq-sub-mod room) ∙ by.below; above = by.above };
         net = omega arith;
         small = omega arith;
       }
 
   pub next-over : u ≤ 0 → Next n u o u (o + n)
   next-over h = record {
-    multiple = record { oneSide = λ g. absurd (omega arith); below = by.below; above = add-mod_right o n ∙ by.above };
+    multiple = record { one_side = λ g. absurd (omega arith); below = by.below; above = add-mod_right o n ∙ by.above };
     net = omega arith;
     small = omega arith;
   }
@@ -74,14 +74,14 @@ module _ {m w : ℕ} (wide : w ≡ width m) (pos : 0 < m) (small : m < 10 ^ 15) 
       let before : u - n + (s - w) % n ≡ s - w = omega (arith, rest-most (s - w) n) in
       record {
         multiple = record {
-          oneSide = λ _. refl;
+          one_side = λ _. refl;
           below = mod-eq-sub-mod {n = u} {m = n} (omega (arith, rest-most (s - w) n)) ∙ without-rest (s - w) n (u - n) before;
           above = zero-mod n;
         };
         least = powers-least m w wide_below u (s + 0) (omega (arith, wide-least));
         most = powers-most m w wide-above u (s + 0 + n) (omega arith);
-        underSmall = omega arith;
-        overSmall = omega arith;
+        under_small = omega arith;
+        over_small = omega arith;
       }
 
   -- it is before the point
@@ -89,11 +89,11 @@ module _ {m w : ℕ} (wide : w ≡ width m) (pos : 0 < m) (small : m < 10 ^ 15) 
   leads-over s n one h o e =
       let rest = mod-lt (w - 1 - s) one in
       record {
-        multiple = record { oneSide = λ g. absurd (omega arith); below = zero-mod n; above = without-rest (w - 1 - s) n o e };
+        multiple = record { one_side = λ g. absurd (omega arith); below = zero-mod n; above = without-rest (w - 1 - s) n o e };
         least = powers-least m w wide_below 0 (s + o) (omega arith);
         most = powers-most m w wide-above 0 (s + o + n) (omega arith);
-        underSmall = omega arith;
-        overSmall = omega (arith, wide-most);
+        under_small = omega arith;
+        over_small = omega (arith, wide-most);
       }
 
 -- a number below 10^n is in the rounder's reach
@@ -107,6 +107,6 @@ leading-roundable {m} {s} {n} {u} {o} l small most hd =
       whole = ⊎_elim (λ (h : v < u). lt_of_lt_of_le (near (omega arith)) (ten-le n 25 (omega arith)))
           (λ (h : u ≤ v). let e : u - v ≡ 0 = omega arith in rw (e, mul-one m) (lt_of_lt_of_le small (ten-le 15 25 (omega arith))))
           (lt-or-le v u);
-      power = omega (arith, l.underSmall);
+      power = omega (arith, l.under_small);
       decimals = hd;
     }

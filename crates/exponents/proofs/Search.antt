@@ -12,7 +12,7 @@ use Rattle.figures.specs.Rounding.{Magnitude, rounded}
 use Rattle.figures.specs.Powers.{powered}
 use Rattle.figures.proofs.Tens.{ten-le}
 use Rattle.figures.proofs.Rounding.{powered-net}
-use Rattle.exponents.specs.Exponent.{Exponent, under, over, decimal, mantissaAt, leaves, multiple, exponentFrom, exponentOf, mantissaOf}
+use Rattle.exponents.specs.Exponent.{Exponent, under, over, decimal, mantissa_at, leaves, multiple, exponent_from, exponent_of, mantissa_of}
 use Rattle.exponents.specs.Least.{LeastExponent}
 use Rattle.exponents.proofs.Powered.{powered-least, powered-most, powered-step}
 use Rattle.exponents.proofs.Least.{mantissa-powered, leaves-least, leaves-most, leaves_in, leaves-not, least_by}
@@ -67,7 +67,7 @@ module _ (m s n d : ℕ) (pos : 0 < m) (small : m < 10 ^ 15) (scale : s ≤ 15) 
 
   -- the search at the k-th multiple: there the mantissa is at least 1, and at the multiple before it has more than n digits
   record Reached (k : ℕ) : Type 0 where
-    pub least : 10 ^ 15 ≤ mantissaAt x d (multiple n k)
+    pub least : 10 ^ 15 ≤ mantissa_at x d (multiple n k)
     pub before : 10 ^ (15 + n) ≤ rounded (powered m (under (multiple n k) + n) (s + over (multiple n k))) d
 
   reached-start : Reached 0
@@ -79,7 +79,7 @@ module _ (m s n d : ℕ) (pos : 0 < m) (small : m < 10 ^ 15) (scale : s ≤ 15) 
         before = powered-least m (under e + n) (s + over e) n d most (ten-reached m (under e + n) (s + over e + n) pos (omega arith));
       }
 
-  reached-next : (k : ℕ) → 10 ^ (15 + n) ≤ mantissaAt x d (multiple n k) → Reached (suc k)
+  reached-next : (k : ℕ) → 10 ^ (15 + n) ≤ mantissa_at x d (multiple n k) → Reached (suc k)
   reached-next k h =
       let e : Exponent = multiple n k in
       let f : Exponent = multiple n (suc k) in
@@ -91,7 +91,7 @@ module _ (m s n d : ℕ) (pos : 0 < m) (small : m < 10 ^ 15) (scale : s ≤ 15) 
       }
 
   -- at 15 n no more than one digit is left
-  reached-end : mantissaAt x d (multiple n 30) < 10 ^ (15 + n)
+  reached-end : mantissa_at x d (multiple n 30) < 10 ^ (15 + n)
   reached-end =
       let e : Exponent = multiple n 30 in
       let none : under e ≡ 0 = omega (arith, under_at n 30) in
@@ -103,8 +103,8 @@ module _ (m s n d : ℕ) (pos : 0 < m) (small : m < 10 ^ 15) (scale : s ≤ 15) 
   found_at : (k : ℕ) → Reached k → T (leaves x n d (multiple n k)) → LeastExponent x n d (multiple n k)
   found_at k r t = least_by m s n d (multiple n k) (multiple-signed n k one) (multiple-whole n k) t r.before
 
-  found_from : (more k : ℕ) → k + more ≡ 30 → Reached k → LeastExponent x n d (exponentFrom x n d k more)
-  unfolding exponentFrom
+  found_from : (more k : ℕ) → k + more ≡ 30 → Reached k → LeastExponent x n d (exponent_from x n d k more)
+  unfolding exponent_from
   found_from zero k e r =
       let last : k ≡ 30 = omega arith in
       found_at k r (leaves_in x n d (multiple n k) r.least (rw last reached-end))
@@ -114,13 +114,13 @@ module _ (m s n d : ℕ) (pos : 0 < m) (small : m < 10 ^ 15) (scale : s ≤ 15) 
       (λ f. found_from more (suc k) (omega arith) (reached-next k (leaves-not x n d (multiple n k) f r.least)))
 
   -- the exponent is the least multiple of n that leaves 1 to n integer digits after rounding
-  pub exponent-least : LeastExponent x n d (exponentOf x n d)
-  unfolding exponentOf
+  pub exponent-least : LeastExponent x n d (exponent_of x n d)
+  unfolding exponent_of
   exponent-least = rw (ne_eqb m 0 (λ e. omega arith)) (found_from 30 0 refl reached-start)
 
   -- the mantissa has 1 to n integer digits
-  pub mantissa-digits : (10 ^ 15 ≤ mantissaOf x n d) × (mantissaOf x n d < 10 ^ (15 + n))
-  unfolding mantissaOf
+  pub mantissa-digits : (10 ^ 15 ≤ mantissa_of x n d) × (mantissa_of x n d < 10 ^ (15 + n))
+  unfolding mantissa_of
   mantissa-digits =
-      let e : Exponent = exponentOf x n d in
+      let e : Exponent = exponent_of x n d in
       (leaves-least x n d e exponent-least.digits, leaves-most x n d e exponent-least.digits)

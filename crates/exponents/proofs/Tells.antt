@@ -10,14 +10,14 @@ use native.Mathlib.Omega.{arith}
 use borrow.Author.Tests.{leb-true, leb-false, le-leb, lt-leb}
 use lib.Dec.{leb, ltb, eqb}
 use Rattle.figures.specs.Digits.{digit, figures}
-use Rattle.figures.specs.Rounding.{Magnitude, rounded, roundsExactly}
+use Rattle.figures.specs.Rounding.{Magnitude, rounded, rounds_exactly}
 use Rattle.figures.specs.Powers.{powered}
 use Rattle.figures.proofs.Tens.{ten-pos}
 use Rattle.figures.proofs.Filling.{lt-or-le}
 use Rattle.exponents.specs.declared.Scientific.{Scientific}
-use Rattle.exponents.specs.Exponent.{Exponent, decimal, divided_by, mantissaAt, exponentOf, mantissaOf, mantissaExactly}
+use Rattle.exponents.specs.Exponent.{Exponent, decimal, divided_by, mantissa_at, exponent_of, mantissa_of, mantissa_exactly}
 use Rattle.exponents.specs.Least.{LeastExponent}
-use Rattle.exponents.specs.Leading.{exponentBy, Leading, Next}
+use Rattle.exponents.specs.Leading.{exponent_by, Leading, Next}
 use Rattle.exponents.proofs.Powered.{powered-most}
 use Rattle.exponents.proofs.Least.{exponent-unique}
 use Rattle.exponents.proofs.Search.{exponent-least}
@@ -42,11 +42,11 @@ Told r digits exact u o = (r.digits ≡ digits) × (r.exact ≡ exact) × (r.exp
 -- they are the mantissa's and the exponent
 abbrev pub Tells : Magnitude → ℕ → ℕ → List ℕ → Bool → ℕ → Bool → Type 0
 Tells x n d digits exact size below =
-    (digits ≡ figures (mantissaOf x n d))
-    × ((exact ≡ mantissaExactly x n d) × ((size ≡ (exponentOf x n d).size) × (below ≡ (exponentOf x n d).below)))
+    (digits ≡ figures (mantissa_of x n d))
+    × ((exact ≡ mantissa_exactly x n d) × ((size ≡ (exponent_of x n d).size) × (below ≡ (exponent_of x n d).below)))
 
-tells-by : (x : Magnitude) (n d : ℕ) {digits : List ℕ} {exact : Bool} {size : ℕ} {below : Bool} (e : Exponent) (v : ℕ) → exponentOf x n d ≡ e
-    → mantissaOf x n d ≡ v → digits ≡ figures v → exact ≡ mantissaExactly x n d → size ≡ e.size → below ≡ e.below
+tells-by : (x : Magnitude) (n d : ℕ) {digits : List ℕ} {exact : Bool} {size : ℕ} {below : Bool} (e : Exponent) (v : ℕ) → exponent_of x n d ≡ e
+    → mantissa_of x n d ≡ v → digits ≡ figures v → exact ≡ mantissa_exactly x n d → size ≡ e.size → below ≡ e.below
     → Tells x n d digits exact size below
 tells-by x n d e v f g h t i j =
     (h ∙ ap figures (sym g), (t, (i ∙ ap (λ (y : Exponent). y.size) (sym f), j ∙ ap (λ (y : Exponent). y.below) (sym f))))
@@ -57,24 +57,24 @@ nought-tells s n d {m} e f =
     tells-by x n d (record { size = 0; below = false }) 0 (exponent-nought x n d e) (mantissa-nought x n d e (ten-pos s)) f
     (sym (nought-exactly x n d e (ten-pos s))) refl refl
 
-told-tells : (x : Magnitude) (n d u o : ℕ) {r : Scientific} {digits : List ℕ} {exact : Bool} (v : ℕ) → exponentOf x n d ≡ exponentBy u o
-    → mantissaAt x d (exponentBy u o) ≡ v → digits ≡ figures v → exact ≡ roundsExactly (divided_by x (exponentBy u o)) d → Told r digits exact u o
+told-tells : (x : Magnitude) (n d u o : ℕ) {r : Scientific} {digits : List ℕ} {exact : Bool} (v : ℕ) → exponent_of x n d ≡ exponent_by u o
+    → mantissa_at x d (exponent_by u o) ≡ v → digits ≡ figures v → exact ≡ rounds_exactly (divided_by x (exponent_by u o)) d → Told r digits exact u o
     → Tells x n d r.digits r.exact r.exponent r.below
-unfolding mantissaOf mantissaExactly exponentBy
+unfolding mantissa_of mantissa_exactly exponent_by
 told-tells x n d u o v e f g t told =
-    tells-by x n d (exponentBy u o) v e (ap (mantissaAt x d) e ∙ f) (told.0 ∙ g)
-    (told.1 ∙ t ∙ ap (λ (y : Exponent). roundsExactly (divided_by x y) d) (sym e)) told.2 told.3
+    tells-by x n d (exponent_by u o) v e (ap (mantissa_at x d) e ∙ f) (told.0 ∙ g)
+    (told.1 ∙ t ∙ ap (λ (y : Exponent). rounds_exactly (divided_by x y) d) (sym e)) told.2 told.3
 
 module _ {m s n d u o : ℕ} (l : Leading m s n u o) (most : d ≤ 15) where
   pub leading-within : rounded (powered m u (s + o)) d ≤ 10 ^ (15 + n)
   leading-within = powered-most m u (s + o) n d most (omega (arith, l.most))
 
   module _ (pos : 0 < m) (small : m < 10 ^ 15) (scale : s ≤ 15) (one : 1 ≤ n) where
-    pub least-is : {e : Exponent} → LeastExponent (decimal m s) n d e → exponentOf (decimal m s) n d ≡ e
+    pub least-is : {e : Exponent} → LeastExponent (decimal m s) n d e → exponent_of (decimal m s) n d ≡ e
     least-is = exponent-unique (exponent-least m s n d pos small scale one most)
 
     pub found-tells : {r : Scientific} {digits : List ℕ} {exact : Bool} → digits ≡ figures (rounded (powered m u (s + o)) d)
-        → exact ≡ roundsExactly (powered m u (s + o)) d → leb (10 ^ (15 + n)) (rounded (powered m u (s + o)) d) ≡ false → Told r digits exact u o
+        → exact ≡ rounds_exactly (powered m u (s + o)) d → leb (10 ^ (15 + n)) (rounded (powered m u (s + o)) d) ≡ false → Told r digits exact u o
         → Tells (decimal m s) n d r.digits r.exact r.exponent r.below
     found-tells e t f told =
         told-tells (decimal m s) n d u o (rounded (powered m u (s + o)) d) (least-is (found-least d most l (leb-false _ _ f))) (mantissa-by m s n d l.multiple) e

@@ -4,12 +4,12 @@ use Rattle.std.specs.Prelude.{◌≡◌, ℕ, ◌+◌, ◌*◌, ◌%◌, ◌^◌
 use Rattle.exponents.specs.Exponent.{Exponent}
 
 -- the exponent that is so far below 0 or so far above 0
-unfoldable pub exponentBy : ℕ → ℕ → Exponent
-exponentBy under over = record { size = under + over; below = ltb 0 under }
+unfoldable pub exponent_by : ℕ → ℕ → Exponent
+exponent_by under over = record { size = under + over; below = ltb 0 under }
 
 -- it is a multiple of n
 pub record MultipleBy (n under over : ℕ) : Type 0 where
-  pub oneSide : 0 < under → over ≡ 0
+  pub one_side : 0 < under → over ≡ 0
   pub below : under % n ≡ 0
   pub above : over % n ≡ 0
 
@@ -19,8 +19,8 @@ pub record Leading (m s n under over : ℕ) : Type 0 where
   pub least : 10 ^ (s + over) ≤ m * 10 ^ under
   pub most : m * 10 ^ under < 10 ^ (s + over + n)
   -- what the code's numbers hold
-  pub underSmall : under ≤ s + n
-  pub overSmall : over ≤ 14
+  pub under_small : under ≤ s + n
+  pub over_small : over ≤ 14
 
 -- the multiple of n behind it
 pub record Next (n under over under' over' : ℕ) : Type 0 where

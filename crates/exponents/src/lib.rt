@@ -2,10 +2,10 @@
 // further where rounding carries, so that one rounding is enough.
 ghost use Rattle.std.specs.Prelude.{◌≡◌, ℕ, ◌+◌, ◌-◌, ◌^◌, ◌≤◌, ◌<◌, leb, ltb};
 ghost use Rattle.figures.specs.Digits.{figures};
-ghost use Rattle.figures.specs.Rounding.{rounded, roundsExactly};
+ghost use Rattle.figures.specs.Rounding.{rounded, rounds_exactly};
 ghost use Rattle.figures.specs.Powers.{powered};
 ghost use Rattle.figures.specs.Rounder.{Roundable};
-ghost use Rattle.exponents.specs.Exponent.{decimal, exponentOf, mantissaOf, mantissaExactly};
+ghost use Rattle.exponents.specs.Exponent.{decimal, exponent_of, mantissa_of, mantissa_exactly};
 ghost use Rattle.exponents.specs.Leading.{MultipleBy, Leading, Next};
 
 use values::integers::excess;
@@ -69,7 +69,7 @@ fn next_multiple(e: Power, integers: u32) -> Power
 fn rounded_by(m: u64, up: u32, down: u32, decimals: u32, exact: &mut bool) -> [u8; 40]
     requires { Roundable m (up - down) decimals }
     ensures digits { result ≡ figures (rounded (powered m up down) decimals) }
-    ensures exact { exact.new ≡ roundsExactly (powered m up down) decimals }
+    ensures exact { exact.new ≡ rounds_exactly (powered m up down) decimals }
 {
     figures::round(
         [0; 40],
@@ -116,10 +116,10 @@ fn told(digits: [u8; 40], exact: bool, e: Power) -> Scientific
 // m / 10^scale in scientific form, under so many integer places and decimals. What carries is not exact: before it is rounded it is below.
 pub fn round_scientific(m: u64, scale: u32, integers: u32, decimals: u32) -> Scientific
     requires { (m < 10 ^ 15) × (scale ≤ 15) × (1 ≤ integers) × (integers ≤ 20) × (decimals ≤ 15) }
-    ensures mantissa { result.digits ≡ figures (mantissaOf (decimal m scale) integers decimals) }
-    ensures exact { result.exact ≡ mantissaExactly (decimal m scale) integers decimals }
-    ensures size { result.exponent ≡ (exponentOf (decimal m scale) integers decimals).size }
-    ensures sign { result.below ≡ (exponentOf (decimal m scale) integers decimals).below }
+    ensures mantissa { result.digits ≡ figures (mantissa_of (decimal m scale) integers decimals) }
+    ensures exact { result.exact ≡ mantissa_exactly (decimal m scale) integers decimals }
+    ensures size { result.exponent ≡ (exponent_of (decimal m scale) integers decimals).size }
+    ensures sign { result.below ≡ (exponent_of (decimal m scale) integers decimals).below }
 {
     if m == 0 {
         return Scientific {

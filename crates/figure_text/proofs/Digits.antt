@@ -13,32 +13,32 @@ use Rattle.lists.specs.Lists.{any}
 use Rattle.lists.proofs.Apart.{Apart, none_of}
 use Rattle.lists.proofs.Bools.{by_cases, cond_both, cond-case}
 use Rattle.lists.proofs.Tables.{value-at}
-use Rattle.figures.specs.Digits.{digit, digitUnit, figures}
-use Rattle.figures.specs.Places.{placesUsed}
+use Rattle.figures.specs.Digits.{digit, digit_unit, figures}
+use Rattle.figures.specs.Places.{places_used}
 use Rattle.figures.proofs.Digits.{figures-at}
 use Rattle.figures.proofs.Places.{div-zero-digit, mod-lower, mod-zero-next, mod-zero-digit, used-test, used-most}
-use Rattle.formats.specs.Tokens.{zeroPlace, hashPlace, spacePlace}
-use Rattle.formats.specs.Text.{Context, insignificant, idleUnits, endsGroup, withSeparator, figureUnits}
+use Rattle.formats.specs.Tokens.{zero_place, hash_place, space_place}
+use Rattle.formats.specs.Text.{Context, insignificant, idle_units, ends_group, with_separator, figure_units}
 use Rattle.writing.specs.Put.{Put}
 use Rattle.writing.proofs.Laws.{put-put}
 use Rattle.figure_text.specs.declared.Figures.{Figures}
-use Rattle.figure_text.specs.Shown.{FiguresAre, figuresWith, placeOfTag, separated}
+use Rattle.figure_text.specs.Shown.{FiguresAre, figures_with, place_of_tag, separated}
 
 -- nothing shows nothing, with a separator or without
 pub nothing-shows : (g : Bool) (q : ℕ) → separated g q [] ≡ []
-unfolding withSeparator
-nothing-shows g q = cond_both (λ (us : List ℕ). us ≡ []) (g && endsGroup q) refl refl
+unfolding with_separator
+nothing-shows g q = cond_both (λ (us : List ℕ). us ≡ []) (g && ends_group q) refl refl
 
 -- the figures that `figures_of` makes are those of every context with this number, these integer places and this grouping
 pub figures-are : {f : Figures} (digits : List ℕ) (c : Context)
-    → f ≡ figuresWith digits c.integerPlaces c.grouped → digits ≡ figures c.figures → c.figures < 10 ^ 40 → c.integerPlaces ≤ 25
+    → f ≡ figures_with digits c.integer_places c.grouped → digits ≡ figures c.figures → c.figures < 10 ^ 40 → c.integer_places ≤ 25
     → FiguresAre digits f c
-unfolding figuresWith
+unfolding figures_with
 figures-are digits c e d h p = record {
   number = d;
   small = h;
   places = p;
-  used = ap (λ (g : Figures). g.used) e ∙ ap (placesUsed 40) d;
+  used = ap (λ (g : Figures). g.used) e ∙ ap (places_used 40) d;
   first = ap (λ (g : Figures). g.first) e;
   grouped = ap (λ (g : Figures). g.grouped) e;
 }
@@ -82,25 +82,25 @@ module _ {digits : List ℕ} {f : Figures} {c : Context} (are : FiguresAre digit
 
   -- what a place shows, z and h telling whether it is a `0` and whether a `#`: `0` shows each digit as it is
   figure-shows : (z h : Bool) (q : ℕ) → q < 40
-      → figureUnits c.figures c.grouped (cond z zeroPlace (cond h hashPlace spacePlace)) q
-      ≡ separated f.grouped q (cond (not z && insignificant c.figures q) (cond h [] (32 ∷ [])) (digitUnit (get_or digits q 0) ∷ []))
-  unfolding figureUnits idleUnits
+      → figure_units c.figures c.grouped (cond z zero_place (cond h hash_place space_place)) q
+      ≡ separated f.grouped q (cond (not z && insignificant c.figures q) (cond h [] (32 ∷ [])) (digit_unit (get_or digits q 0) ∷ []))
+  unfolding figure_units idle_units
   figure-shows true h q l =
       rw (are.grouped, digit-is c.figures are.number q l)
       (ap (separated c.grouped q)
-      (cond-case (λ (us : List ℕ). us ≡ digitUnit (digit c.figures q) ∷ []) (insignificant c.figures q)
-      (λ t. ap (λ (d : ℕ). digitUnit d ∷ []) (sym (idle-digit c.figures q t)))
+      (cond-case (λ (us : List ℕ). us ≡ digit_unit (digit c.figures q) ∷ []) (insignificant c.figures q)
+      (λ t. ap (λ (d : ℕ). digit_unit d ∷ []) (sym (idle-digit c.figures q t)))
       (λ t. refl)))
   figure-shows false true q l = rw (are.grouped, digit-is c.figures are.number q l)
   figure-shows false false q l = rw (are.grouped, digit-is c.figures are.number q l)
 
   module _ (t q : ℕ) {r : Bool} (h : q < 40) (e : r ≡ not (eqb t 4) && insignificant c.figures q) where
-    pub figure-idle : r ≡ true → figureUnits c.figures c.grouped (placeOfTag t) q ≡ separated f.grouped q (cond (eqb t 5) [] (32 ∷ []))
-    unfolding placeOfTag
+    pub figure-idle : r ≡ true → figure_units c.figures c.grouped (place_of_tag t) q ≡ separated f.grouped q (cond (eqb t 5) [] (32 ∷ []))
+    unfolding place_of_tag
     figure-idle i = figure-shows (eqb t 4) (eqb t 5) q h ∙ rw (sym e ∙ i)
 
-    pub figure-digit : r ≡ false → figureUnits c.figures c.grouped (placeOfTag t) q ≡ separated f.grouped q (digitUnit (get_or digits q 0) ∷ [])
-    unfolding placeOfTag
+    pub figure-digit : r ≡ false → figure_units c.figures c.grouped (place_of_tag t) q ≡ separated f.grouped q (digit_unit (get_or digits q 0) ∷ [])
+    unfolding place_of_tag
     figure-digit i = figure-shows (eqb t 4) (eqb t 5) q h ∙ rw (sym e ∙ i)
 
 -- a piece by another name
@@ -108,24 +108,24 @@ pub put_as : {l o p q : List ℕ} {at r : ℕ} → q ≡ p → Put l at p r o �
 put_as e x = rw e x
 
 -- a unit, with a separator behind it and without
-module _ (g : Bool) (q : ℕ) {x : Bool} (e : x ≡ endsGroup q) where
+module _ (g : Bool) (q : ℕ) {x : Bool} (e : x ≡ ends_group q) where
   pub put-plain : {l o us : List ℕ} {at r : ℕ} → g && x ≡ false → Put l at us r o → Put l at (separated g q us) r o
   put-plain t y = rw (← e, t) y
 
   pub put-grouped : {l m o : List ℕ} {at a r u s : ℕ} → g && x ≡ true → s ≡ cond (eqb u 32) 32 44
       → Put l at (u ∷ []) a m → Put m a (s ∷ []) r o → Put l at (separated g q (u ∷ [])) r o
-  unfolding withSeparator
+  unfolding with_separator
   put-grouped t k y z = rw (← e, t, ← k) (put-put y z)
 
 -- the ends of groups among the forty places
-abbrev groupEnds : List ℕ
-groupEnds = 18 ∷ 21 ∷ 24 ∷ 27 ∷ 30 ∷ 33 ∷ 36 ∷ 39 ∷ []
+abbrev group_ends : List ℕ
+group_ends = 18 ∷ 21 ∷ 24 ∷ 27 ∷ 30 ∷ 33 ∷ 36 ∷ 39 ∷ []
 
-pub no_end : (q : ℕ) → q < 40 → Apart (Unit {0}) q groupEnds → false ≡ endsGroup q
-unfolding endsGroup any
+pub no_end : (q : ℕ) → q < 40 → Apart (Unit {0}) q group_ends → false ≡ ends_group q
+unfolding ends_group any
 no_end q h a =
-    let told : ◌≡◌ {A = ℕ} (cond (endsGroup q) 1 0) (cond (any (eqb q) groupEnds) 1 0) =
-    sym (value-at (λ (k : ℕ). cond (endsGroup k) 1 0) 40 q h) ∙ value-at (λ (k : ℕ). cond (any (eqb k) groupEnds) 1 0) 40 q h in
-    by_cases (endsGroup q)
-    (λ t. let z : ◌≡◌ {A = ℕ} 1 0 = rw (t, none_of (Unit {0}) q groupEnds a) at told in absurd (omega arith))
+    let told : ◌≡◌ {A = ℕ} (cond (ends_group q) 1 0) (cond (any (eqb q) group_ends) 1 0) =
+    sym (value-at (λ (k : ℕ). cond (ends_group k) 1 0) 40 q h) ∙ value-at (λ (k : ℕ). cond (any (eqb k) group_ends) 1 0) 40 q h in
+    by_cases (ends_group q)
+    (λ t. let z : ◌≡◌ {A = ℕ} 1 0 = rw (t, none_of (Unit {0}) q group_ends a) at told in absurd (omega arith))
     sym

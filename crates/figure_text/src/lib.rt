@@ -1,10 +1,10 @@
 // Writes a number's figures into a lent room, placeholder by placeholder. A store past the room's end is dropped.
 ghost use Rattle.std.specs.Prelude.{◌≡◌, cond, not, ◌&&◌, [], ◌∷◌, ℕ, suc, ◌+◌, ◌-◌, ◌/◌, ◌%◌, ◌^◌, ◌≤◌, ◌<◌, eqb, take};
-ghost use Rattle.figures.specs.Digits.{figures, digitUnits};
-ghost use Rattle.figures.specs.General.{pointed, generalUnits};
-ghost use Rattle.formats.specs.Text.{Context, insignificant, endsGroup, figureUnits, extraUnits, placeUnits, pointUnits};
+ghost use Rattle.figures.specs.Digits.{figures, digit_units};
+ghost use Rattle.figures.specs.General.{pointed, general_units};
+ghost use Rattle.formats.specs.Text.{Context, insignificant, ends_group, figure_units, extra_units, place_units, point_units};
 ghost use Rattle.writing.specs.Put.{Put};
-ghost use Rattle.figure_text.specs.Shown.{FiguresAre, placeOfTag, separated, firstPlace, figuresWith, unitsBefore};
+ghost use Rattle.figure_text.specs.Shown.{FiguresAre, place_of_tag, separated, first_place, figures_with, units_before};
 
 use tables::tags;
 use values::integers;
@@ -28,7 +28,7 @@ pub struct Figures {
 
 // The place of the digit that the first of so many integer places shows.
 fn first_place(integers: u32) -> usize
-    ensures { result ≡ firstPlace integers }
+    ensures { result ≡ first_place integers }
 {
     if integers == 0 {
         return NO_PLACE;
@@ -38,7 +38,7 @@ fn first_place(integers: u32) -> usize
 
 // The figures of a section: those of every context with this number, these integer places and this grouping (`figures-are`).
 pub fn figures_of(digits: [u8; 40], integers: u32, grouped: bool) -> Figures
-    ensures made { result ≡ figuresWith digits integers grouped }
+    ensures made { result ≡ figures_with digits integers grouped }
     ensures most { result.used ≤ 40 }
 {
     Figures {
@@ -80,7 +80,7 @@ fn is_idle(digits: &[u8; 40], f: Figures, place: u16, q: usize) -> bool
 // Whether the digit at q is that of 10^3, 10^6 and so on. (An arm for each: the test is then of one bit.)
 fn ends_group(q: usize) -> bool
     requires { q < 40 }
-    ensures { result ≡ endsGroup q }
+    ensures { result ≡ ends_group q }
 {
     match q {
         18 => true,
@@ -142,7 +142,7 @@ fn put_figure(
     requires { (at + 2 < 2 ^ 63) × (q < 40) }
     ensures within { result ≤ at + 2 }
     ensures put { (c : Context) → FiguresAre digits.now f c
-        → Put room.old at (figureUnits c.figures c.grouped (placeOfTag place) q) result room.new }
+        → Put room.old at (figure_units c.figures c.grouped (place_of_tag place) q) result room.new }
 {
     if is_idle(digits, f, place, q) {
         return put_idle(room, at, place, f.grouped, q);
@@ -155,7 +155,7 @@ fn put_extra(room: &mut [u16], at: usize, digits: &[u8; 40], f: Figures, q: usiz
     requires { (at < 2 ^ 62) × (f.used ≤ 40) }
     ensures within { result ≤ at + 80 }
     ensures put { (c : Context) → FiguresAre digits.now f c → 15 ≤ q → q ≤ 40
-        → Put room.old at (extraUnits c.figures c.grouped q (40 - q)) result room.new }
+        → Put room.old at (extra_units c.figures c.grouped q (40 - q)) result room.new }
 {
     let mut k = f.used;
     let mut o = at;
@@ -170,7 +170,7 @@ fn put_extra(room: &mut [u16], at: usize, digits: &[u8; 40], f: Figures, q: usiz
 fn put_before(room: &mut [u16], at: usize, digits: &[u8; 40], f: Figures, q: usize) -> usize
     requires { (at < 2 ^ 62) × (f.used ≤ 40) × (q < 40) }
     ensures within { result ≤ at + 80 }
-    ensures put { (c : Context) → FiguresAre digits.now f c → Put room.old at (unitsBefore c q) result room.new }
+    ensures put { (c : Context) → FiguresAre digits.now f c → Put room.old at (units_before c q) result room.new }
 {
     if q == f.first {
         return put_extra(room, at, digits, f, q + 1);
@@ -190,7 +190,7 @@ pub fn put_place(
     requires { (at < 2 ^ 62) × (f.used ≤ 40) × (q < 40) }
     ensures within { result ≤ at + 82 }
     ensures put { (c : Context) → FiguresAre digits.now f c
-        → Put room.old at (placeUnits c (placeOfTag place) q) result room.new }
+        → Put room.old at (place_units c (place_of_tag place) q) result room.new }
 {
     let a = put_before(room, at, digits, f, q);
     put_figure(room, a, digits, f, place, q)
@@ -200,7 +200,7 @@ pub fn put_place(
 pub fn put_point(room: &mut [u16], at: usize, digits: &[u8; 40], f: Figures) -> usize
     requires { (at < 2 ^ 62) × (f.used ≤ 40) }
     ensures within { result ≤ at + 81 }
-    ensures put { (c : Context) → FiguresAre digits.now f c → Put room.old at (pointUnits c) result room.new }
+    ensures put { (c : Context) → FiguresAre digits.now f c → Put room.old at (point_units c) result room.new }
 {
     if f.first == NO_PLACE {
         let a = put_extra(room, at, digits, f, UNITS_PLACE);
@@ -214,7 +214,7 @@ fn put_run(room: &mut [u16], at: usize, digits: &[u8; 40], high: usize, low: usi
     requires { (at < 2 ^ 62 + 50) × (high ≤ 40) }
     ensures within { result ≤ at + 40 }
     ensures put { (n : ℕ) → digits.now ≡ figures n
-        → Put room.old at (digitUnits (high - low) (n / 10 ^ low)) result room.new }
+        → Put room.old at (digit_units (high - low) (n / 10 ^ low)) result room.new }
 {
     let mut k = high;
     let mut o = at;
@@ -230,7 +230,7 @@ fn put_decimals(room: &mut [u16], at: usize, digits: &[u8; 40], lowest: usize) -
     requires { at < 2 ^ 62 + 49 }
     ensures within { result ≤ at + 41 }
     ensures put { (n : ℕ) → digits.now ≡ figures n
-        → Put room.old at (pointed (take (15 - lowest) (digitUnits 15 n))) result room.new }
+        → Put room.old at (pointed (take (15 - lowest) (digit_units 15 n))) result room.new }
 {
     if lowest < UNITS_PLACE {
         let a = put_unit(room, at, units::POINT);
@@ -243,7 +243,7 @@ fn put_decimals(room: &mut [u16], at: usize, digits: &[u8; 40], lowest: usize) -
 pub fn put_general(room: &mut [u16], at: usize, digits: &[u8; 40], f: Figures) -> usize
     requires { (at < 2 ^ 62) × (f.used ≤ 40) }
     ensures within { result ≤ at + 81 }
-    ensures put { (c : Context) → FiguresAre digits.now f c → Put room.old at (generalUnits c.figures) result room.new }
+    ensures put { (c : Context) → FiguresAre digits.now f c → Put room.old at (general_units c.figures) result room.new }
 {
     let a = put_run(
         room,

@@ -12,9 +12,9 @@ use lib.Dec.{leb}
 use lib.ListN.{get_or, length}
 use lib.Seq.{ext_get_or}
 use Rattle.lists.proofs.Bools.{cond-case}
-use Rattle.figures.specs.Digits.{digit, figures, digitUnits, widthUpTo, width}
+use Rattle.figures.specs.Digits.{digit, figures, digit_units, width_up_to, width}
 use Rattle.lists.specs.Tables.{values}
-use Rattle.figures.specs.Reading.{digitsValue}
+use Rattle.figures.specs.Reading.{digits_value}
 use Rattle.figures.proofs.Tens.{ten-pos, ten-le, shift_one}
 use Rattle.lists.proofs.Tables.{value-at, values_length}
 
@@ -61,80 +61,80 @@ pub figures-ext : (l : List ℕ) (n : ℕ) → length l ≡ 40 → ((j : ℕ) �
 figures-ext l n e p =
     ext_get_or 0 l (figures n) (e ∙ sym (figures-length n)) (λ j h. p j (omega arith) ∙ sym (figures-at n j (omega arith)))
 
-pub digitUnits-length : (m n : ℕ) → length (digitUnits m n) ≡ m
-unfolding digitUnits
-digitUnits-length zero n = refl
-digitUnits-length (suc m) n = ap suc (digitUnits-length m n)
+pub digit_units-length : (m n : ℕ) → length (digit_units m n) ≡ m
+unfolding digit_units
+digit_units-length zero n = refl
+digit_units-length (suc m) n = ap suc (digit_units-length m n)
 
 -- the digits read back as the number, once over the number of places: the digits from 10^k on, m of them
 regroup : (d v p r : ℕ) → (d + 10 * v) * p + r ≡ v * (p * 10) + (d * p + r)
 regroup d v p r = omega arith
 
-values-value : (n m k : ℕ) → digitsValue (values (digit n) k m) * 10 ^ k + n % 10 ^ k ≡ n % 10 ^ (k + m)
-unfolding digitsValue
+values-value : (n m k : ℕ) → digits_value (values (digit n) k m) * 10 ^ k + n % 10 ^ k ≡ n % 10 ^ (k + m)
+unfolding digits_value
 values-value n zero k = rw (zero-mul, zero-add, add-zero)
 values-value n (suc m) k =
-    let v : ℕ = digitsValue (values (digit n) (suc k) m) in
+    let v : ℕ = digits_value (values (digit n) (suc k) m) in
     regroup (digit n k) v (10 ^ k) (n % 10 ^ k)
     ∙ ap₂ (λ (x y : ℕ). v * x + y) (sym (pow-suc 10 k)) (sym (mod-next n k))
     ∙ values-value n m (suc k)
     ∙ ap (λ (x : ℕ). n % 10 ^ x) (suc-add k m ∙ sym (add-suc k m))
 
-pub values-read : (n m : ℕ) → digitsValue (values (digit n) 0 m) ≡ n % 10 ^ m
+pub values-read : (n m : ℕ) → digits_value (values (digit n) 0 m) ≡ n % 10 ^ m
 values-read n m =
-    let e : digitsValue (values (digit n) 0 m) * 1 + n % 1 ≡ n % 10 ^ (0 + m) = values-value n m 0 in
+    let e : digits_value (values (digit n) 0 m) * 1 + n % 1 ≡ n % 10 ^ (0 + m) = values-value n m 0 in
     let f : 0 + m ≡ m = omega arith in
     omega (arith, mod-one n, e, ap (λ (x : ℕ). n % 10 ^ x) f)
 
-pub figures-read : (n : ℕ) → n < 10 ^ 40 → digitsValue (figures n) ≡ n
+pub figures-read : (n : ℕ) → n < 10 ^ 40 → digits_value (figures n) ≡ n
 unfolding figures
 figures-read n h = values-read n 40 ∙ mod-eq_of_lt h
 
 -- the number of digits
-widthUpTo-least : (k n : ℕ) → 1 ≤ widthUpTo k n
-unfolding widthUpTo
-widthUpTo-least zero n = omega arith
-widthUpTo-least (suc k) n =
-    cond-case (λ (w : ℕ). 1 ≤ w) (leb (10 ^ suc k) n) (λ e. omega arith) (λ e. widthUpTo-least k n)
+width_up_to-least : (k n : ℕ) → 1 ≤ width_up_to k n
+unfolding width_up_to
+width_up_to-least zero n = omega arith
+width_up_to-least (suc k) n =
+    cond-case (λ (w : ℕ). 1 ≤ w) (leb (10 ^ suc k) n) (λ e. omega arith) (λ e. width_up_to-least k n)
 
-widthUpTo-most : (k n : ℕ) → widthUpTo k n ≤ suc k
-unfolding widthUpTo
-widthUpTo-most zero n = omega arith
-widthUpTo-most (suc k) n =
-    let ih = widthUpTo-most k n in
+width_up_to-most : (k n : ℕ) → width_up_to k n ≤ suc k
+unfolding width_up_to
+width_up_to-most zero n = omega arith
+width_up_to-most (suc k) n =
+    let ih = width_up_to-most k n in
     cond-case (λ (w : ℕ). w ≤ suc (suc k)) (leb (10 ^ suc k) n) (λ e. omega arith) (λ e. omega arith)
 
-widthUpTo-above : (k n : ℕ) → n < 10 ^ suc k → n < 10 ^ widthUpTo k n
-unfolding widthUpTo
-widthUpTo-above zero n h = h
-widthUpTo-above (suc k) n h =
-    cond-case (λ (w : ℕ). n < 10 ^ w) (leb (10 ^ suc k) n) (λ e. h) (λ e. widthUpTo-above k n (leb-false (10 ^ suc k) n e))
+width_up_to-above : (k n : ℕ) → n < 10 ^ suc k → n < 10 ^ width_up_to k n
+unfolding width_up_to
+width_up_to-above zero n h = h
+width_up_to-above (suc k) n h =
+    cond-case (λ (w : ℕ). n < 10 ^ w) (leb (10 ^ suc k) n) (λ e. h) (λ e. width_up_to-above k n (leb-false (10 ^ suc k) n e))
 
-widthUpTo-below : (k n : ℕ) → 1 < widthUpTo k n → 10 ^ (widthUpTo k n - 1) ≤ n
-unfolding widthUpTo
-widthUpTo-below zero n h = absurd (omega arith)
-widthUpTo-below (suc k) n h =
+width_up_to-below : (k n : ℕ) → 1 < width_up_to k n → 10 ^ (width_up_to k n - 1) ≤ n
+unfolding width_up_to
+width_up_to-below zero n h = absurd (omega arith)
+width_up_to-below (suc k) n h =
     cond-case (λ (w : ℕ). 1 < w → 10 ^ (w - 1) ≤ n) (leb (10 ^ suc k) n)
     (λ e h. rw (suc-sub-suc, sub-zero) (leb-true (10 ^ suc k) n e))
-    (λ e h. widthUpTo-below k n h)
+    (λ e h. width_up_to-below k n h)
     h
 
 module _ (n : ℕ) where
   pub width-least : 1 ≤ width n
   unfolding width
-  width-least = widthUpTo-least 24 n
+  width-least = width_up_to-least 24 n
 
   pub width-most : width n ≤ 25
   unfolding width
-  width-most = widthUpTo-most 24 n
+  width-most = width_up_to-most 24 n
 
   pub width_above : n < 10 ^ 25 → n < 10 ^ width n
   unfolding width
-  width_above h = widthUpTo-above 24 n h
+  width_above h = width_up_to-above 24 n h
 
   pub width-below : 1 < width n → 10 ^ (width n - 1) ≤ n
   unfolding width
-  width-below h = widthUpTo-below 24 n h
+  width-below h = width_up_to-below 24 n h
 
   -- no more digits than the power has that it is below
   pub width-within : (w : ℕ) → 1 ≤ w → n < 10 ^ w → width n ≤ w

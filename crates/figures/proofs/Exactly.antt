@@ -9,8 +9,8 @@ use borrow.Author.Tests.{eqb-true, eqb-false, eq-eqb, ne_eqb}
 use lib.Pow.{pow-add}
 use lib.Dec.{eqb}
 use Rattle.lists.proofs.Bools.{by_cases}
-use Rattle.figures.specs.Rounding.{Magnitude, nearest, rounded, roundsExactly}
-use Rattle.figures.specs.General.{generalDecimals, generalRounded, generalExactly}
+use Rattle.figures.specs.Rounding.{Magnitude, nearest, rounded, rounds_exactly}
+use Rattle.figures.specs.General.{general_decimals, general_rounded, general_exactly}
 use Rattle.figures.specs.Powers.{powered}
 use Rattle.figures.proofs.Tens.{ten-pos, ten-split}
 use Rattle.figures.proofs.Rounding.{nearest-up, nearest-down, powered-net, rounded-divided, rounded-exact, nearest-far, power_pos}
@@ -28,8 +28,8 @@ eqb-scale a b k h = eqb_same (eq_of_mul-eq-mul_right k h a b) (ap (λ (x : ℕ).
 
 -- only the rounded number and the number count: two magnitudes of one value that round to one number are both exact or neither
 pub exactly-same : (x y : Magnitude) (d e : ℕ) → 0 < x.below → 0 < y.below → x.above * y.below ≡ y.above * x.below
-    → rounded x d ≡ rounded y e → roundsExactly x d ≡ roundsExactly y e
-unfolding roundsExactly
+    → rounded x d ≡ rounded y e → rounds_exactly x d ≡ rounds_exactly y e
+unfolding rounds_exactly
 exactly-same x y d e posx posy value same =
     let n : ℕ = rounded y e in
     let t : ℕ = 10 ^ 15 in
@@ -40,16 +40,16 @@ exactly-same x y d e posx posy value same =
     ∙ eqb-scale (n * y.below) (y.above * t) x.below posx
 
 -- decimals that round alike are exact alike
-pub decimals-same : (x : Magnitude) (d e : ℕ) → rounded x d ≡ rounded x e → roundsExactly x d ≡ roundsExactly x e
-unfolding roundsExactly
+pub decimals-same : (x : Magnitude) (d e : ℕ) → rounded x d ≡ rounded x e → rounds_exactly x d ≡ rounds_exactly x e
+unfolding rounds_exactly
 decimals-same x d e = ap (λ (r : ℕ). eqb (r * x.below) (x.above * 10 ^ 15))
 
-pub general-same : (x : Magnitude) (d : ℕ) → rounded x d ≡ generalRounded x → roundsExactly x d ≡ generalExactly x
-unfolding generalRounded generalExactly
-general-same x d = decimals-same x d (generalDecimals x)
+pub general-same : (x : Magnitude) (d : ℕ) → rounded x d ≡ general_rounded x → rounds_exactly x d ≡ general_exactly x
+unfolding general_rounded general_exactly
+general-same x d = decimals-same x d (general_decimals x)
 
 -- only the net power of ten counts
-pub exactly-net : (m u v w z d : ℕ) → u + z ≡ w + v → roundsExactly (powered m u v) d ≡ roundsExactly (powered m w z) d
+pub exactly-net : (m u v w z d : ℕ) → u + z ≡ w + v → rounds_exactly (powered m u v) d ≡ rounds_exactly (powered m w z) d
 unfolding powered
 exactly-net m u v w z d e =
     let times : (i j : ℕ) → m * 10 ^ i * 10 ^ j ≡ m * 10 ^ (i + j) =
@@ -60,8 +60,8 @@ exactly-net m u v w z d e =
 module _ (m up down d : ℕ) (most : d ≤ 15) where
   -- where digits go, as the quotient by a power of ten
   pub exactly-divided : up + d ≤ down
-      → eqb (nearest m (10 ^ (down - (up + d))) * 10 ^ (down - (up + d))) m ≡ roundsExactly (powered m up down) d
-  unfolding roundsExactly powered
+      → eqb (nearest m (10 ^ (down - (up + d))) * 10 ^ (down - (up + d))) m ≡ rounds_exactly (powered m up down) d
+  unfolding rounds_exactly powered
   exactly-divided h =
       let k : ℕ = down - (up + d) in
       let q : ℕ = nearest m (10 ^ k) in
@@ -75,8 +75,8 @@ module _ (m up down d : ℕ) (most : d ≤ 15) where
       sym (eqb-scale (q * 10 ^ k) m f (ten-pos (up + 15))) ∙ ap₂ eqb left right
 
   -- where none goes
-  pub exactly-kept : down ≤ up + d → true ≡ roundsExactly (powered m up down) d
-  unfolding roundsExactly powered
+  pub exactly-kept : down ≤ up + d → true ≡ rounds_exactly (powered m up down) d
+  unfolding rounds_exactly powered
   exactly-kept h =
       sym
       (eq-eqb _ _

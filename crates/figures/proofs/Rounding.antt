@@ -74,8 +74,8 @@ half-unit x d pos h =
     let bound = nearest-bound a b pos in
     record {
       whole = mul-mod_left q p;
-      notAbove = rw (← e) (grow-above q b a p bound.0);
-      notBelow = rw (← e) (grow-below q b a p (ten-pos (15 - d)) bound.1);
+      not_above = rw (← e) (grow-above q b a p bound.0);
+      not_below = rw (← e) (grow-below q b a p (ten-pos (15 - d)) bound.1);
     }
 
 -- rounding depends on the ratio only

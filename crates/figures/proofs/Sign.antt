@@ -17,22 +17,22 @@ use Rattle.figures.specs.declared.Taken.TheVariants as answer
 use Rattle.figures.specs.declared.Signed.{Signed}
 use Rattle.figures.specs.declared.Taken.{Taken}
 use Rattle.figures.specs.Sign.{signed_of, taken_of}
-use Rattle.values.specs.Ranges.{numberInRange}
+use Rattle.values.specs.Ranges.{number_in_range}
 use Rattle.lists.proofs.Bools.{cond-case, and_left, and_right, true-T}
 
-mag-natAbs : (z : ℤ) {H : ℕ} → nat_abs z < H → mag z < H
-mag-natAbs (pos n) h = h
-mag-natAbs (negsuc n) h = omega arith
+mag-nat_abs : (z : ℤ) {H : ℕ} → nat_abs z < H → mag z < H
+mag-nat_abs (pos n) h = h
+mag-nat_abs (negsuc n) h = omega arith
 
 mag-negℤ : (z : ℤ) {H : ℕ} → nat_abs z < H → mag (neg_ℤ z) < H
 mag-negℤ (pos zero) h = h
 mag-negℤ (pos (suc n)) h = omega arith
 mag-negℤ (negsuc n) h = h
 
-pub natAbs-negℤ : (z : ℤ) → nat_abs (neg_ℤ z) ≡ nat_abs z
-natAbs-negℤ (pos zero) = refl
-natAbs-negℤ (pos (suc n)) = refl
-natAbs-negℤ (negsuc n) = refl
+pub nat_abs-negℤ : (z : ℤ) → nat_abs (neg_ℤ z) ≡ nat_abs z
+nat_abs-negℤ (pos zero) = refl
+nat_abs-negℤ (pos (suc n)) = refl
+nat_abs-negℤ (negsuc n) = refl
 
 pub below-zero : (z : ℤ) → lt_z z (pos 0) ≡ true → T (non_neg (neg_ℤ z))
 below-zero (pos n) e = absurd (omega (arith, ltb-true n 0 e))
@@ -44,7 +44,7 @@ not-below-zero (negsuc n) e = let q : ◌≡◌ {A = ℕ} 0 1 = cc in absurd (om
 
 module _ (w : Width) (z : ℤ) (h : nat_abs z < 2 ^ hbits w) where
   pub back : to_z w (of_z w z) ≡ z
-  back = to_z-of_z (record { sfits = mag-natAbs z h })
+  back = to_z-of_z (record { sfits = mag-nat_abs z h })
 
   -- what `-z` asks
   pub minus-fits : SFits w (pos 0 -ℤ to_z w (of_z w z))
@@ -86,21 +86,21 @@ module _ (x : Number) where
   coefficient-out e = rw e refl
 
   -- what the answer says to a caller
-  pub in-says : (s : Signed) → taken_of x ≡ answer.In s → (numberInRange x ≡ true) × (s ≡ signed_of x)
+  pub in-says : (s : Signed) → taken_of x ≡ answer.In s → (number_in_range x ≡ true) × (s ≡ signed_of x)
   unfolding taken_of
   in-says s =
-      cond-case (λ (t : Taken). t ≡ answer.In s → (numberInRange x ≡ true) × (s ≡ signed_of x)) (numberInRange x)
+      cond-case (λ (t : Taken). t ≡ answer.In s → (number_in_range x ≡ true) × (s ≡ signed_of x)) (number_in_range x)
       (λ b e. let q : s ≡ signed_of x = cc in (b, q))
       (λ b e. let z : ◌≡◌ {A = ℕ} 0 1 = cc in absurd (omega arith))
 
-  pub out-says : taken_of x ≡ answer.OutOfRange → numberInRange x ≡ false
+  pub out-says : taken_of x ≡ answer.OutOfRange → number_in_range x ≡ false
   unfolding taken_of
   out-says =
-      cond-case (λ (t : Taken). t ≡ answer.OutOfRange → numberInRange x ≡ false) (numberInRange x)
+      cond-case (λ (t : Taken). t ≡ answer.OutOfRange → number_in_range x ≡ false) (number_in_range x)
       (λ b e. let z : ◌≡◌ {A = ℕ} 0 1 = cc in absurd (omega arith))
       (λ b e. b)
 
-  pub range-says : numberInRange x ≡ true → ((signed_of x).magnitude < 10 ^ 15) × ((signed_of x).scale ≤ 15)
+  pub range-says : number_in_range x ≡ true → ((signed_of x).magnitude < 10 ^ 15) × ((signed_of x).scale ≤ 15)
   unfolding signed_of
   range-says e =
       let t = true-T e in (

@@ -9,5 +9,5 @@ use Rattle.figures.specs.Rounding.{Magnitude}
 -- The bounds are times 2 * below * 10^15, so that they are said of naturals: n / 10^15 against above / below, the unit 10^(15 - d).
 pub record Near (x : Magnitude) (d n : ℕ) : Type 0 where
   pub whole : n % 10 ^ (15 - d) ≡ 0
-  pub notAbove : 2 * (n * x.below) ≤ 2 * (x.above * 10 ^ 15) + x.below * 10 ^ (15 - d)
-  pub notBelow : 2 * (x.above * 10 ^ 15) < 2 * (n * x.below) + x.below * 10 ^ (15 - d)
+  pub not_above : 2 * (n * x.below) ≤ 2 * (x.above * 10 ^ 15) + x.below * 10 ^ (15 - d)
+  pub not_below : 2 * (x.above * 10 ^ 15) < 2 * (n * x.below) + x.below * 10 ^ (15 - d)

@@ -13,23 +13,23 @@ unfoldable pub figures : ℕ → List ℕ
 figures n = values (digit n) 0 40
 
 -- the unit that shows a digit
-abbrev pub digitUnit : ℕ → ℕ
-digitUnit d = 48 + d
+abbrev pub digit_unit : ℕ → ℕ
+digit_unit d = 48 + d
 
 -- the m lowest digits of n as units, the highest first
-unfoldable pub digitUnits : ℕ → ℕ → List ℕ
-digitUnits zero n = []
-digitUnits (suc m) n = digitUnit (digit n m) ∷ digitUnits m n
+unfoldable pub digit_units : ℕ → ℕ → List ℕ
+digit_units zero n = []
+digit_units (suc m) n = digit_unit (digit n m) ∷ digit_units m n
 
 -- how many digits n has when it is written out, at least 1; k + 1 is the most that is looked for
-unfoldable pub widthUpTo : ℕ → ℕ → ℕ
-widthUpTo zero n = 1
-widthUpTo (suc k) n = let r = widthUpTo k n in cond (leb (10 ^ suc k) n) (suc (suc k)) r
+unfoldable pub width_up_to : ℕ → ℕ → ℕ
+width_up_to zero n = 1
+width_up_to (suc k) n = let r = width_up_to k n in cond (leb (10 ^ suc k) n) (suc (suc k)) r
 
 -- no number shown has more than 25 digits before its point
 unfoldable pub width : ℕ → ℕ
-width n = widthUpTo 24 n
+width n = width_up_to 24 n
 
 -- n in digits, with zeros in front up to a least number of digits; a longer number is shown whole
 unfoldable pub numeral : ℕ → ℕ → List ℕ
-numeral least n = digitUnits (max least (width n)) n
+numeral least n = digit_units (max least (width n)) n

@@ -3,6 +3,6 @@
 use Rattle.std.specs.Prelude.{ℕ, ◌+◌, ◌*◌, List, [], ◌∷◌}
 
 -- the number that digits are, the lowest first
-unfoldable pub digitsValue : List ℕ → ℕ
-digitsValue [] = 0
-digitsValue (d ∷ ds) = d + 10 * digitsValue ds
+unfoldable pub digits_value : List ℕ → ℕ
+digits_value [] = 0
+digits_value (d ∷ ds) = d + 10 * digits_value ds

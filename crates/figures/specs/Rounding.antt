@@ -20,5 +20,5 @@ unfoldable pub rounded : Magnitude → ℕ → ℕ
 rounded x d = nearest (x.above * 10 ^ d) x.below * 10 ^ (15 - d)
 
 -- "whether the rounded number equals the exact one" (R137): x to d decimals against above / below
-unfoldable pub roundsExactly : Magnitude → ℕ → Bool
-roundsExactly x d = eqb (rounded x d * x.below) (x.above * 10 ^ 15)
+unfoldable pub rounds_exactly : Magnitude → ℕ → Bool
+rounds_exactly x d = eqb (rounded x d * x.below) (x.above * 10 ^ 15)

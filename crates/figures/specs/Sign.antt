@@ -3,7 +3,7 @@
 use Rattle.std.specs.Prelude.{cond, nat_abs, pos}
 use Rattle.std.specs.Int.Signed.{lt_z}
 use Rattle.values.specs.declared.Number.{Number}
-use Rattle.values.specs.Ranges.{numberInRange}
+use Rattle.values.specs.Ranges.{number_in_range}
 use Rattle.figures.specs.declared.Signed.{Signed}
 use Rattle.figures.specs.declared.Taken.{Taken}
 use Rattle.figures.specs.declared.Taken.TheVariants as answer
@@ -14,4 +14,4 @@ signed_of x = record { negative = lt_z x.coefficient (pos 0); magnitude = nat_ab
 
 -- a number in range, its sign apart; one out of range is told
 unfoldable pub taken_of : Number → Taken
-taken_of x = cond (numberInRange x) (answer.In (signed_of x)) answer.OutOfRange
+taken_of x = cond (number_in_range x) (answer.In (signed_of x)) answer.OutOfRange

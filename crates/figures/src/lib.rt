@@ -1,12 +1,12 @@
 // The sign at the door, the rounder, the rounded number read place by place, and General.
 ghost use Rattle.std.specs.Prelude.{◌≡◌, ℕ, ◌+◌, ◌-◌, ◌*◌, ◌/◌, ◌%◌, ◌^◌, ◌≤◌, ◌<◌, leb, ltb, eqb, nat_abs};
 ghost use Rattle.figures.specs.Digits.{figures, width};
-ghost use Rattle.figures.specs.Rounding.{nearest, rounded, roundsExactly};
+ghost use Rattle.figures.specs.Rounding.{nearest, rounded, rounds_exactly};
 ghost use Rattle.figures.specs.Powers.{powered};
-ghost use Rattle.figures.specs.General.{generalRounded, generalExactly, generalTooWide};
+ghost use Rattle.figures.specs.General.{general_rounded, general_exactly, general_too_wide};
 ghost use Rattle.figures.specs.Sign.{taken_of};
 ghost use Rattle.figures.specs.Rounder.{Roundable};
-ghost use Rattle.figures.specs.Places.{digitSum, placesUsed, lowestFrom, lowestPlace};
+ghost use Rattle.figures.specs.Places.{digit_sum, places_used, lowest_from, lowest_place};
 
 use values::Number;
 
@@ -173,7 +173,7 @@ pub fn round(
 ) -> [u8; 40]
     requires { Roundable m up decimals }
     ensures digits { result ≡ figures (rounded (powered m up down) decimals) }
-    ensures exact { exact.new ≡ roundsExactly (powered m up down) decimals }
+    ensures exact { exact.new ≡ rounds_exactly (powered m up down) decimals }
 {
     let zeros = cleared(digits);
     let kept = up + decimals;
@@ -196,7 +196,7 @@ fn wide(d: u8) -> u32
 // The four digits from k on as one word, so that one test tells four zeros.
 fn word_at(digits: [u8; 40], k: usize) -> u32
     requires { k ≤ 36 }
-    ensures { result ≡ 0 → digitSum digits k 4 ≡ 0 }
+    ensures { result ≡ 0 → digit_sum digits k 4 ≡ 0 }
 {
     let d0 = wide(digits[k]);
     let d1 = wide(digits[k + 1]);
@@ -207,7 +207,7 @@ fn word_at(digits: [u8; 40], k: usize) -> u32
 
 // A place from which on all digits are 0, found four digits at a time: most numbers have few.
 fn top_of(digits: [u8; 40]) -> usize
-    ensures { (result ≤ 40) × (placesUsed result digits ≡ placesUsed 40 digits) }
+    ensures { (result ≤ 40) × (places_used result digits ≡ places_used 40 digits) }
 {
     let mut k = 40;
     while 4 < k {
@@ -221,7 +221,7 @@ fn top_of(digits: [u8; 40]) -> usize
 
 // A place below which all digits are 0.
 fn bottom_of(digits: [u8; 40]) -> usize
-    ensures { (result ≤ 40) × (lowestFrom (40 - result) result digits ≡ lowestPlace digits) }
+    ensures { (result ≤ 40) × (lowest_from (40 - result) result digits ≡ lowest_place digits) }
 {
     let mut k = 0;
     while k < 36 {
@@ -236,7 +236,7 @@ fn bottom_of(digits: [u8; 40]) -> usize
 // How many places there are up to the highest digit that is not 0; 0 where all are 0.
 // An integer zero at place q is insignificant where this is at most q.
 pub fn places_used(digits: [u8; 40]) -> usize
-    ensures list { result ≡ placesUsed 40 digits }
+    ensures list { result ≡ places_used 40 digits }
     ensures number { (n : ℕ) → n < 10 ^ 40 → digits ≡ figures n → (q : ℕ) → leb result q ≡ eqb (n / 10 ^ q) 0 }
 {
     let mut k = top_of(digits);
@@ -252,7 +252,7 @@ pub fn places_used(digits: [u8; 40]) -> usize
 // The lowest place whose digit is not 0; 40 where all are 0.
 // A decimal zero at place q is insignificant where q is below this.
 pub fn lowest_place(digits: [u8; 40]) -> usize
-    ensures list { result ≡ lowestPlace digits }
+    ensures list { result ≡ lowest_place digits }
     ensures number { (n : ℕ) → digits ≡ figures n → (q : ℕ) → q < 40 → ltb q result ≡ eqb (n % 10 ^ (q + 1)) 0 }
 {
     let mut k = bottom_of(digits);
@@ -293,7 +293,7 @@ pub fn width_of(n: u64) -> u32
 
 // To how many decimals m / 10^scale is rounded as General rounds it. Of ten digits nothing is cut: no width is needed for them.
 fn general_decimals(m: u64, scale: u32) -> u32
-    ensures { (result ≤ 15) × (rounded (powered m 0 scale) result ≡ generalRounded (powered m 0 scale)) }
+    ensures { (result ≤ 15) × (rounded (powered m 0 scale) result ≡ general_rounded (powered m 0 scale)) }
 {
     if (m < 10000000000) & (scale <= 9) {
         return scale;
@@ -304,7 +304,7 @@ fn general_decimals(m: u64, scale: u32) -> u32
 
 // Whether m / 10^scale, rounded to a whole number, reaches 10^11.
 pub fn general_too_wide(m: u64, scale: u32) -> bool
-    ensures { result ≡ generalTooWide (powered m 0 scale) }
+    ensures { result ≡ general_too_wide (powered m 0 scale) }
 {
     if m < 100000000000 {
         return false;
@@ -314,8 +314,8 @@ pub fn general_too_wide(m: u64, scale: u32) -> bool
 
 // m / 10^scale as General rounds it; `exact`: whether it equals the exact one.
 pub fn round_general(digits: [u8; 40], m: u64, scale: u32, exact: &mut bool) -> [u8; 40]
-    ensures digits { result ≡ figures (generalRounded (powered m 0 scale)) }
-    ensures exact { exact.new ≡ generalExactly (powered m 0 scale) }
+    ensures digits { result ≡ figures (general_rounded (powered m 0 scale)) }
+    ensures exact { exact.new ≡ general_exactly (powered m 0 scale) }
 {
     round(digits, m, 0, scale, general_decimals(m, scale), exact)
 }

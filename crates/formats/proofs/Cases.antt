@@ -16,8 +16,8 @@ use Rattle.values.specs.Ranges.{asked}
 use Rattle.lists.specs.Lists.{All}
 use Rattle.calendar.specs.Names.{units}
 use Rattle.formats.specs.Accept as accept
-use Rattle.formats.specs.Accept.{Verdict, fine, verdict, sectionSpan, sectionPart}
-use Rattle.formats.specs.Reading.{Reading, refused, shown, look_of, codeReading}
+use Rattle.formats.specs.Accept.{Verdict, fine, verdict, section_span, section_part}
+use Rattle.formats.specs.Reading.{Reading, refused, shown, look_of, code_reading}
 use Rattle.formats.proofs.Evaluate.{evaluated}
 
 -- rows whose computed lists are one list are right, each of them
@@ -39,8 +39,8 @@ number c scale = asked (value.Number (record { coefficient = c; scale = scale })
 abbrev pub instant : ℕ → ℕ → Ask
 instant day ms = asked (value.Instant (record { 0 = day }) (record { 0 = ms }))
 
-abbrev pub aText : Ask
-aText = asked value.Text
+abbrev pub a_text : Ask
+a_text = asked value.Text
 
 abbrev pub seen : String → ℕ → ℕ → Bool → Reading
 unfolding units
@@ -64,13 +64,13 @@ abbrev pub denies : String → Ask → Answer → Case
 denies code ask a = gives code ask (refused a)
 
 -- a text, and what is shown of it
-abbrev pub ofText : String → String → String → ℕ → ℕ → Case
+abbrev pub of_text : String → String → String → ℕ → ℕ → Case
 unfolding units
-ofText code text result colour section =
-    record { code = code; ask = aText; text = units text; room = 4096; answer = seen result colour section true }
+of_text code text result colour section =
+    record { code = code; ask = a_text; text = units text; room = 4096; answer = seen result colour section true }
 
 abbrev pub read : Case → Reading
-read c = codeReading (units c.code) c.ask c.text c.room
+read c = code_reading (units c.code) c.ask c.text c.room
 
 abbrev pub Right : Case → Type 0
 Right c = read c ≡ c.answer
@@ -98,12 +98,12 @@ cases-right = all-equal read (λ (c : Case). c.answer) cases refl
 
 -- what is easily got wrong, in the order of document 01's headings
 unfoldable pub slips : List Case
-unfolding units seen ofText
+unfolding units seen of_text
 slips =
     -- out of range: a scale of 16, a day that is no more, where General would refuse it by 11, a text of 1,025 units
     denies "0" (number (pos 1) 16) answer.Range
     ∷ denies "General" (instant 2958466 0) answer.Range
-    ∷ record { code = "@"; ask = aText; text = replicate 1025 97; room = 4096; answer = refused answer.Range }
+    ∷ record { code = "@"; ask = a_text; text = replicate 1025 97; room = 4096; answer = refused answer.Range }
     -- a semicolon in quotes, and behind each mark; an elapsed run of nine letters
     ∷ shows "\"a;b\"0" (number (pos 1) 0) "a;b1" 0
     ∷ shows "\\;_;*;" (number (pos 1) 0) "; " 0
@@ -111,7 +111,7 @@ slips =
     -- a colour by its number and by its name, of a number, an instant and a text
     ∷ colours "[Red]0;[Color56]0" (number (negsuc 4) 0) "5" 56 1
     ∷ colours "[Green]h:mm" (instant 0 53760000) "14:56" 4 0
-    ∷ ofText "[Blue]\"<\"@\">\"" "ab" "<ab>" 5 0
+    ∷ of_text "[Blue]\"<\"@\">\"" "ab" "<ab>" 5 0
     -- each comparison at its bound, and with a number below 0, which minus zero is not
     ∷ shows "[<5]\"a\";\"b\"" (number (pos 5) 0) "b" 1
     ∷ shows "[<=5]\"a\";\"b\"" (number (pos 5) 0) "a" 0
@@ -133,10 +133,10 @@ slips =
     ∷ shows "\"x\"@\"y\"@" (number (negsuc 14) 1) "-x1.5y1.5" 0
     ∷ denies "@" (instant 1 0) answer.Sort
     -- a text: in the fourth section, where General stands for it; in a text section; by no section
-    ∷ ofText "0;0;0;\"x\"General" "ab" "xab" 0 3
-    ∷ ofText "0;0;0;" "ab" "" 0 3
-    ∷ ofText "0;\"t\"@" "ab" "tab" 0 1
-    ∷ ofText "[Red]General" "ab" "ab" 0 4
+    ∷ of_text "0;0;0;\"x\"General" "ab" "xab" 0 3
+    ∷ of_text "0;0;0;" "ab" "" 0 3
+    ∷ of_text "0;\"t\"@" "ab" "tab" 0 1
+    ∷ of_text "[Red]General" "ab" "ab" 0 4
     -- sorts that a section refuses
     ∷ denies "0" (instant 1 0) answer.Sort
     ∷ denies "General" (instant 1 0) answer.Sort
@@ -434,8 +434,8 @@ parts =
 -- the span of a section, and the units that stand there
 abbrev pub Cut : Part → Type 0
 Cut p =
-    (sectionSpan p.section (units p.code) ≡ record { start = p.start; size = length (units p.units) })
-    × (sectionPart p.section (units p.code) ≡ units p.units)
+    (section_span p.section (units p.code) ≡ record { start = p.start; size = length (units p.units) })
+    × (section_part p.section (units p.code) ≡ units p.units)
 
 pub parts-right : All Cut parts
 unfolding parts evaluated

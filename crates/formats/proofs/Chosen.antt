@@ -8,22 +8,22 @@ use lib.Dec.{T, eqb}
 use Rattle.lists.specs.Lists.{every}
 use Rattle.lists.proofs.Bools.{cond_both, every-head, every-tail}
 use Rattle.formats.specs.Items.{Section}
-use Rattle.formats.specs.Where.{isText}
-use Rattle.formats.specs.Choice.{Exact, counted, Reason, reasonFor, reasonHolds, Choice, nothing, chosen, chooseFrom, chooseFirst, choose}
+use Rattle.formats.specs.Where.{is_text}
+use Rattle.formats.specs.Choice.{Exact, counted, Reason, reason_for, reason_holds, Choice, nothing, chosen, choose_from, choose_first, choose}
 
 abbrev Passes : (Section → Bool) → Choice → Type 0
 Passes f nothing = Unit {0}
 Passes f (chosen i s why) = T (f s)
 
-from-passes : (f : Section → Bool) (n i : ℕ) (ss : List Section) (x : Exact) → T (every f ss) → Passes f (chooseFrom n i ss x)
-unfolding chooseFrom
+from-passes : (f : Section → Bool) (n i : ℕ) (ss : List Section) (x : Exact) → T (every f ss) → Passes f (choose_from n i ss x)
+unfolding choose_from
 from-passes f n i [] x t = tt
 from-passes f n i (s ∷ ss) x t =
-    cond_both (Passes f) (not (isText s || eqb i 3) && reasonHolds (reasonFor n i s) s x)
+    cond_both (Passes f) (not (is_text s || eqb i 3) && reason_holds (reason_for n i s) s x)
     (every-head f s ss t) (from-passes f n (suc i) ss x (every-tail f s ss t))
 
-first_passes : (f : Section → Bool) (ss : List Section) → T (every f ss) → Passes f (chooseFirst ss)
-unfolding chooseFirst
+first_passes : (f : Section → Bool) (ss : List Section) → T (every f ss) → Passes f (choose_first ss)
+unfolding choose_first
 first_passes f [] t = tt
 first_passes f (s ∷ ss) t = every-head f s ss t
 

@@ -4,14 +4,14 @@
 use Prim.Native.Nat.{ℕ}
 use mathlib.Core.List.{List}
 use Rattle.formats.specs.Tokens as token
-use Rattle.formats.specs.Tokens.{Token, Letter, letterY, letterM, letterD, letterH, letterS, Written, Place, zeroPlace, hashPlace, spacePlace, Elapsed, hours, minutes, seconds, HalfDay, short, long, ExponentMark, ePlus, eMinus, Comparison, equal, less, greater, at_most, at_least, unequal}
-use Rattle.formats.specs.Items.{Item, literal, blank, fill, place, point, percent, general, at, year, month, day, hour, minute, second, part, elapsed, half, exponent, solidus, fixed, Kind, textKind, generalKind, dateKind, scientificKind, fractionKind, numberKind, literalKind}
+use Rattle.formats.specs.Tokens.{Token, Letter, letter_y, letter_m, letter_d, letter_h, letter_s, Written, Place, zero_place, hash_place, space_place, Elapsed, hours, minutes, seconds, HalfDay, short, long, ExponentMark, e_plus, e_minus, Comparison, equal, less, greater, at_most, at_least, unequal}
+use Rattle.formats.specs.Items.{Item, literal, blank, fill, place, point, percent, general, at, year, month, day, hour, minute, second, part, elapsed, half, exponent, solidus, fixed, Kind, text_kind, general_kind, date_kind, scientific_kind, fraction_kind, number_kind, literal_kind}
 
 pub by_token {ℓ} : (P : Token → Type ℓ) → ((us : List ℕ) → P (token.literal us)) → ((u : ℕ) → P (token.bare u)) → ((u : ℕ) → P (token.blank u)) → ((u : ℕ) → P (token.fill u))
     → ((p : Place) → P (token.place p)) → P token.point → P token.comma → P token.percent → P token.at → P token.semicolon → P token.general
     → ((h : HalfDay) → P (token.half h)) → ((l : Letter) (n : ℕ) → P (token.run l n)) → ((e : Elapsed) (n : ℕ) → P (token.elapsed e n))
     → ((n : ℕ) → P (token.colour n)) → ((w : Written) → P (token.condition w)) → ((m : ExponentMark) → P (token.exponent m))
-    → ((p : Place) → P (token.over p)) → ((p : Place) (n : ℕ) → P (token.overFixed p n))
+    → ((p : Place) → P (token.over p)) → ((p : Place) (n : ℕ) → P (token.over_fixed p n))
     → (t : Token) → P t
 by_token P li ba bl fi pl po co pe a se ge ha ru el cl cn ex ov of (token.literal us) = li us
 by_token P li ba bl fi pl po co pe a se ge ha ru el cl cn ex ov of (token.bare u) = ba u
@@ -31,14 +31,14 @@ by_token P li ba bl fi pl po co pe a se ge ha ru el cl cn ex ov of (token.colour
 by_token P li ba bl fi pl po co pe a se ge ha ru el cl cn ex ov of (token.condition w) = cn w
 by_token P li ba bl fi pl po co pe a se ge ha ru el cl cn ex ov of (token.exponent m) = ex m
 by_token P li ba bl fi pl po co pe a se ge ha ru el cl cn ex ov of (token.over p) = ov p
-by_token P li ba bl fi pl po co pe a se ge ha ru el cl cn ex ov of (token.overFixed p n) = of p n
+by_token P li ba bl fi pl po co pe a se ge ha ru el cl cn ex ov of (token.over_fixed p n) = of p n
 
-pub by-letter {ℓ} : (P : Letter → Type ℓ) → P letterY → P letterM → P letterD → P letterH → P letterS → (l : Letter) → P l
-by-letter P y m d h s letterY = y
-by-letter P y m d h s letterM = m
-by-letter P y m d h s letterD = d
-by-letter P y m d h s letterH = h
-by-letter P y m d h s letterS = s
+pub by-letter {ℓ} : (P : Letter → Type ℓ) → P letter_y → P letter_m → P letter_d → P letter_h → P letter_s → (l : Letter) → P l
+by-letter P y m d h s letter_y = y
+by-letter P y m d h s letter_m = m
+by-letter P y m d h s letter_d = d
+by-letter P y m d h s letter_h = h
+by-letter P y m d h s letter_s = s
 
 pub by-item {ℓ} : (P : Item → Type ℓ) → ((u : ℕ) → P (literal u)) → ((u : ℕ) → P (blank u)) → ((u : ℕ) → P (fill u)) → ((p : Place) → P (place p))
     → P point → P percent → P general → P at
@@ -67,10 +67,10 @@ by-item P l b f pl po pe ge a y mo d ho mi se pa el ha ex so fx (exponent m) = e
 by-item P l b f pl po pe ge a y mo d ho mi se pa el ha ex so fx solidus = so
 by-item P l b f pl po pe ge a y mo d ho mi se pa el ha ex so fx (fixed n) = fx n
 
-pub by_place {ℓ} : (P : Place → Type ℓ) → P zeroPlace → P hashPlace → P spacePlace → (x : Place) → P x
-by_place P a b c zeroPlace = a
-by_place P a b c hashPlace = b
-by_place P a b c spacePlace = c
+pub by_place {ℓ} : (P : Place → Type ℓ) → P zero_place → P hash_place → P space_place → (x : Place) → P x
+by_place P a b c zero_place = a
+by_place P a b c hash_place = b
+by_place P a b c space_place = c
 
 pub by-elapsed {ℓ} : (P : Elapsed → Type ℓ) → P hours → P minutes → P seconds → (x : Elapsed) → P x
 by-elapsed P a b c hours = a
@@ -81,18 +81,18 @@ pub by-half {ℓ} : (P : HalfDay → Type ℓ) → P short → P long → (x : H
 by-half P a b short = a
 by-half P a b long = b
 
-pub by-exponent {ℓ} : (P : ExponentMark → Type ℓ) → P ePlus → P eMinus → (x : ExponentMark) → P x
-by-exponent P a b ePlus = a
-by-exponent P a b eMinus = b
+pub by-exponent {ℓ} : (P : ExponentMark → Type ℓ) → P e_plus → P e_minus → (x : ExponentMark) → P x
+by-exponent P a b e_plus = a
+by-exponent P a b e_minus = b
 
-pub by_kind {ℓ} : (P : Kind → Type ℓ) → P textKind → P generalKind → P dateKind → P numberKind → P literalKind → P scientificKind → P fractionKind → (x : Kind) → P x
-by_kind P a b c d e f g textKind = a
-by_kind P a b c d e f g generalKind = b
-by_kind P a b c d e f g dateKind = c
-by_kind P a b c d e f g numberKind = d
-by_kind P a b c d e f g literalKind = e
-by_kind P a b c d e f g scientificKind = f
-by_kind P a b c d e f g fractionKind = g
+pub by_kind {ℓ} : (P : Kind → Type ℓ) → P text_kind → P general_kind → P date_kind → P number_kind → P literal_kind → P scientific_kind → P fraction_kind → (x : Kind) → P x
+by_kind P a b c d e f g text_kind = a
+by_kind P a b c d e f g general_kind = b
+by_kind P a b c d e f g date_kind = c
+by_kind P a b c d e f g number_kind = d
+by_kind P a b c d e f g literal_kind = e
+by_kind P a b c d e f g scientific_kind = f
+by_kind P a b c d e f g fraction_kind = g
 
 pub by-comparison {ℓ} : (P : Comparison → Type ℓ) → P equal → P less → P greater → P at_most → P at_least → P unequal → (x : Comparison) → P x
 by-comparison P a b c d e f equal = a

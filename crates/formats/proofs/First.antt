@@ -15,15 +15,15 @@ use borrow.Author.Tests.{ltb-true, ltb-false, eqb-true, eqb-false, lt-ltb, le-lt
 use Rattle.answers.specs.declared.Answer.{Answer}
 use Rattle.answers.specs.declared.Answer.TheVariants as answer
 use Rattle.answers.specs.Number.{number_of}
-use Rattle.lists.specs.Lists.{any, All, firstFailing}
+use Rattle.lists.specs.Lists.{any, All, first_failing}
 use Rattle.lists.proofs.Bools.{no, by_cases}
 use Rattle.lists.proofs.First.{first-exactly}
-use Rattle.formats.specs.Tokens.{Token, semicolon, broken, Placed, Lexed, good, bad, onto, lexFrom, lex}
+use Rattle.formats.specs.Tokens.{Token, semicolon, broken, Placed, Lexed, good, bad, onto, lex_from, lex}
 use Rattle.formats.specs.Starts.{StepIs, TokenStart, begin, next, ReadsAt, SemicolonAt}
-use Rattle.formats.specs.Kinds.{Parts, fits, isSemicolon}
-use Rattle.formats.specs.Where.{standsAt}
-use Rattle.formats.specs.Limits.{withinLimits}
-use Rattle.formats.specs.Accept.{placed_of, semicolons, parts_in, sectionsIn, Verdict, fine, refused, or_else, lengthVerdict, tokenVerdict, countVerdict, sectionVerdict, kindVerdict, whereVerdict, limitVerdict, verdict}
+use Rattle.formats.specs.Kinds.{Parts, fits, is_semicolon}
+use Rattle.formats.specs.Where.{stands_at}
+use Rattle.formats.specs.Limits.{within_limits}
+use Rattle.formats.specs.Accept.{placed_of, semicolons, parts_in, sections_in, Verdict, fine, refused, or_else, length_verdict, token_verdict, count_verdict, section_verdict, kind_verdict, where_verdict, limit_verdict, verdict}
 use Rattle.formats.specs.Given.{tests, FineBelow, RefusedBy, WrongLength, FirstBroken, StandsIn, SemicolonPlaces, FourthSemicolon, FirstSection}
 use Rattle.formats.proofs.Lexing.{LexesTo, ends, breaks, reads, lexes, lexes-at, lex-front, lex-front-broken, at-start, step-inside}
 use Rattle.formats.proofs.Each.{by_token}
@@ -75,26 +75,26 @@ says_if : (b : Bool) (a : Answer) (k : ℕ) → Says (number_of a) (cond b (refu
 says_if true a k = refl
 says_if false a k = tt
 
-length-says : (code : List ℕ) → Says 1 (lengthVerdict code)
-unfolding lengthVerdict
+length-says : (code : List ℕ) → Says 1 (length_verdict code)
+unfolding length_verdict
 length-says code = says_if (eqb (length code) 0 || ltb _ (length code)) answer.CodeLength 0
 
-token-says : (l : Lexed) → Says 2 (tokenVerdict l)
-unfolding tokenVerdict
+token-says : (l : Lexed) → Says 2 (token_verdict l)
+unfolding token_verdict
 token-says (good ps) = tt
 token-says (bad k) = refl
 
-count-says : (places : List ℕ) → Says 3 (countVerdict places)
-unfolding countVerdict
+count-says : (places : List ℕ) → Says 3 (count_verdict places)
+unfolding count_verdict
 count-says places = says_if (ltb _ (length places)) answer.SectionCount _
 
-section-says : (a : Answer) (o : Option ℕ) → Says (number_of a) (sectionVerdict a o)
-unfolding sectionVerdict
+section-says : (a : Answer) (o : Option ℕ) → Says (number_of a) (section_verdict a o)
+unfolding section_verdict
 section-says a none = tt
 section-says a (some k) = refl
 
 tests-say : (code : List ℕ) → SayFrom 0 (tests code)
-unfolding kindVerdict whereVerdict limitVerdict
+unfolding kind_verdict where_verdict limit_verdict
 tests-say code = (
   tt,
   (
@@ -116,7 +116,7 @@ or-fine (refused a k) = refl
 
 verdict-first : (code : List ℕ) → verdict code ≡ first_of (tests code)
 unfolding verdict first_of or_else
-verdict-first code = rw (or-fine (limitVerdict (parts_in code)))
+verdict-first code = rw (or-fine (limit_verdict (parts_in code)))
 
 pub refused-by : (code : List ℕ) (a : Answer) (k : ℕ) → verdict code ≡ refused a k → RefusedBy code a k
 refused-by code a k e =
@@ -139,12 +139,12 @@ refused-exactly code a k = (refused-by code a k, by-refused code a k)
 
 -- every test finds nothing
 pub record AllFine (code : List ℕ) : Type 0 where
-  pub length-fine : lengthVerdict code ≡ fine
-  pub tokens-fine : tokenVerdict (lex code) ≡ fine
-  pub count-fine : countVerdict (semicolons (placed_of (lex code))) ≡ fine
-  pub kinds-fine : kindVerdict (parts_in code) ≡ fine
-  pub standing-fine : whereVerdict (sectionsIn code) ≡ fine
-  pub limits-fine : limitVerdict (parts_in code) ≡ fine
+  pub length-fine : length_verdict code ≡ fine
+  pub tokens-fine : token_verdict (lex code) ≡ fine
+  pub count-fine : count_verdict (semicolons (placed_of (lex code))) ≡ fine
+  pub kinds-fine : kind_verdict (parts_in code) ≡ fine
+  pub standing-fine : where_verdict (sections_in code) ≡ fine
+  pub limits-fine : limit_verdict (parts_in code) ≡ fine
 
 or_left : (v w : Verdict) → or_else v w ≡ fine → v ≡ fine
 unfolding or_else
@@ -159,17 +159,17 @@ or_right (refused a k) w e = not-refused (sym e)
 pub verdict-fine : (code : List ℕ) → verdict code ≡ fine → AllFine code
 unfolding verdict
 verdict-fine code e =
-    let e₁ = or_right (lengthVerdict code) _ e in
-    let e₂ = or_right (tokenVerdict (lex code)) _ e₁ in
-    let e₃ = or_right (countVerdict (semicolons (placed_of (lex code)))) _ e₂ in
-    let e₄ = or_right (kindVerdict (parts_in code)) _ e₃ in
+    let e₁ = or_right (length_verdict code) _ e in
+    let e₂ = or_right (token_verdict (lex code)) _ e₁ in
+    let e₃ = or_right (count_verdict (semicolons (placed_of (lex code)))) _ e₂ in
+    let e₄ = or_right (kind_verdict (parts_in code)) _ e₃ in
     record {
-      length-fine = or_left (lengthVerdict code) _ e;
-      tokens-fine = or_left (tokenVerdict (lex code)) _ e₁;
-      count-fine = or_left (countVerdict (semicolons (placed_of (lex code)))) _ e₂;
-      kinds-fine = or_left (kindVerdict (parts_in code)) _ e₃;
-      standing-fine = or_left (whereVerdict (sectionsIn code)) _ e₄;
-      limits-fine = or_right (whereVerdict (sectionsIn code)) _ e₄;
+      length-fine = or_left (length_verdict code) _ e;
+      tokens-fine = or_left (token_verdict (lex code)) _ e₁;
+      count-fine = or_left (count_verdict (semicolons (placed_of (lex code)))) _ e₂;
+      kinds-fine = or_left (kind_verdict (parts_in code)) _ e₃;
+      standing-fine = or_left (where_verdict (sections_in code)) _ e₄;
+      limits-fine = or_right (where_verdict (sections_in code)) _ e₄;
     }
 
 pub fine-verdict : (code : List ℕ) → AllFine code → verdict code ≡ fine
@@ -187,19 +187,19 @@ fine-between n most e =
     (λ u. not-refused (sym (rw (t, u) at e)))
     (λ u. let least = eqb-false n 0 t in (omega arith, ltb-false most n u)))
 
-pub length-bounds : (code : List ℕ) → lengthVerdict code ≡ fine → (1 ≤ length code) × (length code ≤ 254)
-unfolding lengthVerdict
+pub length-bounds : (code : List ℕ) → length_verdict code ≡ fine → (1 ≤ length code) × (length code ≤ 254)
+unfolding length_verdict
 length-bounds code e = let (least, most) = fine-between (length code) _ e in (least, omega arith)
 
-bounds-length : (code : List ℕ) → 1 ≤ length code → length code ≤ 254 → lengthVerdict code ≡ fine
-unfolding lengthVerdict
+bounds-length : (code : List ℕ) → 1 ≤ length code → length code ≤ 254 → length_verdict code ≡ fine
+unfolding length_verdict
 bounds-length code l m = rw (ne_eqb (length code) 0 (λ e. omega arith), le-ltb 254 (length code) m)
 
 pub length-exactly : (code : List ℕ) (k : ℕ) → (verdict code ≡ refused answer.CodeLength k) ↔ WrongLength code k
-unfolding lengthVerdict
+unfolding length_verdict
 length-exactly code k = (λ e. wrong (refused-by code answer.CodeLength k e).refuses, λ w. by-refused code answer.CodeLength k (refusing w))
   where
-    wrong : lengthVerdict code ≡ refused answer.CodeLength k → WrongLength code k
+    wrong : length_verdict code ≡ refused answer.CodeLength k → WrongLength code k
     wrong r =
         by_cases (eqb (length code) 0)
         (λ t. let q : refused answer.CodeLength 0 ≡ refused answer.CodeLength k = rw t at r in
@@ -209,7 +209,7 @@ length-exactly code k = (λ e. wrong (refused-by code answer.CodeLength k e).ref
         record { place = cc; wrong = inr (ltb-true 254 (length code) u) })
         (λ u. not-refused (rw (t, u) at r)))
 
-    test : (length code ≡ 0) ⊎ (254 < length code) → lengthVerdict code ≡ refused answer.CodeLength 0
+    test : (length code ≡ 0) ⊎ (254 < length code) → length_verdict code ≡ refused answer.CodeLength 0
     test (inl e) = rw (eq-eqb (length code) 0 e)
     test (inr l) = rw (ne_eqb (length code) 0 (λ e. omega arith), lt-ltb 254 (length code) l)
 
@@ -223,8 +223,8 @@ unfolding onto
 onto-bad k p (good ps) e = not-bad e
 onto-bad k p (bad j) e = e
 
-onto-fine : (p : Placed) (l : Lexed) → tokenVerdict (onto p l) ≡ fine → tokenVerdict l ≡ fine
-unfolding onto tokenVerdict
+onto-fine : (p : Placed) (l : Lexed) → token_verdict (onto p l) ≡ fine → token_verdict l ≡ fine
+unfolding onto token_verdict
 onto-fine p (good ps) e = refl
 onto-fine p (bad k) e = e
 
@@ -250,8 +250,8 @@ module _ (code : List ℕ) where
   reads-or-breaks j l k (breaks i s) b h = let same : k ≡ i = cc in absurd (omega arith)
   reads-or-breaks j l k (reads i t more m s r) b h = record { token = t; more = more; step = s }
 
-token-bad : (l : Lexed) (a : Answer) (k : ℕ) → tokenVerdict l ≡ refused a k → l ≡ bad k
-unfolding tokenVerdict
+token-bad : (l : Lexed) (a : Answer) (k : ℕ) → token_verdict l ≡ refused a k → l ≡ bad k
+unfolding token_verdict
 token-bad (good ps) a k e = not-refused e
 token-bad (bad j) a k e = let same : j ≡ k = cc in ap bad same
 
@@ -272,13 +272,13 @@ token-refused code k e =
     }
 
 -- where lexing is bad from a token's start on, it is bad as a whole
-bad-whole : (code : List ℕ) (k j : ℕ) → TokenStart code j → lexFrom j 0 (drop j code) ≡ bad k → lex code ≡ bad k
+bad-whole : (code : List ℕ) (k j : ℕ) → TokenStart code j → lex_from j 0 (drop j code) ≡ bad k → lex code ≡ bad k
 unfolding lex onto
 bad-whole code k j begin e = e
 bad-whole code k j (next i t more h s) e = bad-whole code k i h (lex-front code i t more s ∙ rw e)
 
 pub token-exactly : (code : List ℕ) (k : ℕ) → (verdict code ≡ refused answer.Token k) ↔ FirstBroken code k
-unfolding tokenVerdict
+unfolding token_verdict
 token-exactly code k = (token-refused code k, λ b. by-refused code answer.Token k (refusing b))
   where
     refusing : FirstBroken code k → RefusedBy code answer.Token k
@@ -295,27 +295,27 @@ token-exactly code k = (token-refused code k, λ b. by-refused code answer.Token
 
 -- ---- 4, 5 and 6: the sections
 
-pub fine-none : (a : Answer) (o : Option ℕ) → sectionVerdict a o ≡ fine → o ≡ none
-unfolding sectionVerdict
+pub fine-none : (a : Answer) (o : Option ℕ) → section_verdict a o ≡ fine → o ≡ none
+unfolding section_verdict
 fine-none a none e = refl
 fine-none a (some j) e = not-refused (sym e)
 
-section-some : (a b : Answer) (o : Option ℕ) (k : ℕ) → sectionVerdict a o ≡ refused b k → o ≡ some k
-unfolding sectionVerdict
+section-some : (a b : Answer) (o : Option ℕ) (k : ℕ) → section_verdict a o ≡ refused b k → o ≡ some k
+unfolding section_verdict
 section-some a b none k e = not-refused e
 section-some a b (some j) k e = let same : j ≡ k = cc in ap some same
 
 -- a test over sections refuses by the answer a at place k exactly when section k is the first that fails
 module _ {A : Type 0} (f : ℕ → A → Bool) (xs : List A) (a : Answer) (code : List ℕ) (k : ℕ) where
-  section-exactly : (get_or (tests code) (number_of a) fine ≡ sectionVerdict a (firstFailing f 0 xs))
+  section-exactly : (get_or (tests code) (number_of a) fine ≡ section_verdict a (first_failing f 0 xs))
       → (verdict code ≡ refused a k) ↔ FirstSection code (number_of a) f xs k
-  unfolding sectionVerdict
+  unfolding section_verdict
   section-exactly is = (first, λ r. by-refused code a k (record { refuses = is ∙ rw (found r); before = r.before }))
     where
       first : verdict code ≡ refused a k → FirstSection code (number_of a) f xs k
       first e =
           let r = refused-by code a k e in
-          let g = (first-exactly f xs k).0 (section-some a a (firstFailing f 0 xs) k (sym is ∙ r.refuses)) in
+          let g = (first-exactly f xs k).0 (section-some a a (first_failing f 0 xs) k (sym is ∙ r.refuses)) in
           record {
             before = r.before;
             within = g.within;
@@ -323,23 +323,23 @@ module _ {A : Type 0} (f : ℕ → A → Bool) (xs : List A) (a : Answer) (code 
             earlier = λ d j h. rw (zero-add j) at (g.earlier d j h);
           }
 
-      found : FirstSection code (number_of a) f xs k → firstFailing f 0 xs ≡ some k
+      found : FirstSection code (number_of a) f xs k → first_failing f 0 xs ≡ some k
       found r = (first-exactly f xs k).1
           (record { within = r.within; fails = λ d. rw (zero-add k) (r.fails d); earlier = λ d j h. rw (zero-add j) (r.earlier d j h) })
 
 pub kind-exactly : (code : List ℕ) (k : ℕ)
     → (verdict code ≡ refused answer.Kind k) ↔ FirstSection code 4 (λ (i : ℕ) (p : Parts). fits p) (parts_in code) k
-unfolding kindVerdict
+unfolding kind_verdict
 kind-exactly code k = section-exactly _ _ answer.Kind code k refl
 
 pub standing-exactly : (code : List ℕ) (k : ℕ)
-    → (verdict code ≡ refused answer.Standing k) ↔ FirstSection code 5 (standsAt (length (sectionsIn code))) (sectionsIn code) k
-unfolding whereVerdict
+    → (verdict code ≡ refused answer.Standing k) ↔ FirstSection code 5 (stands_at (length (sections_in code))) (sections_in code) k
+unfolding where_verdict
 standing-exactly code k = section-exactly _ _ answer.Standing code k refl
 
 pub limit-exactly : (code : List ℕ) (k : ℕ)
-    → (verdict code ≡ refused answer.Limit k) ↔ FirstSection code 6 (λ (i : ℕ) (p : Parts). withinLimits p) (parts_in code) k
-unfolding limitVerdict
+    → (verdict code ≡ refused answer.Limit k) ↔ FirstSection code 6 (λ (i : ℕ) (p : Parts). within_limits p) (parts_in code) k
+unfolding limit_verdict
 limit-exactly code k = section-exactly _ _ answer.Limit code k refl
 
 -- ---- 3: the semicolons
@@ -376,9 +376,9 @@ any-stands m (x ∷ xs) e = by_cases (eqb m x)
     (λ t. record { index = 0; within = omega arith; same = sym (eqb-true m x t) })
     (λ t. let r = any-stands m xs (rw t at e) in record { index = suc r.index; within = omega arith; same = r.same })
 
-is-semicolon : (t : Token) → isSemicolon t ≡ true → t ≡ semicolon
+is-semicolon : (t : Token) → is_semicolon t ≡ true → t ≡ semicolon
 is-semicolon =
-    by_token (λ (t : Token). isSemicolon t ≡ true → t ≡ semicolon) (λ us. no) (λ u. no) (λ u. no) (λ u. no) (λ p. no) no no no no (λ e. refl) no
+    by_token (λ (t : Token). is_semicolon t ≡ true → t ≡ semicolon) (λ us. no) (λ u. no) (λ u. no) (λ u. no) (λ p. no) no no no no (λ e. refl) no
     (λ h. no) (λ l n. no) (λ x n. no) (λ n. no) (λ w. no) (λ m. no) (λ p. no) (λ p n. no)
 
 module _ (code : List ℕ) where
@@ -390,7 +390,7 @@ module _ (code : List ℕ) where
     where
       put : (m : Lexed) → AscendFrom (i + suc more) (semicolons (placed_of m))
           → AscendFrom i (semicolons (placed_of (onto (record { token = t; start = i }) m)))
-      put (good ps) a = by_cases (isSemicolon t)
+      put (good ps) a = by_cases (is_semicolon t)
           (λ e. rw e (omega arith, ascend-lower (i + suc more) (suc i) (semicolons ps) (omega arith) a))
           (λ e. rw e (ascend-lower (i + suc more) i (semicolons ps) (omega arith) a))
       put (bad j) a = tt
@@ -403,7 +403,7 @@ module _ (code : List ℕ) where
     where
       put : (m : Lexed) → All (SemicolonAt code) (semicolons (placed_of m))
           → All (SemicolonAt code) (semicolons (placed_of (onto (record { token = t; start = i }) m)))
-      put (good ps) a = by_cases (isSemicolon t)
+      put (good ps) a = by_cases (is_semicolon t)
           (λ e. rw e (record { starts = h; more = more; step = rw (is-semicolon t e) at s }, a))
           (λ e. rw e a)
       put (bad j) a = tt
@@ -415,24 +415,24 @@ module _ (code : List ℕ) where
   whole-behind : (p : Placed) (l : Lexed) → InWhole (onto p l) → InWhole l
   unfolding semicolons placed_of onto any
   whole-behind p (bad k) h m e = h m e
-  whole-behind p (good ps) h m e = h m (by_cases (isSemicolon p.token)
+  whole-behind p (good ps) h m e = h m (by_cases (is_semicolon p.token)
       (λ t. rw t (by_cases (eqb m p.start) (λ u. rw u) (λ u. rw u e)))
       (λ t. rw t e))
 
-  semicolons-all : tokenVerdict (lex code) ≡ fine → (j : ℕ) → SemicolonAt code j → StandsIn j (semicolons (placed_of (lex code)))
-  unfolding semicolons placed_of onto any tokenVerdict
+  semicolons-all : token_verdict (lex code) ≡ fine → (j : ℕ) → SemicolonAt code j → StandsIn j (semicolons (placed_of (lex code)))
+  unfolding semicolons placed_of onto any token_verdict
   semicolons-all e j s =
       let front = lex-front code j semicolon s.more s.step in
       let here = rw front at (at-start code InWhole whole-behind (λ m t. t) j s.starts) in
-      let sound = rw front at (at-start code (λ (l : Lexed). tokenVerdict l ≡ fine) onto-fine e j s.starts) in
-      any-stands j _ (stands (lexFrom (j + suc s.more) 0 (drop (j + suc s.more) code)) sound here)
+      let sound = rw front at (at-start code (λ (l : Lexed). token_verdict l ≡ fine) onto-fine e j s.starts) in
+      any-stands j _ (stands (lex_from (j + suc s.more) 0 (drop (j + suc s.more) code)) sound here)
     where
-      stands : (l : Lexed) → tokenVerdict (onto (record { token = semicolon; start = j }) l) ≡ fine
+      stands : (l : Lexed) → token_verdict (onto (record { token = semicolon; start = j }) l) ≡ fine
           → InWhole (onto (record { token = semicolon; start = j }) l) → any (eqb j) (semicolons (placed_of (lex code))) ≡ true
       stands (good ps) f h = h j (rw (eq-eqb j j refl))
       stands (bad k) f h = not-refused (sym f)
 
-pub semicolon-places : (code : List ℕ) → tokenVerdict (lex code) ≡ fine → SemicolonPlaces code (semicolons (placed_of (lex code)))
+pub semicolon-places : (code : List ℕ) → token_verdict (lex code) ≡ fine → SemicolonPlaces code (semicolons (placed_of (lex code)))
 semicolon-places code e =
     let places = semicolons (placed_of (lex code)) in
     record {
@@ -469,15 +469,15 @@ module _ (code : List ℕ) (ps qs : List ℕ) (p : SemicolonPlaces code ps) (q :
       let n = not-before i h in
       (omega (arith, s.within), omega (arith, s.same, not-above qs q.ascend i s.index n s.within))
 
-count-many : (places : List ℕ) (a : Answer) (k : ℕ) → countVerdict places ≡ refused a k → (3 < length places) × (get_or places 3 0 ≡ k)
-unfolding countVerdict
+count-many : (places : List ℕ) (a : Answer) (k : ℕ) → count_verdict places ≡ refused a k → (3 < length places) × (get_or places 3 0 ≡ k)
+unfolding count_verdict
 count-many places a k e = by_cases (ltb 3 (length places))
     (λ t. let q : refused answer.SectionCount (get_or places 3 0) ≡ refused a k = rw t at e in (ltb-true 3 (length places) t, cc))
     (λ t. not-refused (rw t at e))
 
 -- where test 3 refuses nothing there are at most three semicolons
-pub count-few : (places : List ℕ) → countVerdict places ≡ fine → length places ≤ 3
-unfolding countVerdict
+pub count-few : (places : List ℕ) → count_verdict places ≡ fine → length places ≤ 3
+unfolding count_verdict
 count-few places e = by_cases (ltb 3 (length places))
     (λ t. not-refused (sym (rw t at e)))
     (λ t. ltb-false 3 (length places) t)
@@ -498,10 +498,10 @@ count-refused code k e =
     }
 
 pub count-exactly : (code : List ℕ) (k : ℕ) → (verdict code ≡ refused answer.SectionCount k) ↔ FourthSemicolon code k
-unfolding countVerdict
+unfolding count_verdict
 count-exactly code k = (count-refused code k, λ f. by-refused code answer.SectionCount k (record { refuses = counted f; before = f.before }))
   where
-    counted : FourthSemicolon code k → countVerdict (semicolons (placed_of (lex code))) ≡ refused answer.SectionCount k
+    counted : FourthSemicolon code k → count_verdict (semicolons (placed_of (lex code))) ≡ refused answer.SectionCount k
     counted f =
         let found = semicolon-places code (f.before 2 (omega arith)) in
         let far = no-later code f.places _ f.semicolons found 3 f.many in

@@ -4,33 +4,33 @@
 use mathlib.Core.Path.{◌≡◌, refl, sym, ◌∙◌}
 use mathlib.Core.Bool.{or-false}
 use mathlib.Core.List.{List, [], ◌∷◌, map}
-use Rattle.formats.specs.Items.{Item, Run, no_run, isHourRun, run_of, nearer, firstRun, meansMinutes, settledItem, settledFrom, settled}
-use Rattle.formats.specs.Kinds.{Parts, bodyItems, lastFill, sectionOf}
+use Rattle.formats.specs.Items.{Item, Run, no_run, is_hour_run, run_of, nearer, first_run, means_minutes, settled_item, settled_from, settled}
+use Rattle.formats.specs.Kinds.{Parts, body_items, last_fill, section_of}
 use Rattle.formats.proofs.FormedItems.{settled-kept}
 
-pub former-means : (earlier : Run) → meansMinutes earlier no_run ≡ isHourRun earlier
-unfolding meansMinutes
-former-means earlier = or-false (isHourRun earlier)
+pub former-means : (earlier : Run) → means_minutes earlier no_run ≡ is_hour_run earlier
+unfolding means_minutes
+former-means earlier = or-false (is_hour_run earlier)
 
 -- the items by that sentence
-pub formerFrom : Run → List Item → List Item
-formerFrom earlier [] = []
-formerFrom earlier (i ∷ is) = settledItem earlier no_run i ∷ formerFrom (nearer (run_of i) earlier) is
+pub former_from : Run → List Item → List Item
+former_from earlier [] = []
+former_from earlier (i ∷ is) = settled_item earlier no_run i ∷ former_from (nearer (run_of i) earlier) is
 
 -- an item with every m as a month
-abbrev pub asMonth : Item → Item
-asMonth i = settledItem no_run no_run i
+abbrev pub as_month : Item → Item
+as_month i = settled_item no_run no_run i
 
-month-alike : (e l f m : Run) (i : Item) → asMonth (settledItem e l i) ≡ asMonth (settledItem f m i)
-unfolding settledItem
-month-alike e l f m i = settled-kept asMonth (λ n. refl) e l i ∙ sym (settled-kept asMonth (λ n. refl) f m i)
+month-alike : (e l f m : Run) (i : Item) → as_month (settled_item e l i) ≡ as_month (settled_item f m i)
+unfolding settled_item
+month-alike e l f m i = settled-kept as_month (λ n. refl) e l i ∙ sym (settled-kept as_month (λ n. refl) f m i)
 
-former-alike : (e : Run) (is : List Item) → map asMonth (settledFrom e is) ≡ map asMonth (formerFrom e is)
-unfolding settledFrom formerFrom
+former-alike : (e : Run) (is : List Item) → map as_month (settled_from e is) ≡ map as_month (former_from e is)
+unfolding settled_from former_from
 former-alike e [] = refl
-former-alike e (i ∷ is) = rw (month-alike e (firstRun is) e no_run i, former-alike (nearer (run_of i) e) is)
+former-alike e (i ∷ is) = rw (month-alike e (first_run is) e no_run i, former-alike (nearer (run_of i) e) is)
 
 -- the items of a section are those of before but for months and minutes
-pub former-items : (p : Parts) → map asMonth (sectionOf p).items ≡ map asMonth (formerFrom no_run (lastFill (bodyItems p.body)))
-unfolding sectionOf settled
-former-items p = former-alike no_run (lastFill (bodyItems p.body))
+pub former-items : (p : Parts) → map as_month (section_of p).items ≡ map as_month (former_from no_run (last_fill (body_items p.body)))
+unfolding section_of settled
+former-items p = former-alike no_run (last_fill (body_items p.body))

@@ -16,31 +16,31 @@ use lib.Seq.{drop-drop, drop-nil}
 use Rattle.calendar.specs.Names.{units}
 use Rattle.lists.specs.Lists.{any}
 use Rattle.lists.proofs.Bools.{by_cases, cond_both, cond-case, or-false}
-use Rattle.formats.specs.Tokens.{Token, Step, read, broken, before, leading, starts_with, quoted, marked, generalWord, halfDayWord, runAllowed, runStep, numberFrom, insideOf, closed, bracketed, First, quote, backslash, underscore, asterisk, openBracket, capitalG, capitalA, letter, single, other, firstRows, firstIn, bareLiterals, stepBy, stepAt, Placed, Lexed, good, bad, onto, afterStep, lexFrom, lex, exponentWord, capitalE, Place, isDigit, isPlaceUnit, overStep, placeStep, placeUnit}
+use Rattle.formats.specs.Tokens.{Token, Step, read, broken, before, leading, starts_with, quoted, marked, general_word, half_day_word, run_allowed, run_step, number_from, inside_of, closed, bracketed, First, quote, backslash, underscore, asterisk, open_bracket, capital_g, capital_a, letter, single, other, first_rows, first_in, bare_literals, step_by, step_at, Placed, Lexed, good, bad, onto, after_step, lex_from, lex, exponent_word, capital_e, Place, is_digit, is_place_unit, over_step, place_step, place_unit}
 use Rattle.formats.specs.Starts.{StepIs, TokenStart, begin, next}
 
 -- what is skipped is dropped
-pub lex-skip : (k skip : ℕ) (us : List ℕ) → lexFrom k skip us ≡ lexFrom (k + skip) 0 (drop skip us)
-unfolding lexFrom
+pub lex-skip : (k skip : ℕ) (us : List ℕ) → lex_from k skip us ≡ lex_from (k + skip) 0 (drop skip us)
+unfolding lex_from
 lex-skip k skip [] = rw (drop-nil skip)
 lex-skip k zero (u ∷ us) = rw (add-zero k)
-lex-skip k (suc skip) (u ∷ us) = lex-skip (suc k) skip us ∙ ap (λ (n : ℕ). lexFrom n 0 (drop skip us)) (omega arith)
+lex-skip k (suc skip) (u ∷ us) = lex-skip (suc k) skip us ∙ ap (λ (n : ℕ). lex_from n 0 (drop skip us)) (omega arith)
 
 -- more digits make no smaller number
-pub number-grows : (v : ℕ) (ds : List ℕ) → v ≤ numberFrom v ds
-unfolding numberFrom
+pub number-grows : (v : ℕ) (ds : List ℕ) → v ≤ number_from v ds
+unfolding number_from
 number-grows v [] = omega arith
 number-grows v (d ∷ ds) = omega (arith, number-grows (10 * v + d) ds)
 
 -- a token that is read stands in front of what follows it
-pub lex-read : (k u : ℕ) (us : List ℕ) (t : Token) (more : ℕ) → stepAt u us ≡ read t more
-    → lexFrom k 0 (u ∷ us) ≡ onto (record { token = t; start = k }) (lexFrom (k + suc more) 0 (drop more us))
-unfolding lexFrom afterStep
+pub lex-read : (k u : ℕ) (us : List ℕ) (t : Token) (more : ℕ) → step_at u us ≡ read t more
+    → lex_from k 0 (u ∷ us) ≡ onto (record { token = t; start = k }) (lex_from (k + suc more) 0 (drop more us))
+unfolding lex_from after_step
 lex-read k u us t more e =
-    rw e (ap (onto (record { token = t; start = k })) (lex-skip (suc k) more us ∙ ap (λ (n : ℕ). lexFrom n 0 (drop more us)) (omega arith)))
+    rw e (ap (onto (record { token = t; start = k })) (lex-skip (suc k) more us ∙ ap (λ (n : ℕ). lex_from n 0 (drop more us)) (omega arith)))
 
-pub lex-broken : (k u : ℕ) (us : List ℕ) → stepAt u us ≡ broken → lexFrom k 0 (u ∷ us) ≡ bad k
-unfolding lexFrom afterStep
+pub lex-broken : (k u : ℕ) (us : List ℕ) → step_at u us ≡ broken → lex_from k 0 (u ∷ us) ≡ bad k
+unfolding lex_from after_step
 lex-broken k u us e = rw e
 
 -- ---- a token's units are units of the code
@@ -90,67 +90,67 @@ unfolding bracketed
 bracketed-within us = cond-case (Within (length us)) (eqb (before 93 us) (length us)) (λ e. tt)
     (λ e. let open-end = eqb-false (before 93 us) (length us) e in
     let most = before-most 93 us in
-    closed-within (length us) (before 93 us) (insideOf (take (before 93 us) us)) (omega arith))
+    closed-within (length us) (before 93 us) (inside_of (take (before 93 us) us)) (omega arith))
 
-general-within : (u : ℕ) (us : List ℕ) → Within (length us) (generalWord (u ∷ us))
-unfolding generalWord units
+general-within : (u : ℕ) (us : List ℕ) → Within (length us) (general_word (u ∷ us))
+unfolding general_word units
 general-within u us = cond-case (Within (length us)) (starts_with (units "General") (u ∷ us))
     (λ e. omega (arith, word-most (units "General") (u ∷ us) e)) (λ e. tt)
 
-half-within : (u : ℕ) (us : List ℕ) → Within (length us) (halfDayWord (u ∷ us))
-unfolding halfDayWord units
+half-within : (u : ℕ) (us : List ℕ) → Within (length us) (half_day_word (u ∷ us))
+unfolding half_day_word units
 half-within u us = cond-case (Within (length us)) (starts_with (units "AM/PM") (u ∷ us))
     (λ e. omega (arith, word-most (units "AM/PM") (u ∷ us) e))
     (λ e. cond-case (Within (length us)) (starts_with (units "A/P") (u ∷ us))
     (λ f. omega (arith, word-most (units "A/P") (u ∷ us) f)) (λ f. tt))
 
-exponent-within : (u : ℕ) (us : List ℕ) → Within (length us) (exponentWord (u ∷ us))
-unfolding exponentWord units
+exponent-within : (u : ℕ) (us : List ℕ) → Within (length us) (exponent_word (u ∷ us))
+unfolding exponent_word units
 exponent-within u us = cond-case (Within (length us)) (starts_with (units "E+") (u ∷ us))
     (λ e. omega (arith, word-most (units "E+") (u ∷ us) e))
     (λ e. cond-case (Within (length us)) (starts_with (units "E-") (u ∷ us))
     (λ f. omega (arith, word-most (units "E-") (u ∷ us) f)) (λ f. tt))
 
-place-within : (p : Place) (us : List ℕ) → Within (length us) (placeStep p us)
-unfolding placeStep overStep
+place-within : (p : Place) (us : List ℕ) → Within (length us) (place_step p us)
+unfolding place_step over_step
 place-within p [] = omega arith
 place-within p (s ∷ []) = cond_both (Within 1) (eqb s 47) (omega arith) (omega arith)
 place-within p (s ∷ u ∷ us) =
     let m = suc (suc (length us)) in
     cond_both (Within m) (eqb s 47)
-    (cond_both (Within m) (isPlaceUnit u) (omega arith) (cond_both (Within m) (isDigit u) (omega (arith, leading-most isDigit us)) (omega arith)))
+    (cond_both (Within m) (is_place_unit u) (omega arith) (cond_both (Within m) (is_digit u) (omega (arith, leading-most is_digit us)) (omega arith)))
     (omega arith)
 
-by-within : (f : First) (u : ℕ) (us : List ℕ) → Within (length us) (stepBy f u us)
-unfolding stepBy runStep
+by-within : (f : First) (u : ℕ) (us : List ℕ) → Within (length us) (step_by f u us)
+unfolding step_by run_step
 by-within quote u us = quoted-within us
 by-within backslash u us = marked-within _ us
 by-within underscore u us = marked-within _ us
 by-within asterisk u us = marked-within _ us
-by-within openBracket u us = bracketed-within us
-by-within capitalG u us = general-within u us
-by-within capitalA u us = half-within u us
-by-within capitalE u us = exponent-within u us
-by-within (letter l) u us = cond_both (Within (length us)) (runAllowed l (suc (leading (eqb u) us))) (leading-most (eqb u) us) tt
-by-within (placeUnit p) u us = place-within p us
+by-within open_bracket u us = bracketed-within us
+by-within capital_g u us = general-within u us
+by-within capital_a u us = half-within u us
+by-within capital_e u us = exponent-within u us
+by-within (letter l) u us = cond_both (Within (length us)) (run_allowed l (suc (leading (eqb u) us))) (leading-most (eqb u) us) tt
+by-within (place_unit p) u us = place-within p us
 by-within (single t) u us = omega arith
-by-within other u us = cond_both (Within (length us)) (any (eqb u) bareLiterals) (omega arith) tt
+by-within other u us = cond_both (Within (length us)) (any (eqb u) bare_literals) (omega arith) tt
 
-pub step-within : (u : ℕ) (us : List ℕ) (t : Token) (more : ℕ) → stepAt u us ≡ read t more → more ≤ length us
-unfolding stepAt
-step-within u us t more e = subst (Within (length us)) e (by-within (firstIn firstRows u) u us)
+pub step-within : (u : ℕ) (us : List ℕ) (t : Token) (more : ℕ) → step_at u us ≡ read t more → more ≤ length us
+unfolding step_at
+step-within u us t more e = subst (Within (length us)) e (by-within (first_in first_rows u) u us)
 
 -- ---- at a place of a code
 
 module _ (code : List ℕ) (k : ℕ) where
   -- what lexing gives at a token's start: its token in front of the lexing of what follows, or its place where it is broken
   pub lex-front : (t : Token) (more : ℕ) → StepIs code k (read t more)
-      → lexFrom k 0 (drop k code) ≡ onto (record { token = t; start = k }) (lexFrom (k + suc more) 0 (drop (k + suc more) code))
+      → lex_from k 0 (drop k code) ≡ onto (record { token = t; start = k }) (lex_from (k + suc more) 0 (drop (k + suc more) code))
   lex-front t more s =
       let rest : drop (suc more) (drop k code) ≡ drop (k + suc more) code = drop-drop (suc more) k code in
       rw (← rest, s.stands) (lex-read k s.unit s.behind t more s.step)
 
-  pub lex-front-broken : StepIs code k broken → lexFrom k 0 (drop k code) ≡ bad k
+  pub lex-front-broken : StepIs code k broken → lex_from k 0 (drop k code) ≡ bad k
   lex-front-broken s = rw s.stands (lex-broken k s.unit s.behind s.step)
 
   units-left : (s : Step) (h : StepIs code k s) → suc (length h.behind) ≡ length code - k
@@ -182,22 +182,22 @@ pub data LexesTo (code : List ℕ) : ℕ → Lexed → Type 0 where
       → LexesTo code k (onto (record { token = t; start = k }) l)
 
 module _ (code : List ℕ) where
-  lexes-from : (us : List ℕ) (k skip : ℕ) → drop k code ≡ us → LexesTo code (k + skip) (lexFrom k skip us)
-  unfolding lexFrom afterStep
+  lexes-from : (us : List ℕ) (k skip : ℕ) → drop k code ≡ us → LexesTo code (k + skip) (lex_from k skip us)
+  unfolding lex_from after_step
   lexes-from [] k skip e = ends (k + skip) (rw (← (drop-drop skip k code), e) (drop-nil skip))
   lexes-from (u ∷ us) k (suc skip) e =
       let same : k + suc skip ≡ suc k + skip = omega arith in
       rw same (lexes-from us (suc k) skip (drop-tail code k u us e))
-  lexes-from (u ∷ us) k zero e = rw (add-zero k) (from (stepAt u us) refl (λ more. lexes-from us (suc k) more (drop-tail code k u us e)))
+  lexes-from (u ∷ us) k zero e = rw (add-zero k) (from (step_at u us) refl (λ more. lexes-from us (suc k) more (drop-tail code k u us e)))
     where
-      from : (s : Step) → stepAt u us ≡ s → ((more : ℕ) → LexesTo code (suc k + more) (lexFrom (suc k) more us))
-          → LexesTo code k (afterStep k s (λ (more : ℕ). lexFrom (suc k) more us))
+      from : (s : Step) → step_at u us ≡ s → ((more : ℕ) → LexesTo code (suc k + more) (lex_from (suc k) more us))
+          → LexesTo code k (after_step k s (λ (more : ℕ). lex_from (suc k) more us))
       from (read t more) f rest =
           let same : k + suc more ≡ suc k + more = omega arith in
-          reads k t more (lexFrom (suc k) more us) (record { unit = u; behind = us; stands = e; step = f }) (rw same (rest more))
+          reads k t more (lex_from (suc k) more us) (record { unit = u; behind = us; stands = e; step = f }) (rw same (rest more))
       from broken f rest = breaks k (record { unit = u; behind = us; stands = e; step = f })
 
-  pub lexes-at : (k : ℕ) → LexesTo code k (lexFrom k 0 (drop k code))
+  pub lexes-at : (k : ℕ) → LexesTo code k (lex_from k 0 (drop k code))
   lexes-at k = rw (add-zero k) at (lexes-from (drop k code) k 0 refl)
 
   pub lexes : LexesTo code 0 (lex code)
@@ -206,9 +206,9 @@ module _ (code : List ℕ) where
 
   -- a property of the whole lexing that passes to what is behind a token holds at every token's start
   pub at-start : (P : Lexed → Type 0) → ((p : Placed) (l : Lexed) → P (onto p l) → P l) → P (lex code)
-      → (k : ℕ) → TokenStart code k → P (lexFrom k 0 (drop k code))
+      → (k : ℕ) → TokenStart code k → P (lex_from k 0 (drop k code))
   unfolding lex
   at-start P pass whole k begin = whole
   at-start P pass whole k (next j t more h s) =
-      pass (record { token = t; start = j }) (lexFrom (j + suc more) 0 (drop (j + suc more) code))
+      pass (record { token = t; start = j }) (lex_from (j + suc more) 0 (drop (j + suc more) code))
       (rw (lex-front code j t more s) at (at-start P pass whole j h))

@@ -7,10 +7,10 @@ use Rattle.values.specs.declared.Number.{Number}
 use Rattle.values.specs.declared.Day.{Day}
 use Rattle.values.specs.declared.Millisecond.{Millisecond}
 use Rattle.figures.specs.Rounding.{Magnitude}
-use Rattle.calendar.specs.Clock.{sinceDayZero}
+use Rattle.calendar.specs.Clock.{since_day_zero}
 use Rattle.formats.specs.Tokens.{Comparison, equal, less, greater, at_most, at_least, unequal}
 use Rattle.formats.specs.Items.{Condition, Section}
-use Rattle.formats.specs.Where.{hasCondition, isText}
+use Rattle.formats.specs.Where.{has_condition, is_text}
 
 -- an exact number: its sign, which is false at zero, and its magnitude
 pub record Exact : Type 0 where
@@ -18,110 +18,110 @@ pub record Exact : Type 0 where
   pub size : Magnitude
 
 -- coefficient / 10^scale
-unfoldable pub numberExact : Number → Exact
-numberExact x =
+unfoldable pub number_exact : Number → Exact
+number_exact x =
     record {
       negative = lt_z x.coefficient (pos 0);
       size = record { above = nat_abs x.coefficient; below = 10 ^ x.scale };
     }
 
 -- "an instant as day + ms / 86,400,000" (R55)
-unfoldable pub instantExact : Day → Millisecond → Exact
-instantExact d m = record { negative = false; size = record { above = sinceDayZero d.0 m.0; below = 86400000 } }
+unfoldable pub instant_exact : Day → Millisecond → Exact
+instant_exact d m = record { negative = false; size = record { above = since_day_zero d.0 m.0; below = 86400000 } }
 
-unfoldable pub conditionExact : Condition → Exact
-conditionExact c = record { negative = c.negative; size = record { above = c.millionths; below = 10 ^ 6 } }
+unfoldable pub condition_exact : Condition → Exact
+condition_exact c = record { negative = c.negative; size = record { above = c.millionths; below = 10 ^ 6 } }
 
-abbrev pub zeroExact : Exact
-zeroExact = record { negative = false; size = record { above = 0; below = 1 } }
+abbrev pub zero_exact : Exact
+zero_exact = record { negative = false; size = record { above = 0; below = 1 } }
 
 -- a fraction below another
 unfoldable pub smaller : Magnitude → Magnitude → Bool
 smaller x y = ltb (x.above * y.below) (y.above * x.below)
 
 -- x below y
-unfoldable pub lessThan : Exact → Exact → Bool
-lessThan x y =
+unfoldable pub less_than : Exact → Exact → Bool
+less_than x y =
     cond x.negative (cond y.negative (smaller y.size x.size) true)
     (cond y.negative false (smaller x.size y.size))
 
 -- "it is compared exactly" (R55, R56)
 unfoldable pub compared : Comparison → Exact → Exact → Bool
-compared equal x y = not (lessThan x y) && not (lessThan y x)
-compared less x y = lessThan x y
-compared greater x y = lessThan y x
-compared at_most x y = not (lessThan y x)
-compared at_least x y = not (lessThan x y)
-compared unequal x y = lessThan x y || lessThan y x
+compared equal x y = not (less_than x y) && not (less_than y x)
+compared less x y = less_than x y
+compared greater x y = less_than y x
+compared at_most x y = not (less_than y x)
+compared at_least x y = not (less_than x y)
+compared unequal x y = less_than x y || less_than y x
 
 -- "N counts the sections that are neither text nor fourth." (R54)
-unfoldable pub countedFrom : ℕ → List Section → ℕ
-countedFrom i [] = 0
-countedFrom i (s ∷ ss) = let r = countedFrom (suc i) ss in cond (isText s || eqb i 3) r (suc r)
+unfoldable pub counted_from : ℕ → List Section → ℕ
+counted_from i [] = 0
+counted_from i (s ∷ ss) = let r = counted_from (suc i) ss in cond (is_text s || eqb i 3) r (suc r)
 
 unfoldable pub counted : List Section → ℕ
-counted ss = countedFrom 0 ss
+counted ss = counted_from 0 ss
 
--- why a section takes a value: its own condition, or which fallback; `asGeneral` where N = 0
+-- why a section takes a value: its own condition, or which fallback; `as_general` where N = 0
 pub data Reason : Type 0 where
-  ownCondition onlySection notBelowZero aboveZero belowZero theRest asGeneral : Reason
+  own_condition only_section not_below_zero above_zero below_zero the_rest as_general : Reason
 
 -- "N=1, all values. N=2, first: at least 0; second: the rest. N=3, first: above 0; second: below 0; third: the rest." (R57)
 unfoldable pub fallback : ℕ → ℕ → Reason
 fallback n i =
-    cond (eqb n 1) onlySection
-    (cond (eqb n 2) (cond (eqb i 0) notBelowZero theRest)
-    (cond (eqb i 0) aboveZero (cond (eqb i 1) belowZero theRest)))
+    cond (eqb n 1) only_section
+    (cond (eqb n 2) (cond (eqb i 0) not_below_zero the_rest)
+    (cond (eqb i 0) above_zero (cond (eqb i 1) below_zero the_rest)))
 
 -- "A section's own condition rules [..]. Without one [..]" the fallback does
-unfoldable pub reasonFor : ℕ → ℕ → Section → Reason
-reasonFor n i s = cond (hasCondition s) ownCondition (fallback n i)
+unfoldable pub reason_for : ℕ → ℕ → Section → Reason
+reason_for n i s = cond (has_condition s) own_condition (fallback n i)
 
-unfoldable pub conditionHolds : Option Condition → Exact → Bool
-conditionHolds none x = true
-conditionHolds (some c) x = compared c.comparison x (conditionExact c)
+unfoldable pub condition_holds : Option Condition → Exact → Bool
+condition_holds none x = true
+condition_holds (some c) x = compared c.comparison x (condition_exact c)
 
-unfoldable pub reasonHolds : Reason → Section → Exact → Bool
-reasonHolds ownCondition s x = conditionHolds s.condition x
-reasonHolds onlySection s x = true
-reasonHolds notBelowZero s x = not (lessThan x zeroExact)
-reasonHolds aboveZero s x = lessThan zeroExact x
-reasonHolds belowZero s x = lessThan x zeroExact
-reasonHolds theRest s x = true
-reasonHolds asGeneral s x = true
+unfoldable pub reason_holds : Reason → Section → Exact → Bool
+reason_holds own_condition s x = condition_holds s.condition x
+reason_holds only_section s x = true
+reason_holds not_below_zero s x = not (less_than x zero_exact)
+reason_holds above_zero s x = less_than zero_exact x
+reason_holds below_zero s x = less_than x zero_exact
+reason_holds the_rest s x = true
+reason_holds as_general s x = true
 
 pub data Choice : Type 0 where
   nothing : Choice
   chosen : ℕ → Section → Reason → Choice
 
 -- "First that holds wins" (R58), of the sections from the i-th on that are neither text nor fourth
-unfoldable pub chooseFrom : ℕ → ℕ → List Section → Exact → Choice
-chooseFrom n i [] x = nothing
-chooseFrom n i (s ∷ ss) x =
-    let r = chooseFrom n (suc i) ss x in
-    cond (not (isText s || eqb i 3) && reasonHolds (reasonFor n i s) s x) (chosen i s (reasonFor n i s)) r
+unfoldable pub choose_from : ℕ → ℕ → List Section → Exact → Choice
+choose_from n i [] x = nothing
+choose_from n i (s ∷ ss) x =
+    let r = choose_from n (suc i) ss x in
+    cond (not (is_text s || eqb i 3) && reason_holds (reason_for n i s) s x) (chosen i s (reason_for n i s)) r
 
 -- "N=0" (R59): the first section
-unfoldable pub chooseFirst : List Section → Choice
-chooseFirst [] = nothing
-chooseFirst (s ∷ ss) = chosen 0 s asGeneral
+unfoldable pub choose_first : List Section → Choice
+choose_first [] = nothing
+choose_first (s ∷ ss) = chosen 0 s as_general
 
 -- the section of a number or an instant
 unfoldable pub choose : List Section → Exact → Choice
-choose ss x = let n = counted ss in cond (eqb n 0) (chooseFirst ss) (chooseFrom n 0 ss x)
+choose ss x = let n = counted ss in cond (eqb n 0) (choose_first ss) (choose_from n 0 ss x)
 
 -- "Text goes to the fourth section, else to a text section" (R60)
 pub data TextChoice : Type 0 where
   itself : TextChoice
-  textIn : ℕ → Section → TextChoice
+  text_in : ℕ → Section → TextChoice
 
-unfoldable pub fourthFrom : ℕ → List Section → TextChoice → TextChoice
-fourthFrom i [] other = other
-fourthFrom i (s ∷ ss) other = let r = fourthFrom (suc i) ss other in cond (eqb i 3) (textIn i s) r
+unfoldable pub fourth_from : ℕ → List Section → TextChoice → TextChoice
+fourth_from i [] other = other
+fourth_from i (s ∷ ss) other = let r = fourth_from (suc i) ss other in cond (eqb i 3) (text_in i s) r
 
-unfoldable pub textFrom : ℕ → List Section → TextChoice
-textFrom i [] = itself
-textFrom i (s ∷ ss) = let r = textFrom (suc i) ss in cond (isText s) (textIn i s) r
+unfoldable pub text_from : ℕ → List Section → TextChoice
+text_from i [] = itself
+text_from i (s ∷ ss) = let r = text_from (suc i) ss in cond (is_text s) (text_in i s) r
 
-unfoldable pub chooseText : List Section → TextChoice
-chooseText ss = fourthFrom 0 ss (textFrom 0 ss)
+unfoldable pub choose_text : List Section → TextChoice
+choose_text ss = fourth_from 0 ss (text_from 0 ss)

@@ -5,13 +5,13 @@ use Rattle.answers.specs.declared.Answer.{Answer}
 use Rattle.answers.specs.Number.{number_of}
 use Rattle.formats.specs.Tokens.{broken, lex}
 use Rattle.formats.specs.Starts.{StepIs, TokenStart, ReadsAt, SemicolonAt}
-use Rattle.formats.specs.Accept.{placed_of, semicolons, parts_in, sectionsIn, Verdict, fine, refused, lengthVerdict, tokenVerdict, countVerdict, kindVerdict, whereVerdict, limitVerdict}
+use Rattle.formats.specs.Accept.{placed_of, semicolons, parts_in, sections_in, Verdict, fine, refused, length_verdict, token_verdict, count_verdict, kind_verdict, where_verdict, limit_verdict}
 
 -- the tests of a code, each at the place of its answer's number
 abbrev pub tests : List ℕ → List Verdict
 tests code =
-    fine ∷ lengthVerdict code ∷ tokenVerdict (lex code) ∷ countVerdict (semicolons (placed_of (lex code)))
-    ∷ kindVerdict (parts_in code) ∷ whereVerdict (sectionsIn code) ∷ limitVerdict (parts_in code) ∷ []
+    fine ∷ length_verdict code ∷ token_verdict (lex code) ∷ count_verdict (semicolons (placed_of (lex code)))
+    ∷ kind_verdict (parts_in code) ∷ where_verdict (sections_in code) ∷ limit_verdict (parts_in code) ∷ []
 
 -- "Preparing tests 1 to 7 in that order": no test before number n refuses the code
 abbrev pub FineBelow : List ℕ → ℕ → Type 0

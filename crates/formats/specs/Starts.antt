@@ -1,14 +1,14 @@
 -- "Read left to right" (R14): the places of a code at which a token starts, as the first-ness of a refusal is stated by them.
 -- Assumes nothing.
 use Rattle.std.specs.Prelude.{ℕ, suc, ◌+◌, ◌≡◌, List, ◌∷◌, drop}
-use Rattle.formats.specs.Tokens.{Token, semicolon, Step, read, stepAt}
+use Rattle.formats.specs.Tokens.{Token, semicolon, Step, read, step_at}
 
 -- at place k a unit stands, and the step from it is s: a token is read, or s is `broken`
 pub record StepIs (code : List ℕ) (k : ℕ) (s : Step) : Type 0 where
   pub unit : ℕ
   pub behind : List ℕ
   pub stands : drop k code ≡ unit ∷ behind
-  pub step : stepAt unit behind ≡ s
+  pub step : step_at unit behind ≡ s
 
 -- reading from the left, one token after the other, comes to place k. The first token starts at 0; each other starts behind the
 -- units of the one before it. So the place behind the last unit counts as well: there reading ends.

@@ -12,25 +12,25 @@ use Rattle.values.specs.Ranges.{between}
 use Rattle.lists.specs.Lists.{every, any, count}
 use Rattle.lists.proofs.Bools.{no, and_left, and_right, and_in, or_right, or-false, by_cases, T_true, true-T, carry, not_so, every-head, every-tail, every-cons}
 use Rattle.lists.proofs.Counts.{none-count, any-count, any-either}
-use Rattle.formats.specs.Items.{Item, fractionKind, literalKind, numberKind, itemAllowed, isFill, isPlace, isPoint, isPercent, isSolidus, isFixed, isCut, integerPlaces, startPlaces, behindStart, literalFollows, denominatorFits}
+use Rattle.formats.specs.Items.{Item, fraction_kind, literal_kind, number_kind, item_allowed, is_fill, is_place, is_point, is_percent, is_solidus, is_fixed, is_cut, integer_places, start_places, behind_start, literal_follows, denominator_fits}
 use Rattle.formats.specs.Text.{first_of}
 use Rattle.formats.proofs.Cutting.{places-integers, no-decimals}
-use Rattle.tables.specs.Words.{Entry, entries_at, entriesIn}
-use Rattle.tables.specs.Encode.{entry, kindWord}
-use Rattle.tables.specs.Decode.{item_at, itemsAt}
-use Rattle.tables.specs.Rules.{entryInRange, powersFrom, runPowers}
-use Rattle.tallies.specs.Tally.{makesFraction, items_of}
-use Rattle.number_rows.specs.NumberRows.{numberItems, NumberTold}
+use Rattle.tables.specs.Words.{Entry, entries_at, entries_in}
+use Rattle.tables.specs.Encode.{entry, kind_word}
+use Rattle.tables.specs.Decode.{item_at, items_at}
+use Rattle.tables.specs.Rules.{entry_in_range, powers_from, run_powers}
+use Rattle.tallies.specs.Tally.{makes_fraction, items_of}
+use Rattle.number_rows.specs.NumberRows.{number_items, NumberTold}
 use Rattle.number_rows.specs.declared.NumberRow.{NumberRow}
-use Rattle.scans.specs.Scans.{hasTag}
-use Rattle.fraction_rows.specs.FractionRows.{wholeFits, fixedFits, runFits}
+use Rattle.scans.specs.Scans.{has_tag}
+use Rattle.fraction_rows.specs.FractionRows.{whole_fits, fixed_fits, run_fits}
 use Rattle.scans.proofs.Scanned.{tag_is, any-tagged, entries-cut}
 use Rattle.tallies.proofs.Places.{places-bare}
 use Rattle.tallies.proofs.Held.{apart, allowed-every, no-solidi, uncut, no-powers, powers-bare, holds, holds-back}
 use Rattle.number_rows.proofs.Parts.{none-among, Figures, Part, part-bare, part-number, number-part}
 use Rattle.fraction_rows.proofs.FractionLoops.{no-places}
 
-pub fraction : Figures fractionKind
+pub fraction : Figures fraction_kind
 fraction = record { text = refl; general = refl; date = refl; number = refl; places = refl }
 
 or_left : (a b : Bool) → T a → T (a || b)
@@ -38,31 +38,31 @@ or_left true b t = tt
 
 -- ---- what every part holds
 pub record Piece (fs : List Entry) : Type 0 where
-  pub items : T (every (itemAllowed fractionKind) (itemsAt fs))
-  pub ranges : T (every entryInRange fs)
-  pub fill : count isFill (itemsAt fs) ≤ 1
+  pub items : T (every (item_allowed fraction_kind) (items_at fs))
+  pub ranges : T (every entry_in_range fs)
+  pub fill : count is_fill (items_at fs) ≤ 1
 
 -- ---- literals, blanks and fills only
 module _ (fs : List Entry) where
   abbrev loose : List Item
-  loose = itemsAt fs
+  loose = items_at fs
 
-  pub loose-in : T (items_of 0 fs) → Piece fs × (any makesFraction loose ≡ false) × (any isPlace loose ≡ false)
-  unfolding kindWord
+  pub loose-in : T (items_of 0 fs) → Piece fs × (any makes_fraction loose ≡ false) × (any is_place loose ≡ false)
+  unfolding kind_word
   loose-in t =
-      let h = holds literalKind fs t in
-      let a = apart literalKind loose h.items in
-      let held : T (every (itemAllowed fractionKind) loose) = carry (sym (allowed-every fractionKind loose))
+      let h = holds literal_kind fs t in
+      let a = apart literal_kind loose h.items in
+      let held : T (every (item_allowed fraction_kind) loose) = carry (sym (allowed-every fraction_kind loose))
       (rw (a.texts refl, a.generals refl, a.dates refl, a.places refl, a.points refl, a.percents refl, a.exponents refl, a.solidi refl) tt) in
       (record { items = held; ranges = h.ranges; fill = h.fill }, a.solidi refl, a.places refl)
 
-  pub loose-out : Piece fs → any makesFraction loose ≡ false → any isPlace loose ≡ false → T (items_of 0 fs)
-  unfolding kindWord
+  pub loose-out : Piece fs → any makes_fraction loose ≡ false → any is_place loose ≡ false → T (items_of 0 fs)
+  unfolding kind_word
   loose-out p solidi places =
-      let a = apart fractionKind loose p.items in
-      let held : T (every (itemAllowed literalKind) loose) = carry (sym (allowed-every literalKind loose))
+      let a = apart fraction_kind loose p.items in
+      let held : T (every (item_allowed literal_kind) loose) = carry (sym (allowed-every literal_kind loose))
       (rw (a.texts refl, a.generals refl, a.dates refl, places, a.points refl, a.percents refl, a.exponents refl, solidi) tt) in
-      holds-back literalKind fs (record {
+      holds-back literal_kind fs (record {
         items = held;
         made = tt;
         ranges = p.ranges;
@@ -77,61 +77,61 @@ module _ (fs : List Entry) where
 -- ---- places among them
 module _ (fs : List Entry) where
   abbrev part : List Item
-  part = itemsAt fs
+  part = items_at fs
 
   -- what the walk over a number section's items tells of them
-  pub number_in : T (numberItems fs) → count isPercent part ≡ 0 → any isPoint part ≡ false → Part fractionKind fraction fs
-  number_in t none point = number-part fractionKind fraction fs t none (rw point refl)
+  pub number_in : T (number_items fs) → count is_percent part ≡ 0 → any is_point part ≡ false → Part fraction_kind fraction fs
+  number_in t none point = number-part fraction_kind fraction fs t none (rw point refl)
 
-  pub number-out : Piece fs → any makesFraction part ≡ false → 0 < count isPlace part → T (runPowers fs) → integerPlaces part ≤ 20
-      → T (numberItems fs) × (count isPercent part ≡ 0)
+  pub number-out : Piece fs → any makes_fraction part ≡ false → 0 < count is_place part → T (run_powers fs) → integer_places part ≤ 20
+      → T (number_items fs) × (count is_percent part ≡ 0)
   number-out p solidi some powers integers =
-      let a = apart fractionKind part p.items in
-      part-number fractionKind fraction fs (record {
+      let a = apart fraction_kind part p.items in
+      part-number fraction_kind fraction fs (record {
         items = p.items;
         exponents = a.exponents refl;
         solidi = solidi;
         some = some;
         ranges = p.ranges;
         fill = p.fill;
-        points = omega (arith, none-count isPoint part (a.points refl));
+        points = omega (arith, none-count is_point part (a.points refl));
         powers = powers;
         integers = integers;
         decimals = omega (arith, no-decimals part (a.points refl));
       })
 
-  pub piece_of : Part fractionKind fraction fs → Piece fs
+  pub piece_of : Part fraction_kind fraction fs → Piece fs
   piece_of p = record { items = p.items; ranges = p.ranges; fill = p.fill }
 
 -- ---- before the numerator
 pub record Whole (fs : List Entry) : Type 0 where
   pub piece : Piece fs
-  pub solidi : any makesFraction (itemsAt fs) ≡ false
-  pub powers : T (runPowers fs)
-  pub integers : integerPlaces (itemsAt fs) ≤ 20
-  pub literal : T (literalFollows (itemsAt fs))
+  pub solidi : any makes_fraction (items_at fs) ≡ false
+  pub powers : T (run_powers fs)
+  pub integers : integer_places (items_at fs) ≤ 20
+  pub literal : T (literal_follows (items_at fs))
 
 module _ (fs : List Entry) where
   abbrev before : List Item
-  before = itemsAt fs
+  before = items_at fs
 
-  abbrev countedTest : Bool
-  countedTest = (numberItems fs && eqb (count isPercent before) 0) && (not (any isPoint before) && literalFollows before)
+  abbrev counted_test : Bool
+  counted_test = (number_items fs && eqb (count is_percent before) 0) && (not (any is_point before) && literal_follows before)
 
-  counted-in : T countedTest → Whole fs
+  counted-in : T counted_test → Whole fs
   counted-in t =
-      let none : count isPercent before ≡ 0 = search (and_left, and_right, eqb→eq) depth 8 in
-      let point : any isPoint before ≡ false = not_so (any isPoint before) (search (and_left, and_right) depth 8) in
-      let number : T (numberItems fs) = search (and_left, and_right) depth 8 in
+      let none : count is_percent before ≡ 0 = search (and_left, and_right, eqb→eq) depth 8 in
+      let point : any is_point before ≡ false = not_so (any is_point before) (search (and_left, and_right) depth 8) in
+      let number : T (number_items fs) = search (and_left, and_right) depth 8 in
       let p = number_in fs number none point in
       record { piece = piece_of fs p; solidi = p.solidi; powers = p.powers; integers = p.integers; literal = search (and_left, and_right) depth 8 }
 
   bare-in : T (items_of 0 fs) → Whole fs
-  unfolding runPowers
+  unfolding run_powers
   bare-in t =
       let l = loose-in fs t in
-      let n = none-count isPlace before l.2 in
-      let bare = uncut before ((apart fractionKind before l.0.items).exponents refl) l.1 in
+      let n = none-count is_place before l.2 in
+      let bare = uncut before ((apart fraction_kind before l.0.items).exponents refl) l.1 in
       record {
         piece = l.0;
         solidi = l.1;
@@ -140,122 +140,122 @@ module _ (fs : List Entry) where
         literal = true-T (no-places before l.2);
       }
 
-  pub whole_in : T (wholeFits fs) → Whole fs
-  unfolding wholeFits
+  pub whole_in : T (whole_fits fs) → Whole fs
+  unfolding whole_fits
   whole_in t = by_cases (items_of 0 fs) (λ e. bare-in (true-T e)) (λ e. counted-in (rw e at t))
 
-  pub whole_out : Whole fs → T (wholeFits fs)
-  unfolding wholeFits
+  pub whole_out : Whole fs → T (whole_fits fs)
+  unfolding whole_fits
   whole_out w =
-      by_cases (any isPlace before)
-      (λ e. let n = number-out fs w.piece w.solidi (any-count isPlace before e) w.powers w.integers in
+      by_cases (any is_place before)
+      (λ e. let n = number-out fs w.piece w.solidi (any-count is_place before e) w.powers w.integers in
       let number = n.0 in
-      let none : T (eqb (count isPercent before) 0) = true-T (eq-eqb _ 0 n.1) in
-      let point : T (not (any isPoint before)) = rw ((apart fractionKind before w.piece.items).points refl) tt in
+      let none : T (eqb (count is_percent before) 0) = true-T (eq-eqb _ 0 n.1) in
+      let point : T (not (any is_point before)) = rw ((apart fraction_kind before w.piece.items).points refl) tt in
       let literal = w.literal in
-      or_right (items_of 0 fs) countedTest (search and_in depth 6))
-      (λ e. or_left (items_of 0 fs) countedTest (loose-out fs w.piece w.solidi e))
+      or_right (items_of 0 fs) counted_test (search and_in depth 6))
+      (λ e. or_left (items_of 0 fs) counted_test (loose-out fs w.piece w.solidi e))
 
 -- ---- behind the solidus
-abbrev pub anewOf : List Item → ℕ
-anewOf is = first_of (count isPlace is)
+abbrev pub anew_of : List Item → ℕ
+anew_of is = first_of (count is_place is)
 
 pub record Behind (fs : List Entry) : Type 0 where
   pub piece : Piece fs
-  pub solidus : any isSolidus (itemsAt fs) ≡ false
-  pub powers : T (powersFrom (anewOf (itemsAt fs)) (anewOf (itemsAt fs)) fs)
-  pub places : count isPlace (itemsAt fs) ≤ 3
-  pub fits : T (denominatorFits (itemsAt fs))
+  pub solidus : any is_solidus (items_at fs) ≡ false
+  pub powers : T (powers_from (anew_of (items_at fs)) (anew_of (items_at fs)) fs)
+  pub places : count is_place (items_at fs) ≤ 3
+  pub fits : T (denominator_fits (items_at fs))
 
-places-split : (is : List Item) → count isPlace is ≡ length (startPlaces is) + count isPlace (behindStart is)
-unfolding startPlaces behindStart count
+places-split : (is : List Item) → count is_place is ≡ length (start_places is) + count is_place (behind_start is)
+unfolding start_places behind_start count
 places-split [] = refl
-places-split (i ∷ is) = by_cases (isPlace i) (λ p. rw p (omega (arith, places-split is))) (λ p. rw (p, p) (omega arith))
+places-split (i ∷ is) = by_cases (is_place i) (λ p. rw p (omega (arith, places-split is))) (λ p. rw (p, p) (omega arith))
 
 none_first : (p : Item → Bool) (i : Item) (is : List Item) → any p (i ∷ is) ≡ false → (p i ≡ false) × (any p is ≡ false)
 unfolding any
 none_first p i is e = by_cases (p i) (λ h. absurd (true≢false (rw h at e))) (λ h. (h, rw h at e))
 
 -- a run of places at the start, and no other
-run_fits : (is : List Item) → 0 < count isPlace is → length (startPlaces is) ≡ count isPlace is → any isFixed is ≡ false → T (denominatorFits is)
-unfolding denominatorFits startPlaces behindStart count
-run_fits [] some e f = absurd (omega arith)
-run_fits (i ∷ is) some e f =
-    let n = none_first isFixed i is f in
-    by_cases (isPlace i)
-    (λ p. let rest : count isPlace (behindStart is) ≡ 0 = omega (arith, places-split is, counted i is p e) in
-    rw (n.0, n.1, p, none-among isPlace (behindStart is) rest) tt)
+run_fits_lem : (is : List Item) → 0 < count is_place is → length (start_places is) ≡ count is_place is → any is_fixed is ≡ false → T (denominator_fits is)
+unfolding denominator_fits start_places behind_start count
+run_fits_lem [] some e f = absurd (omega arith)
+run_fits_lem (i ∷ is) some e f =
+    let n = none_first is_fixed i is f in
+    by_cases (is_place i)
+    (λ p. let rest : count is_place (behind_start is) ≡ 0 = omega (arith, places-split is, counted i is p e) in
+    rw (n.0, n.1, p, none-among is_place (behind_start is) rest) tt)
     (λ p. absurd (omega (arith, nothing i is p some e)))
   where
-    counted : (i : Item) (is : List Item) → isPlace i ≡ true → length (startPlaces (i ∷ is)) ≡ count isPlace (i ∷ is) → length (startPlaces is) ≡ count isPlace is
-    counted i is p e = let f : suc (length (startPlaces is)) ≡ suc (count isPlace is) = rw p at e in omega arith
+    counted : (i : Item) (is : List Item) → is_place i ≡ true → length (start_places (i ∷ is)) ≡ count is_place (i ∷ is) → length (start_places is) ≡ count is_place is
+    counted i is p e = let f : suc (length (start_places is)) ≡ suc (count is_place is) = rw p at e in omega arith
 
-    nothing : (i : Item) (is : List Item) → isPlace i ≡ false → 0 < count isPlace (i ∷ is) → length (startPlaces (i ∷ is)) ≡ count isPlace (i ∷ is) → 0 < 0
-    nothing i is p some e = let f : 0 ≡ count isPlace is = rw p at e in let g : 0 < count isPlace is = rw p at some in omega arith
+    nothing : (i : Item) (is : List Item) → is_place i ≡ false → 0 < count is_place (i ∷ is) → length (start_places (i ∷ is)) ≡ count is_place (i ∷ is) → 0 < 0
+    nothing i is p some e = let f : 0 ≡ count is_place is = rw p at e in let g : 0 < count is_place is = rw p at some in omega arith
 
 module _ (fs : List Entry) where
   abbrev after : List Item
-  after = itemsAt fs
+  after = items_at fs
 
-  run-powers : any isCut after ≡ false → any isPoint after ≡ false → powersFrom (anewOf after) (anewOf after) fs ≡ runPowers fs
-  unfolding runPowers
-  run-powers bare point = rw (← places-integers after point bare) (powers-bare _ _ (first_of (integerPlaces after)) fs bare)
+  run-powers : any is_cut after ≡ false → any is_point after ≡ false → powers_from (anew_of after) (anew_of after) fs ≡ run_powers fs
+  unfolding run_powers
+  run-powers bare point = rw (← places-integers after point bare) (powers-bare _ _ (first_of (integer_places after)) fs bare)
 
-  pub run_in : T (runFits fs) → Behind fs
-  unfolding runFits
+  pub run_in : T (run_fits fs) → Behind fs
+  unfolding run_fits
   run_in t =
-      let none : count isPercent after ≡ 0 = search (and_left, and_right, eqb→eq) depth 8 in
-      let point : any isPoint after ≡ false = not_so (any isPoint after) (search (and_left, and_right) depth 8) in
-      let number : T (numberItems fs) = search (and_left, and_right) depth 8 in
-      let few : integerPlaces after ≤ 3 = search (and_left, and_right, leb→le) depth 8 in
-      let same : length (startPlaces after) ≡ integerPlaces after = search (and_left, and_right, eqb→eq) depth 8 in
+      let none : count is_percent after ≡ 0 = search (and_left, and_right, eqb→eq) depth 8 in
+      let point : any is_point after ≡ false = not_so (any is_point after) (search (and_left, and_right) depth 8) in
+      let number : T (number_items fs) = search (and_left, and_right) depth 8 in
+      let few : integer_places after ≤ 3 = search (and_left, and_right, leb→le) depth 8 in
+      let same : length (start_places after) ≡ integer_places after = search (and_left, and_right, eqb→eq) depth 8 in
       let p = number_in fs number none point in
-      let bare = part-bare fractionKind fraction fs p in
+      let bare = part-bare fraction_kind fraction fs p in
       let all = places-integers after point bare in
       record {
         piece = piece_of fs p;
         solidus = (no-solidi after p.solidi).0;
         powers = carry (sym (run-powers bare point)) p.powers;
         places = omega arith;
-        fits = run_fits after p.some (omega arith) (no-solidi after p.solidi).1;
+        fits = run_fits_lem after p.some (omega arith) (no-solidi after p.solidi).1;
       }
 
-  run_out : Behind fs → any isFixed after ≡ false → 0 < count isPlace after → length (startPlaces after) ≡ count isPlace after → T (runFits fs)
-  unfolding runFits
+  run_out : Behind fs → any is_fixed after ≡ false → 0 < count is_place after → length (start_places after) ≡ count is_place after → T (run_fits fs)
+  unfolding run_fits
   run_out b fixed some run =
-      let a = apart fractionKind after b.piece.items in
-      let solidi : any makesFraction after ≡ false = any-either isSolidus isFixed after ∙ rw (b.solidus, fixed) in
+      let a = apart fraction_kind after b.piece.items in
+      let solidi : any makes_fraction after ≡ false = any-either is_solidus is_fixed after ∙ rw (b.solidus, fixed) in
       let bare = uncut after (a.exponents refl) solidi in
       let all = places-integers after (a.points refl) bare in
       let few = b.places in
       let n = number-out fs b.piece solidi some (carry (run-powers bare (a.points refl)) b.powers) (omega arith) in
       let number = n.0 in
-      let none : T (eqb (count isPercent after) 0) = true-T (eq-eqb _ 0 n.1) in
-      let most : integerPlaces after ≤ 3 = omega arith in
-      let point : T (not (any isPoint after)) = rw (a.points refl) tt in
-      let same : T (eqb (length (startPlaces after)) (integerPlaces after)) = true-T (eq-eqb _ _ (run ∙ sym all)) in
+      let none : T (eqb (count is_percent after) 0) = true-T (eq-eqb _ 0 n.1) in
+      let most : integer_places after ≤ 3 = omega arith in
+      let point : T (not (any is_point after)) = rw (a.points refl) tt in
+      let same : T (eqb (length (start_places after)) (integer_places after)) = true-T (eq-eqb _ _ (run ∙ sym all)) in
       search (and_in, le→leb) depth 8
 
 -- a fixed number
-fixed-tag : (t a : ℕ) → isFixed (item_at (entry t a)) ≡ eqb t 25
-fixed-tag t a = tag_is isFixed 25 (entry t a) refl (omega arith) refl
+fixed-tag : (t a : ℕ) → is_fixed (item_at (entry t a)) ≡ eqb t 25
+fixed-tag t a = tag_is is_fixed 25 (entry t a) refl (omega arith) refl
 
 module _ (a : ℕ) (fs : List Entry) where
   fixed-piece : T (between 1 999 a) → Piece fs → Piece (entry 25 a ∷ fs)
-  unfolding itemsAt item_at itemAllowed entryInRange count
+  unfolding items_at item_at item_allowed entry_in_range count
   fixed-piece r p =
       record {
-        items = every-cons (itemAllowed fractionKind) (item_at (entry 25 a)) (itemsAt fs) tt p.items;
-        ranges = every-cons entryInRange (entry 25 a) fs r p.ranges;
+        items = every-cons (item_allowed fraction_kind) (item_at (entry 25 a)) (items_at fs) tt p.items;
+        ranges = every-cons entry_in_range (entry 25 a) fs r p.ranges;
         fill = p.fill;
       }
 
-  fixed_in : T (between 1 999 a) → T (items_of 0 fs) → Behind (entry 25 a ∷ fs)
-  unfolding itemsAt item_at count any denominatorFits
-  fixed_in r t =
+  fixed_in_lem : T (between 1 999 a) → T (items_of 0 fs) → Behind (entry 25 a ∷ fs)
+  unfolding items_at item_at count any denominator_fits
+  fixed_in_lem r t =
       let l = loose-in fs t in
-      let n = no-solidi (itemsAt fs) l.1 in
-      let none = none-count isPlace (itemsAt fs) l.2 in
+      let n = no-solidi (items_at fs) l.1 in
+      let none = none-count is_place (items_at fs) l.2 in
       record {
         piece = fixed-piece r l.0;
         solidus = n.0;
@@ -265,26 +265,26 @@ module _ (a : ℕ) (fs : List Entry) where
       }
 
   fixed_out : Behind (entry 25 a ∷ fs) → T (between 1 999 a) × T (items_of 0 fs)
-  unfolding itemsAt item_at itemAllowed entryInRange count any denominatorFits
+  unfolding items_at item_at item_allowed entry_in_range count any denominator_fits
   fixed_out b =
-      let places : any isPlace (itemsAt fs) ≡ false = not_so (any isPlace (itemsAt fs)) (and_left (not (any isPlace (itemsAt fs))) _ b.fits) in
-      let fixed : any isFixed (itemsAt fs) ≡ false = not_so (any isFixed (itemsAt fs)) (and_right (not (any isPlace (itemsAt fs))) _ b.fits) in
-      let solidi : any makesFraction (itemsAt fs) ≡ false = any-either isSolidus isFixed (itemsAt fs) ∙ rw (b.solidus, fixed) in
+      let places : any is_place (items_at fs) ≡ false = not_so (any is_place (items_at fs)) (and_left (not (any is_place (items_at fs))) _ b.fits) in
+      let fixed : any is_fixed (items_at fs) ≡ false = not_so (any is_fixed (items_at fs)) (and_right (not (any is_place (items_at fs))) _ b.fits) in
+      let solidi : any makes_fraction (items_at fs) ≡ false = any-either is_solidus is_fixed (items_at fs) ∙ rw (b.solidus, fixed) in
       let piece : Piece fs = record {
-        items = every-tail (itemAllowed fractionKind) (item_at (entry 25 a)) (itemsAt fs) b.piece.items;
-        ranges = every-tail entryInRange (entry 25 a) fs b.piece.ranges;
+        items = every-tail (item_allowed fraction_kind) (item_at (entry 25 a)) (items_at fs) b.piece.items;
+        ranges = every-tail entry_in_range (entry 25 a) fs b.piece.ranges;
         fill = b.piece.fill;
       } in
-      (every-head entryInRange (entry 25 a) fs b.piece.ranges, loose-out fs piece solidi places)
+      (every-head entry_in_range (entry 25 a) fs b.piece.ranges, loose-out fs piece solidi places)
 
 behind-fixed : (t a : ℕ) (fs : List Entry) → t ≡ 25 → T (between 1 999 a) → T (items_of 0 fs) → Behind (entry t a ∷ fs)
-behind-fixed t a fs e r l = subst (λ (n : ℕ). Behind (entry n a ∷ fs)) (sym e) (fixed_in a fs r l)
+behind-fixed t a fs e r l = subst (λ (n : ℕ). Behind (entry n a ∷ fs)) (sym e) (fixed_in_lem a fs r l)
 
 fixed-behind : (t a : ℕ) (fs : List Entry) → t ≡ 25 → Behind (entry t a ∷ fs) → T (between 1 999 a) × T (items_of 0 fs)
 fixed-behind t a fs e b = fixed_out a fs (subst (λ (n : ℕ). Behind (entry n a ∷ fs)) e b)
 
-pub behind-in : (fs : List Entry) → T (fixedFits fs || runFits fs) → Behind fs
-unfolding fixedFits
+pub behind-in : (fs : List Entry) → T (fixed_fits fs || run_fits fs) → Behind fs
+unfolding fixed_fits
 behind-in [] t = run_in [] t
 behind-in (f ∷ fs) t =
     by_cases (eqb f.tag 25 && (between 1 999 f.argument && items_of 0 fs))
@@ -294,29 +294,29 @@ behind-in (f ∷ fs) t =
     behind-fixed f.tag f.argument fs (eqb→eq f.tag 25 tag) (and_left (between 1 999 f.argument) _ rest) (and_right (between 1 999 f.argument) _ rest))
     (λ e. run_in (f ∷ fs) (rw e at t))
 
-other-run : (i : Item) (is : List Item) → isFixed i ≡ false → T (denominatorFits (i ∷ is))
-    → (0 < count isPlace (i ∷ is)) × (length (startPlaces (i ∷ is)) ≡ count isPlace (i ∷ is)) × (any isFixed (i ∷ is) ≡ false)
-unfolding denominatorFits startPlaces count any
+other-run : (i : Item) (is : List Item) → is_fixed i ≡ false → T (denominator_fits (i ∷ is))
+    → (0 < count is_place (i ∷ is)) × (length (start_places (i ∷ is)) ≡ count is_place (i ∷ is)) × (any is_fixed (i ∷ is) ≡ false)
+unfolding denominator_fits start_places count any
 other-run i is n t =
-    let all : T ((isPlace i && not (any isPlace (behindStart is))) && not (any isFixed is)) = rw n at t in
-    let place : isPlace i ≡ true = T_true (isPlace i) (search (and_left, and_right)) in
-    let last : any isPlace (behindStart is) ≡ false = not_so (any isPlace (behindStart is)) (search (and_left, and_right)) in
-    let fixed : any isFixed is ≡ false = not_so (any isFixed is) (search (and_left, and_right)) in
-    rw (place, n, fixed) (omega arith, omega (arith, places-split is, none-count isPlace (behindStart is) last), refl)
+    let all : T ((is_place i && not (any is_place (behind_start is))) && not (any is_fixed is)) = rw n at t in
+    let place : is_place i ≡ true = T_true (is_place i) (search (and_left, and_right)) in
+    let last : any is_place (behind_start is) ≡ false = not_so (any is_place (behind_start is)) (search (and_left, and_right)) in
+    let fixed : any is_fixed is ≡ false = not_so (any is_fixed is) (search (and_left, and_right)) in
+    rw (place, n, fixed) (omega arith, omega (arith, places-split is, none-count is_place (behind_start is) last), refl)
 
-pub behind-out : (fs : List Entry) → Behind fs → T (fixedFits fs || runFits fs)
-unfolding fixedFits denominatorFits itemsAt
+pub behind-out : (fs : List Entry) → Behind fs → T (fixed_fits fs || run_fits fs)
+unfolding fixed_fits denominator_fits items_at
 behind-out [] b = absurd b.fits
 behind-out (f ∷ fs) b =
     by_cases (eqb f.tag 25)
     (λ e. let o = fixed-behind f.tag f.argument fs (eqb-true f.tag 25 e) b in
     or_left (eqb f.tag 25 && (between 1 999 f.argument && items_of 0 fs)) _ (and_in (eqb f.tag 25) _ (true-T e) (and_in (between 1 999 f.argument) _ o.0 o.1)))
-    (λ e. let o = other-run (item_at f) (itemsAt fs) (fixed-tag f.tag f.argument ∙ e) b.fits in
+    (λ e. let o = other-run (item_at f) (items_at fs) (fixed-tag f.tag f.argument ∙ e) b.fits in
     or_right (eqb f.tag 25 && (between 1 999 f.argument && items_of 0 fs)) _ (run_out (f ∷ fs) b o.2 o.0 o.1))
 
 -- ---- as the walks tell
-pub whole-bare : (es : List Entry) → items_of 0 es ≡ true → true ≡ wholeFits es
-unfolding wholeFits
+pub whole-bare : (es : List Entry) → items_of 0 es ≡ true → true ≡ whole_fits es
+unfolding whole_fits
 whole-bare es e = rw e
 
 bool-or-false : (b : Bool) → (b || false) ≡ b
@@ -330,71 +330,71 @@ unmarked false p l e = refl
 
 module _ (es : List Entry) (n : NumberRow) (t : NumberTold es n) where
   abbrev all : List Item
-  all = itemsAt es
+  all = items_at es
 
-  points-are : any isPoint all ≡ hasTag es 7
-  points-are = any-tagged isPoint 7 (λ e. tag_is isPoint 7 e refl (omega arith) refl) es
+  points-are : any is_point all ≡ has_tag es 7
+  points-are = any-tagged is_point 7 (λ e. tag_is is_point 7 e refl (omega arith) refl) es
 
-  abbrev wholeFirst : Bool
-  wholeFirst = n.fits && eqb n.percents 0
+  abbrev whole_first : Bool
+  whole_first = n.fits && eqb n.percents 0
 
-  whole-told : (items_of 0 es || (wholeFirst && (not (hasTag es 7) && literalFollows all))) ≡ wholeFits es
-  unfolding wholeFits
+  whole-told : (items_of 0 es || (whole_first && (not (has_tag es 7) && literal_follows all))) ≡ whole_fits es
+  unfolding whole_fits
   whole-told = rw points-are (by_cases n.fits (λ f. rw (← t.fits, t.percents f)) (λ f. rw (← t.fits, f)))
 
-  pub whole-refused : items_of 0 es ≡ false → (not wholeFirst || hasTag es 7) ≡ true → false ≡ wholeFits es
-  whole-refused b e = unmarked wholeFirst (hasTag es 7) (literalFollows all) e ∙ rw b at whole-told
+  pub whole-refused : items_of 0 es ≡ false → (not whole_first || has_tag es 7) ≡ true → false ≡ whole_fits es
+  whole-refused b e = unmarked whole_first (has_tag es 7) (literal_follows all) e ∙ rw b at whole-told
 
-  pub whole-literal : items_of 0 es ≡ false → (not wholeFirst || hasTag es 7) ≡ false → literalFollows all ≡ wholeFits es
-  whole-literal b e = let n = or-false (not wholeFirst) (hasTag es 7) e in rw (b, not-false wholeFirst n.0, n.1) at whole-told
+  pub whole-literal : items_of 0 es ≡ false → (not whole_first || has_tag es 7) ≡ false → literal_follows all ≡ whole_fits es
+  whole-literal b e = let n = or-false (not whole_first) (has_tag es 7) e in rw (b, not-false whole_first n.0, n.1) at whole-told
 
-  abbrev runFirst : Bool
-  runFirst = n.fits && eqb n.percents 0 && leb n.integers 3
+  abbrev run_first : Bool
+  run_first = n.fits && eqb n.percents 0 && leb n.integers 3
 
-  run-told : (runFirst && (not (hasTag es 7) && eqb (length (startPlaces all)) n.integers)) ≡ runFits es
-  unfolding runFits
+  run-told : (run_first && (not (has_tag es 7) && eqb (length (start_places all)) n.integers)) ≡ run_fits es
+  unfolding run_fits
   run-told = rw points-are (by_cases n.fits (λ f. rw (← t.fits, t.percents f, t.integers f)) (λ f. rw (← t.fits, f)))
 
-  pub run-refused : not runFirst ≡ true → false ≡ runFits es
-  run-refused e = rw (not-true runFirst e) at run-told
+  pub run-refused : not run_first ≡ true → false ≡ run_fits es
+  run-refused e = rw (not-true run_first e) at run-told
 
-  pub run-pointed : hasTag es 7 ≡ true → false ≡ runFits es
-  run-pointed p = rw (p, and-false runFirst) at run-told
+  pub run-pointed : has_tag es 7 ≡ true → false ≡ run_fits es
+  run-pointed p = rw (p, and-false run_first) at run-told
 
-  pub run-counted : not runFirst ≡ false → hasTag es 7 ≡ false → eqb (length (startPlaces all)) n.integers ≡ runFits es
-  run-counted e p = rw (not-false runFirst e, p) at run-told
+  pub run-counted : not run_first ≡ false → has_tag es 7 ≡ false → eqb (length (start_places all)) n.integers ≡ run_fits es
+  run-counted e p = rw (not-false run_first e, p) at run-told
 
 -- the items behind a solidus, by the first of them
-abbrev pub behindTest : List Entry → Bool
-behindTest es = fixedFits es || runFits es
+abbrev pub behind_test : List Entry → Bool
+behind_test es = fixed_fits es || run_fits es
 
-pub behind-none : behindTest [] ≡ false
-unfolding fixedFits
-behind-none = by_cases (runFits []) (λ e. absurd (unfold denominatorFits itemsAt in (run_in [] (true-T e)).fits)) (λ e. e)
+pub behind-none : behind_test [] ≡ false
+unfolding fixed_fits
+behind-none = by_cases (run_fits []) (λ e. absurd (unfold denominator_fits items_at in (run_in [] (true-T e)).fits)) (λ e. e)
 
 -- a fixed number is none of a number section's items
-run-unfixed : (t a : ℕ) (es : List Entry) → t ≡ 25 → runFits (entry t a ∷ es) ≡ false
-unfolding runFits
+run-unfixed : (t a : ℕ) (es : List Entry) → t ≡ 25 → run_fits (entry t a ∷ es) ≡ false
+unfolding run_fits
 run-unfixed t a es e =
-    by_cases (runFits (entry t a ∷ es))
+    by_cases (run_fits (entry t a ∷ es))
     (λ r. let u = true-T r in
-    let number : T (numberItems (entry t a ∷ es)) = search (and_left, and_right) depth 8 in
+    let number : T (number_items (entry t a ∷ es)) = search (and_left, and_right) depth 8 in
     absurd (true≢false (sym (made t a es e) ∙ unnumbered (entry t a ∷ es) number)))
     (λ r. r)
   where
-    made : (t a : ℕ) (es : List Entry) → t ≡ 25 → any makesFraction (itemsAt (entry t a ∷ es)) ≡ true
-    made t a es e = unfold itemsAt any in (rw (fixed-tag t a, eq-eqb t 25 e, or-true (isSolidus (item_at (entry t a)))))
+    made : (t a : ℕ) (es : List Entry) → t ≡ 25 → any makes_fraction (items_at (entry t a ∷ es)) ≡ true
+    made t a es e = unfold items_at any in (rw (fixed-tag t a, eq-eqb t 25 e, or-true (is_solidus (item_at (entry t a)))))
 
-    unnumbered : (es : List Entry) → T (numberItems es) → any makesFraction (itemsAt es) ≡ false
-    unnumbered es t = unfold numberItems kindWord in ((apart numberKind (itemsAt es) (holds numberKind es (and_left (items_of 2 es) _ t)).items).solidi refl)
+    unnumbered : (es : List Entry) → T (number_items es) → any makes_fraction (items_at es) ≡ false
+    unnumbered es t = unfold number_items kind_word in ((apart number_kind (items_at es) (holds number_kind es (and_left (items_of 2 es) _ t)).items).solidi refl)
 
 module _ (t a : ℕ) (es : List Entry) where
-  pub behind-run : (t ≡ 25 → ⊥) → runFits (entry t a ∷ es) ≡ behindTest (entry t a ∷ es)
-  unfolding fixedFits
+  pub behind-run : (t ≡ 25 → ⊥) → run_fits (entry t a ∷ es) ≡ behind_test (entry t a ∷ es)
+  unfolding fixed_fits
   behind-run n = rw (ne_eqb t 25 n)
 
-  pub behind-first : t ≡ 25 → (between 1 999 a && items_of 0 es) ≡ behindTest (entry t a ∷ es)
-  unfolding fixedFits
+  pub behind-first : t ≡ 25 → (between 1 999 a && items_of 0 es) ≡ behind_test (entry t a ∷ es)
+  unfolding fixed_fits
   behind-first e = rw (run-unfixed t a es e, eq-eqb t 25 e) (sym (bool-or-false (between 1 999 a && items_of 0 es)))
 
 -- the words of a literal section's items
@@ -403,25 +403,25 @@ literal-told es f = f (λ e. omega (arith, e)) (λ e. omega (arith, e)) (λ e. o
 
 -- ---- by the words
 module _ (words : List ℕ) where
-  pub words-none : length words < 2 → false ≡ behindTest (entriesIn words)
-  unfolding entriesIn entries_at
+  pub words-none : length words < 2 → false ≡ behind_test (entries_in words)
+  unfolding entries_in entries_at
   words-none h = let none : length words / 2 ≡ 0 = omega arith in rw none (sym behind-none)
 
   module _ (h : 2 ≤ length words) where
-    words-first : entriesIn words ≡ entry (get_or words 0 0) (get_or words 1 0) ∷ entriesIn (take (length words - 2) (drop 2 words))
-    unfolding entriesIn entries_at
+    words-first : entries_in words ≡ entry (get_or words 0 0) (get_or words 1 0) ∷ entries_in (take (length words - 2) (drop 2 words))
+    unfolding entries_in entries_at
     words-first = entries-cut words 0 (omega arith)
 
-    pub words-run : (get_or words 0 0 ≡ 25 → ⊥) → runFits (entriesIn words) ≡ behindTest (entriesIn words)
+    pub words-run : (get_or words 0 0 ≡ 25 → ⊥) → run_fits (entries_in words) ≡ behind_test (entries_in words)
     words-run n = rw words-first (behind-run _ _ _ n)
 
     words-both : get_or words 0 0 ≡ 25
-        → (between 1 999 (get_or words 1 0) && items_of 0 (entriesIn (take (length words - 2) (drop 2 words)))) ≡ behindTest (entriesIn words)
-    words-both e = behind-first _ _ _ e ∙ ap behindTest (sym words-first)
+        → (between 1 999 (get_or words 1 0) && items_of 0 (entries_in (take (length words - 2) (drop 2 words)))) ≡ behind_test (entries_in words)
+    words-both e = behind-first _ _ _ e ∙ ap behind_test (sym words-first)
 
-    pub words-wide : get_or words 0 0 ≡ 25 → between 1 999 (get_or words 1 0) ≡ false → false ≡ behindTest (entriesIn words)
+    pub words-wide : get_or words 0 0 ≡ 25 → between 1 999 (get_or words 1 0) ≡ false → false ≡ behind_test (entries_in words)
     words-wide e b = rw b at (words-both e)
 
     pub words-fixed : get_or words 0 0 ≡ 25 → between 1 999 (get_or words 1 0) ≡ true
-        → items_of 0 (entriesIn (take (length words - 2) (drop 2 words))) ≡ behindTest (entriesIn words)
+        → items_of 0 (entries_in (take (length words - 2) (drop 2 words))) ≡ behind_test (entries_in words)
     words-fixed e b = rw b at (words-both e)

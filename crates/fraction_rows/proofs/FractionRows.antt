@@ -12,37 +12,37 @@ use borrow.Author.Tests.{eq-eqb, eqb-true, lt-ltb}
 use Rattle.lists.specs.Lists.{every, any, count, is_empty}
 use Rattle.lists.proofs.Bools.{no, and_left, and_right, and_in, or_right, or-false, by_cases, T_true, true-T, carry, same_test}
 use Rattle.lists.proofs.Counts.{count-append, any_append, every-both, none-count, any-either, positive-count}
-use Rattle.formats.specs.Items.{Item, solidus, fractionKind, itemAllowed, itemNumber, isFill, isPlace, isPoint, isPercent, isExponent, isSolidus, isFixed, isCut, beforeCut, fromCut, integerPlaces, placesBehind, endPlaces, beforeEnd, numeratorItems, wholeItems, mainItems, literalFollows, denominatorFits, fractionFits}
+use Rattle.formats.specs.Items.{Item, solidus, fraction_kind, item_allowed, item_number, is_fill, is_place, is_point, is_percent, is_exponent, is_solidus, is_fixed, is_cut, before_cut, from_cut, integer_places, places_behind, end_places, before_end, numerator_items, whole_items, main_items, literal_follows, denominator_fits, fraction_fits}
 use Rattle.formats.specs.Text.{first_of}
 use Rattle.formats.proofs.Cutting.{integers-before, fraction-rules, none_passes}
-use Rattle.tables.specs.Words.{Entry, entriesIn}
-use Rattle.tables.specs.Encode.{entry, kindWord}
-use Rattle.tables.specs.Decode.{item_at, itemsAt}
-use Rattle.tables.specs.Rules.{entryInRange, powersFrom, runPowers, powersRunDown}
+use Rattle.tables.specs.Words.{Entry, entries_in}
+use Rattle.tables.specs.Encode.{entry, kind_word}
+use Rattle.tables.specs.Decode.{item_at, items_at}
+use Rattle.tables.specs.Rules.{entry_in_range, powers_from, run_powers, powers_run_down}
 use Rattle.tables.proofs.BackEntries.{items-length}
 use Rattle.table_words.specs.Runs.{items_in, CutAt}
 use Rattle.table_words.proofs.Cuts.{items-append, rest_all}
 use Rattle.scans.proofs.Scanned.{tag_is, any-tagged}
-use Rattle.tallies.specs.Tally.{makesFraction, items_of}
-use Rattle.number_rows.specs.NumberRows.{numberItems}
-use Rattle.scans.specs.Scans.{hasTag}
-use Rattle.fraction_rows.specs.FractionRows.{fractionItems, wholeFits, fixedFits, runFits, partsFit}
+use Rattle.tallies.specs.Tally.{makes_fraction, items_of}
+use Rattle.number_rows.specs.NumberRows.{number_items}
+use Rattle.scans.specs.Scans.{has_tag}
+use Rattle.fraction_rows.specs.FractionRows.{fraction_items, whole_fits, fixed_fits, run_fits, parts_fit}
 use Rattle.tallies.proofs.Held.{apart, no-solidi, uncut, powers-bare, Holds, holds, holds-back}
 use Rattle.number_rows.proofs.Parts.{none-among, every-joined, count-beside, cut-here, powers-joined, filled_apart}
-use Rattle.fraction_rows.proofs.FractionParts.{fraction, Piece, Whole, whole_in, whole_out, Behind, anewOf, behind-in, behind-out, number_in, number-out}
+use Rattle.fraction_rows.proofs.FractionParts.{fraction, Piece, Whole, whole_in, whole_out, Behind, anew_of, behind-in, behind-out, number_in, number-out}
 
 -- ---- the places at the end are places, and there is none where they are none
-end-places : (is : List Item) → every isPlace (endPlaces is) ≡ true
-unfolding endPlaces every
+end-places : (is : List Item) → every is_place (end_places is) ≡ true
+unfolding end_places every
 end-places [] = refl
-end-places (i ∷ is) = by_cases (every isPlace (i ∷ is)) (λ e. rw (e, e)) (λ e. rw e (end-places is))
+end-places (i ∷ is) = by_cases (every is_place (i ∷ is)) (λ e. rw (e, e)) (λ e. rw e (end-places is))
 
-some-places : (is : List Item) → every isPlace is ≡ true → is_empty is ≡ false → 0 < count isPlace is
+some-places : (is : List Item) → every is_place is ≡ true → is_empty is ≡ false → 0 < count is_place is
 unfolding every is_empty count
 some-places [] e n = absurd (true≢false n)
-some-places (i ∷ is) e n = by_cases (isPlace i) (λ p. rw p (omega arith)) (λ p. absurd (true≢false (sym (rw p at e))))
+some-places (i ∷ is) e n = by_cases (is_place i) (λ p. rw p (omega arith)) (λ p. absurd (true≢false (sym (rw p at e))))
 
-not-empty : (is : List Item) → 0 < count isPlace is → is_empty is ≡ false
+not-empty : (is : List Item) → 0 < count is_place is → is_empty is ≡ false
 unfolding is_empty count
 not-empty [] h = absurd (omega arith)
 not-empty (i ∷ is) h = refl
@@ -51,7 +51,7 @@ either-none : (p : Item → Bool) (is js : List Item) → any p (is ++ js) ≡ f
 either-none p is js e = or-false (any p is) (any p js) (sym (any_append p is js) ∙ e)
 
 -- ---- the whole section: the items before the numerator, the numerator's, the solidus with its argument and the items behind it
-module _ (ws ns ds : List Entry) (a : ℕ) (whole : itemsAt ws ≡ beforeEnd (itemsAt (ws ++ ns))) (numerator : itemsAt ns ≡ endPlaces (itemsAt (ws ++ ns))) where
+module _ (ws ns ds : List Entry) (a : ℕ) (whole : items_at ws ≡ before_end (items_at (ws ++ ns))) (numerator : items_at ns ≡ end_places (items_at (ws ++ ns))) where
   abbrev e : Entry
   e = entry 24 a
 
@@ -59,133 +59,133 @@ module _ (ws ns ds : List Entry) (a : ℕ) (whole : itemsAt ws ≡ beforeEnd (it
   es = (ws ++ ns) ++ (e ∷ ds)
 
   abbrev is : List Item
-  is = itemsAt es
+  is = items_at es
 
   abbrev js : List Item
-  js = itemsAt (ws ++ ns)
+  js = items_at (ws ++ ns)
 
   abbrev ks : List Item
-  ks = itemsAt ds
+  ks = items_at ds
 
   joined : is ≡ js ++ (solidus ∷ ks)
-  unfolding itemsAt item_at
+  unfolding items_at item_at
   joined = items-append (ws ++ ns) (e ∷ ds)
 
-  front : js ≡ itemsAt ws ++ itemsAt ns
+  front : js ≡ items_at ws ++ items_at ns
   front = items-append ws ns
 
   -- what is counted and held
-  count-is : (p : Item → Bool) → p solidus ≡ false → count p is ≡ count p (itemsAt ws) + count p (itemsAt ns) + count p ks
-  count-is p n = ap (count p) joined ∙ count-beside p solidus js ks n ∙ rw front (omega (arith, count-append p (itemsAt ws) (itemsAt ns)))
+  count-is : (p : Item → Bool) → p solidus ≡ false → count p is ≡ count p (items_at ws) + count p (items_at ns) + count p ks
+  count-is p n = ap (count p) joined ∙ count-beside p solidus js ks n ∙ rw front (omega (arith, count-append p (items_at ws) (items_at ns)))
 
-  solidi-are : count isSolidus is ≡ count isSolidus js + suc (count isSolidus ks)
+  solidi-are : count is_solidus is ≡ count is_solidus js + suc (count is_solidus ks)
   unfolding count
-  solidi-are = ap (count isSolidus) joined ∙ count-append isSolidus js (solidus ∷ ks)
+  solidi-are = ap (count is_solidus) joined ∙ count-append is_solidus js (solidus ∷ ks)
 
-  held-are : every (itemAllowed fractionKind) is ≡ ((every (itemAllowed fractionKind) (itemsAt ws) && every (itemAllowed fractionKind) (itemsAt ns)) && every (itemAllowed fractionKind) ks)
-  unfolding itemAllowed
+  held-are : every (item_allowed fraction_kind) is ≡ ((every (item_allowed fraction_kind) (items_at ws) && every (item_allowed fraction_kind) (items_at ns)) && every (item_allowed fraction_kind) ks)
+  unfolding item_allowed
   held-are =
-      let f = itemAllowed fractionKind in
-      ap (every f) joined ∙ every-joined f js ks solidus ∙ rw front (ap (λ (b : Bool). b && every f ks) (every-both f (itemsAt ws) (itemsAt ns)))
+      let f = item_allowed fraction_kind in
+      ap (every f) joined ∙ every-joined f js ks solidus ∙ rw front (ap (λ (b : Bool). b && every f ks) (every-both f (items_at ws) (items_at ns)))
 
-  ranges-are : every entryInRange es ≡ ((every entryInRange ws && every entryInRange ns) && (eqb a 0 && every entryInRange ds))
-  unfolding entryInRange item_at
+  ranges-are : every entry_in_range es ≡ ((every entry_in_range ws && every entry_in_range ns) && (eqb a 0 && every entry_in_range ds))
+  unfolding entry_in_range item_at
   ranges-are =
-      every-joined entryInRange (ws ++ ns) ds e ∙ ap (λ (b : Bool). b && (eqb a 0 && every entryInRange ds)) (every-both entryInRange ws ns)
+      every-joined entry_in_range (ws ++ ns) ds e ∙ ap (λ (b : Bool). b && (eqb a 0 && every entry_in_range ds)) (every-both entry_in_range ws ns)
 
-  some-solidus : any isSolidus is ≡ true
-  some-solidus = sym (positive-count isSolidus is) ∙ lt-ltb 0 (count isSolidus is) (omega (arith, solidi-are))
+  some-solidus : any is_solidus is ≡ true
+  some-solidus = sym (positive-count is_solidus is) ∙ lt-ltb 0 (count is_solidus is) (omega (arith, solidi-are))
 
-  module _ (bare : any isCut js ≡ false) where
-    before : beforeCut is ≡ js
-    before = ap beforeCut joined ∙ (cut-here solidus js ks refl bare).0
+  module _ (bare : any is_cut js ≡ false) where
+    before : before_cut is ≡ js
+    before = ap before_cut joined ∙ (cut-here solidus js ks refl bare).0
 
-    from : fromCut is ≡ solidus ∷ ks
-    from = ap fromCut joined ∙ (cut-here solidus js ks refl bare).1
+    from : from_cut is ≡ solidus ∷ ks
+    from = ap from_cut joined ∙ (cut-here solidus js ks refl bare).1
 
-    whole_is : wholeItems is ≡ itemsAt ws
-    unfolding wholeItems
+    whole_is : whole_items is ≡ items_at ws
+    unfolding whole_items
     whole_is = rw (some-solidus, before) (sym whole)
 
-    numerator-is : numeratorItems is ≡ itemsAt ns
-    unfolding numeratorItems
+    numerator-is : numerator_items is ≡ items_at ns
+    unfolding numerator_items
     numerator-is = rw before (sym numerator)
 
-    main-is : mainItems is ≡ itemsAt ns ++ (solidus ∷ ks)
-    unfolding mainItems
+    main-is : main_items is ≡ items_at ns ++ (solidus ∷ ks)
+    unfolding main_items
     main-is = rw (some-solidus, numerator-is, from)
 
-    places-are : placesBehind is ≡ count isPlace ks
-    unfolding placesBehind count
-    places-are = ap (count isPlace) from
+    places-are : places_behind is ≡ count is_place ks
+    unfolding places_behind count
+    places-are = ap (count is_place) from
 
-    bare-numerator : any isCut (itemsAt ns) ≡ false
-    bare-numerator = (either-none isCut (itemsAt ws) (itemsAt ns) (rw front at bare)).1
+    bare-numerator : any is_cut (items_at ns) ≡ false
+    bare-numerator = (either-none is_cut (items_at ws) (items_at ns) (rw front at bare)).1
 
-    integers-are : integerPlaces (mainItems is) ≡ integerPlaces (itemsAt ns)
+    integers-are : integer_places (main_items is) ≡ integer_places (items_at ns)
     integers-are =
-        ap integerPlaces main-is ∙ sym (integers-before (itemsAt ns ++ (solidus ∷ ks))) ∙ ap integerPlaces (cut-here solidus (itemsAt ns) ks refl bare-numerator).0
+        ap integer_places main-is ∙ sym (integers-before (items_at ns ++ (solidus ∷ ks))) ∙ ap integer_places (cut-here solidus (items_at ns) ks refl bare-numerator).0
 
     -- the numerator's places and those behind the solidus each run down
-    later : runPowers (ns ++ (e ∷ ds)) ≡ (runPowers ns && powersFrom (anewOf ks) (anewOf ks) ds)
-    unfolding runPowers placesBehind item_at itemsAt count
+    later : run_powers (ns ++ (e ∷ ds)) ≡ (run_powers ns && powers_from (anew_of ks) (anew_of ks) ds)
+    unfolding run_powers places_behind item_at items_at count
     later =
-        let items : itemsAt (ns ++ (e ∷ ds)) ≡ itemsAt ns ++ (solidus ∷ ks) = items-append ns (e ∷ ds) in
-        let cut = cut-here solidus (itemsAt ns) ks refl bare-numerator in
-        let integers : integerPlaces (itemsAt ns ++ (solidus ∷ ks)) ≡ integerPlaces (itemsAt ns) = sym (integers-before (itemsAt ns ++ (solidus ∷ ks))) ∙ ap integerPlaces cut.0 in
+        let items : items_at (ns ++ (e ∷ ds)) ≡ items_at ns ++ (solidus ∷ ks) = items-append ns (e ∷ ds) in
+        let cut = cut-here solidus (items_at ns) ks refl bare-numerator in
+        let integers : integer_places (items_at ns ++ (solidus ∷ ks)) ≡ integer_places (items_at ns) = sym (integers-before (items_at ns ++ (solidus ∷ ks))) ∙ ap integer_places cut.0 in
         rw (items, cut.1, integers)
-        (powers-joined e ns ds (anewOf ks) (first_of (integerPlaces (itemsAt ns))) refl bare-numerator
-        ∙ ap (λ (b : Bool). b && powersFrom (anewOf ks) (anewOf ks) ds) (powers-bare _ _ (first_of (integerPlaces (itemsAt ns))) ns bare-numerator))
+        (powers-joined e ns ds (anew_of ks) (first_of (integer_places (items_at ns))) refl bare-numerator
+        ∙ ap (λ (b : Bool). b && powers_from (anew_of ks) (anew_of ks) ds) (powers-bare _ _ (first_of (integer_places (items_at ns))) ns bare-numerator))
 
-    powers-are : powersRunDown es ≡ (runPowers ws && (runPowers ns && powersFrom (anewOf ks) (anewOf ks) ds))
-    unfolding powersRunDown
+    powers-are : powers_run_down es ≡ (run_powers ws && (run_powers ns && powers_from (anew_of ks) (anew_of ks) ds))
+    unfolding powers_run_down
     powers-are =
-        let size : length (wholeItems is) ≡ length ws = rw whole_is (items-length ws) in
+        let size : length (whole_items is) ≡ length ws = rw whole_is (items-length ws) in
         let same : es ≡ ws ++ (ns ++ (e ∷ ds)) = append_assoc ws ns (e ∷ ds) in
         rw (size, ap (take (length ws)) same ∙ take-append_seam ws (ns ++ (e ∷ ds)), ap (drop (length ws)) same ∙ drop-append_seam ws (ns ++ (e ∷ ds)))
-        (ap (λ (b : Bool). runPowers ws && b) later)
+        (ap (λ (b : Bool). run_powers ws && b) later)
 
   -- what the parts must be
   pub record Parts : Type 0 where
     pub argument : a ≡ 0
-    pub numerators : T (numberItems ns)
+    pub numerators : T (number_items ns)
     pub wholes : Whole ws
     pub behind : Behind ds
-    pub fill : count isFill (itemsAt ws) + count isFill ks ≤ 1
+    pub fill : count is_fill (items_at ws) + count is_fill ks ≤ 1
 
   -- the numerator has places only
-  only : T (every isPlace (itemsAt ns))
-  only = true-T (ap (every isPlace) numerator ∙ end-places (itemsAt (ws ++ ns)))
+  only : T (every is_place (items_at ns))
+  only = true-T (ap (every is_place) numerator ∙ end-places (items_at (ws ++ ns)))
 
-  only-places : (p : Item → Bool) → ((i : Item) → T (isPlace i) → p i ≡ false) → any p (itemsAt ns) ≡ false
-  only-places p f = none_passes p isPlace f (itemsAt ns) only
+  only-places : (p : Item → Bool) → ((i : Item) → T (is_place i) → p i ≡ false) → any p (items_at ns) ≡ false
+  only-places p f = none_passes p is_place f (items_at ns) only
 
-  pub cut_out : T (fractionItems es) → Parts
-  unfolding fractionItems kindWord
+  pub cut_out : T (fraction_items es) → Parts
+  unfolding fraction_items kind_word
   cut_out t =
-      let h : Holds fractionKind es = holds fractionKind es (and_left (items_of 6 es) _ t) in
+      let h : Holds fraction_kind es = holds fraction_kind es (and_left (items_of 6 es) _ t) in
       let r = fraction-rules is some-solidus (h.fraction refl) in
-      let wholes : integerPlaces (wholeItems is) ≤ 20 = search (and_left, and_right, leb→le) depth 6 in
-      let numerators : integerPlaces (mainItems is) ≤ 20 = search (and_left, and_right, leb→le) depth 6 in
-      let places : placesBehind is ≤ 3 = search (and_left, and_right, leb→le) depth 6 in
+      let wholes : integer_places (whole_items is) ≤ 20 = search (and_left, and_right, leb→le) depth 6 in
+      let numerators : integer_places (main_items is) ≤ 20 = search (and_left, and_right, leb→le) depth 6 in
+      let places : places_behind is ≤ 3 = search (and_left, and_right, leb→le) depth 6 in
       let held = carry held-are h.items in
-      let held_whole : T (every (itemAllowed fractionKind) (itemsAt ws)) = search (and_left, and_right) in
-      let held-numerator : T (every (itemAllowed fractionKind) (itemsAt ns)) = search (and_left, and_right) in
-      let held-behind : T (every (itemAllowed fractionKind) ks) = search (and_left, and_right) in
+      let held_whole : T (every (item_allowed fraction_kind) (items_at ws)) = search (and_left, and_right) in
+      let held-numerator : T (every (item_allowed fraction_kind) (items_at ns)) = search (and_left, and_right) in
+      let held-behind : T (every (item_allowed fraction_kind) ks) = search (and_left, and_right) in
       let ranged = carry ranges-are h.ranges in
-      let fills = count-is isFill refl in
+      let fills = count-is is_fill refl in
       let most = h.fill in
       let one = r.one in
       let solidi = solidi-are in
-      let none-front : any isSolidus js ≡ false = none-among isSolidus js (omega arith) in
-      let none-behind : any isSolidus ks ≡ false = none-among isSolidus ks (omega arith) in
-      let exponents : any isExponent js ≡ false = rw front (any_append isExponent (itemsAt ws) (itemsAt ns) ∙ rw ((apart fractionKind (itemsAt ws) held_whole).exponents refl, (apart fractionKind (itemsAt ns) held-numerator).exponents refl)) in
-      let bare : any isCut js ≡ false = any-either isExponent isSolidus js ∙ rw (exponents, none-front) in
-      let fixed : any isFixed js ≡ false = ap (any isFixed) (sym (before bare)) ∙ r.noFixed in
-      let fractions : any makesFraction (itemsAt ws ++ itemsAt ns) ≡ false = ap (any makesFraction) (sym front) ∙ any-either isSolidus isFixed js ∙ rw (none-front, fixed) in
-      let apart-fractions = either-none makesFraction (itemsAt ws) (itemsAt ns) fractions in
+      let none-front : any is_solidus js ≡ false = none-among is_solidus js (omega arith) in
+      let none-behind : any is_solidus ks ≡ false = none-among is_solidus ks (omega arith) in
+      let exponents : any is_exponent js ≡ false = rw front (any_append is_exponent (items_at ws) (items_at ns) ∙ rw ((apart fraction_kind (items_at ws) held_whole).exponents refl, (apart fraction_kind (items_at ns) held-numerator).exponents refl)) in
+      let bare : any is_cut js ≡ false = any-either is_exponent is_solidus js ∙ rw (exponents, none-front) in
+      let fixed : any is_fixed js ≡ false = ap (any is_fixed) (sym (before bare)) ∙ r.no_fixed in
+      let fractions : any makes_fraction (items_at ws ++ items_at ns) ≡ false = ap (any makes_fraction) (sym front) ∙ any-either is_solidus is_fixed js ∙ rw (none-front, fixed) in
+      let apart-fractions = either-none makes_fraction (items_at ws) (items_at ns) fractions in
       let powers = carry (powers-are bare) (h.figures refl).1 in
-      let some : 0 < count isPlace (itemsAt ns) = some-places (itemsAt ns) (T_true (every isPlace (itemsAt ns)) only) (ap is_empty (sym (numerator-is bare)) ∙ r.numerator) in
+      let some : 0 < count is_place (items_at ns) = some-places (items_at ns) (T_true (every is_place (items_at ns)) only) (ap is_empty (sym (numerator-is bare)) ∙ r.numerator) in
       let piece : Piece ns = record { items = held-numerator; ranges = search (and_left, and_right); fill = omega arith } in
       record {
         argument = search (and_left, and_right, eqb→eq);
@@ -207,18 +207,18 @@ module _ (ws ns ds : List Entry) (a : ℕ) (whole : itemsAt ws ≡ beforeEnd (it
         fill = omega arith;
       }
 
-  pub cut_in : Parts → T (fractionItems es)
-  unfolding fractionItems fractionFits kindWord
+  pub cut_in : Parts → T (fraction_items es)
+  unfolding fraction_items fraction_fits kind_word
   cut_in p =
       let w = p.wholes in
       let b = p.behind in
-      let point = only-places isPoint (λ i t. rw (eqb-true (itemNumber i) 3 (T_true (isPlace i) t))) in
-      let percent = only-places isPercent (λ i t. rw (eqb-true (itemNumber i) 3 (T_true (isPlace i) t))) in
-      let filler = only-places isFill (λ i t. rw (eqb-true (itemNumber i) 3 (T_true (isPlace i) t))) in
-      let n = number_in ns p.numerators (none-count isPercent (itemsAt ns) percent) point in
-      let exponents : any isExponent js ≡ false = rw front (any_append isExponent (itemsAt ws) (itemsAt ns) ∙ rw ((apart fractionKind (itemsAt ws) w.piece.items).exponents refl, n.exponents)) in
-      let fractions : any makesFraction js ≡ false = rw front (any_append makesFraction (itemsAt ws) (itemsAt ns) ∙ rw (w.solidi, n.solidi)) in
-      let bare : any isCut js ≡ false = uncut js exponents fractions in
+      let point = only-places is_point (λ i t. rw (eqb-true (item_number i) 3 (T_true (is_place i) t))) in
+      let percent = only-places is_percent (λ i t. rw (eqb-true (item_number i) 3 (T_true (is_place i) t))) in
+      let filler = only-places is_fill (λ i t. rw (eqb-true (item_number i) 3 (T_true (is_place i) t))) in
+      let n = number_in ns p.numerators (none-count is_percent (items_at ns) percent) point in
+      let exponents : any is_exponent js ≡ false = rw front (any_append is_exponent (items_at ws) (items_at ns) ∙ rw ((apart fraction_kind (items_at ws) w.piece.items).exponents refl, n.exponents)) in
+      let fractions : any makes_fraction js ≡ false = rw front (any_append makes_fraction (items_at ws) (items_at ns) ∙ rw (w.solidi, n.solidi)) in
+      let bare : any is_cut js ≡ false = uncut js exponents fractions in
       let argument : T (eqb a 0) = true-T (eq-eqb a 0 p.argument) in
       let held_whole = w.piece.items in
       let held-numerator = n.items in
@@ -229,37 +229,37 @@ module _ (ws ns ds : List Entry) (a : ℕ) (whole : itemsAt ws ≡ beforeEnd (it
       let power-whole = w.powers in
       let power-numerator = n.powers in
       let power-behind = b.powers in
-      let held : T (every (itemAllowed fractionKind) is) = carry (sym held-are) (search and_in) in
-      let a' = apart fractionKind is held in
-      let one : T (eqb (count isSolidus is) 1) = true-T (eq-eqb (count isSolidus is) 1 (omega (arith, solidi-are, none-count isSolidus js (no-solidi js fractions).0, none-count isSolidus ks b.solidus))) in
-      let numerators : T (not (is_empty (numeratorItems is))) = rw (numerator-is bare, not-empty (itemsAt ns) n.some) tt in
-      let literal : T (literalFollows (wholeItems is)) = rw (whole_is bare) w.literal in
-      let fixed : T (not (any isFixed (beforeCut is))) = rw (before bare, (no-solidi js fractions).1) tt in
-      let denominator : T (denominatorFits (drop 1 (fromCut is))) = rw (from bare) b.fits in
-      let rules : T (eqb (count isSolidus is) 1 && not (is_empty (numeratorItems is)) && literalFollows (wholeItems is) && not (any isFixed (beforeCut is)) && denominatorFits (drop 1 (fromCut is))) =
+      let held : T (every (item_allowed fraction_kind) is) = carry (sym held-are) (search and_in) in
+      let a' = apart fraction_kind is held in
+      let one : T (eqb (count is_solidus is) 1) = true-T (eq-eqb (count is_solidus is) 1 (omega (arith, solidi-are, none-count is_solidus js (no-solidi js fractions).0, none-count is_solidus ks b.solidus))) in
+      let numerators : T (not (is_empty (numerator_items is))) = rw (numerator-is bare, not-empty (items_at ns) n.some) tt in
+      let literal : T (literal_follows (whole_items is)) = rw (whole_is bare) w.literal in
+      let fixed : T (not (any is_fixed (before_cut is))) = rw (before bare, (no-solidi js fractions).1) tt in
+      let denominator : T (denominator_fits (drop 1 (from_cut is))) = rw (from bare) b.fits in
+      let rules : T (eqb (count is_solidus is) 1 && not (is_empty (numerator_items is)) && literal_follows (whole_items is) && not (any is_fixed (before_cut is)) && denominator_fits (drop 1 (from_cut is))) =
       search and_in depth 8 in
-      let items : T (items_of 6 es) = holds-back fractionKind es (record {
+      let items : T (items_of 6 es) = holds-back fraction_kind es (record {
         items = held;
-        made = true-T (any-either isSolidus isFixed is ∙ rw some-solidus);
+        made = true-T (any-either is_solidus is_fixed is ∙ rw some-solidus);
         ranges = carry (sym ranges-are) (search and_in);
-        fill = omega (arith, count-is isFill refl, p.fill, none-count isFill (itemsAt ns) filler);
+        fill = omega (arith, count-is is_fill refl, p.fill, none-count is_fill (items_at ns) filler);
         general = λ e. no e;
-        figures = λ e. (omega (arith, none-count isPoint is (a'.points refl)), carry (sym (powers-are bare)) (search and_in));
+        figures = λ e. (omega (arith, none-count is_point is (a'.points refl)), carry (sym (powers-are bare)) (search and_in));
         exponent = λ e. no e;
-        fraction = λ e. or_right (not (any isSolidus is || any isFixed is)) _ rules;
+        fraction = λ e. or_right (not (any is_solidus is || any is_fixed is)) _ rules;
         dates = λ e. no e;
       }) in
-      let wholes : integerPlaces (wholeItems is) ≤ 20 = rw (whole_is bare) w.integers in
-      let mains : integerPlaces (mainItems is) ≤ 20 = rw (integers-are bare) n.integers in
-      let places : placesBehind is ≤ 3 = rw (places-are bare) b.places in
+      let wholes : integer_places (whole_items is) ≤ 20 = rw (whole_is bare) w.integers in
+      let mains : integer_places (main_items is) ≤ 20 = rw (integers-are bare) n.integers in
+      let places : places_behind is ≤ 3 = rw (places-are bare) b.places in
       search (and_in, le→leb) depth 6
 
   -- ---- as they are tested
-  tested-in : T (partsFit ws ns a ds) → Parts
+  tested-in : T (parts_fit ws ns a ds) → Parts
   tested-in t =
-      let whole-fits : T (wholeFits ws) = search (and_left, and_right) depth 8 in
-      let behind-fits : T (fixedFits ds || runFits ds) = search (and_left, and_right) depth 8 in
-      let apart-filled : T (not (hasTag ws 3 && hasTag ds 3)) = search (and_left, and_right) depth 8 in
+      let whole-fits : T (whole_fits ws) = search (and_left, and_right) depth 8 in
+      let behind-fits : T (fixed_fits ds || run_fits ds) = search (and_left, and_right) depth 8 in
+      let apart-filled : T (not (has_tag ws 3 && has_tag ds 3)) = search (and_left, and_right) depth 8 in
       let w = whole_in ws whole-fits in
       let b = behind-in ds behind-fits in
       record {
@@ -270,40 +270,40 @@ module _ (ws ns ds : List Entry) (a : ℕ) (whole : itemsAt ws ≡ beforeEnd (it
         fill = leb→le _ 1 (carry (filled_apart ws ds w.piece.fill b.piece.fill) apart-filled);
       }
 
-  tested-out : Parts → T (partsFit ws ns a ds)
+  tested-out : Parts → T (parts_fit ws ns a ds)
   tested-out p =
       let argument : T (eqb a 0) = true-T (eq-eqb a 0 p.argument) in
       let numerators = p.numerators in
       let wholes = whole_out ws p.wholes in
       let behind = behind-out ds p.behind in
       let fill = p.fill in
-      let both : T (not (hasTag ws 3 && hasTag ds 3)) = carry (sym (filled_apart ws ds (omega arith) (omega arith))) (le→leb (count isFill (itemsAt ws) + count isFill ks) 1 fill) in
+      let both : T (not (has_tag ws 3 && has_tag ds 3)) = carry (sym (filled_apart ws ds (omega arith) (omega arith))) (le→leb (count is_fill (items_at ws) + count is_fill ks) 1 fill) in
       search and_in depth 8
 
-  pub fraction-is : partsFit ws ns a ds ≡ fractionItems es
-  fraction-is = same_test (partsFit ws ns a ds) (fractionItems es) (λ t. cut_in (tested-in t)) (λ t. tested-out (cut_out t))
+  pub fraction-is : parts_fit ws ns a ds ≡ fraction_items es
+  fraction-is = same_test (parts_fit ws ns a ds) (fraction_items es) (λ t. cut_in (tested-in t)) (λ t. tested-out (cut_out t))
 
 -- ---- the words before a solidus, cut before the places at their end
-pub parts-told : (words : List ℕ) (at a : ℕ) (ds : List Entry) → CutAt words at (beforeEnd (items_in words)) (endPlaces (items_in words))
-    → partsFit (entriesIn (take at words)) (entriesIn (take (length words - at) (drop at words))) a ds ≡ fractionItems (entriesIn words ++ (entry 24 a ∷ ds))
+pub parts-told : (words : List ℕ) (at a : ℕ) (ds : List Entry) → CutAt words at (before_end (items_in words)) (end_places (items_in words))
+    → parts_fit (entries_in (take at words)) (entries_in (take (length words - at) (drop at words))) a ds ≡ fraction_items (entries_in words ++ (entry 24 a ∷ ds))
 parts-told words at a ds c =
     rw (rest_all at words, c.joins)
-    (fraction-is (entriesIn (take at words)) (entriesIn (drop at words)) ds a (rw c.joins at c.before) (rw c.joins at c.from))
+    (fraction-is (entries_in (take at words)) (entries_in (drop at words)) ds a (rw c.joins at c.before) (rw c.joins at c.from))
 
 -- ---- without a solidus
-unsolid : (is : List Item) → any isSolidus is ≡ false → T (any makesFraction is) → T (fractionFits is) → ⊥
-unfolding fractionFits
+unsolid : (is : List Item) → any is_solidus is ≡ false → T (any makes_fraction is) → T (fraction_fits is) → ⊥
+unfolding fraction_fits
 unsolid is none made fits =
-    let fixed : any isFixed is ≡ true = sym (any-either isSolidus isFixed is ∙ rw none) ∙ T_true (any makesFraction is) made in
-    let all : T (eqb (count isSolidus is) 1 && not (is_empty (numeratorItems is)) && literalFollows (wholeItems is) && not (any isFixed (beforeCut is)) && denominatorFits (drop 1 (fromCut is))) =
+    let fixed : any is_fixed is ≡ true = sym (any-either is_solidus is_fixed is ∙ rw none) ∙ T_true (any makes_fraction is) made in
+    let all : T (eqb (count is_solidus is) 1 && not (is_empty (numerator_items is)) && literal_follows (whole_items is) && not (any is_fixed (before_cut is)) && denominator_fits (drop 1 (from_cut is))) =
     rw (none, fixed) at fits in
-    let one : count isSolidus is ≡ 1 = search (and_left, and_right, eqb→eq) depth 16 in
-    omega (arith, none-count isSolidus is none)
+    let one : count is_solidus is ≡ 1 = search (and_left, and_right, eqb→eq) depth 16 in
+    omega (arith, none-count is_solidus is none)
 
-pub none_told : (es : List Entry) → hasTag es 24 ≡ false → false ≡ fractionItems es
-unfolding fractionItems kindWord
+pub none_told : (es : List Entry) → has_tag es 24 ≡ false → false ≡ fraction_items es
+unfolding fraction_items kind_word
 none_told es n =
-    let none : any isSolidus (itemsAt es) ≡ false = any-tagged isSolidus 24 (λ e. tag_is isSolidus 24 e refl (omega arith) refl) es ∙ n in
-    by_cases (fractionItems es)
-    (λ e. let h = holds fractionKind es (and_left (items_of 6 es) _ (true-T e)) in absurd (unsolid (itemsAt es) none h.made (h.fraction refl)))
+    let none : any is_solidus (items_at es) ≡ false = any-tagged is_solidus 24 (λ e. tag_is is_solidus 24 e refl (omega arith) refl) es ∙ n in
+    by_cases (fraction_items es)
+    (λ e. let h = holds fraction_kind es (and_left (items_of 6 es) _ (true-T e)) in absurd (unsolid (items_at es) none h.made (h.fraction refl)))
     (λ e. sym e)

@@ -1,10 +1,10 @@
 // The items of a fraction: those before its numerator, the numerator's, and those behind its solidus.
 ghost use Rattle.std.specs.Prelude.{◌≡◌, ◌||◌, ◌∷◌, ◌++◌, ◌*◌, ◌/◌, ◌≤◌, ◌<◌, length, get_or};
-ghost use Rattle.formats.specs.Items.{literalFollows};
-ghost use Rattle.tables.specs.Words.{entriesIn};
+ghost use Rattle.formats.specs.Items.{literal_follows};
+ghost use Rattle.tables.specs.Words.{entries_in};
 ghost use Rattle.tables.specs.Encode.{entry};
-ghost use Rattle.tables.specs.Decode.{itemsAt};
-ghost use Rattle.fraction_rows.specs.FractionRows.{fractionItems, wholeFits, fixedFits, runFits, partsFit};
+ghost use Rattle.tables.specs.Decode.{items_at};
+ghost use Rattle.fraction_rows.specs.FractionRows.{fraction_items, whole_fits, fixed_fits, run_fits, parts_fit};
 
 use bare_rows::bare_fits;
 use number_rows::number_row;
@@ -15,7 +15,7 @@ use values::integers::is_between;
 
 // A literal stands behind the last place: it is met first, from the end.
 fn literal_follows(words: &[u16]) -> bool
-    ensures { result ≡ literalFollows (itemsAt (entriesIn words.now)) }
+    ensures { result ≡ literal_follows (items_at (entries_in words.now)) }
 {
     let mut k = words.len() / 2;
     while 0 < k {
@@ -34,7 +34,7 @@ fn literal_follows(words: &[u16]) -> bool
 
 // The items before the numerator.
 fn is_whole(words: &[u16]) -> bool
-    ensures { result ≡ wholeFits (entriesIn words.now) }
+    ensures { result ≡ whole_fits (entries_in words.now) }
 {
     if bare_fits(words, kinds::LITERAL) {
         return true;
@@ -48,7 +48,7 @@ fn is_whole(words: &[u16]) -> bool
 
 // Behind the solidus: 1 to 3 places that stand together.
 fn is_run(words: &[u16]) -> bool
-    ensures { result ≡ runFits (entriesIn words.now) }
+    ensures { result ≡ run_fits (entries_in words.now) }
 {
     let row = number_row(words);
     if !(row.fits & (row.percents == 0) & (row.integers <= 3)) {
@@ -62,7 +62,7 @@ fn is_run(words: &[u16]) -> bool
 
 // Behind the solidus: a fixed number, or such places.
 fn is_denominator(words: &[u16]) -> bool
-    ensures { result ≡ (fixedFits (entriesIn words.now) || runFits (entriesIn words.now)) }
+    ensures { result ≡ (fixed_fits (entries_in words.now) || run_fits (entries_in words.now)) }
 {
     if words.len() < 2 {
         return false;
@@ -78,7 +78,7 @@ fn is_denominator(words: &[u16]) -> bool
 
 // One fill stands in all parts.
 fn parts_fit(whole: &[u16], numerator: &[u16], a: u16, denominator: &[u16]) -> bool
-    ensures { result ≡ partsFit (entriesIn whole.now) (entriesIn numerator.now) a (entriesIn denominator.now) }
+    ensures { result ≡ parts_fit (entries_in whole.now) (entries_in numerator.now) a (entries_in denominator.now) }
 {
     if a != 0 {
         return false;
@@ -101,7 +101,7 @@ fn parts_fit(whole: &[u16], numerator: &[u16], a: u16, denominator: &[u16]) -> b
 
 // The items before and behind a solidus with this argument.
 fn parts_row(front: &[u16], a: u16, denominator: &[u16]) -> bool
-    ensures { result ≡ fractionItems (entriesIn front.now ++ (entry 24 a ∷ entriesIn denominator.now)) }
+    ensures { result ≡ fraction_items (entries_in front.now ++ (entry 24 a ∷ entries_in denominator.now)) }
 {
     let start = run_start(front);
     parts_fit(&front[..start], &front[start..], a, denominator)
@@ -110,7 +110,7 @@ fn parts_row(front: &[u16], a: u16, denominator: &[u16]) -> bool
 // The items before and behind the one at this place, which is a solidus.
 fn row_at(words: &[u16], at: usize) -> bool
     requires { (at < length words.now / 2) × (get_or words.now (2 * at) 0 ≡ 24) }
-    ensures { result ≡ fractionItems (entriesIn words.now) }
+    ensures { result ≡ fraction_items (entries_in words.now) }
 {
     let i = 2 * at;
     let j = i + 1;
@@ -121,7 +121,7 @@ fn row_at(words: &[u16], at: usize) -> bool
 
 // Whether these are the words of a fraction's items, within its limits.
 pub fn fraction_row(words: &[u16]) -> bool
-    ensures { result ≡ fractionItems (entriesIn words.now) }
+    ensures { result ≡ fraction_items (entries_in words.now) }
 {
     let n = words.len() / 2;
     let at = find_tag(words, tags::SOLIDUS);

@@ -14,120 +14,120 @@ use Rattle.lists.proofs.Bools.{by_cases, cond_both, or-false, every-head, every-
 use Rattle.figures.specs.Digits.{width}
 use Rattle.figures.proofs.Digits.{width-most}
 use Rattle.formats.specs.Tokens.{Place}
-use Rattle.formats.specs.Items.{Item, itemRow, literal, blank, fill, place, solidus, fixed, half, fractionKind, itemAllowed, isLiteral, isFill, isPlace, isSolidus, isFixed}
-use Rattle.formats.specs.Text.{Context, itemUnits, itemsUnits, digitAfter, along}
+use Rattle.formats.specs.Items.{Item, item_row, literal, blank, fill, place, solidus, fixed, half, fraction_kind, item_allowed, is_literal, is_fill, is_place, is_solidus, is_fixed}
+use Rattle.formats.specs.Text.{Context, item_units, items_units, digit_after, along}
 use Rattle.formats.specs.Reading.{blanked}
 use Rattle.formats.proofs.Each.{by-item}
 use Rattle.formats.proofs.ByNumber.{by_number}
-use Rattle.tables.specs.Words.{entries_at, entriesIn}
+use Rattle.tables.specs.Words.{entries_at, entries_in}
 use Rattle.tables.specs.Encode.{entry}
-use Rattle.tables.specs.Decode.{halfAt, item_at, itemsAt, itemsByTag}
-use Rattle.tables.proofs.Words.{entriesLeft, entries-front, entriesAt-length}
+use Rattle.tables.specs.Decode.{half_at, item_at, items_at, items_by_tag}
+use Rattle.tables.proofs.Words.{entries_left, entries-front, entries_at-length}
 use Rattle.tables.proofs.BackEntries.{items-length}
 use Rattle.writing.specs.Put.{Put, Rest}
 use Rattle.writing.proofs.Laws.{rest-start, rest_put, rest-done}
 use Rattle.writing.proofs.Numerals.{numeral-short}
 use Rattle.table_words.specs.Runs.{items_in}
-use Rattle.fraction_sections.specs.Fraction.{looseUnits, looseText}
+use Rattle.fraction_sections.specs.Fraction.{loose_units, loose_text}
 
 -- the items that a fraction holds
 pub held-case : (P : Item → Type 0) → ((u : ℕ) → P (literal u)) → ((u : ℕ) → P (blank u)) → ((u : ℕ) → P (fill u)) → ((p : Place) → P (place p))
-    → P solidus → ((n : ℕ) → P (fixed n)) → (i : Item) → T (itemAllowed fractionKind i) → P i
-unfolding itemAllowed
+    → P solidus → ((n : ℕ) → P (fixed n)) → (i : Item) → T (item_allowed fraction_kind i) → P i
+unfolding item_allowed
 held-case P li bl fi pl so fx =
-    by-item (λ (i : Item). T (itemAllowed fractionKind i) → P i) (λ u t. li u) (λ u t. bl u) (λ u t. fi u) (λ p t. pl p) absurd absurd absurd absurd
+    by-item (λ (i : Item). T (item_allowed fraction_kind i) → P i) (λ u t. li u) (λ u t. bl u) (λ u t. fi u) (λ p t. pl p) absurd absurd absurd absurd
     (λ n. absurd) (λ n. absurd) (λ n. absurd) (λ n. absurd) (λ n. absurd) (λ n. absurd) (λ n. absurd) (λ e n. absurd) (λ h. absurd) (λ m. absurd)
     (λ t. so) (λ n t. fx n)
 
 -- ---- the text of such items is theirs
 module _ (c : Context) (q : ℕ) where
-  blank-run : (k : ℕ) (is : List Item) → itemsUnits c q (replicate k (blank 32) ++ is) ≡ replicate k 32 ++ itemsUnits c q is
-  unfolding itemsUnits along flatten itemUnits digitAfter
+  blank-run : (k : ℕ) (is : List Item) → items_units c q (replicate k (blank 32) ++ is) ≡ replicate k 32 ++ items_units c q is
+  unfolding items_units along flatten item_units digit_after
   blank-run zero is = refl
   blank-run (suc k) is = ap (λ (us : List ℕ). 32 ∷ us) (blank-run k is)
 
-  blank-item : (i : Item) → T (itemAllowed fractionKind i) → (is : List Item) → itemsUnits c q (blanked i ++ is) ≡ looseUnits true i ++ itemsUnits c q is
-  unfolding blanked looseUnits itemsUnits along flatten itemUnits digitAfter
+  blank-item : (i : Item) → T (item_allowed fraction_kind i) → (is : List Item) → items_units c q (blanked i ++ is) ≡ loose_units true i ++ items_units c q is
+  unfolding blanked loose_units items_units along flatten item_units digit_after
   blank-item =
-      held-case (λ (i : Item). (is : List Item) → itemsUnits c q (blanked i ++ is) ≡ looseUnits true i ++ itemsUnits c q is)
+      held-case (λ (i : Item). (is : List Item) → items_units c q (blanked i ++ is) ≡ loose_units true i ++ items_units c q is)
       (λ u is. refl) (λ u is. refl) (λ u is. refl) (λ p is. refl) (λ is. refl) (λ n is. blank-run (width n) is)
 
-  pub blank-text : (is : List Item) → T (every (itemAllowed fractionKind) is) → itemsUnits c q (flatten (map blanked is)) ≡ looseText true is
-  unfolding looseText flatten itemsUnits along
+  pub blank-text : (is : List Item) → T (every (item_allowed fraction_kind) is) → items_units c q (flatten (map blanked is)) ≡ loose_text true is
+  unfolding loose_text flatten items_units along
   blank-text [] t = refl
   blank-text (i ∷ is) t =
-      blank-item i (every-head (itemAllowed fractionKind) i is t) (flatten (map blanked is))
-      ∙ ap (λ (us : List ℕ). looseUnits true i ++ us) (blank-text is (every-tail (itemAllowed fractionKind) i is t))
+      blank-item i (every-head (item_allowed fraction_kind) i is t) (flatten (map blanked is))
+      ∙ ap (λ (us : List ℕ). loose_units true i ++ us) (blank-text is (every-tail (item_allowed fraction_kind) i is t))
 
-  plain-item : (i : Item) → T (itemAllowed fractionKind i) → isPlace i ≡ false → isSolidus i ≡ false
-      → (is : List Item) → itemsUnits c q (i ∷ is) ≡ looseUnits false i ++ itemsUnits c q is
-  unfolding looseUnits itemsUnits along flatten itemUnits digitAfter
+  plain-item : (i : Item) → T (item_allowed fraction_kind i) → is_place i ≡ false → is_solidus i ≡ false
+      → (is : List Item) → items_units c q (i ∷ is) ≡ loose_units false i ++ items_units c q is
+  unfolding loose_units items_units along flatten item_units digit_after
   plain-item =
-      held-case (λ (i : Item). isPlace i ≡ false → isSolidus i ≡ false → (is : List Item) → itemsUnits c q (i ∷ is) ≡ looseUnits false i ++ itemsUnits c q is)
+      held-case (λ (i : Item). is_place i ≡ false → is_solidus i ≡ false → (is : List Item) → items_units c q (i ∷ is) ≡ loose_units false i ++ items_units c q is)
       (λ u e f is. refl) (λ u e f is. refl) (λ u e f is. refl) (λ p e. absurd (true≢false e)) (λ e f. absurd (true≢false f)) (λ n e f is. refl)
 
-  pub plain-text : (is : List Item) → T (every (itemAllowed fractionKind) is) → any isPlace is ≡ false → any isSolidus is ≡ false
-      → itemsUnits c q is ≡ looseText false is
-  unfolding looseText flatten itemsUnits along any
+  pub plain-text : (is : List Item) → T (every (item_allowed fraction_kind) is) → any is_place is ≡ false → any is_solidus is ≡ false
+      → items_units c q is ≡ loose_text false is
+  unfolding loose_text flatten items_units along any
   plain-text [] t e f = refl
   plain-text (i ∷ is) t e f =
-      by_cases (isPlace i) (λ p. absurd (true≢false (rw p at e)))
-      (λ p. by_cases (isSolidus i) (λ s. absurd (true≢false (rw s at f)))
+      by_cases (is_place i) (λ p. absurd (true≢false (rw p at e)))
+      (λ p. by_cases (is_solidus i) (λ s. absurd (true≢false (rw s at f)))
       (λ s.
-      plain-item i (every-head (itemAllowed fractionKind) i is t) p s is
-      ∙ ap (λ (us : List ℕ). looseUnits false i ++ us) (plain-text is (every-tail (itemAllowed fractionKind) i is t) (rw p at e) (rw s at f))))
+      plain-item i (every-head (item_allowed fraction_kind) i is t) p s is
+      ∙ ap (λ (us : List ℕ). loose_units false i ++ us) (plain-text is (every-tail (item_allowed fraction_kind) i is t) (rw p at e) (rw s at f))))
 
 -- joined
-pub loose-append : (b : Bool) (is js : List Item) → looseText b (is ++ js) ≡ looseText b is ++ looseText b js
-unfolding looseText flatten
+pub loose-append : (b : Bool) (is js : List Item) → loose_text b (is ++ js) ≡ loose_text b is ++ loose_text b js
+unfolding loose_text flatten
 loose-append b [] js = refl
-loose-append b (i ∷ is) js = rw (loose-append b is js) (sym (append_assoc (looseUnits b i) (looseText b is) (looseText b js)))
+loose-append b (i ∷ is) js = rw (loose-append b is js) (sym (append_assoc (loose_units b i) (loose_text b is) (loose_text b js)))
 
 -- ---- how long it is
-loose-item-short : (b : Bool) (i : Item) → length (looseUnits b i) ≤ 25
-unfolding looseUnits
+loose-item-short : (b : Bool) (i : Item) → length (loose_units b i) ≤ 25
+unfolding loose_units
 loose-item-short b i =
-    let n : ℕ = (itemRow i).argument in
-    cond_both (λ (us : List ℕ). length us ≤ 25) (isLiteral i) (omega arith)
-    (cond_both (λ (us : List ℕ). length us ≤ 25) (isFill i) (omega arith)
-    (cond_both (λ (us : List ℕ). length us ≤ 25) (isFixed i)
+    let n : ℕ = (item_row i).argument in
+    cond_both (λ (us : List ℕ). length us ≤ 25) (is_literal i) (omega arith)
+    (cond_both (λ (us : List ℕ). length us ≤ 25) (is_fill i) (omega arith)
+    (cond_both (λ (us : List ℕ). length us ≤ 25) (is_fixed i)
     (cond_both (λ (us : List ℕ). length us ≤ 25) b (rw (length-replicate {A = ℕ} (width n) 32) (width-most n)) (numeral-short 1 n (omega arith))) (omega arith)))
 
-pub loose-short : (b : Bool) (is : List Item) → length (looseText b is) ≤ 25 * length is
-unfolding looseText flatten
+pub loose-short : (b : Bool) (is : List Item) → length (loose_text b is) ≤ 25 * length is
+unfolding loose_text flatten
 loose-short b [] = omega arith
 loose-short b (i ∷ is) =
-    rw (mul-suc 25 (length is), length-append (looseUnits b i) (looseText b is)) (omega (arith, loose-item-short b i, loose-short b is))
+    rw (mul-suc 25 (length is), length-append (loose_units b i) (loose_text b is)) (omega (arith, loose-item-short b i, loose-short b is))
 
 pub items-counted : (words : List ℕ) → length (items_in words) ≡ length words / 2
-unfolding entriesIn
-items-counted words = items-length (entriesIn words) ∙ entriesAt-length (length words / 2) words
+unfolding entries_in
+items-counted words = items-length (entries_in words) ∙ entries_at-length (length words / 2) words
 
 -- ---- an item that is none of those with an arm of their own
-other_tag : (t a : ℕ) → (isLiteral (item_at (entry t a)) || (isFill (item_at (entry t a)) || isFixed (item_at (entry t a)))) ≡ (eqb t 1 || (eqb t 3 || eqb t 25))
+other_tag : (t a : ℕ) → (is_literal (item_at (entry t a)) || (is_fill (item_at (entry t a)) || is_fixed (item_at (entry t a)))) ≡ (eqb t 1 || (eqb t 3 || eqb t 25))
 unfolding item_at
 other_tag t a =
-    by_number (λ (i : Item). isLiteral i || (isFill i || isFixed i)) (λ (n : ℕ). eqb n 1 || (eqb n 3 || eqb n 25)) (itemsByTag a) 26 (half (halfAt a)) refl
+    by_number (λ (i : Item). is_literal i || (is_fill i || is_fixed i)) (λ (n : ℕ). eqb n 1 || (eqb n 3 || eqb n 25)) (items_by_tag a) 26 (half (half_at a)) refl
     (λ n h. sym (rw (ne_eqb n 1 (λ e. omega arith), ne_eqb n 3 (λ e. omega arith), ne_eqb n 25 (λ e. omega arith)))) t
 
-pub loose-other : (b : Bool) (t a : ℕ) → ¬ (t ≡ 1) → ¬ (t ≡ 3) → ¬ (t ≡ 25) → looseUnits b (item_at (entry t a)) ≡ 32 ∷ []
-unfolding looseUnits
+pub loose-other : (b : Bool) (t a : ℕ) → ¬ (t ≡ 1) → ¬ (t ≡ 3) → ¬ (t ≡ 25) → loose_units b (item_at (entry t a)) ≡ 32 ∷ []
+unfolding loose_units
 loose-other b t a x y z =
     let i = item_at (entry t a) in
-    let none = or-false (isLiteral i) (isFill i || isFixed i) (other_tag t a ∙ rw (ne_eqb t 1 x, ne_eqb t 3 y, ne_eqb t 25 z)) in
-    let rest = or-false (isFill i) (isFixed i) none.1 in
+    let none = or-false (is_literal i) (is_fill i || is_fixed i) (other_tag t a ∙ rw (ne_eqb t 1 x, ne_eqb t 3 y, ne_eqb t 25 z)) in
+    let rest = or-false (is_fill i) (is_fixed i) none.1 in
     rw (none.0, rest.0, rest.1)
 
 -- ---- the loop: after k of n items
 pub record Loosely (b : Bool) (old : List ℕ) (start : ℕ) (words : List ℕ) (n k : ℕ) (room : List ℕ) (at : ℕ) : Type 0 where
   pub items : n ≡ length words / 2
   pub inside : k ≤ n
-  pub short : length (looseText b (items_in words)) ≤ 6350
-  pub rest : Rest old start (looseText b (items_in words)) room at (looseText b (itemsAt (entriesLeft words n k)))
+  pub short : length (loose_text b (items_in words)) ≤ 6350
+  pub rest : Rest old start (loose_text b (items_in words)) room at (loose_text b (items_at (entries_left words n k)))
 
 pub loosely-start : (b : Bool) (old : List ℕ) (start : ℕ) (words : List ℕ) (n : ℕ) → n ≡ length words / 2 → length words ≤ 508
     → Loosely b old start words n 0 old start
-unfolding entriesIn
+unfolding entries_in
 loosely-start b old start words n e h = record {
   items = e;
   inside = omega arith;
@@ -136,9 +136,9 @@ loosely-start b old start words n e h = record {
 }
 
 module _ {b : Bool} {old : List ℕ} {start : ℕ} {words : List ℕ} {n k : ℕ} {room : List ℕ} {at : ℕ} (s : Loosely b old start words n k room at) where
-  pub loosely-step : {r : ℕ} {out : List ℕ} → k < n → Put room at (looseUnits b (item_at (entry (get_or words (2 * k) 0) (get_or words (2 * k + 1) 0)))) r out
+  pub loosely-step : {r : ℕ} {out : List ℕ} → k < n → Put room at (loose_units b (item_at (entry (get_or words (2 * k) 0) (get_or words (2 * k + 1) 0)))) r out
       → Loosely b old start words n (k + 1) out r
-  unfolding looseText itemsAt flatten
+  unfolding loose_text items_at flatten
   loosely-step h p = record {
     items = s.items;
     inside = omega arith;
@@ -146,8 +146,8 @@ module _ {b : Bool} {old : List ℕ} {start : ℕ} {words : List ℕ} {n k : ℕ
     rest = rest_put (rw (entries-front words n k h) at s.rest) p;
   }
 
-  pub loosely-end : n ≤ k → Put old start (looseText b (items_in words)) at room
-  unfolding looseText itemsAt entries_at flatten
+  pub loosely-end : n ≤ k → Put old start (loose_text b (items_in words)) at room
+  unfolding loose_text items_at entries_at flatten
   loosely-end h = let none : n - k ≡ 0 = omega arith in rest-done (rw none at s.rest)
 
   pub loosely-within : at ≤ start + 6350

@@ -14,13 +14,13 @@ use Rattle.figures.specs.Rounding.{rounded}
 use Rattle.figures.specs.Powers.{powered}
 use Rattle.figures.specs.Rounder.{Roundable}
 use Rattle.figures.proofs.Rounding.{rounded-within, rounded-exact}
-use Rattle.formats.specs.Items.{numberKind, itemAllowed, isPlace, integerPlaces}
-use Rattle.formats.specs.Text.{Context, sectionUnits, first_of}
-use Rattle.formats.specs.Reading.{wholeContext, wholeText}
+use Rattle.formats.specs.Items.{number_kind, item_allowed, is_place, integer_places}
+use Rattle.formats.specs.Text.{Context, section_units, first_of}
+use Rattle.formats.specs.Reading.{whole_context, whole_text}
 use Rattle.formats.proofs.Cutting.{held-bare}
-use Rattle.tables.specs.Words.{entriesIn}
+use Rattle.tables.specs.Words.{entries_in}
 use Rattle.figure_text.specs.declared.Figures.{Figures}
-use Rattle.figure_text.specs.Shown.{figuresWith}
+use Rattle.figure_text.specs.Shown.{figures_with}
 use Rattle.figure_text.proofs.Digits.{figures-are}
 use Rattle.section_text.specs.Subject.{SubjectIs}
 use Rattle.table_words.specs.Runs.{items_in}
@@ -35,24 +35,24 @@ word-roundable n h = record { whole = rw (mul-one n) (lt_of_lt_of_le h (omega ar
 
 module _ {words : List ℕ} (g : Segment words) where
   -- what shows n
-  abbrev pub shownOf : ℕ → Context
-  shownOf n = wholeContext n (integerPlaces (items_in words)) false
+  abbrev pub shown_of : ℕ → Context
+  shown_of n = whole_context n (integer_places (items_in words)) false
 
-  pub segment-fit : (n : ℕ) → EntriesFit numberKind (shownOf n) (first_of (integerPlaces (items_in words))) (entriesIn words)
+  pub segment-fit : (n : ℕ) → EntriesFit number_kind (shown_of n) (first_of (integer_places (items_in words))) (entries_in words)
   segment-fit n = record {
     in_range = g.in_range;
     allowed = g.allowed;
-    powers = carry (powers-anew 0 _ _ (entriesIn words) (held-bare numberKind (items_in words) refl refl g.allowed)) g.powers;
+    powers = carry (powers-anew 0 _ _ (entries_in words) (held-bare number_kind (items_in words) refl refl g.allowed)) g.powers;
   }
 
   pub segment-subject : (n : ℕ) {digits : List ℕ} {f : Figures} {places : ℕ} → n < 2 ^ 64 → digits ≡ figures (rounded (powered n 0 0) 0)
-      → places ≡ count isPlace (items_in words) → f ≡ figuresWith digits places false
-      → SubjectIs numberKind digits (record { figures = f; lent = false }) [] (shownOf n)
-  unfolding wholeContext
+      → places ≡ count is_place (items_in words) → f ≡ figures_with digits places false
+      → SubjectIs number_kind digits (record { figures = f; lent = false }) [] (shown_of n)
+  unfolding whole_context
   segment-subject n {digits} h ed ep ef =
       let exact : rounded (powered n 0 0) 0 ≡ n * 10 ^ 15 = rounded-exact n 0 0 0 (omega arith) (omega arith) in
       record {
-        numeric = λ t. figures-are digits (shownOf n) (ef ∙ ap (λ (k : ℕ). figuresWith digits k false) (ep ∙ g.places))
+        numeric = λ t. figures-are digits (shown_of n) (ef ∙ ap (λ (k : ℕ). figures_with digits k false) (ep ∙ g.places))
             (ed ∙ ap figures exact) (rw exact at (rounded-within 0 (word-roundable n h))) (omega (arith, g.most));
         general = absurd;
         textual = absurd;
@@ -62,17 +62,17 @@ module _ {words : List ℕ} (g : Segment words) where
       }
 
   pub segment-ready : (n : ℕ) {digits : List ℕ} {f : Figures} {places : ℕ} → n < 2 ^ 64 → digits ≡ figures (rounded (powered n 0 0) 0)
-      → places ≡ count isPlace (items_in words) → f ≡ figuresWith digits places false
+      → places ≡ count is_place (items_in words) → f ≡ figures_with digits places false
       → Ready (λ k. SubjectIs k digits (record { figures = f; lent = false }) []) words
   segment-ready n h ed ep ef = record {
-    context = shownOf n;
-    kind = numberKind;
-    power = first_of (integerPlaces (items_in words));
+    context = shown_of n;
+    kind = number_kind;
+    power = first_of (integer_places (items_in words));
     subject = segment-subject n h ed ep ef;
     fit = segment-fit n;
   }
 
   -- how long its text can be
-  pub segment-short : (n : ℕ) → length (wholeText n (items_in words)) ≤ 82 * (length words / 2)
-  unfolding sectionUnits wholeContext itemAllowed
-  segment-short n = words-short (shownOf n) numberKind 82 (omega arith) absurd absurd _ words (segment-fit n)
+  pub segment-short : (n : ℕ) → length (whole_text n (items_in words)) ≤ 82 * (length words / 2)
+  unfolding section_units whole_context item_allowed
+  segment-short n = words-short (shown_of n) number_kind 82 (omega arith) absurd absurd _ words (segment-fit n)

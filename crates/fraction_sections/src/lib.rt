@@ -2,16 +2,16 @@
 ghost use Rattle.std.specs.Prelude.{◌≡◌, true, cond, ◌&&◌, ◌++◌, ◌+◌, ◌≤◌, ◌<◌, ◌^◌, T, leb, eqb, length, get_or, replicate};
 ghost use Rattle.lists.specs.Lists.{any, count};
 ghost use Rattle.figures.specs.Digits.{width, numeral};
-ghost use Rattle.formats.specs.Items.{fractionKind, kind_of, isPlace, isSpace};
-ghost use Rattle.formats.specs.Reading.{look_of, within, wholeText, sparePlaces, denominatorUnits, belowUnits};
+ghost use Rattle.formats.specs.Items.{fraction_kind, kind_of, is_place, is_space};
+ghost use Rattle.formats.specs.Reading.{look_of, within, whole_text, spare_places, denominator_units, below_units};
 ghost use Rattle.tables.specs.Encode.{entry};
 ghost use Rattle.tables.specs.Decode.{item_at};
 ghost use Rattle.tables.specs.Rules.{passes};
-ghost use Rattle.table_words.specs.Sections.{sectionIn};
+ghost use Rattle.table_words.specs.Sections.{section_in};
 ghost use Rattle.writing.specs.Put.{Put};
 ghost use Rattle.table_words.specs.Runs.{items_in};
-ghost use Rattle.fraction_sections.specs.Fraction.{Segment, Below, FractionReady, mixedText, looseUnits, looseText, shownTag, shownWords};
-ghost use Rattle.section_text.specs.Show.{signText, fractionReading, Shows};
+ghost use Rattle.fraction_sections.specs.Fraction.{Segment, Below, FractionReady, mixed_text, loose_units, loose_text, shown_tag, shown_words};
+ghost use Rattle.section_text.specs.Show.{sign_text, fraction_reading, Shows};
 
 use answers::{Answer, Shown, done_shown, refused_shown};
 use fractions::Mixed;
@@ -29,7 +29,7 @@ const SOLIDUS: u16 = 47;
 fn put_whole(room: &mut [u16], at: usize, items: &[u16], n: u64) -> usize
     requires { (at ≤ 2 ^ 40) × Segment items.now }
     ensures within { result ≤ at + 260096 }
-    ensures put { Put room.old at (wholeText n (items_in items.now)) result room.new }
+    ensures put { Put room.old at (whole_text n (items_in items.now)) result room.new }
 {
     let mut exact = true;
     let digits = figures::round([0; 40], n, 0, 0, 0, &mut exact);
@@ -70,7 +70,7 @@ fn put_fixed(room: &mut [u16], at: usize, n: u16, blank: bool) -> usize
 // Puts the text of an item that shows no digit.
 fn put_loose_item(room: &mut [u16], at: usize, tag: u16, argument: u16, blank: bool) -> usize
     requires { at ≤ 2 ^ 40 }
-    ensures { Put room.old at (looseUnits blank (item_at (entry tag argument))) result room.new }
+    ensures { Put room.old at (loose_units blank (item_at (entry tag argument))) result room.new }
 {
     match tag {
         tags::LITERAL => put_unit(room, at, argument),
@@ -84,7 +84,7 @@ fn put_loose_item(room: &mut [u16], at: usize, tag: u16, argument: u16, blank: b
 fn put_loose(room: &mut [u16], at: usize, items: &[u16], blank: bool) -> usize
     requires { (at ≤ 2 ^ 39) × (length items.now ≤ 508) }
     ensures within { result ≤ at + 6350 }
-    ensures put { Put room.old at (looseText blank (items_in items.now)) result room.new }
+    ensures put { Put room.old at (loose_text blank (items_in items.now)) result room.new }
 {
     let n = items.len() / 2;
     let mut k: usize = 0;
@@ -110,7 +110,7 @@ fn word_at(words: &[u16], k: usize) -> u16
 
 // The tag of a place as the denominator shows it: its spare `?` show their spaces behind the digits.
 fn shown_tag(tag: u16) -> u16
-    ensures { result ≡ shownTag tag }
+    ensures { result ≡ shown_tag tag }
 {
     if tag == tags::SPACE_PLACE {
         return tags::HASH_PLACE;
@@ -120,7 +120,7 @@ fn shown_tag(tag: u16) -> u16
 
 // The words of up to three places, as the denominator shows them.
 fn shown_words(places: &[u16]) -> [u16; 6]
-    ensures { result ≡ shownWords places.now }
+    ensures { result ≡ shown_words places.now }
 {
     [
         shown_tag(word_at(places, 0)),
@@ -135,7 +135,7 @@ fn shown_words(places: &[u16]) -> [u16; 6]
 // How many `?` are among the spare places of a denominator.
 fn spare_spaces(places: &[u16], d: u64) -> usize
     requires { length places.now ≤ 6 }
-    ensures { (result ≡ count isSpace (sparePlaces d (items_in places.now))) × (result ≤ 3) }
+    ensures { (result ≡ count is_space (spare_places d (items_in places.now))) × (result ≤ 3) }
 {
     let n = places.len() / 2;
     let shown = integers::least(figures::width_of(d) as usize, n);
@@ -147,7 +147,7 @@ fn spare_spaces(places: &[u16], d: u64) -> usize
 fn put_denominator(room: &mut [u16], at: usize, places: &[u16], d: u64) -> usize
     requires { (at < 2 ^ 40) × (length places.now ≤ 6) × Segment places.now }
     ensures within { result ≤ at + 260099 }
-    ensures put { Put room.old at (denominatorUnits d (items_in places.now)) result room.new }
+    ensures put { Put room.old at (denominator_units d (items_in places.now)) result room.new }
 {
     let shown = shown_words(places);
     let a = put_whole(room, at, &shown[..places.len()], d);
@@ -158,7 +158,7 @@ fn put_denominator(room: &mut [u16], at: usize, places: &[u16], d: u64) -> usize
 fn put_below(room: &mut [u16], at: usize, from: &[u16], d: u64) -> usize
     requires { (at ≤ 2 ^ 38) × Below from.now }
     ensures within { result ≤ at + 266450 }
-    ensures put { Put room.old at (belowUnits d (items_in from.now)) result room.new }
+    ensures put { Put room.old at (below_units d (items_in from.now)) result room.new }
 {
     let a = put_unit(room, at, SOLIDUS);
     let behind = &from[2..];
@@ -169,7 +169,7 @@ fn put_below(room: &mut [u16], at: usize, from: &[u16], d: u64) -> usize
 
 // Whether the fraction is left blank: its numerator is 0, and integer places stand before it.
 fn is_blank(whole: &[u16], above: u64) -> bool
-    ensures { result ≡ (any isPlace (items_in whole.now) && eqb above 0) }
+    ensures { result ≡ (any is_place (items_in whole.now) && eqb above 0) }
 {
     let places = count_between(whole, tags::ZERO_PLACE, tags::SPACE_PLACE);
     (0 < places) & (above == 0)
@@ -187,7 +187,7 @@ fn put_mixed(
     requires { FractionReady whole.now numerator.now from.now }
     ensures within { result ≤ 786644 }
     ensures put { Put room.old 0
-        (signText minus ++ mixedText f (items_in whole.now) (items_in numerator.now) (items_in from.now)) result room.new }
+        (sign_text minus ++ mixed_text f (items_in whole.now) (items_in numerator.now) (items_in from.now)) result room.new }
 {
     let at = put_sign(room, minus);
     let a = put_whole(room, at, whole, f.whole);
@@ -209,8 +209,8 @@ fn takes_mixed(
     f: Mixed,
 ) -> bool
     requires { FractionReady whole.now numerator.now from.now }
-    ensures { result ≡ leb (length (signText minus
-        ++ mixedText f (items_in whole.now) (items_in numerator.now) (items_in from.now))) size }
+    ensures { result ≡ leb (length (sign_text minus
+        ++ mixed_text f (items_in whole.now) (items_in numerator.now) (items_in from.now))) size }
 {
     if is_roomy(size, whole.len() + numerator.len() + from.len(), false) {
         return true;
@@ -233,8 +233,8 @@ fn show_mixed(
     section: u16,
 ) -> Shown
     requires { FractionReady whole.now numerator.now from.now }
-    ensures { Shows (within size (look_of (signText minus
-        ++ mixedText f (items_in whole.now) (items_in numerator.now) (items_in from.now)) colour section exact))
+    ensures { Shows (within size (look_of (sign_text minus
+        ++ mixed_text f (items_in whole.now) (items_in numerator.now) (items_in from.now)) colour section exact))
         room.old result room.new }
 {
     if takes_mixed(size, minus, whole, numerator, from, f) {
@@ -254,9 +254,9 @@ pub fn show_fraction_section(
     f: Mixed,
     exact: bool,
 ) -> Shown
-    requires { T (passes table.now) × (i < get_or table.now 0 0) × (kind_of (sectionIn table.now i) ≡ fractionKind)
+    requires { T (passes table.now) × (i < get_or table.now 0 0) × (kind_of (section_in table.now i) ≡ fraction_kind)
         × (f.whole ≤ 10 ^ 15) × (f.above < 10 ^ 19) × (1 ≤ f.below) × (f.below ≤ 999) }
-    ensures { Shows (fractionReading size (sectionIn table.now i) i minus exact f) room.old result room.new }
+    ensures { Shows (fraction_reading size (section_in table.now i) i minus exact f) room.old result room.new }
 {
     let h = head_of(table, i as usize);
     let items = items_of(table, i as usize);

@@ -44,17 +44,17 @@ module _ {x : Magnitude} {most : ℕ} {low high : Side} (b : Between x most low 
   pub rests : low.rest * high.below + high.rest * low.below ≡ x.below
   rests =
       let one = ap (λ (z : ℕ). z * x.below) b.unit in
-      let left = ap (λ (z : ℕ). z * high.below) b.lowRest in
-      let right = ap (λ (z : ℕ). z * low.below) b.highRest in
+      let left = ap (λ (z : ℕ). z * high.below) b.low_rest in
+      let right = ap (λ (z : ℕ). z * low.below) b.high_rest in
       omega arith
 
   low-apart : apart x (at low) ≡ low.rest
   unfolding apart
-  low-apart = omega (arith, b.lowRest)
+  low-apart = omega (arith, b.low_rest)
 
   high-apart : apart x (at high) ≡ high.rest
   unfolding apart
-  high-apart = omega (arith, b.highRest)
+  high-apart = omega (arith, b.high_rest)
 
   -- both are in lowest terms
   low-lowest : (g : Fraction) → 1 ≤ g.below → g.above * low.below ≡ low.above * g.below → low.below ≤ g.below
@@ -70,14 +70,14 @@ module _ {x : Magnitude} {most : ℕ} {low high : Side} (b : Between x most low 
   -- what is not between them is further than one of them
   low-side : (g : Fraction) → 0 < x.below → 1 ≤ g.below → g.above * low.below ≤ low.above * g.below → Preferred x (at low) g
   low-side g pos one h =
-      let rest = ap (λ (z : ℕ). z * g.below) b.lowRest in
+      let rest = ap (λ (z : ℕ). z * g.below) b.low_rest in
       let far = mul-le-mul_right low.below (apart-under x g) in
       preferred-by (at low) g (low.above * g.below) (g.above * low.below) pos h
       (omega (arith, ap (λ (z : ℕ). z * g.below) low-apart)) (low-lowest g one)
 
   high-side : (g : Fraction) → 0 < x.below → 1 ≤ g.below → high.above * g.below ≤ g.above * high.below → Preferred x (at high) g
   high-side g pos one h =
-      let rest = ap (λ (z : ℕ). z * g.below) b.highRest in
+      let rest = ap (λ (z : ℕ). z * g.below) b.high_rest in
       let far = mul-le-mul_right high.below (apart-over x g) in
       preferred-by (at high) g (g.above * high.below) (high.above * g.below) pos h
       (omega (arith, ap (λ (z : ℕ). z * g.below) high-apart)) (λ e. high-lowest g one (sym e))
@@ -100,29 +100,29 @@ module _ {x : Magnitude} {most : ℕ} {low high : Side} (b : Between x most low 
     pub low-wins : low.rest * high.below ≤ high.rest * low.below
         → (low.rest * high.below ≡ high.rest * low.below → low.below ≤ high.below) → NearestFraction x most (at low)
     low-wins near small =
-        nearest-of b.lowFrom b.lowUpTo b.lowFrom b.highFrom (preferred-self (at low))
+        nearest-of b.low_from b.low_up_to b.low_from b.high_from (preferred-self (at low))
         (record { near = rw (low-apart, high-apart) near; small = rw (low-apart, high-apart) small })
         (λ g. outside far g pos)
 
     pub high-wins : high.rest * low.below ≤ low.rest * high.below
         → (high.rest * low.below ≡ low.rest * high.below → high.below ≤ low.below) → NearestFraction x most (at high)
     high-wins near small =
-        nearest-of b.highFrom b.highUpTo b.lowFrom b.highFrom
+        nearest-of b.high_from b.high_up_to b.low_from b.high_from
         (record { near = rw (low-apart, high-apart) near; small = rw (low-apart, high-apart) small }) (preferred-self (at high))
         (λ g. outside far g pos)
 
   -- the number itself is met
   pub low-met : 0 < x.below → low.rest ≡ 0 → NearestFraction x most (at low)
-  low-met pos e = met pos b.lowFrom b.lowUpTo (low-apart ∙ e) low-lowest
+  low-met pos e = met pos b.low_from b.low_up_to (low-apart ∙ e) low-lowest
 
   pub high-met : 0 < x.below → high.rest ≡ 0 → NearestFraction x most (at high)
-  high-met pos e = met pos b.highFrom b.highUpTo (high-apart ∙ e) high-lowest
+  high-met pos e = met pos b.high_from b.high_up_to (high-apart ∙ e) high-lowest
 
   -- one side moves so many steps towards the other
   pub low-stepped : (k : ℕ) → k * high.rest ≤ low.rest → low.below + k * high.below ≤ most → Between x most (stepped low high k) high
   unfolding stepped
-  low-stepped k h up_to = omega (arith, ap (λ (z : ℕ). k * z) b.highRest)
+  low-stepped k h up_to = omega (arith, ap (λ (z : ℕ). k * z) b.high_rest)
 
   pub high-stepped : (k : ℕ) → k * low.rest ≤ high.rest → high.below + k * low.below ≤ most → Between x most low (stepped high low k)
   unfolding stepped
-  high-stepped k h up_to = omega (arith, ap (λ (z : ℕ). k * z) b.lowRest)
+  high-stepped k h up_to = omega (arith, ap (λ (z : ℕ). k * z) b.low_rest)

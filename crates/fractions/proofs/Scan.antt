@@ -11,7 +11,7 @@ use Rattle.figures.specs.Rounding.{Magnitude, nearest}
 use Rattle.figures.proofs.Rounding.{nearest-bound, nearest-monotone, nearest-exact}
 use Rattle.figures.proofs.Filling.{lt-or-le}
 use Rattle.fractions.specs.declared.Fraction.{Fraction}
-use Rattle.fractions.specs.Fractions.{over, apart, nearer, nearestUpTo}
+use Rattle.fractions.specs.Fractions.{over, apart, nearer, nearest_up_to}
 use Rattle.fractions.specs.Nearest.{Preferred, NearestFraction}
 use Rattle.fractions.specs.Moves.{shifted}
 use Rattle.fractions.proofs.Nearness.{preferred-self, nearer-preferred, not-nearer-preferred, nearest-of}
@@ -55,11 +55,11 @@ module _ (x : Magnitude) (pos : 0 < x.below) where
   unfolding over
   one-nearest = record { from = omega arith; up_to = omega arith; best = λ g one most. over-preferred 1 g (omega arith) }
 
-  pub nearest-fraction : (most : ℕ) → 1 ≤ most → NearestFraction x most (nearestUpTo most x)
-  unfolding nearestUpTo
+  pub nearest-fraction : (most : ℕ) → 1 ≤ most → NearestFraction x most (nearest_up_to most x)
+  unfolding nearest_up_to
   nearest-fraction zero h = absurd (omega arith)
   nearest-fraction (suc zero) h = cond_both (NearestFraction x 1) (nearer x (over 1 x) (over 1 x)) one-nearest one-nearest
-  nearest-fraction (suc (suc k)) h = step-nearest (suc k) (nearestUpTo (suc k) x) (nearest-fraction (suc k) (omega arith))
+  nearest-fraction (suc (suc k)) h = step-nearest (suc k) (nearest_up_to (suc k) x) (nearest-fraction (suc k) (omega arith))
 
   -- over a fixed number: within half a unit, halves up
   pub over-half : (d : ℕ) → (2 * ((over d x).above * x.below) ≤ 2 * (x.above * d) + x.below)
@@ -94,12 +94,12 @@ module _ (w : ℕ) (x : Magnitude) (pos : 0 < x.below) where
   shifted-cond false f g = refl
 
   -- the nearest fraction of a number is that of its part behind the point with the whole number more
-  pub nearest-shift : (k : ℕ) → nearestUpTo k more ≡ shifted w (nearestUpTo k x)
-  unfolding nearestUpTo
+  pub nearest-shift : (k : ℕ) → nearest_up_to k more ≡ shifted w (nearest_up_to k x)
+  unfolding nearest_up_to
   nearest-shift zero = over-shift 1
   nearest-shift (suc k) =
       let f : Fraction = over (suc k) x in
-      let g : Fraction = nearestUpTo k x in
+      let g : Fraction = nearest_up_to k x in
       ap₂ (λ (h i : Fraction). cond (nearer more h i) h i) (over-shift (suc k)) (nearest-shift k)
       ∙ ap (λ (b : Bool). cond b (shifted w f) (shifted w g)) (nearer-shift f g)
       ∙ shifted-cond (nearer x f g) f g
@@ -113,8 +113,8 @@ module _ (x : Magnitude) (pos : 0 < x.below) (part : x.above ≤ x.below) where
       nearest-monotone (x.above * d) (d * x.below) x.below pos (omega (arith, mul-le-mul_right d part)) in
       omega (arith, nearest-exact d x.below pos)
 
-  pub nearest-within : (k : ℕ) → (nearestUpTo k x).above ≤ (nearestUpTo k x).below
-  unfolding nearestUpTo over
+  pub nearest-within : (k : ℕ) → (nearest_up_to k x).above ≤ (nearest_up_to k x).below
+  unfolding nearest_up_to over
   nearest-within zero = over-within 1
   nearest-within (suc k) =
-      cond_both (λ (f : Fraction). f.above ≤ f.below) (nearer x (over (suc k) x) (nearestUpTo k x)) (over-within (suc k)) (nearest-within k)
+      cond_both (λ (f : Fraction). f.above ≤ f.below) (nearer x (over (suc k) x) (nearest_up_to k x)) (over-within (suc k)) (nearest-within k)

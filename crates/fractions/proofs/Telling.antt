@@ -14,9 +14,9 @@ use Rattle.figures.proofs.Exactly.{eqb_same}
 use Rattle.exponents.specs.Exponent.{decimal}
 use Rattle.fractions.specs.declared.Fraction.{Fraction}
 use Rattle.fractions.specs.declared.Mixed.{Mixed}
-use Rattle.fractions.specs.Fractions.{over, nearestUpTo, nearestFraction, behindPoint, carried, unparted, fractionOf, mixedExactly}
+use Rattle.fractions.specs.Fractions.{over, nearest_up_to, nearest_fraction, behind_point, carried, unparted, fraction_of, mixed_exactly}
 use Rattle.fractions.specs.Nearest.{Carried}
-use Rattle.fractions.specs.Moves.{shifted, toldOf}
+use Rattle.fractions.specs.Moves.{shifted, told_of}
 use Rattle.fractions.proofs.Scan.{over-shift, nearest-shift, nearest-fraction, over-within, nearest-within}
 
 -- the carry keeps the amount, and leaves less than 1 behind
@@ -29,8 +29,8 @@ carry-keeps w f one h =
 
 -- what is told is the amount of the whole number and the fraction, over the same denominator
 told-keeps : (parted : Bool) (w : ℕ) (f : Fraction)
-    → ((toldOf parted w f).whole * (toldOf parted w f).below + (toldOf parted w f).above ≡ w * f.below + f.above) × ((toldOf parted w f).below ≡ f.below)
-unfolding toldOf carried unparted shifted
+    → ((told_of parted w f).whole * (told_of parted w f).below + (told_of parted w f).above ≡ w * f.below + f.above) × ((told_of parted w f).below ≡ f.below)
+unfolding told_of carried unparted shifted
 told-keeps true w f =
     cond-case (λ (r : Mixed). (r.whole * r.below + r.above ≡ w * f.below + f.above) × (r.below ≡ f.below)) (eqb f.above f.below)
     (λ t. let e = eqb-true f.above f.below t in (omega arith, refl))
@@ -40,12 +40,12 @@ told-keeps false w f = (omega arith, refl)
 -- what the code tells of the fraction picked for the part, where a whole number more is a whole number more above
 told-picked : {r : Mixed} (parted : Bool) (part : Fraction) (pick : Magnitude → Fraction) (x : Magnitude)
     → pick (record { above = x.above / x.below * x.below + x.above % x.below; below = x.below })
-    ≡ shifted (x.above / x.below) (pick (behindPoint x))
-    → part ≡ pick (behindPoint x) → r ≡ toldOf parted (x.above / x.below) part → r ≡ fractionOf parted pick x
-unfolding fractionOf toldOf
+    ≡ shifted (x.above / x.below) (pick (behind_point x))
+    → part ≡ pick (behind_point x) → r ≡ told_of parted (x.above / x.below) part → r ≡ fraction_of parted pick x
+unfolding fraction_of told_of
 told-picked parted part pick x e f told =
     rw f at told
-    ∙ ap (λ (g : Fraction). cond parted (carried (x.above / x.below) (pick (behindPoint x))) (unparted g))
+    ∙ ap (λ (g : Fraction). cond parted (carried (x.above / x.below) (pick (behind_point x))) (unparted g))
     (sym e ∙ ap (λ (a : ℕ). pick (record { above = a; below = x.below })) (div-add-mod' x.above x.below))
 
 -- by the power of ten that the code has
@@ -57,7 +57,7 @@ module _ (m s : ℕ) {unit : ℕ} (u : unit ≡ 10 ^ s) where
   pub part-less : m % unit < unit
   part-less = mod-lt m unit-pos
 
-  pub nearest-small : {most : ℕ} {f : Fraction} → 1 ≤ most → most ≤ 999 → f ≡ nearestUpTo most (record { above = m % unit; below = unit })
+  pub nearest-small : {most : ℕ} {f : Fraction} → 1 ≤ most → most ≤ 999 → f ≡ nearest_up_to most (record { above = m % unit; below = unit })
       → (f.above ≤ 999) × (1 ≤ f.below) × (f.below ≤ 999)
   nearest-small {most} one few e =
       let x : Magnitude = record { above = m % unit; below = unit } in
@@ -75,24 +75,24 @@ module _ (m s : ℕ) {unit : ℕ} (u : unit ≡ 10 ^ s) where
       → eqb (nearest (m % unit * d) (10 ^ s) * 10 ^ s) (m % unit * d) ≡ eqb (a * unit) (m % unit * d)
   fixed-met d e = ap₂ (λ (x y : ℕ). eqb (x * y) (m % unit * d)) (sym e) (sym u)
 
-  module _ (parted : Bool) (part : Fraction) {r : Mixed} (told : r ≡ toldOf parted (m / unit) part) where
-    pub told-nearest : (k : ℕ) {p : ℕ} → p ≡ 10 ^ k → part ≡ nearestUpTo (p - 1) (record { above = m % unit; below = unit })
-        → r ≡ fractionOf parted (nearestFraction k) (decimal m s)
-    unfolding nearestFraction behindPoint
+  module _ (parted : Bool) (part : Fraction) {r : Mixed} (told : r ≡ told_of parted (m / unit) part) where
+    pub told-nearest : (k : ℕ) {p : ℕ} → p ≡ 10 ^ k → part ≡ nearest_up_to (p - 1) (record { above = m % unit; below = unit })
+        → r ≡ fraction_of parted (nearest_fraction k) (decimal m s)
+    unfolding nearest_fraction behind_point
     told-nearest k e f =
         let x : Magnitude = decimal m s in
-        told-picked parted part (nearestFraction k) x (nearest-shift (m / 10 ^ s) (behindPoint x) (ten-pos s) (10 ^ k - 1)) (rw (e, u) at f) (rw u at told)
+        told-picked parted part (nearest_fraction k) x (nearest-shift (m / 10 ^ s) (behind_point x) (ten-pos s) (10 ^ k - 1)) (rw (e, u) at f) (rw u at told)
 
-    pub told_over : part.above ≡ nearest (m % unit * part.below) (10 ^ s) → r ≡ fractionOf parted (over part.below) (decimal m s)
-    unfolding behindPoint over
+    pub told_over : part.above ≡ nearest (m % unit * part.below) (10 ^ s) → r ≡ fraction_of parted (over part.below) (decimal m s)
+    unfolding behind_point over
     told_over f =
         let x : Magnitude = decimal m s in
-        let e : part ≡ over part.below (behindPoint x) = ap (λ (a : ℕ). record { above = a; below = part.below }) (rw u at f) in
-        told-picked parted part (over part.below) x (over-shift (m / 10 ^ s) (behindPoint x) (ten-pos s) part.below) e (rw u at told)
+        let e : part ≡ over part.below (behind_point x) = ap (λ (a : ℕ). record { above = a; below = part.below }) (rw u at f) in
+        told-picked parted part (over part.below) x (over-shift (m / 10 ^ s) (behind_point x) (ten-pos s) part.below) e (rw u at told)
 
     -- it is the number where the fraction is the part behind the point
-    pub told-exactly : eqb (part.above * unit) (m % unit * part.below) ≡ mixedExactly (decimal m s) r
-    unfolding mixedExactly
+    pub told-exactly : eqb (part.above * unit) (m % unit * part.below) ≡ mixed_exactly (decimal m s) r
+    unfolding mixed_exactly
     told-exactly =
         let kept = told-keeps parted (m / unit) part in
         let whole = ap (λ (x : ℕ). x * part.below) (div-add-mod' m unit) in
@@ -107,8 +107,8 @@ pub record TellsSmall (r : Mixed) : Type 0 where
   pub from : 1 ≤ r.below
   pub up_to : r.below ≤ 999
 
-told-small : (parted : Bool) (w : ℕ) (f : Fraction) → w < 10 ^ 15 → f.above ≤ 999 → 1 ≤ f.below → f.below ≤ 999 → TellsSmall (toldOf parted w f)
-unfolding toldOf carried unparted shifted
+told-small : (parted : Bool) (w : ℕ) (f : Fraction) → w < 10 ^ 15 → f.above ≤ 999 → 1 ≤ f.below → f.below ≤ 999 → TellsSmall (told_of parted w f)
+unfolding told_of carried unparted shifted
 told-small true w f h a one b = cond_both TellsSmall (eqb f.above f.below) (omega arith) (omega arith)
 told-small false w f h a one b = omega (arith, mul-le-mul h b)
 
@@ -116,15 +116,15 @@ module _ (parted : Bool) (m s : ℕ) (h : m < 10 ^ 15) where
   whole-small : m / 10 ^ s < 10 ^ 15
   whole-small = omega (arith, div-le_self m (10 ^ s))
 
-  pub nearest-tells-small : (k : ℕ) → 1 ≤ k → k ≤ 3 → TellsSmall (fractionOf parted (nearestFraction k) (decimal m s))
+  pub nearest-tells-small : (k : ℕ) → 1 ≤ k → k ≤ 3 → TellsSmall (fraction_of parted (nearest_fraction k) (decimal m s))
   nearest-tells-small k one few =
-      let f : Fraction = nearestUpTo (10 ^ k - 1) (record { above = m % 10 ^ s; below = 10 ^ s }) in
+      let f : Fraction = nearest_up_to (10 ^ k - 1) (record { above = m % 10 ^ s; below = 10 ^ s }) in
       let least = ten-le 1 k one in
       let most = ten-le k 3 few in
       let small = nearest-small m s {unit = 10 ^ s} refl {f = f} (omega arith) (omega arith) refl in
       rw (← told-nearest m s {unit = 10 ^ s} refl parted f refl k refl refl) (told-small parted (m / 10 ^ s) f whole-small small.0 small.1 small.2)
 
-  pub over-tells-small : (d : ℕ) → 1 ≤ d → d ≤ 999 → TellsSmall (fractionOf parted (over d) (decimal m s))
+  pub over-tells-small : (d : ℕ) → 1 ≤ d → d ≤ 999 → TellsSmall (fraction_of parted (over d) (decimal m s))
   over-tells-small d one few =
       let f : Fraction = record { above = nearest (m % 10 ^ s * d) (10 ^ s); below = d } in
       rw (← told_over m s {unit = 10 ^ s} refl parted f refl refl)

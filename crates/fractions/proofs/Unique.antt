@@ -38,8 +38,8 @@ module _ (x : Magnitude) (f g : Fraction) where
 
 module _ {x : Magnitude} (pos : 0 < x.below) {most : ℕ} (two : 2 ≤ most) {f : Fraction} (n : NearestFraction x most f) where
   -- no greater numerator over the same denominator d is as near: a half is nearer where d is 1, else a fraction over d - 1 is as near
-  no_second : (g : Fraction) → f.below ≡ g.below → apart x f ≡ apart x g → f.above < g.above → ⊥
-  no_second g same e less =
+  no_second_lem : (g : Fraction) → f.below ≡ g.below → apart x f ≡ apart x g → f.above < g.above → ⊥
+  no_second_lem g same e less =
       let p : ℕ = f.above in
       let d : ℕ = f.below in
       let even = middle x f g pos same less e in
@@ -63,7 +63,7 @@ module _ {x : Magnitude} (pos : 0 < x.below) {most : ℕ} (two : 2 ≤ most) {f 
       (lt-or-le 1 d)
 
   not-greater : (g : Fraction) → f.below ≡ g.below → apart x f ≡ apart x g → g.above ≤ f.above
-  not-greater g same e = ⊎_elim (λ less. absurd (no_second g same e less)) (λ (h : g.above ≤ f.above). h) (lt-or-le f.above g.above)
+  not-greater g same e = ⊎_elim (λ less. absurd (no_second_lem g same e less)) (λ (h : g.above ≤ f.above). h) (lt-or-le f.above g.above)
 
 -- two nearest fractions have one denominator, and then one numerator
 pub nearest-unique : {x : Magnitude} {most : ℕ} {f g : Fraction} → 0 < x.below → 2 ≤ most → NearestFraction x most f → NearestFraction x most g → f ≡ g

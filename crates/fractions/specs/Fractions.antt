@@ -18,18 +18,18 @@ unfoldable pub nearer : Magnitude → Fraction → Fraction → Bool
 nearer x f g = ltb (apart x f * g.below) (apart x g * f.below)
 
 -- the denominators from 1 on are tried in rising order, and one is taken where it is nearer than the best before it
-unfoldable pub nearestUpTo : ℕ → Magnitude → Fraction
-nearestUpTo zero x = over 1 x
-nearestUpTo (suc k) x = let r = nearestUpTo k x in cond (nearer x (over (suc k) x) r) (over (suc k) x) r
+unfoldable pub nearest_up_to : ℕ → Magnitude → Fraction
+nearest_up_to zero x = over 1 x
+nearest_up_to (suc k) x = let r = nearest_up_to k x in cond (nearer x (over (suc k) x) r) (over (suc k) x) r
 
 -- "With q places below the denominator is any number from 1 to 10^q - 1, and the shown fraction is a nearest one; of equally near ones the smaller
 -- denominator."
-unfoldable pub nearestFraction : ℕ → Magnitude → Fraction
-nearestFraction places x = nearestUpTo (10 ^ places - 1) x
+unfoldable pub nearest_fraction : ℕ → Magnitude → Fraction
+nearest_fraction places x = nearest_up_to (10 ^ places - 1) x
 
 -- the part of x behind the point
-unfoldable pub behindPoint : Magnitude → Magnitude
-behindPoint x = record { above = x.above % x.below; below = x.below }
+unfoldable pub behind_point : Magnitude → Magnitude
+behind_point x = record { above = x.above % x.below; below = x.below }
 
 -- "If the fraction rounds to 1 it is carried into the integer part, where there is one": nothing is left above
 unfoldable pub carried : ℕ → Fraction → Mixed
@@ -42,9 +42,9 @@ unfoldable pub unparted : Fraction → Mixed
 unparted f = record { whole = 0; above = f.above; below = f.below }
 
 -- x as its whole number and the fraction picked for the part behind the point, or as the fraction picked for x whole
-unfoldable pub fractionOf : Bool → (Magnitude → Fraction) → Magnitude → Mixed
-fractionOf parted pick x = cond parted (carried (x.above / x.below) (pick (behindPoint x))) (unparted (pick x))
+unfoldable pub fraction_of : Bool → (Magnitude → Fraction) → Magnitude → Mixed
+fraction_of parted pick x = cond parted (carried (x.above / x.below) (pick (behind_point x))) (unparted (pick x))
 
 -- "a fraction is exact when it and the integer part shown make up the number, sign aside" (R137)
-unfoldable pub mixedExactly : Magnitude → Mixed → Bool
-mixedExactly x f = eqb ((f.whole * f.below + f.above) * x.below) (x.above * f.below)
+unfoldable pub mixed_exactly : Magnitude → Mixed → Bool
+mixed_exactly x f = eqb ((f.whole * f.below + f.above) * x.below) (x.above * f.below)

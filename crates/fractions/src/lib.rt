@@ -2,9 +2,9 @@
 ghost use Rattle.std.specs.Prelude.{◌≡◌, ℕ, ◌+◌, ◌*◌, ◌/◌, ◌^◌, ◌≤◌, ◌<◌, min, eqb};
 ghost use Rattle.figures.specs.Rounding.{Magnitude};
 ghost use Rattle.exponents.specs.Exponent.{decimal};
-ghost use Rattle.fractions.specs.Fractions.{over, nearestUpTo, nearestFraction, fractionOf, mixedExactly};
+ghost use Rattle.fractions.specs.Fractions.{over, nearest_up_to, nearest_fraction, fraction_of, mixed_exactly};
 ghost use Rattle.fractions.specs.Nearest.{NearestFraction};
-ghost use Rattle.fractions.specs.Moves.{toldOf, at, Between, moved_to, Movable};
+ghost use Rattle.fractions.specs.Moves.{told_of, at, Between, moved_to, Movable};
 
 // above / below.
 #[derive(Drop)]
@@ -99,7 +99,7 @@ fn preferred(low: Side, high: Side) -> Fraction
 // below the sum of theirs.
 fn nearest_part(rest: u64, whole: u64, most: u64) -> Fraction
     requires { (rest < whole) × (whole ≤ 10 ^ 15) × (2 ≤ most) × (most ≤ 999) }
-    ensures { result ≡ nearestUpTo most (record { above = rest; below = whole }) }
+    ensures { result ≡ nearest_up_to most (record { above = rest; below = whole }) }
 {
     let mut low = Side {
         above: 0,
@@ -127,7 +127,7 @@ fn nearest_part(rest: u64, whole: u64, most: u64) -> Fraction
 // The whole number and the fraction of the part behind the point, or both as one fraction.
 fn told(whole: u64, part: Fraction, parted: bool) -> Mixed
     requires { (whole < 10 ^ 15) × (part.above ≤ 999) × (part.below ≤ 999) }
-    ensures { result ≡ toldOf parted whole part }
+    ensures { result ≡ told_of parted whole part }
 {
     let above = part.above;
     let below = part.below;
@@ -165,8 +165,8 @@ fn is_met(part: Fraction, rest: u64, whole: u64) -> bool
 // The nearest fraction of m / 10^scale with a denominator of so many digits at most.
 pub fn nearest_fraction(m: u64, scale: u32, parted: bool, places: u32) -> Nearest
     requires { (m < 10 ^ 15) × (scale ≤ 15) × (1 ≤ places) × (places ≤ 3) }
-    ensures mixed { result.mixed ≡ fractionOf parted (nearestFraction places) (decimal m scale) }
-    ensures exact { result.exact ≡ mixedExactly (decimal m scale) result.mixed }
+    ensures mixed { result.mixed ≡ fraction_of parted (nearest_fraction places) (decimal m scale) }
+    ensures exact { result.exact ≡ mixed_exactly (decimal m scale) result.mixed }
 {
     let unit = figures::power(scale);
     let rest = m % unit;
@@ -180,8 +180,8 @@ pub fn nearest_fraction(m: u64, scale: u32, parted: bool, places: u32) -> Neares
 // The nearest fraction of m / 10^scale over a fixed number.
 pub fn fixed_fraction(m: u64, scale: u32, parted: bool, fixed: u32) -> Nearest
     requires { (m < 10 ^ 15) × (scale ≤ 15) × (1 ≤ fixed) × (fixed ≤ 999) }
-    ensures mixed { result.mixed ≡ fractionOf parted (over fixed) (decimal m scale) }
-    ensures exact { result.exact ≡ mixedExactly (decimal m scale) result.mixed }
+    ensures mixed { result.mixed ≡ fraction_of parted (over fixed) (decimal m scale) }
+    ensures exact { result.exact ≡ mixed_exactly (decimal m scale) result.mixed }
 {
     let unit = figures::power(scale);
     let below = fixed as u64;

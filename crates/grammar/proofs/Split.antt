@@ -10,12 +10,12 @@ use borrow.Author.Tests.{not-true}
 use Rattle.lists.specs.Lists.{every, All}
 use Rattle.lists.proofs.Bools.{by_cases}
 use Rattle.formats.specs.Tokens.{Token, semicolon}
-use Rattle.formats.specs.Kinds.{isSemicolon}
+use Rattle.formats.specs.Kinds.{is_semicolon}
 use Rattle.formats.specs.Accept.{joined, split}
 use Rattle.formats.proofs.ItemCount.{split-length}
 use Rattle.grammar.proofs.Tests.{every-parts}
 use Rattle.grammar.proofs.Quiet.{known}
-use Rattle.grammar.proofs.PlainBodies.{plainToken, NoSemicolon}
+use Rattle.grammar.proofs.PlainBodies.{plain_token, NoSemicolon}
 
 -- a semicolon before each of the sections, and between them
 unfoldable pub behind : List (List Token) → List Token
@@ -41,7 +41,7 @@ unfolding split join behind
 join-split [] = refl
 join-split (t ∷ ts) =
     let e : join (split ts) ≡ ts = join-split ts in
-    by_cases (isSemicolon t)
+    by_cases (is_semicolon t)
     (λ h.
     rw h
     (join-behind (split ts) (omega (arith, split-length ts)) ∙ ap (◌∷◌ semicolon) e
@@ -60,7 +60,7 @@ unfolding split every
 split-each f [] e = (refl, tt)
 split-each f (t ∷ ts) e =
     let (a, b) = every-parts f t ts e in
-    by_cases (isSemicolon t)
+    by_cases (is_semicolon t)
     (λ h. rw h (refl, split-each f ts b))
     (λ h. rw h (joined-each f t (split ts) a (split-each f ts b)))
 
@@ -68,21 +68,21 @@ pub split_plain : (ts : List Token) → All NoSemicolon (split ts)
 unfolding split every
 split_plain [] = (refl, tt)
 split_plain (t ∷ ts) =
-    by_cases (isSemicolon t)
+    by_cases (is_semicolon t)
     (λ h. rw h (refl, split_plain ts))
-    (λ h. rw h (joined-each plainToken t (split ts) (rw h) (split_plain ts)))
+    (λ h. rw h (joined-each plain_token t (split ts) (rw h) (split_plain ts)))
 
 -- a section without a semicolon, alone and before others
 pub split_one : (s : List Token) → NoSemicolon s → split s ≡ s ∷ []
 unfolding split joined
 split_one [] n = refl
 split_one (t ∷ s) n =
-    let (a, b) = every-parts plainToken t s n in
-    rw (not-true (isSemicolon t) a, split_one s b)
+    let (a, b) = every-parts plain_token t s n in
+    rw (not-true (is_semicolon t) a, split_one s b)
 
 pub split-before : (s ts : List Token) → NoSemicolon s → split (s ++ semicolon ∷ ts) ≡ s ∷ split ts
 unfolding split joined
 split-before [] ts n = refl
 split-before (t ∷ s) ts n =
-    let (a, b) = every-parts plainToken t s n in
-    rw (not-true (isSemicolon t) a, split-before s ts b)
+    let (a, b) = every-parts plain_token t s n in
+    rw (not-true (is_semicolon t) a, split-before s ts b)

@@ -13,15 +13,15 @@ use Rattle.grammar.specs.Codes.{Derives}
 use Rattle.grammar.proofs.Tests.{every-parts}
 use Rattle.grammar.proofs.Exact.{accepts-exactly}
 
-unfoldable isFine : Verdict → Bool
-isFine fine = true
-isFine (refused a k) = false
+unfoldable is_fine : Verdict → Bool
+is_fine fine = true
+is_fine (refused a k) = false
 
 unfoldable is_taken : String → Bool
-is_taken c = isFine (verdict (units c))
+is_taken c = is_fine (verdict (units c))
 
-fine-verdict : (v : Verdict) → isFine v ≡ true → v ≡ fine
-unfolding isFine
+fine-verdict : (v : Verdict) → is_fine v ≡ true → v ≡ fine
+unfolding is_fine
 fine-verdict fine e = refl
 fine-verdict (refused a k) e = absurd (true≢false (sym e))
 
@@ -33,12 +33,12 @@ all-derived (c ∷ cs) e =
     ((accepts-exactly (units c)).0 (fine-verdict (verdict (units c)) a), all-derived cs b)
 
 none-derived : (cs : List String) → any is_taken cs ≡ false → All (λ (c : String). Derives (units c) → ⊥) cs
-unfolding any is_taken isFine
+unfolding any is_taken is_fine
 none-derived [] e = tt
 none-derived (c ∷ cs) e =
     by_cases (is_taken c)
     (λ h. absurd (true≢false (rw h at e)))
-    (λ h. ((λ d. true≢false (ap isFine (sym ((accepts-exactly (units c)).1 d)) ∙ h)), none-derived cs (rw h at e)))
+    (λ h. ((λ d. true≢false (ap is_fine (sym ((accepts-exactly (units c)).1 d)) ∙ h)), none-derived cs (rw h at e)))
 
 -- A number in two sections, a date, an elapsed time, text, General and a literal; scientific ones, with a condition, with literals before the
 -- E and among the exponent places, with a `/` that is not directly between places; fractions, with and without integer places, with places and
@@ -54,7 +54,7 @@ taken =
     ∷ "%0%" ∷ "d, mmm. yy" ∷ "ss./" ∷ "$0" ∷ "0,/0" ∷ "0.," ∷ "0;" ∷ "[m] m" ∷ "[m] m d s" ∷ []
 
 pub taken-derived : All (λ (c : String). Derives (units c)) taken
-unfolding taken is_taken isFine evaluated
+unfolding taken is_taken is_fine evaluated
 taken-derived = all-derived taken refl
 
 -- A whole run of three y, and text that does not stand last; and what 01 cuts: a locale, an exponent in a
@@ -75,5 +75,5 @@ cut =
     ∷ "0;;;0/0" ∷ []
 
 pub cut-underived : All (λ (c : String). Derives (units c) → ⊥) cut
-unfolding cut is_taken isFine evaluated
+unfolding cut is_taken is_fine evaluated
 cut-underived = none-derived cut refl

@@ -4,8 +4,8 @@
 use Rattle.std.specs.Prelude.{ℕ, suc, ◌≤◌, Bool, true, false, cond, ◌||◌, List, [], ◌∷◌, ◌≢◌, ◌≡◌, eqb}
 use Rattle.std.proofs.Math.Option.{Option, some}
 use Rattle.lists.specs.Lists.{count}
-use Rattle.formats.specs.Tokens.{Token, literal, bare, blank, fill, place, point, comma, percent, at, general, half, run, elapsed, exponent, over, overFixed, Place, zeroPlace, hashPlace, HalfDay, ExponentMark, letterY, letterM, letterD, letterH, letterS, Elapsed, hours, minutes, seconds}
-use Rattle.formats.specs.Kinds.{form_of, isPlace, isPoint, isSecondsToken}
+use Rattle.formats.specs.Tokens.{Token, literal, bare, blank, fill, place, point, comma, percent, at, general, half, run, elapsed, exponent, over, over_fixed, Place, zero_place, hash_place, HalfDay, ExponentMark, letter_y, letter_m, letter_d, letter_h, letter_s, Elapsed, hours, minutes, seconds}
+use Rattle.formats.specs.Kinds.{form_of, is_place, is_point, is_seconds_token}
 
 -- A constructor is a production. The comment above it says "004" where the production is from there, "narrowed" where 01 cuts it,
 -- and "added" where it is 01's own, with 01's sentence. It holds for the constructors below it, up to the next comment. For scientific
@@ -90,17 +90,17 @@ pub data NFPartNum : Part → ℕ → List Token → Type 0 where
   decimals-end : NFPartNum decimals 0 []
   trailing-end : NFPartNum trailing 0 []
 
-abbrev pub isPercent : Token → Bool
-isPercent t = eqb (form_of t) 9
+abbrev pub is_percent : Token → Bool
+is_percent t = eqb (form_of t) 9
 
 -- the places before the point, and those behind it
-unfoldable pub wholePlaces : List Token → ℕ
-wholePlaces [] = 0
-wholePlaces (t ∷ ts) = let r = wholePlaces ts in cond (isPoint t) 0 (cond (isPlace t) (suc r) r)
+unfoldable pub whole_places : List Token → ℕ
+whole_places [] = 0
+whole_places (t ∷ ts) = let r = whole_places ts in cond (is_point t) 0 (cond (is_place t) (suc r) r)
 
-unfoldable pub decimalPlaces : List Token → ℕ
-decimalPlaces [] = 0
-decimalPlaces (t ∷ ts) = let r = decimalPlaces ts in cond (isPoint t) (count isPlace ts) r
+unfoldable pub decimal_places : List Token → ℕ
+decimal_places [] = 0
+decimal_places (t ∷ ts) = let r = decimal_places ts in cond (is_point t) (count is_place ts) r
 
 -- NFNumber = NFPartNum [NFPartExponential NFPartNum] *INTL-CHAR-NUMGRP-SEP *INTL-AMPM
 -- without its [NFPartExponential NFPartNum], which is 01's number section
@@ -109,16 +109,16 @@ pub record NFNumber (ts : List Token) : Type 0 where
   pub divisions : ℕ
   pub num : NFPartNum leading divisions ts
   -- added, "Limits (6): 20 integer places, 15 decimal places, 5 percents, 5 dividing commas"
-  pub wholes-most : wholePlaces ts ≤ 20
-  pub decimals-most : decimalPlaces ts ≤ 15
-  pub percents-most : count isPercent ts ≤ 5
+  pub wholes-most : whole_places ts ≤ 20
+  pub decimals-most : decimal_places ts ≤ 15
+  pub percents-most : count is_percent ts ≤ 5
   pub divisions-most : divisions ≤ 5
 
 -- ---- NFNumber with its [NFPartExponential NFPartNum], which is 02's scientific section
 
 -- Where in it the tokens left stand: before the point and the E; behind the point; behind the E.
 pub data Side : Type 0 where
-  beforePoint behindPoint behindE : Side
+  before_point behind_point behind_e : Side
 
 -- NFPartNum NFPartExponential NFPartNum, narrowed, "Refusals: comma, percent, a second E, a point or `?` behind the E"; the numbers are those
 -- of the integer, the decimal and the exponent places
@@ -126,25 +126,25 @@ pub data NFPartScientific : Side → ℕ → ℕ → ℕ → List Token → Type
   -- 004, as everywhere
   scientific-free : {s : Side} {i d x : ℕ} {t : Token} {ts : List Token} → Free t → NFPartScientific s i d x ts → NFPartScientific s i d x (t ∷ ts)
   -- 004: NFPartNumToken1
-  integer-place : {i d x : ℕ} {q : Place} {ts : List Token} → NFPartScientific beforePoint i d x ts → NFPartScientific beforePoint (suc i) d x (place q ∷ ts)
-  decimal-place : {i d x : ℕ} {q : Place} {ts : List Token} → NFPartScientific behindPoint i d x ts → NFPartScientific behindPoint i (suc d) x (place q ∷ ts)
+  integer-place : {i d x : ℕ} {q : Place} {ts : List Token} → NFPartScientific before_point i d x ts → NFPartScientific before_point (suc i) d x (place q ∷ ts)
+  decimal-place : {i d x : ℕ} {q : Place} {ts : List Token} → NFPartScientific behind_point i d x ts → NFPartScientific behind_point i (suc d) x (place q ∷ ts)
   -- 004: NFPartNumToken1, narrowed, "exponent places `0` or `#`"
-  exponent-zero : {i d x : ℕ} {ts : List Token} → NFPartScientific behindE i d x ts → NFPartScientific behindE i d (suc x) (place zeroPlace ∷ ts)
-  exponent-number-sign : {i d x : ℕ} {ts : List Token} → NFPartScientific behindE i d x ts → NFPartScientific behindE i d (suc x) (place hashPlace ∷ ts)
+  exponent-zero : {i d x : ℕ} {ts : List Token} → NFPartScientific behind_e i d x ts → NFPartScientific behind_e i d (suc x) (place zero_place ∷ ts)
+  exponent-number-sign : {i d x : ℕ} {ts : List Token} → NFPartScientific behind_e i d x ts → NFPartScientific behind_e i d (suc x) (place hash_place ∷ ts)
   -- 004: INTL-CHAR-DECIMAL-SEP, narrowed as in a number, and not behind the E
-  scientific-point : {i d x : ℕ} {ts : List Token} → NFPartScientific behindPoint i d x ts → NFPartScientific beforePoint i d x (point ∷ ts)
+  scientific-point : {i d x : ℕ} {ts : List Token} → NFPartScientific behind_point i d x ts → NFPartScientific before_point i d x (point ∷ ts)
   -- 004: NFPartExponential
-  integers-E : {i d x : ℕ} {m : ExponentMark} {ts : List Token} → NFPartScientific behindE i d x ts → NFPartScientific beforePoint i d x (exponent m ∷ ts)
-  decimals-E : {i d x : ℕ} {m : ExponentMark} {ts : List Token} → NFPartScientific behindE i d x ts → NFPartScientific behindPoint i d x (exponent m ∷ ts)
+  integers-E : {i d x : ℕ} {m : ExponentMark} {ts : List Token} → NFPartScientific behind_e i d x ts → NFPartScientific before_point i d x (exponent m ∷ ts)
+  decimals-E : {i d x : ℕ} {m : ExponentMark} {ts : List Token} → NFPartScientific behind_e i d x ts → NFPartScientific behind_point i d x (exponent m ∷ ts)
   -- the end, narrowed, "one `E+` or `E-`": not before it
-  scientific-end : NFPartScientific behindE 0 0 0 []
+  scientific-end : NFPartScientific behind_e 0 0 0 []
 
 pub record NFScientific (ts : List Token) : Type 0 where
   -- 004, narrowed as NFNumber is; no comma stands at its end
   pub integers : ℕ
   pub decimals : ℕ
   pub exponents : ℕ
-  pub num : NFPartScientific beforePoint integers decimals exponents ts
+  pub num : NFPartScientific before_point integers decimals exponents ts
   -- added, "no exponent place or no integer place in such a section is 4"
   pub integers-least : 1 ≤ integers
   pub exponents-least : 1 ≤ exponents
@@ -174,7 +174,7 @@ pub data Numerator : ℕ → List Token → Type 0 where
   above_place : {n : ℕ} {q : Place} {ts : List Token} → Numerator n ts → Numerator (suc n) (place q ∷ ts)
   -- added, "more than [..] 3 places below or a fixed number above 999 is 6"
   above-places : {d : ℕ} {q : Place} {ts : List Token} → 1 ≤ d → d ≤ 3 → Denominator d ts → Numerator 1 (over q ∷ ts)
-  above-number : {n : ℕ} {q : Place} {ts : List Token} → n ≤ 999 → Literals ts → Numerator 1 (overFixed q n ∷ ts)
+  above-number : {n : ℕ} {q : Place} {ts : List Token} → n ≤ 999 → Literals ts → Numerator 1 (over_fixed q n ∷ ts)
 
 -- Where before the numerator the tokens left stand: behind an integer place, with no literal since; or elsewhere.
 pub data Gap : Type 0 where
@@ -203,69 +203,69 @@ pub record NFFraction (ts : List Token) : Type 0 where
 
 -- What stands before a token of a date: seconds, directly; hours, as the nearest earlier run or elapsed token; or neither.
 pub data Behind : Type 0 where
-  behindSeconds behindHours behindOther : Behind
+  behind_seconds behind_hours behind_other : Behind
 
 -- the same once a token that is no date token has followed
 abbrev pub past : Behind → Behind
-past behindSeconds = behindOther
-past behindHours = behindHours
-past behindOther = behindOther
+past behind_seconds = behind_other
+past behind_hours = behind_hours
+past behind_other = behind_other
 
-abbrev pub isAbsolute : Token → Bool
-isAbsolute t = eqb (form_of t) 20
+abbrev pub is_absolute : Token → Bool
+is_absolute t = eqb (form_of t) 20
 
 -- What stands behind a token of a date: seconds, as the nearest later run or elapsed token.
-unfoldable pub beforeSeconds : List Token → Bool
-beforeSeconds [] = false
-beforeSeconds (t ∷ ts) = let r = beforeSeconds ts in cond (eqb (form_of t) 15 || isAbsolute t) (isSecondsToken t) r
+unfoldable pub before_seconds : List Token → Bool
+before_seconds [] = false
+before_seconds (t ∷ ts) = let r = before_seconds ts in cond (eqb (form_of t) 15 || is_absolute t) (is_seconds_token t) r
 
 -- 004: NFAbsTimeToken = NFPartAbsHour / NFPartAbsSecond / NFPartAbsMinute. Added, "Limits (6): [..] elapsed runs of 9".
 pub data NFAbsTimeToken : Elapsed → Token → Behind → Type 0 where
-  NFPartAbsHour : {n : ℕ} → n ≤ 9 → NFAbsTimeToken hours (elapsed hours n) behindHours
-  NFPartAbsSecond : {n : ℕ} → n ≤ 9 → NFAbsTimeToken seconds (elapsed seconds n) behindSeconds
-  NFPartAbsMinute : {n : ℕ} → n ≤ 9 → NFAbsTimeToken minutes (elapsed minutes n) behindOther
+  NFPartAbsHour : {n : ℕ} → n ≤ 9 → NFAbsTimeToken hours (elapsed hours n) behind_hours
+  NFPartAbsSecond : {n : ℕ} → n ≤ 9 → NFAbsTimeToken seconds (elapsed seconds n) behind_seconds
+  NFPartAbsMinute : {n : ℕ} → n ≤ 9 → NFAbsTimeToken minutes (elapsed minutes n) behind_other
 
 -- 004: NFDateTimeToken = NFPartYear / NFPartMonth / NFPartDay / NFPartHour / NFPartMinute / NFPartSecond / NFAbsTimeToken
 -- abs is what the section's absolute time token counts, if it has one; `before`, whether seconds are next; then what stands before the
 -- token, and before the next.
 -- 004: "an absolute time token must not coexist with a non-absolute equivalent token in NFDateTime"; hence `abs ≢ some ..`.
 pub data NFDateTimeToken (abs : Option Elapsed) (before : Bool) : Behind → Token → Behind → Type 0 where
-  NFPartYear : {b : Behind} {n : ℕ} → NFDateTimeToken abs before b (run letterY n) behindOther
+  NFPartYear : {b : Behind} {n : ℕ} → NFDateTimeToken abs before b (run letter_y n) behind_other
   -- 004, with the rule that tells NFPartMonth from NFPartMinute, "m or mm is minutes when the nearest earlier date or time run or
   -- elapsed token is hours, or the nearest later one is s, ss or elapsed seconds", "else the month"
-  NFPartMonth : {b : Behind} {n : ℕ} → b ≢ behindHours → before ≡ false → NFDateTimeToken abs before b (run letterM n) behindOther
-  NFPartMonth-long : {b : Behind} {n : ℕ} → 3 ≤ n → NFDateTimeToken abs before b (run letterM n) behindOther
+  NFPartMonth : {b : Behind} {n : ℕ} → b ≢ behind_hours → before ≡ false → NFDateTimeToken abs before b (run letter_m n) behind_other
+  NFPartMonth-long : {b : Behind} {n : ℕ} → 3 ≤ n → NFDateTimeToken abs before b (run letter_m n) behind_other
   -- 004
-  NFPartDay : {b : Behind} {n : ℕ} → NFDateTimeToken abs before b (run letterD n) behindOther
-  NFPartHour : {b : Behind} {n : ℕ} → abs ≢ some hours → NFDateTimeToken abs before b (run letterH n) behindHours
+  NFPartDay : {b : Behind} {n : ℕ} → NFDateTimeToken abs before b (run letter_d n) behind_other
+  NFPartHour : {b : Behind} {n : ℕ} → abs ≢ some hours → NFDateTimeToken abs before b (run letter_h n) behind_hours
   -- 004, with the same rule
-  NFPartMinute : {n : ℕ} → n ≤ 2 → abs ≢ some minutes → NFDateTimeToken abs before behindHours (run letterM n) behindOther
-  NFPartMinute-seconds : {b : Behind} {n : ℕ} → n ≤ 2 → abs ≢ some minutes → before ≡ true → NFDateTimeToken abs before b (run letterM n) behindOther
+  NFPartMinute : {n : ℕ} → n ≤ 2 → abs ≢ some minutes → NFDateTimeToken abs before behind_hours (run letter_m n) behind_other
+  NFPartMinute-seconds : {b : Behind} {n : ℕ} → n ≤ 2 → abs ≢ some minutes → before ≡ true → NFDateTimeToken abs before b (run letter_m n) behind_other
   -- 004
-  NFPartSecond : {b : Behind} {n : ℕ} → abs ≢ some seconds → NFDateTimeToken abs before b (run letterS n) behindSeconds
+  NFPartSecond : {b : Behind} {n : ℕ} → abs ≢ some seconds → NFDateTimeToken abs before b (run letter_s n) behind_seconds
   absolute : {b c : Behind} {x : Elapsed} {t : Token} → abs ≡ some x → NFAbsTimeToken x t c → NFDateTimeToken abs before b t c
 
 -- 004: NFPartSubSecond = INTL-CHAR-DECIMAL-SEP 1*3ASCII-DIGIT-ZERO. 004 forgets it among the elements that literals may not break
 -- apart; 01 says "A point right after s, ss or an elapsed s, followed by one to three zeros".
 pub data NFPartSubSecond : List Token → List Token → Type 0 where
-  tenths : {ts : List Token} → NFPartSubSecond (point ∷ place zeroPlace ∷ ts) ts
-  hundredths : {ts : List Token} → NFPartSubSecond (point ∷ place zeroPlace ∷ place zeroPlace ∷ ts) ts
-  thousandths : {ts : List Token} → NFPartSubSecond (point ∷ place zeroPlace ∷ place zeroPlace ∷ place zeroPlace ∷ ts) ts
+  tenths : {ts : List Token} → NFPartSubSecond (point ∷ place zero_place ∷ ts) ts
+  hundredths : {ts : List Token} → NFPartSubSecond (point ∷ place zero_place ∷ place zero_place ∷ ts) ts
+  thousandths : {ts : List Token} → NFPartSubSecond (point ∷ place zero_place ∷ place zero_place ∷ place zero_place ∷ ts) ts
 
 -- 004: NFDateTime = *INTL-AMPM (1*(NFDateTimeToken) *(NFDateTimeToken / NFPartSubSecond / INTL-CHAR-DATE-SEP / INTL-CHAR-TIME-SEP / INTL-AMPM))
 -- first what follows its first date token
 pub data DateTimeRest (abs : Option Elapsed) : Behind → List Token → Type 0 where
   rest_end : {b : Behind} → DateTimeRest abs b []
-  rest-token : {b c : Behind} {t : Token} {ts : List Token} → NFDateTimeToken abs (beforeSeconds ts) b t c → DateTimeRest abs c ts
+  rest-token : {b c : Behind} {t : Token} {ts : List Token} → NFDateTimeToken abs (before_seconds ts) b t c → DateTimeRest abs c ts
       → DateTimeRest abs b (t ∷ ts)
   -- 004, narrowed, "right after s, ss or an elapsed s [..] other places are 4"
-  rest-sub-second : {ts us : List Token} → NFPartSubSecond ts us → DateTimeRest abs behindOther us → DateTimeRest abs behindSeconds ts
+  rest-sub-second : {ts us : List Token} → NFPartSubSecond ts us → DateTimeRest abs behind_other us → DateTimeRest abs behind_seconds ts
   -- 004
   rest-between : {b : Behind} {t : Token} {ts : List Token} → Between t → DateTimeRest abs (past b) ts → DateTimeRest abs b (t ∷ ts)
 
 -- 004: *INTL-AMPM, and then the first date token
 pub data DateTimeFrom (abs : Option Elapsed) : List Token → Type 0 where
-  from-token : {b : Behind} {t : Token} {ts : List Token} → NFDateTimeToken abs (beforeSeconds ts) behindOther t b → DateTimeRest abs b ts
+  from-token : {b : Behind} {t : Token} {ts : List Token} → NFDateTimeToken abs (before_seconds ts) behind_other t b → DateTimeRest abs b ts
       → DateTimeFrom abs (t ∷ ts)
   from-between : {t : Token} {ts : List Token} → Between t → DateTimeFrom abs ts → DateTimeFrom abs (t ∷ ts)
 
@@ -273,7 +273,7 @@ pub record NFDateTime (ts : List Token) : Type 0 where
   pub abs : Option Elapsed
   pub tokens : DateTimeFrom abs ts
   -- 004: "NFAbsTimeToken must occur 0 or 1 times in NFDateTime."
-  pub absolute-once : count isAbsolute ts ≤ 1
+  pub absolute-once : count is_absolute ts ≤ 1
 
 -- ---- NFText
 

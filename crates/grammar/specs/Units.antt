@@ -5,7 +5,7 @@ use Rattle.std.specs.Prelude.{ℕ, ◌+◌, ◌*◌, ◌≤◌, Bool, true, fals
 use Prim.Native.Char.{code}
 use Rattle.lists.specs.Lists.{any, All}
 use Rattle.calendar.specs.Names.{units}
-use Rattle.formats.specs.Tokens.{Token, literal, bare, blank, fill, place, point, comma, percent, at, semicolon, general, half, run, elapsed, colour, condition, exponent, over, overFixed, Place, zeroPlace, hashPlace, spacePlace, letterY, letterM, letterD, letterH, letterS, hours, minutes, seconds, short, long, ExponentMark, ePlus, eMinus, Comparison, equal, less, greater, at_most, at_least, unequal, digitOf, fixedNumber}
+use Rattle.formats.specs.Tokens.{Token, literal, bare, blank, fill, place, point, comma, percent, at, semicolon, general, half, run, elapsed, colour, condition, exponent, over, over_fixed, Place, zero_place, hash_place, space_place, letter_y, letter_m, letter_d, letter_h, letter_s, hours, minutes, seconds, short, long, ExponentMark, e_plus, e_minus, Comparison, equal, less, greater, at_most, at_least, unequal, digit_of, fixed_number}
 
 -- A constructor is a production. The comment above it says "004" where the production is from there, "narrowed" where 01 cuts it,
 -- and "added" where it is 01's own, with 01's sentence. It holds for the constructors below it, up to the next comment. A token takes
@@ -67,10 +67,10 @@ pub data NFPartCondNum : Bool → List ℕ → List ℕ → List ℕ → Type 0 
 
 -- 004: NFPart1To56, a number and its units
 pub data NFPart1To56 : ℕ → List ℕ → Type 0 where
-  one-digit : (u : ℕ) → NFPartNumber1To9 u → NFPart1To56 (digitOf u) (u ∷ [])
-  two_digits : (u v : ℕ) → NFPartNumber1To4 u → ASCII-DIGIT v → NFPart1To56 (10 * digitOf u + digitOf v) (u ∷ v ∷ [])
+  one-digit : (u : ℕ) → NFPartNumber1To9 u → NFPart1To56 (digit_of u) (u ∷ [])
+  two_digits : (u v : ℕ) → NFPartNumber1To4 u → ASCII-DIGIT v → NFPart1To56 (10 * digit_of u + digit_of v) (u ∷ v ∷ [])
   fifty : NFPart1To56 50 (code "5" ∷ code "0" ∷ [])
-  fifties : (v : ℕ) → NFPartNumber1To6 v → NFPart1To56 (50 + digitOf v) (code "5" ∷ v ∷ [])
+  fifties : (v : ℕ) → NFPartNumber1To6 v → NFPart1To56 (50 + digit_of v) (code "5" ∷ v ∷ [])
 
 -- 004: INTL-COLOR; the numbers are 01's, "Named colours are 1 Black, 2 White, .."
 pub data INTL-COLOR : ℕ → List ℕ → Type 0 where
@@ -86,22 +86,22 @@ pub data INTL-COLOR : ℕ → List ℕ → Type 0 where
 -- ---- tokens
 
 -- added, "Literals without quotes: `$ - + / ( ) : ! ^ & ' ~ { } < > =` and space"
-abbrev pub bareUnits : List ℕ
-bareUnits = units "$-+/():!^&'~{}<>= "
+abbrev pub bare_units : List ℕ
+bare_units = units "$-+/():!^&'~{}<>= "
 
 abbrev pub BareLiteral : ℕ → Type 0
-BareLiteral u = any (eqb u) bareUnits ≡ true
+BareLiteral u = any (eqb u) bare_units ≡ true
 
 -- 004: NFPartSign = ASCII-PLUS-SIGN / ASCII-HYPHEN-MINUS
 pub data NFPartSign : ExponentMark → ℕ → Type 0 where
-  sign-plus : NFPartSign ePlus (code "+")
-  sign-minus : NFPartSign eMinus (code "-")
+  sign-plus : NFPartSign e_plus (code "+")
+  sign-minus : NFPartSign e_minus (code "-")
 
 -- 004: NFPartNumToken1 = ASCII-NUMBER-SIGN / ASCII-QUESTION-MARK / ASCII-DIGIT-ZERO, a place and its unit
 pub data NFPartNumToken1 : Place → ℕ → Type 0 where
-  number-sign : NFPartNumToken1 hashPlace (code "#")
-  question-mark : NFPartNumToken1 spacePlace (code "?")
-  digit-zero : NFPartNumToken1 zeroPlace (code "0")
+  number-sign : NFPartNumToken1 hash_place (code "#")
+  question-mark : NFPartNumToken1 space_place (code "?")
+  digit-zero : NFPartNumToken1 zero_place (code "0")
 
 -- what stands directly behind the solidus of a fraction: a place, or the first digit of a fixed number
 pub data Below : ℕ → Type 0 where
@@ -122,28 +122,28 @@ NoDigit (v ∷ vs) = ASCII-DIGIT v → ⊥
 -- a token, the units that begin with it, the units that are left
 pub data Spells : Token → List ℕ → List ℕ → Type 0 where
   -- 004: NFPartYear = 2(ASCII-SMALL-LETTER-Y) / 4(ASCII-SMALL-LETTER-Y), narrowed to whole runs
-  NFPartYear-2 : {us vs : List ℕ} → WholeRun (code "y") 2 us vs → Spells (run letterY 2) us vs
-  NFPartYear-4 : {us vs : List ℕ} → WholeRun (code "y") 4 us vs → Spells (run letterY 4) us vs
+  NFPartYear-2 : {us vs : List ℕ} → WholeRun (code "y") 2 us vs → Spells (run letter_y 2) us vs
+  NFPartYear-4 : {us vs : List ℕ} → WholeRun (code "y") 4 us vs → Spells (run letter_y 4) us vs
   -- 004: NFPartMonth = 1*5(ASCII-SMALL-LETTER-M), narrowed to whole runs
-  NFPartMonth : {n : ℕ} {us vs : List ℕ} → 1 ≤ n → n ≤ 5 → WholeRun (code "m") n us vs → Spells (run letterM n) us vs
+  NFPartMonth : {n : ℕ} {us vs : List ℕ} → 1 ≤ n → n ≤ 5 → WholeRun (code "m") n us vs → Spells (run letter_m n) us vs
   -- 004: NFPartDay = 1*4(ASCII-SMALL-LETTER-D), narrowed to whole runs
-  NFPartDay : {n : ℕ} {us vs : List ℕ} → 1 ≤ n → n ≤ 4 → WholeRun (code "d") n us vs → Spells (run letterD n) us vs
+  NFPartDay : {n : ℕ} {us vs : List ℕ} → 1 ≤ n → n ≤ 4 → WholeRun (code "d") n us vs → Spells (run letter_d n) us vs
   -- 004: NFPartHour = 1*2(ASCII-SMALL-LETTER-H), narrowed to whole runs
-  NFPartHour : {n : ℕ} {us vs : List ℕ} → 1 ≤ n → n ≤ 2 → WholeRun (code "h") n us vs → Spells (run letterH n) us vs
+  NFPartHour : {n : ℕ} {us vs : List ℕ} → 1 ≤ n → n ≤ 2 → WholeRun (code "h") n us vs → Spells (run letter_h n) us vs
   -- 004: NFPartAbsHour = "[" 1*ASCII-SMALL-LETTER-H "]"
   NFPartAbsHour : {n : ℕ} {us vs : List ℕ} → 1 ≤ n → Bracketed (replicate n (code "h")) us vs → Spells (elapsed hours n) us vs
   -- 004: NFPartMinute = 1*2(ASCII-SMALL-LETTER-M), narrowed to whole runs; whether m is a month or minutes, level 2 tells
-  NFPartMinute : {n : ℕ} {us vs : List ℕ} → 1 ≤ n → n ≤ 2 → WholeRun (code "m") n us vs → Spells (run letterM n) us vs
+  NFPartMinute : {n : ℕ} {us vs : List ℕ} → 1 ≤ n → n ≤ 2 → WholeRun (code "m") n us vs → Spells (run letter_m n) us vs
   -- 004: NFPartAbsMinute = "[" 1*ASCII-SMALL-LETTER-M "]"
   NFPartAbsMinute : {n : ℕ} {us vs : List ℕ} → 1 ≤ n → Bracketed (replicate n (code "m")) us vs → Spells (elapsed minutes n) us vs
   -- 004: NFPartSecond = 1*2(ASCII-SMALL-LETTER-S), narrowed to whole runs
-  NFPartSecond : {n : ℕ} {us vs : List ℕ} → 1 ≤ n → n ≤ 2 → WholeRun (code "s") n us vs → Spells (run letterS n) us vs
+  NFPartSecond : {n : ℕ} {us vs : List ℕ} → 1 ≤ n → n ≤ 2 → WholeRun (code "s") n us vs → Spells (run letter_s n) us vs
   -- 004: NFPartAbsSecond = "[" 1*ASCII-SMALL-LETTER-S "]"
   NFPartAbsSecond : {n : ℕ} {us vs : List ℕ} → 1 ≤ n → Bracketed (replicate n (code "s")) us vs → Spells (elapsed seconds n) us vs
   -- 004: NFPartCond = "[" NFPartCompOper NFPartCondNum "]"
   NFPartCond : {c : Comparison} {negative : Bool} {os ws ds ns us vs : List ℕ} → NFPartCompOper c os → NFPartCondNum negative ws ds ns
       → Bracketed (os ++ ns) us vs
-      → Spells (condition (record { comparison = c; negative = negative; whole = map digitOf ws; decimals = map digitOf ds })) us vs
+      → Spells (condition (record { comparison = c; negative = negative; whole = map digit_of ws; decimals = map digit_of ds })) us vs
   -- 004: NFPartColor = "[" (INTL-COLOR / (NFPartStrColor NFPart1To56)) "]", whose inner brackets 004 forgets
   NFPartColor-name : {n : ℕ} {ws us vs : List ℕ} → INTL-COLOR n ws → Bracketed ws us vs → Spells (colour n) us vs
   NFPartColor-number : {n : ℕ} {ws us vs : List ℕ} → NFPart1To56 n ws → Bracketed (units "Color" ++ ws) us vs → Spells (colour n) us vs
@@ -158,7 +158,7 @@ pub data Spells : Token → List ℕ → List ℕ → Type 0 where
   -- 004: the same with the NFPartIntNum of the NFPartFraction behind it. Narrowed, "A digit run that begins with 1 to 9 becomes a token
   -- directly after a `/` that directly follows a place", the whole run
   ASCII-SOLIDUS-number : {p : Place} {u v : ℕ} {ws us vs : List ℕ} → NFPartNumToken1 p u → NFPartNumber1To9 v → NFPartIntNum (v ∷ ws) → NoDigit vs
-      → us ≡ u ∷ code "/" ∷ ((v ∷ ws) ++ vs) → Spells (overFixed p (fixedNumber (v ∷ ws))) us vs
+      → us ≡ u ∷ code "/" ∷ ((v ∷ ws) ++ vs) → Spells (over_fixed p (fixed_number (v ∷ ws))) us vs
   -- 004: ASCII-PERCENT-SIGN, ASCII-COMMERCIAL-AT and ASCII-SEMICOLON, which stand for themselves
   ASCII-PERCENT-SIGN : {us : List ℕ} → Spells percent (code "%" ∷ us) us
   ASCII-COMMERCIAL-AT : {us : List ℕ} → Spells at (code "@" ∷ us) us

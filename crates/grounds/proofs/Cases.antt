@@ -10,7 +10,7 @@ use Rattle.answers.specs.declared.Answer.TheVariants as answer
 use Rattle.values.specs.declared.Ask.{Ask}
 use Rattle.calendar.specs.Names.{units}
 use Rattle.lists.specs.Lists.{All}
-use Rattle.formats.proofs.Cases.{all-equal, number, instant, aText}
+use Rattle.formats.proofs.Cases.{all-equal, number, instant, a_text}
 use Rattle.grounds.specs.declared.ChosenBy.{ChosenBy}
 use Rattle.grounds.specs.declared.ChosenBy.TheVariants as by
 use Rattle.grounds.specs.declared.Tried.{Tried}
@@ -19,7 +19,7 @@ use Rattle.grounds.specs.declared.Minus.{Minus}
 use Rattle.grounds.specs.declared.Minus.TheVariants as minus
 use Rattle.grounds.specs.declared.Why.{Why}
 use Rattle.grounds.specs.declared.Why.TheVariants as why
-use Rattle.grounds.specs.Why.{codeWhy}
+use Rattle.grounds.specs.Why.{code_why}
 use Rattle.grounds.proofs.Evaluate.{reasoned}
 
 -- a code, what is asked of it with the text and the room's length, and its reason
@@ -42,22 +42,22 @@ gives code ask answer = record { code = code; ask = ask; text = []; room = 4096;
 abbrev pub alone : String → Ask → ChosenBy → Minus → ℕ → Case
 alone code ask choice held cut = gives code ask (because 0 choice tried.NotTried tried.NotTried held cut)
 
-abbrev pub behindOne : String → Ask → ChosenBy → Tried → Minus → ℕ → Case
-behindOne code ask choice first held cut = gives code ask (because 1 choice first tried.NotTried held cut)
+abbrev pub behind_one : String → Ask → ChosenBy → Tried → Minus → ℕ → Case
+behind_one code ask choice first held cut = gives code ask (because 1 choice first tried.NotTried held cut)
 
-abbrev pub behindTwo : String → Ask → ChosenBy → Tried → Tried → Minus → ℕ → Case
-behindTwo code ask choice first second held cut = gives code ask (because 2 choice first second held cut)
+abbrev pub behind_two : String → Ask → ChosenBy → Tried → Tried → Minus → ℕ → Case
+behind_two code ask choice first second held cut = gives code ask (because 2 choice first second held cut)
 
 abbrev pub denies : String → Ask → Answer → Case
 denies code ask a = gives code ask (why.Refused a)
 
 -- a text of one unit
-abbrev pub ofText : String → ℕ → ChosenBy → Case
-ofText code section choice =
-    record { code = code; ask = aText; text = 120 ∷ []; room = 1; answer = because section choice tried.NotTried tried.NotTried minus.Text 0 }
+abbrev pub of_text : String → ℕ → ChosenBy → Case
+of_text code section choice =
+    record { code = code; ask = a_text; text = 120 ∷ []; room = 1; answer = because section choice tried.NotTried tried.NotTried minus.Text 0 }
 
 abbrev pub told : Case → Why
-told c = codeWhy (units c.code) c.ask c.text c.room
+told c = code_why (units c.code) c.ask c.text c.room
 
 unfoldable pub cases : List Case
 cases =
@@ -69,24 +69,24 @@ cases =
     ∷ alone "@" (number (negsuc 4) 0) by.General minus.Added 0
     ∷ alone "0;@" (number (negsuc 4) 0) by.AllValues minus.Added 0
     -- the section that a condition rejects is named, also before one of its own; so is each fallback that is false
-    ∷ behindOne "[>100]0;0;@" (number (negsuc 4) 0) by.RestOfTwo tried.OwnFalse minus.Added 0
-    ∷ behindOne "[>100]0;0;0" (number (negsuc 4) 0) by.BelowZero tried.OwnFalse minus.ForNegatives 0
-    ∷ behindOne "0;[<0](0)" (number (negsuc 4) 0) by.OwnCondition tried.FallbackFalse minus.Added 0
-    ∷ behindTwo "0;[<-10]0;0" (number (negsuc 4) 0) by.RestOfThree tried.FallbackFalse tried.OwnFalse minus.Added 0
-    ∷ behindTwo "[>100]0;0;0" (number (pos 50) 0) by.RestOfThree tried.OwnFalse tried.FallbackFalse minus.NotBelow 0
-    ∷ behindTwo "0;0;0" (number (pos 0) 0) by.RestOfThree tried.FallbackFalse tried.FallbackFalse minus.NotBelow 0
+    ∷ behind_one "[>100]0;0;@" (number (negsuc 4) 0) by.RestOfTwo tried.OwnFalse minus.Added 0
+    ∷ behind_one "[>100]0;0;0" (number (negsuc 4) 0) by.BelowZero tried.OwnFalse minus.ForNegatives 0
+    ∷ behind_one "0;[<0](0)" (number (negsuc 4) 0) by.OwnCondition tried.FallbackFalse minus.Added 0
+    ∷ behind_two "0;[<-10]0;0" (number (negsuc 4) 0) by.RestOfThree tried.FallbackFalse tried.OwnFalse minus.Added 0
+    ∷ behind_two "[>100]0;0;0" (number (pos 50) 0) by.RestOfThree tried.OwnFalse tried.FallbackFalse minus.NotBelow 0
+    ∷ behind_two "0;0;0" (number (pos 0) 0) by.RestOfThree tried.FallbackFalse tried.FallbackFalse minus.NotBelow 0
     -- an instant, compared exactly
-    ∷ behindTwo "h;h;\"zero\"" (instant 0 0) by.RestOfThree tried.FallbackFalse tried.FallbackFalse minus.NotBelow 0
-    ∷ behindOne "[>1.5]\"a\";\"b\"" (instant 1 43200000) by.RestOfTwo tried.OwnFalse minus.NotBelow 0
+    ∷ behind_two "h;h;\"zero\"" (instant 0 0) by.RestOfThree tried.FallbackFalse tried.FallbackFalse minus.NotBelow 0
+    ∷ behind_one "[>1.5]\"a\";\"b\"" (instant 1 43200000) by.RestOfTwo tried.OwnFalse minus.NotBelow 0
     ∷ alone "mm:ss.0" (instant 5 12345) by.AllValues minus.NotBelow 0
     -- a text: the fourth section, a text section, none
-    ∷ ofText "0;0;0;General" 3 by.TextSection
-    ∷ ofText "0;@" 1 by.TextSection
-    ∷ ofText "0" 4 by.NoSection
+    ∷ of_text "0;0;0;General" 3 by.TextSection
+    ∷ of_text "0;@" 1 by.TextSection
+    ∷ of_text "0" 4 by.NoSection
     -- what holds the minus back first: not below 0, before no item; no item, before (a); (a), before (b); (b)
-    ∷ behindOne "[<0];" (number (pos 5) 0) by.RestOfTwo tried.OwnFalse minus.NotBelow 0
-    ∷ behindOne "0;;0" (number (negsuc 4) 0) by.BelowZero tried.FallbackFalse minus.NoItem 0
-    ∷ behindOne "0;0" (number (negsuc 2) 1) by.RestOfTwo tried.FallbackFalse minus.ForNegatives 1
+    ∷ behind_one "[<0];" (number (pos 5) 0) by.RestOfTwo tried.OwnFalse minus.NotBelow 0
+    ∷ behind_one "0;;0" (number (negsuc 4) 0) by.BelowZero tried.FallbackFalse minus.NoItem 0
+    ∷ behind_one "0;0" (number (negsuc 2) 1) by.RestOfTwo tried.FallbackFalse minus.ForNegatives 1
     ∷ alone "0" (number (negsuc 2) 1) by.AllValues minus.Nought 1
     ∷ alone "# ?/?" (number (negsuc 0) 2) by.AllValues minus.Nought 0
     ∷ alone "\"x\"" (number (negsuc 0) 3) by.AllValues minus.Added 0

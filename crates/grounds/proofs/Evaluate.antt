@@ -4,10 +4,10 @@ use Prim.Native.Nat.{ℕ}
 use mathlib.Core.List.{List}
 use Rattle.values.specs.declared.Ask.{Ask}
 use Rattle.formats.proofs.Evaluate.{evaluated}
-use Rattle.cuts.specs.Cut.{whole_at, decimalsFrom, decimalsOf, decimalsCut, generalCut, mantissaCut}
+use Rattle.cuts.specs.Cut.{whole_at, decimals_from, decimals_of, decimals_cut, general_cut, mantissa_cut}
 use Rattle.grounds.specs.declared.Why.{Why}
-use Rattle.grounds.specs.Why.{choice_of, failureOf, tried_at, minusOf, numberCut, chosenGrounds, untried, noGrounds, numberGrounds, instantGrounds, textGrounds, groundsOf, whyRead, whyOf, whyAccepted, codeWhy}
+use Rattle.grounds.specs.Why.{choice_of, failure_of, tried_at, minus_of, number_cut, chosen_grounds, untried, no_grounds, number_grounds, instant_grounds, text_grounds, grounds_of, why_read, why_of, why_accepted, code_why}
 
 unfoldable pub reasoned : List ℕ → Ask → List ℕ → ℕ → Why
-unfolding evaluated whole_at decimalsFrom decimalsOf decimalsCut generalCut mantissaCut choice_of failureOf tried_at minusOf numberCut chosenGrounds untried noGrounds numberGrounds instantGrounds textGrounds groundsOf whyRead whyOf whyAccepted codeWhy
-reasoned code ask text room = codeWhy code ask text room
+unfolding evaluated whole_at decimals_from decimals_of decimals_cut general_cut mantissa_cut choice_of failure_of tried_at minus_of number_cut chosen_grounds untried no_grounds number_grounds instant_grounds text_grounds grounds_of why_read why_of why_accepted code_why
+reasoned code ask text room = code_why code ask text room

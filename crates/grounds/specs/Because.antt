@@ -10,15 +10,15 @@ use Rattle.values.specs.declared.Value.{Value}
 use Rattle.values.specs.declared.Value.TheVariants as value
 use Rattle.lists.specs.Lists.{every, count, is_empty}
 use Rattle.figures.specs.Rounding.{Magnitude, scaled}
-use Rattle.figures.specs.General.{generalDecimals}
+use Rattle.figures.specs.General.{general_decimals}
 use Rattle.exponents.specs.Exponent.{divided_by}
 use Rattle.cuts.specs.Beyond.{CutOf}
-use Rattle.formats.specs.Items.{Condition, Section, literalKind, numberKind, scientificKind, fractionKind, kind_of, isPercent, decimalPlaces}
-use Rattle.formats.specs.Where.{isText}
-use Rattle.formats.specs.Choice.{Exact, numberExact, instantExact, conditionExact, zeroExact, lessThan, compared, counted, fallback, reasonHolds}
-use Rattle.formats.specs.Minus.{firstHasCondition, exceptionA}
-use Rattle.formats.specs.Text.{sectionUnits}
-use Rattle.formats.specs.Reading.{Look, Reading, refused, shown, showsGeneral, sectionExponent, instantContext, textContext, sectionText, showsNought}
+use Rattle.formats.specs.Items.{Condition, Section, literal_kind, number_kind, scientific_kind, fraction_kind, kind_of, is_percent, decimal_places}
+use Rattle.formats.specs.Where.{is_text}
+use Rattle.formats.specs.Choice.{Exact, number_exact, instant_exact, condition_exact, zero_exact, less_than, compared, counted, fallback, reason_holds}
+use Rattle.formats.specs.Minus.{first_has_condition, exception_a}
+use Rattle.formats.specs.Text.{section_units}
+use Rattle.formats.specs.Reading.{Look, Reading, refused, shown, shows_general, section_exponent, instant_context, text_context, section_text, shows_nought}
 use Rattle.grounds.specs.declared.ChosenBy.{ChosenBy}
 use Rattle.grounds.specs.declared.ChosenBy.TheVariants as by
 use Rattle.grounds.specs.declared.Tried.{Tried}
@@ -28,67 +28,67 @@ use Rattle.grounds.specs.declared.Minus.TheVariants as held
 use Rattle.grounds.specs.declared.Grounds.{Grounds}
 use Rattle.grounds.specs.declared.Why.{Why}
 use Rattle.grounds.specs.declared.Why.TheVariants as why
-use Rattle.grounds.specs.Numbers.{choiceNumber, minusNumber}
+use Rattle.grounds.specs.Numbers.{choice_number, minus_number}
 
 -- the section at a place, where there is one
-unfoldable pub sectionNamed : List Section → ℕ → Option Section
-sectionNamed [] i = none
-sectionNamed (s ∷ ss) zero = some s
-sectionNamed (s ∷ ss) (suc i) = sectionNamed ss i
+unfoldable pub section_named : List Section → ℕ → Option Section
+section_named [] i = none
+section_named (s ∷ ss) zero = some s
+section_named (s ∷ ss) (suc i) = section_named ss i
 
 -- ---- the text, told by section and minus alone
-unfoldable pub minusUnits : Minus → List ℕ
-minusUnits held.Added = 45 ∷ []
-minusUnits held.Text = []
-minusUnits held.NotBelow = []
-minusUnits held.NoItem = []
-minusUnits held.ForNegatives = []
-minusUnits held.Nought = []
+unfoldable pub minus_units : Minus → List ℕ
+minus_units held.Added = 45 ∷ []
+minus_units held.Text = []
+minus_units held.NotBelow = []
+minus_units held.NoItem = []
+minus_units held.ForNegatives = []
+minus_units held.Nought = []
 
 -- a value through a section, without a minus; by no section the text itself is shown
-unfoldable pub shownThrough : Value → List ℕ → Option Section → List ℕ
-shownThrough v text none = text
-shownThrough (value.Number x) text (some s) = sectionText s x
-shownThrough (value.Instant d m) text (some s) = sectionUnits (instantContext s d m) s.items
-shownThrough value.Text text (some s) = sectionUnits (textContext text) s.items
+unfoldable pub shown_through : Value → List ℕ → Option Section → List ℕ
+shown_through v text none = text
+shown_through (value.Number x) text (some s) = section_text s x
+shown_through (value.Instant d m) text (some s) = section_units (instant_context s d m) s.items
+shown_through value.Text text (some s) = section_units (text_context text) s.items
 
 -- "the value through the named section, with the minus as named" (R144)
-unfoldable pub namedText : List Section → Value → List ℕ → ℕ → Minus → List ℕ
-namedText ss v text i m = minusUnits m ++ shownThrough v text (sectionNamed ss i)
+unfoldable pub named_text : List Section → Value → List ℕ → ℕ → Minus → List ℕ
+named_text ss v text i m = minus_units m ++ shown_through v text (section_named ss i)
 
 -- ---- the choice
 -- Section s, at the place i, takes the number or instant x by the choice named (R140): its own condition, compared exactly; or it has none, and the
 -- fallback holds that stands for its place where so many sections count.
 pub data TakenBy (ss : List Section) (x : Exact) (i : ℕ) (s : Section) : ChosenBy → Type 0 where
-  own : (c : Condition) → s.condition ≡ some c → compared c.comparison x (conditionExact c) ≡ true → TakenBy ss x i s by.OwnCondition
+  own : (c : Condition) → s.condition ≡ some c → compared c.comparison x (condition_exact c) ≡ true → TakenBy ss x i s by.OwnCondition
   all : counted ss ≡ 1 → i ≡ 0 → s.condition ≡ none → TakenBy ss x i s by.AllValues
-  firstOfTwo : counted ss ≡ 2 → i ≡ 0 → s.condition ≡ none → lessThan x zeroExact ≡ false → TakenBy ss x i s by.FirstOfTwo
-  restOfTwo : counted ss ≡ 2 → i ≡ 1 → s.condition ≡ none → TakenBy ss x i s by.RestOfTwo
-  above : counted ss ≡ 3 → i ≡ 0 → s.condition ≡ none → lessThan zeroExact x ≡ true → TakenBy ss x i s by.AboveZero
-  below : counted ss ≡ 3 → i ≡ 1 → s.condition ≡ none → lessThan x zeroExact ≡ true → TakenBy ss x i s by.BelowZero
-  restOfThree : counted ss ≡ 3 → i ≡ 2 → s.condition ≡ none → TakenBy ss x i s by.RestOfThree
+  first_of_two : counted ss ≡ 2 → i ≡ 0 → s.condition ≡ none → less_than x zero_exact ≡ false → TakenBy ss x i s by.FirstOfTwo
+  rest_of_two : counted ss ≡ 2 → i ≡ 1 → s.condition ≡ none → TakenBy ss x i s by.RestOfTwo
+  above : counted ss ≡ 3 → i ≡ 0 → s.condition ≡ none → less_than zero_exact x ≡ true → TakenBy ss x i s by.AboveZero
+  below : counted ss ≡ 3 → i ≡ 1 → s.condition ≡ none → less_than x zero_exact ≡ true → TakenBy ss x i s by.BelowZero
+  rest_of_three : counted ss ≡ 3 → i ≡ 2 → s.condition ≡ none → TakenBy ss x i s by.RestOfThree
   general : counted ss ≡ 0 → i ≡ 0 → TakenBy ss x i s by.General
 
 -- ---- the sections tried earlier
 -- the section at the place k does not take x (R141): its own condition is false, or it has none and its fallback is false
 pub data Rejects (ss : List Section) (x : Exact) (k : ℕ) : Tried → Type 0 where
-  ownFalse : (s : Section) (c : Condition) → sectionNamed ss k ≡ some s → s.condition ≡ some c
-      → compared c.comparison x (conditionExact c) ≡ false → Rejects ss x k tried.OwnFalse
-  fallbackFalse : (s : Section) → sectionNamed ss k ≡ some s → s.condition ≡ none
-      → reasonHolds (fallback (counted ss) k) s x ≡ false → Rejects ss x k tried.FallbackFalse
+  own_false : (s : Section) (c : Condition) → section_named ss k ≡ some s → s.condition ≡ some c
+      → compared c.comparison x (condition_exact c) ≡ false → Rejects ss x k tried.OwnFalse
+  fallback_false : (s : Section) → section_named ss k ≡ some s → s.condition ≡ none
+      → reason_holds (fallback (counted ss) k) s x ≡ false → Rejects ss x k tried.FallbackFalse
 
 -- all before the chosen one, at most two, and no other
 pub record TriedEarlier (ss : List Section) (x : Exact) (g : Grounds) : Type 0 where
   pub few : g.section ≤ 2
   pub first : 0 < g.section → Rejects ss x 0 g.first
   pub second : 1 < g.section → Rejects ss x 1 g.second
-  pub noFirst : g.section ≡ 0 → g.first ≡ tried.NotTried
-  pub noSecond : g.section ≤ 1 → g.second ≡ tried.NotTried
+  pub no_first : g.section ≡ 0 → g.first ≡ tried.NotTried
+  pub no_second : g.section ≤ 1 → g.second ≡ tried.NotTried
 
 -- the section named is the one shown, takes x by the choice named, and those before it do not
 pub record ChosenBecause (ss : List Section) (x : Exact) (taker : Section) (look : Look) (g : Grounds) : Type 0 where
   pub shown : look.section ≡ g.section
-  pub section : sectionNamed ss g.section ≡ some taker
+  pub section : section_named ss g.section ≡ some taker
   pub choice : TakenBy ss x g.section taker g.choice
   pub earlier : TriedEarlier ss x g
 
@@ -96,17 +96,17 @@ pub record ChosenBecause (ss : List Section) (x : Exact) (taker : Section) (look
 -- n is the number of the first reason of a list that applies, counted from 1: it does, and none before it; 0 where none does
 pub record FirstOf (tests : List Bool) (n : ℕ) : Type 0 where
   pub applies : 0 < n → get_or tests (n - 1) false ≡ true
-  pub notEarlier : every not (take (n - 1) tests) ≡ true
+  pub not_earlier : every not (take (n - 1) tests) ≡ true
   pub none : n ≡ 0 → every not tests ≡ true
 
 -- "a text or a value not below 0, an empty section, (a) or (b), the first that applies" (R142), of a number; (a) by the choice named
-unfoldable pub minusTests : List Section → Number → Section → Grounds → List Bool
-minusTests ss x s g =
+unfoldable pub minus_tests : List Section → Number → Section → Grounds → List Bool
+minus_tests ss x s g =
     false
-    ∷ not (lessThan (numberExact x) zeroExact)
+    ∷ not (less_than (number_exact x) zero_exact)
     ∷ is_empty s.items
-    ∷ exceptionA (counted ss) g.section (eqb (choiceNumber g.choice) 0) (firstHasCondition ss)
-    ∷ showsNought s x
+    ∷ exception_a (counted ss) g.section (eqb (choice_number g.choice) 0) (first_has_condition ss)
+    ∷ shows_nought s x
     ∷ []
 
 -- ---- the decimals cut
@@ -118,29 +118,29 @@ pub record CutBecause (m : Magnitude) (kept : ℕ) (look : Look) (g : Grounds) :
 -- ---- of each value
 pub record NumberBecause (ss : List Section) (x : Number) (look : Look) (g : Grounds) : Type 0 where
   pub taker : Section
-  pub chosen : ChosenBecause ss (numberExact x) taker look g
-  pub minus : FirstOf (minusTests ss x taker g) (minusNumber g.minus)
-  pub number : kind_of taker ≡ numberKind
-      → CutBecause (scaled (nat_abs x.coefficient) x.scale (count isPercent taker.items) taker.thousands) (decimalPlaces taker.items) look g
-  pub scientific : kind_of taker ≡ scientificKind
-      → CutBecause (divided_by (numberExact x).size (sectionExponent taker x)) (decimalPlaces taker.items) look g
-  pub general : showsGeneral (kind_of taker) ≡ true → CutBecause (numberExact x).size (generalDecimals (numberExact x).size) look g
-  pub literal : kind_of taker ≡ literalKind → g.cut ≡ 0
-  pub fraction : kind_of taker ≡ fractionKind → g.cut ≡ 0
+  pub chosen : ChosenBecause ss (number_exact x) taker look g
+  pub minus : FirstOf (minus_tests ss x taker g) (minus_number g.minus)
+  pub number : kind_of taker ≡ number_kind
+      → CutBecause (scaled (nat_abs x.coefficient) x.scale (count is_percent taker.items) taker.thousands) (decimal_places taker.items) look g
+  pub scientific : kind_of taker ≡ scientific_kind
+      → CutBecause (divided_by (number_exact x).size (section_exponent taker x)) (decimal_places taker.items) look g
+  pub general : shows_general (kind_of taker) ≡ true → CutBecause (number_exact x).size (general_decimals (number_exact x).size) look g
+  pub literal : kind_of taker ≡ literal_kind → g.cut ≡ 0
+  pub fraction : kind_of taker ≡ fraction_kind → g.cut ≡ 0
 
 -- an instant is not below 0
 pub record InstantBecause (ss : List Section) (d : Day) (m : Millisecond) (look : Look) (g : Grounds) : Type 0 where
   pub taker : Section
-  pub chosen : ChosenBecause ss (instantExact d m) taker look g
+  pub chosen : ChosenBecause ss (instant_exact d m) taker look g
   pub minus : g.minus ≡ held.NotBelow
-  pub notBelow : lessThan (instantExact d m) zeroExact ≡ false
+  pub not_below : less_than (instant_exact d m) zero_exact ≡ false
   pub cut : g.cut ≡ 0
 
 -- "Text goes to the fourth section, else to a text section"; by no section where there is neither
 pub data TextTakenBy (ss : List Section) : ℕ → ChosenBy → Type 0 where
-  fourth : (s : Section) → sectionNamed ss 3 ≡ some s → TextTakenBy ss 3 by.TextSection
-  text : (i : ℕ) (s : Section) → sectionNamed ss 3 ≡ none → sectionNamed ss i ≡ some s → isText s ≡ true → TextTakenBy ss i by.TextSection
-  noSection : sectionNamed ss 3 ≡ none → every (λ (s : Section). not (isText s)) ss ≡ true → TextTakenBy ss 4 by.NoSection
+  fourth : (s : Section) → section_named ss 3 ≡ some s → TextTakenBy ss 3 by.TextSection
+  text : (i : ℕ) (s : Section) → section_named ss 3 ≡ none → section_named ss i ≡ some s → is_text s ≡ true → TextTakenBy ss i by.TextSection
+  no_section : section_named ss 3 ≡ none → every (λ (s : Section). not (is_text s)) ss ≡ true → TextTakenBy ss 4 by.NoSection
 
 pub record TextBecause (ss : List Section) (look : Look) (g : Grounds) : Type 0 where
   pub shown : look.section ≡ g.section
@@ -157,7 +157,7 @@ ValueBecause ss value.Text look g = TextBecause ss look g
 
 -- the reason g for what is seen where sections show a value, with the text that is lent beside it
 pub record Because (ss : List Section) (v : Value) (lent : List ℕ) (look : Look) (g : Grounds) : Type 0 where
-  pub text : look.text ≡ namedText ss v lent g.section g.minus
+  pub text : look.text ≡ named_text ss v lent g.section g.minus
   pub facts : ValueBecause ss v look g
 
 -- something is seen, and this is the reason for it

@@ -7,13 +7,13 @@ use Rattle.values.specs.declared.Value.TheVariants as value
 use Rattle.values.specs.declared.Ask.{Ask}
 use Rattle.lists.specs.Lists.{count}
 use Rattle.figures.specs.Rounding.{scaled}
-use Rattle.cuts.specs.Cut.{decimalsCut, generalCut, mantissaCut}
-use Rattle.formats.specs.Items.{Section, numberKind, scientificKind, sameKind, kind_of, isPercent, integerPlaces, decimalPlaces}
-use Rattle.formats.specs.Where.{hasCondition}
-use Rattle.formats.specs.Choice.{numberExact, instantExact, counted, Reason, ownCondition, onlySection, notBelowZero, aboveZero, belowZero, theRest, asGeneral, Choice, nothing, chosen, choose, TextChoice, itself, textIn, chooseText}
-use Rattle.formats.specs.Minus.{Sign, minus, notNegative, no_item, forNegatives, nought}
+use Rattle.cuts.specs.Cut.{decimals_cut, general_cut, mantissa_cut}
+use Rattle.formats.specs.Items.{Section, number_kind, scientific_kind, same_kind, kind_of, is_percent, integer_places, decimal_places}
+use Rattle.formats.specs.Where.{has_condition}
+use Rattle.formats.specs.Choice.{number_exact, instant_exact, counted, Reason, own_condition, only_section, not_below_zero, above_zero, below_zero, the_rest, as_general, Choice, nothing, chosen, choose, TextChoice, itself, text_in, choose_text}
+use Rattle.formats.specs.Minus.{Sign, minus, not_negative, no_item, for_negatives, nought}
 use Rattle.formats.specs.Accept.{Accepted, sections, refusal, accept}
-use Rattle.formats.specs.Reading.{Reading, refused, shown, reading, showsGeneral, numberSign}
+use Rattle.formats.specs.Reading.{Reading, refused, shown, reading, shows_general, number_sign}
 use Rattle.grounds.specs.declared.ChosenBy.{ChosenBy}
 use Rattle.grounds.specs.declared.ChosenBy.TheVariants as by
 use Rattle.grounds.specs.declared.Tried.{Tried}
@@ -26,44 +26,44 @@ use Rattle.grounds.specs.declared.Why.TheVariants as why
 
 -- "the section chosen, whether by its own condition or which fallback" (R140), where n sections count
 unfoldable pub choice_of : ℕ → Reason → ChosenBy
-choice_of n ownCondition = by.OwnCondition
-choice_of n onlySection = by.AllValues
-choice_of n notBelowZero = by.FirstOfTwo
-choice_of n aboveZero = by.AboveZero
-choice_of n belowZero = by.BelowZero
-choice_of n theRest = cond (eqb n 2) by.RestOfTwo by.RestOfThree
-choice_of n asGeneral = by.General
+choice_of n own_condition = by.OwnCondition
+choice_of n only_section = by.AllValues
+choice_of n not_below_zero = by.FirstOfTwo
+choice_of n above_zero = by.AboveZero
+choice_of n below_zero = by.BelowZero
+choice_of n the_rest = cond (eqb n 2) by.RestOfTwo by.RestOfThree
+choice_of n as_general = by.General
 
 -- "for each section tried earlier that its condition was false" (R141): its own one, or its fallback
-unfoldable pub failureOf : Section → Tried
-failureOf s = cond (hasCondition s) tried.OwnFalse tried.FallbackFalse
+unfoldable pub failure_of : Section → Tried
+failure_of s = cond (has_condition s) tried.OwnFalse tried.FallbackFalse
 
 -- what is said of section k where section i was chosen: all before it were tried
 unfoldable pub tried_at : List Section → ℕ → ℕ → Tried
-tried_at ss i k = get_or (map failureOf (take i ss)) k tried.NotTried
+tried_at ss i k = get_or (map failure_of (take i ss)) k tried.NotTried
 
 -- "whether a minus was added or what held it back" (R142)
-unfoldable pub minusOf : Sign → Minus
-minusOf minus = held.Added
-minusOf notNegative = held.NotBelow
-minusOf no_item = held.NoItem
-minusOf forNegatives = held.ForNegatives
-minusOf nought = held.Nought
+unfoldable pub minus_of : Sign → Minus
+minus_of minus = held.Added
+minus_of not_negative = held.NotBelow
+minus_of no_item = held.NoItem
+minus_of for_negatives = held.ForNegatives
+minus_of nought = held.Nought
 
 -- "how many decimals were cut: the figures that the exact scaled number [..] has beyond those the rounding keeps; 0 for [..] literal sections and
 -- fractions" (R143): of General beyond its own decimals, of a scientific section on x / 10^e, of a number section after percents and dividing commas
-unfoldable pub numberCut : Section → Number → ℕ
-numberCut s x =
-    cond (showsGeneral (kind_of s)) (generalCut (numberExact x).size)
-    (cond (sameKind (kind_of s) scientificKind)
-    (mantissaCut (numberExact x).size (integerPlaces s.items) (decimalPlaces s.items))
-    (cond (sameKind (kind_of s) numberKind)
-    (decimalsCut (scaled (nat_abs x.coefficient) x.scale (count isPercent s.items) s.thousands) (decimalPlaces s.items))
+unfoldable pub number_cut : Section → Number → ℕ
+number_cut s x =
+    cond (shows_general (kind_of s)) (general_cut (number_exact x).size)
+    (cond (same_kind (kind_of s) scientific_kind)
+    (mantissa_cut (number_exact x).size (integer_places s.items) (decimal_places s.items))
+    (cond (same_kind (kind_of s) number_kind)
+    (decimals_cut (scaled (nat_abs x.coefficient) x.scale (count is_percent s.items) s.thousands) (decimal_places s.items))
     0))
 
 -- section i, chosen for this reason
-unfoldable pub chosenGrounds : List Section → ℕ → Reason → Minus → ℕ → Grounds
-chosenGrounds ss i why m cut =
+unfoldable pub chosen_grounds : List Section → ℕ → Reason → Minus → ℕ → Grounds
+chosen_grounds ss i why m cut =
     record {
       section = i;
       choice = choice_of (counted ss) why;
@@ -79,40 +79,40 @@ untried i choice =
     record { section = i; choice = choice; first = tried.NotTried; second = tried.NotTried; minus = held.Text; cut = 0 }
 
 -- where no section is chosen the show is refused, and these are not told
-unfoldable pub noGrounds : Grounds
-noGrounds = untried 0 by.OwnCondition
+unfoldable pub no_grounds : Grounds
+no_grounds = untried 0 by.OwnCondition
 
-unfoldable pub numberGrounds : List Section → Number → Choice → Grounds
-numberGrounds ss x nothing = noGrounds
-numberGrounds ss x (chosen i s why) = chosenGrounds ss i why (minusOf (numberSign ss i s why x)) (numberCut s x)
+unfoldable pub number_grounds : List Section → Number → Choice → Grounds
+number_grounds ss x nothing = no_grounds
+number_grounds ss x (chosen i s why) = chosen_grounds ss i why (minus_of (number_sign ss i s why x)) (number_cut s x)
 
 -- an instant is not below 0
-unfoldable pub instantGrounds : List Section → Choice → Grounds
-instantGrounds ss nothing = noGrounds
-instantGrounds ss (chosen i s why) = chosenGrounds ss i why held.NotBelow 0
+unfoldable pub instant_grounds : List Section → Choice → Grounds
+instant_grounds ss nothing = no_grounds
+instant_grounds ss (chosen i s why) = chosen_grounds ss i why held.NotBelow 0
 
-unfoldable pub textGrounds : TextChoice → Grounds
-textGrounds itself = untried 4 by.NoSection
-textGrounds (textIn i s) = untried i by.TextSection
+unfoldable pub text_grounds : TextChoice → Grounds
+text_grounds itself = untried 4 by.NoSection
+text_grounds (text_in i s) = untried i by.TextSection
 
-unfoldable pub groundsOf : List Section → Value → Grounds
-groundsOf ss (value.Number x) = numberGrounds ss x (choose ss (numberExact x))
-groundsOf ss (value.Instant d m) = instantGrounds ss (choose ss (instantExact d m))
-groundsOf ss value.Text = textGrounds (chooseText ss)
+unfoldable pub grounds_of : List Section → Value → Grounds
+grounds_of ss (value.Number x) = number_grounds ss x (choose ss (number_exact x))
+grounds_of ss (value.Instant d m) = instant_grounds ss (choose ss (instant_exact d m))
+grounds_of ss value.Text = text_grounds (choose_text ss)
 
 -- "A refused show gives the same refusal and no reason." (R140)
-unfoldable pub whyRead : Reading → Grounds → Why
-whyRead (refused a) g = why.Refused a
-whyRead (shown look) g = why.Because g
+unfoldable pub why_read : Reading → Grounds → Why
+why_read (refused a) g = why.Refused a
+why_read (shown look) g = why.Because g
 
 -- "For a [..] value and the text room's length, give the reason" (R140)
-unfoldable pub whyOf : List Section → Ask → List ℕ → ℕ → Why
-whyOf ss ask text room = whyRead (reading ss ask text room) (groundsOf ss ask.value)
+unfoldable pub why_of : List Section → Ask → List ℕ → ℕ → Why
+why_of ss ask text room = why_read (reading ss ask text room) (grounds_of ss ask.value)
 
 -- of a code: a refused code gives its refusal
-unfoldable pub whyAccepted : Accepted → Ask → List ℕ → ℕ → Why
-whyAccepted (refusal a k) ask text room = why.Refused a
-whyAccepted (sections ss) ask text room = whyOf ss ask text room
+unfoldable pub why_accepted : Accepted → Ask → List ℕ → ℕ → Why
+why_accepted (refusal a k) ask text room = why.Refused a
+why_accepted (sections ss) ask text room = why_of ss ask text room
 
-unfoldable pub codeWhy : List ℕ → Ask → List ℕ → ℕ → Why
-codeWhy code ask text room = whyAccepted (accept code) ask text room
+unfoldable pub code_why : List ℕ → Ask → List ℕ → ℕ → Why
+code_why code ask text room = why_accepted (accept code) ask text room

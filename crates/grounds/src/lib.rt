@@ -1,6 +1,6 @@
 // Why a value is shown as it is: what is named as the reason, with a number for each case.
 ghost use Rattle.std.specs.Prelude.{◌≡◌};
-ghost use Rattle.grounds.specs.Numbers.{choiceNumber, triedNumber, minusNumber};
+ghost use Rattle.grounds.specs.Numbers.{choice_number, tried_number, minus_number};
 
 use answers::Answer;
 
@@ -58,7 +58,7 @@ pub enum Why {
 
 // The number of a choice.
 pub fn choice_number(choice: ChosenBy) -> u16
-    ensures { result ≡ choiceNumber choice }
+    ensures { result ≡ choice_number choice }
 {
     match choice {
         ChosenBy::OwnCondition => 0,
@@ -76,7 +76,7 @@ pub fn choice_number(choice: ChosenBy) -> u16
 
 // The number of what is said of a section tried earlier.
 pub fn tried_number(tried: Tried) -> u16
-    ensures { result ≡ triedNumber tried }
+    ensures { result ≡ tried_number tried }
 {
     match tried {
         Tried::NotTried => 0,
@@ -87,7 +87,7 @@ pub fn tried_number(tried: Tried) -> u16
 
 // The number of what is said of the minus.
 pub fn minus_number(minus: Minus) -> u16
-    ensures { result ≡ minusNumber minus }
+    ensures { result ≡ minus_number minus }
 {
     match minus {
         Minus::Added => 0,

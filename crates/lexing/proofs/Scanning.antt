@@ -12,7 +12,7 @@ use lib.ListN.{length, take, drop, get_or, drop_of_length-le, length-drop}
 use lib.Seq.{drop-cons, take_all}
 use Rattle.lists.specs.Lists.{every}
 use Rattle.lists.proofs.Bools.{by_cases, and_left, and_right}
-use Rattle.formats.specs.Tokens.{before, leading, starts_with, isDigit}
+use Rattle.formats.specs.Tokens.{before, leading, starts_with, is_digit}
 use Rattle.lexing.specs.declared.scan.Set.TheVariants.{But}
 use Rattle.lexing.specs.Scan.{member}
 
@@ -43,8 +43,8 @@ every-leading f [] = refl
 every-leading f (v ∷ vs) =
     by_cases (f v) (λ e. rw e (every-leading f vs ∙ sym (eqb-suc-suc (leading f vs) (length vs)))) (λ e. rw e (sym (ne_eqb 0 (suc (length vs)) (omega arith))))
 
-pub digit-unit : (u : ℕ) → T (isDigit u) → (48 ≤ u) × (u ≤ 57)
-unfolding isDigit
+pub digit-unit : (u : ℕ) → T (is_digit u) → (48 ≤ u) × (u ≤ 57)
+unfolding is_digit
 digit-unit u d = (leb→le 48 u (and_left (leb 48 u) (leb u 57) d), leb→le u 57 (and_right (leb 48 u) (leb u 57) d))
 
 -- ---- words

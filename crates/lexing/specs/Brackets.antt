@@ -5,15 +5,15 @@ use Prim.Native.Char.{code}
 use Rattle.std.proofs.Math.Option.{Option, none, some}
 use Rattle.lists.specs.Lists.{every, is_empty}
 use Rattle.calendar.specs.Names.{units}
-use Rattle.formats.specs.Tokens.{Token, colour, starts_with, isDigit}
+use Rattle.formats.specs.Tokens.{Token, colour, starts_with, is_digit}
 
 -- a colour's number, where it is one
-unfoldable pub colourMeant : ℕ → Option Token
-colourMeant n = cond (leb n 56) (some (colour n)) none
+unfoldable pub colour_meant : ℕ → Option Token
+colour_meant n = cond (leb n 56) (some (colour n)) none
 
 -- u once or more, and nothing else
-abbrev pub isRunOf : ℕ → List ℕ → Bool
-isRunOf u us = not (is_empty us) && every (eqb u) us
+abbrev pub is_run_of : ℕ → List ℕ → Bool
+is_run_of u us = not (is_empty us) && every (eqb u) us
 
 -- a comparison of two units, or of one, at the start
 unfoldable pub is_wide : List ℕ → Bool
@@ -23,5 +23,5 @@ unfoldable pub is_narrow : List ℕ → Bool
 is_narrow us = starts_with (units "=") us || starts_with (units "<") us || starts_with (units ">") us
 
 -- a point, and digits behind it
-unfoldable pub isPointed : List ℕ → Bool
-isPointed us = eqb (get_or us 0 0) (code ".") && not (is_empty (drop 1 us)) && every isDigit (drop 1 us)
+unfoldable pub is_pointed : List ℕ → Bool
+is_pointed us = eqb (get_or us 0 0) (code ".") && not (is_empty (drop 1 us)) && every is_digit (drop 1 us)

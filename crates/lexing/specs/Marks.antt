@@ -3,29 +3,29 @@
 use Rattle.std.specs.Prelude.{ℕ, suc, List, drop}
 use Prim.Native.Char.{code}
 use Rattle.std.proofs.Math.Option.{Option, none, some}
-use Rattle.formats.specs.Tokens.{hours, minutes, seconds, Token, conditionInside, elapsedInside, firstForm, Step as SpecStep, read, broken}
-use Rattle.marks.specs.Marks.{markToken}
+use Rattle.formats.specs.Tokens.{hours, minutes, seconds, Token, condition_inside, elapsed_inside, first_form, Step as SpecStep, read, broken}
+use Rattle.marks.specs.Marks.{mark_token}
 use Rattle.lexing.specs.declared.Step.{Step}
 use Rattle.lexing.specs.declared.Step.TheVariants.{Read, Broken}
 use Rattle.lexing.specs.declared.brackets.Inside.{Inside}
 use Rattle.lexing.specs.declared.brackets.Inside.TheVariants.{Found, Nothing}
 
 -- a step where the units us stand behind the first one
-unfoldable pub stepBehind : List ℕ → Step → SpecStep
-stepBehind us (Read m more) = read (markToken m.form m.argument us) more
-stepBehind us Broken = broken
+unfoldable pub step_behind : List ℕ → Step → SpecStep
+step_behind us (Read m more) = read (mark_token m.form m.argument us) more
+step_behind us Broken = broken
 
-unfoldable pub stepMeant : List ℕ → ℕ → Step → SpecStep
-stepMeant units start s = stepBehind (drop (suc start) units) s
+unfoldable pub step_meant : List ℕ → ℕ → Step → SpecStep
+step_meant units start s = step_behind (drop (suc start) units) s
 
 -- what stands in a bracket whose opening unit is before us
-unfoldable pub insideMeant : List ℕ → Inside → Option Token
-insideMeant us (Found m) = some (markToken m.form m.argument us)
-insideMeant us Nothing = none
+unfoldable pub inside_meant : List ℕ → Inside → Option Token
+inside_meant us (Found m) = some (mark_token m.form m.argument us)
+inside_meant us Nothing = none
 
 -- the forms inside a bracket that are no colours
-unfoldable pub plainInside : List ℕ → Option Token
-plainInside us =
-    firstForm (elapsedInside (code "h") hours us)
-    (firstForm (elapsedInside (code "m") minutes us)
-    (firstForm (elapsedInside (code "s") seconds us) (conditionInside us)))
+unfoldable pub plain_inside : List ℕ → Option Token
+plain_inside us =
+    first_form (elapsed_inside (code "h") hours us)
+    (first_form (elapsed_inside (code "m") minutes us)
+    (first_form (elapsed_inside (code "s") seconds us) (condition_inside us)))

@@ -2,9 +2,9 @@
 ghost use Rattle.std.specs.Prelude.{◌≡◌, false, map, ◌-◌, ◌≤◌, ◌<◌, T, length, take, get_or};
 ghost use Rattle.calendar.specs.Names.{units};
 ghost use Rattle.lists.specs.Lists.{every, is_some};
-ghost use Rattle.formats.specs.Tokens.{equal, same, isDigit, digitOf, numberFrom, colourNames, namedFrom, colourDigits, numbered, whole_of, signed_of, conditionInside, insideOf, bracketed};
-ghost use Rattle.lexing.specs.Marks.{stepBehind, insideMeant, plainInside};
-ghost use Rattle.lexing.specs.Brackets.{colourMeant, isRunOf, isPointed};
+ghost use Rattle.formats.specs.Tokens.{equal, same, is_digit, digit_of, number_from, colour_names, named_from, colour_digits, numbered, whole_of, signed_of, condition_inside, inside_of, bracketed};
+ghost use Rattle.lexing.specs.Marks.{step_behind, inside_meant, plain_inside};
+ghost use Rattle.lexing.specs.Brackets.{colour_meant, is_run_of, is_pointed};
 
 use super::scan::{Set, is_word, scan, starts_with, starts_with_any};
 use super::{Mark, Step};
@@ -36,7 +36,7 @@ enum Inside {
 // The inside is the name of colour k + 1.
 fn is_colour_name(inside: &[u16], k: u16) -> bool
     requires { k < 8 }
-    ensures { result ≡ same (units (get_or colourNames k "")) inside.now }
+    ensures { result ≡ same (units (get_or colour_names k "")) inside.now }
 {
     match k {
         0 => is_word(inside, b"Black"),
@@ -52,7 +52,7 @@ fn is_colour_name(inside: &[u16], k: u16) -> bool
 
 // The number of the named colour, or `NO_COLOUR`.
 fn named_colour(inside: &[u16]) -> u16
-    ensures { colourMeant result ≡ namedFrom 1 colourNames inside.now }
+    ensures { colour_meant result ≡ named_from 1 colour_names inside.now }
 {
     let mut k: u16 = 0;
     while k < 8 {
@@ -74,8 +74,8 @@ fn digit_of(u: u16) -> u16
 
 // The number of one or two digits, the first no zero.
 fn colour_number(us: &[u16]) -> u16
-    requires { (1 ≤ length us.now) × (length us.now ≤ 2) × T (every isDigit us.now) }
-    ensures { result ≡ numberFrom 0 (map digitOf us.now) }
+    requires { (1 ≤ length us.now) × (length us.now ≤ 2) × T (every is_digit us.now) }
+    ensures { result ≡ number_from 0 (map digit_of us.now) }
 {
     let first = digit_of(us[0]);
     if us.len() == 1 {
@@ -86,7 +86,7 @@ fn colour_number(us: &[u16]) -> u16
 
 // The number of a colour behind `Color`, or `NO_COLOUR`.
 fn colour_digits(us: &[u16]) -> u16
-    ensures { colourMeant result ≡ colourDigits us.now }
+    ensures { colour_meant result ≡ colour_digits us.now }
 {
     let n = us.len();
     if n == 0 {
@@ -106,7 +106,7 @@ fn colour_digits(us: &[u16]) -> u16
 
 // The number of a colour by number, or `NO_COLOUR`.
 fn numbered_colour(inside: &[u16]) -> u16
-    ensures { colourMeant result ≡ numbered inside.now }
+    ensures { colour_meant result ≡ numbered inside.now }
 {
     if starts_with(inside, b"Color") {
         return colour_digits(&inside[5..]);
@@ -116,7 +116,7 @@ fn numbered_colour(inside: &[u16]) -> u16
 
 // The inside is u, once or more.
 fn is_run(inside: &[u16], u: u16) -> bool
-    ensures { result ≡ isRunOf u inside.now }
+    ensures { result ≡ is_run_of u inside.now }
 {
     if inside.len() == 0 {
         return false;
@@ -127,7 +127,7 @@ fn is_run(inside: &[u16], u: u16) -> bool
 // A point and digits.
 fn is_decimals(us: &[u16]) -> bool
     requires { 1 ≤ length us.now }
-    ensures { result ≡ isPointed us.now }
+    ensures { result ≡ is_pointed us.now }
 {
     if us[0] != POINT {
         return false;
@@ -165,7 +165,7 @@ fn is_signed(us: &[u16]) -> bool
 
 // A comparison, of two units where it can be, and a number.
 fn is_condition(inside: &[u16]) -> bool
-    ensures { result ≡ is_some (conditionInside inside.now) }
+    ensures { result ≡ is_some (condition_inside inside.now) }
 {
     if starts_with_any(inside, b"<=", b">=", b"<>") {
         return is_signed(&inside[2..]);
@@ -179,7 +179,7 @@ fn is_condition(inside: &[u16]) -> bool
 // An elapsed run or a condition of the n units at the start.
 fn plain_inside(us: &[u16], n: usize) -> Inside
     requires { (n ≤ length us.now) × (n ≤ 254) }
-    ensures { insideMeant us.now result ≡ plainInside (take n us.now) }
+    ensures { inside_meant us.now result ≡ plain_inside (take n us.now) }
 {
     let inside = &us[..n];
     let argument = n as u16;
@@ -213,7 +213,7 @@ fn plain_inside(us: &[u16], n: usize) -> Inside
 // What the n units at the start stand for in brackets.
 fn inside_of(us: &[u16], n: usize) -> Inside
     requires { (n ≤ length us.now) × (n ≤ 254) }
-    ensures { insideMeant us.now result ≡ insideOf (take n us.now) }
+    ensures { inside_meant us.now result ≡ inside_of (take n us.now) }
 {
     let named = named_colour(&us[..n]);
     if named <= LAST_COLOUR {
@@ -235,7 +235,7 @@ fn inside_of(us: &[u16], n: usize) -> Inside
 // Behind an opening bracket: what stands up to the closing one.
 pub fn bracketed_token(us: &[u16]) -> Step
     requires { length us.now ≤ 254 }
-    ensures { stepBehind us.now result ≡ bracketed us.now }
+    ensures { step_behind us.now result ≡ bracketed us.now }
 {
     let n = scan(us, Set::But(CLOSING));
     if n == us.len() {

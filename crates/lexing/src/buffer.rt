@@ -1,7 +1,7 @@
 // The tokens of a code in a lent run of words, three a token: its form, its argument, the place of its first unit.
 ghost use Rattle.std.specs.Prelude.{◌≡◌, [], ◌∷◌, ◌+◌, ◌*◌, ◌≤◌, length, take, get_or};
 ghost use Rattle.std.proofs.lemmas.List.Edits.{sets};
-ghost use Rattle.lexing.specs.Buffer.{Fills, semicolonsIn};
+ghost use Rattle.lexing.specs.Buffer.{Fills, semicolons_in};
 
 use super::{Mark, Step, next};
 use marks::forms::SEMICOLON;
@@ -56,7 +56,7 @@ pub fn fill(code: &[u16], tokens: &mut [u16]) -> Filled
 // The place of semicolon k of the n tokens, counted from 0, or 0.
 pub fn semicolon_place(tokens: &[u16], n: usize, k: usize) -> usize
     requires { (3 * n ≤ length tokens.now) × (n ≤ 254) }
-    ensures { result ≡ get_or (semicolonsIn (take (3 * n) tokens.now)) k 0 }
+    ensures { result ≡ get_or (semicolons_in (take (3 * n) tokens.now)) k 0 }
 {
     let mut left = k;
     let mut i: usize = 0;

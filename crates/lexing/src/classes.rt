@@ -1,6 +1,6 @@
 // What a unit starts, as a number.
 ghost use Rattle.std.specs.Prelude.{◌≡◌};
-ghost use Rattle.lexing.specs.Classes.{bareClass, class_of};
+ghost use Rattle.lexing.specs.Classes.{bare_class, class_of};
 
 use marks::forms::{
     AT, BARE, BLANK, COMMA, DAYS, FILL, HASH_PLACE, HOURS, MONTHS, PERCENT, POINT, SECONDS,
@@ -24,7 +24,7 @@ pub const EXPONENT_WORD: u16 = 22;
 
 // The class of a unit without a row of its own. (An arm for each unit: arms joined by `|` are compiled to tests in a row.)
 fn bare_class(ascii: u8) -> u16
-    ensures { result ≡ bareClass ascii }
+    ensures { result ≡ bare_class ascii }
 {
     match ascii {
         b'$' => BARE,

@@ -1,9 +1,9 @@
 // The forms of a token without brackets, each read from the units behind its first one.
 ghost use Rattle.std.specs.Prelude.{◌≡◌, List, [], ◌∷◌, ℕ, ◌+◌, ◌≤◌, length, take};
-ghost use Rattle.formats.specs.Tokens.{literal, quoted, marked, generalWord, halfDayWord, exponentWord, runAllowed, runStep, leading, isDigit, fixedNumber, overStep, placeStep};
-ghost use Rattle.marks.specs.Marks.{markToken};
-ghost use Rattle.lexing.specs.Marks.{stepBehind};
-ghost use Rattle.lexing.specs.Classes.{letterAt, placeAt};
+ghost use Rattle.formats.specs.Tokens.{literal, quoted, marked, general_word, half_day_word, exponent_word, run_allowed, run_step, leading, is_digit, fixed_number, over_step, place_step};
+ghost use Rattle.marks.specs.Marks.{mark_token};
+ghost use Rattle.lexing.specs.Marks.{step_behind};
+ghost use Rattle.lexing.specs.Classes.{letter_at, place_at};
 
 use super::scan::{Set, scan, starts_with, starts_with_any};
 use super::{Mark, Step};
@@ -32,7 +32,7 @@ const TOO_MUCH: usize = 1000;
 // Behind a quote: units up to the next one, and one at least.
 pub fn quoted_literal(us: &[u16]) -> Step
     requires { length us.now ≤ 254 }
-    ensures { stepBehind us.now result ≡ quoted us.now }
+    ensures { step_behind us.now result ≡ quoted us.now }
 {
     let n = scan(us, Set::But(QUOTE));
     if n == 0 {
@@ -52,7 +52,7 @@ pub fn quoted_literal(us: &[u16]) -> Step
 
 // Behind a backslash: any unit, as a literal of one.
 pub fn escaped_literal(us: &[u16]) -> Step
-    ensures { stepBehind us.now result ≡ marked (λ (v : ℕ). literal (v ∷ [])) us.now }
+    ensures { step_behind us.now result ≡ marked (λ (v : ℕ). literal (v ∷ [])) us.now }
 {
     if us.len() == 0 {
         return Step::Broken;
@@ -68,7 +68,7 @@ pub fn escaped_literal(us: &[u16]) -> Step
 
 // Behind an underscore or an asterisk: any unit, which is the argument.
 pub fn marked_unit(us: &[u16], form: u16) -> Step
-    ensures { stepBehind us.now result ≡ marked (λ (v : ℕ). markToken form v us.now) us.now }
+    ensures { step_behind us.now result ≡ marked (λ (v : ℕ). mark_token form v us.now) us.now }
 {
     if us.len() == 0 {
         return Step::Broken;
@@ -79,7 +79,7 @@ pub fn marked_unit(us: &[u16], form: u16) -> Step
 
 // Behind a G: the rest of `General`.
 pub fn general_word(us: &[u16]) -> Step
-    ensures { stepBehind us.now result ≡ generalWord (71 ∷ us.now) }
+    ensures { step_behind us.now result ≡ general_word (71 ∷ us.now) }
 {
     if starts_with(us, b"eneral") {
         return Step::Read(
@@ -95,7 +95,7 @@ pub fn general_word(us: &[u16]) -> Step
 
 // Behind an A: the rest of `AM/PM` or `A/P`.
 pub fn half_day_word(us: &[u16]) -> Step
-    ensures { stepBehind us.now result ≡ halfDayWord (65 ∷ us.now) }
+    ensures { step_behind us.now result ≡ half_day_word (65 ∷ us.now) }
 {
     if starts_with(us, b"M/PM") {
         return Step::Read(
@@ -120,7 +120,7 @@ pub fn half_day_word(us: &[u16]) -> Step
 
 // Behind an E: a plus or a minus.
 pub fn exponent_word(us: &[u16]) -> Step
-    ensures { stepBehind us.now result ≡ exponentWord (69 ∷ us.now) }
+    ensures { step_behind us.now result ≡ exponent_word (69 ∷ us.now) }
 {
     if starts_with(us, b"+") {
         return Step::Read(
@@ -146,7 +146,7 @@ pub fn exponent_word(us: &[u16]) -> Step
 // How long a run of each letter may be.
 fn run_allowed(form: u16, n: usize) -> bool
     requires { (15 ≤ form) × (1 ≤ n) }
-    ensures { result ≡ runAllowed (letterAt form) n }
+    ensures { result ≡ run_allowed (letter_at form) n }
 {
     match form {
         YEARS => { if n == 2 { true } else { n == 4 } }
@@ -160,7 +160,7 @@ fn run_allowed(form: u16, n: usize) -> bool
 // Behind a letter u: as many u as follow.
 pub fn letter_run(us: &[u16], form: u16, u: u16) -> Step
     requires { (length us.now ≤ 254) × (15 ≤ form) × (form ≤ 19) }
-    ensures { stepBehind us.now result ≡ runStep (letterAt form) u us.now }
+    ensures { step_behind us.now result ≡ run_step (letter_at form) u us.now }
 {
     let n = scan(us, Set::Only(u));
     let letters = n + 1;
@@ -178,7 +178,7 @@ pub fn letter_run(us: &[u16], form: u16, u: u16) -> Step
 
 // The number that the digits at the start write.
 fn fixed_number(us: &[u16]) -> u16
-    ensures { result ≡ fixedNumber (take (leading isDigit us.now) us.now) }
+    ensures { result ≡ fixed_number (take (leading is_digit us.now) us.now) }
 {
     let mut v: usize = 0;
     let mut i: usize = 0;
@@ -196,7 +196,7 @@ fn fixed_number(us: &[u16]) -> u16
 // Behind a place and a solidus: another place, a fixed number, or what makes a literal of the solidus.
 fn over_token(us: &[u16], form: u16) -> Step
     requires { (length us.now ≤ 254) × (4 ≤ form) × (form ≤ 6) }
-    ensures { (vs : List ℕ) → stepBehind vs result ≡ overStep (placeAt form) us.now }
+    ensures { (vs : List ℕ) → step_behind vs result ≡ over_step (place_at form) us.now }
 {
     if starts_with_any(us, b"0", b"#", b"?") {
         return Step::Read(
@@ -223,7 +223,7 @@ fn over_token(us: &[u16], form: u16) -> Step
 // A place: with a solidus behind it perhaps more than a place.
 pub fn place_token(us: &[u16], form: u16) -> Step
     requires { (length us.now ≤ 254) × (4 ≤ form) × (form ≤ 6) }
-    ensures { stepBehind us.now result ≡ placeStep (placeAt form) us.now }
+    ensures { step_behind us.now result ≡ place_step (place_at form) us.now }
 {
     if us.len() == 0 {
         return Step::Read(Mark { form, argument: 0 }, 0);

@@ -6,8 +6,8 @@ mod forms;
 pub mod scan;
 
 ghost use Rattle.std.specs.Prelude.{◌≡◌, suc, ◌≤◌, ◌<◌, length, drop, get_or};
-ghost use Rattle.formats.specs.Tokens.{stepAt};
-ghost use Rattle.lexing.specs.Marks.{stepBehind, stepMeant};
+ghost use Rattle.formats.specs.Tokens.{step_at};
+ghost use Rattle.lexing.specs.Marks.{step_behind, step_meant};
 
 use brackets::bracketed_token;
 use classes::{BRACKET, ESCAPED, EXPONENT_WORD, GENERAL_WORD, HALF_DAY_WORD, QUOTED, class_of};
@@ -17,7 +17,7 @@ use forms::{
 };
 use marks::forms::{BARE, BLANK, FILL, POINT, SECONDS, SEMICOLON, SPACE_PLACE, YEARS, ZERO_PLACE};
 
-// A token as numbers: its form, a row of `markRows` in specs/, and the form's argument.
+// A token as numbers: its form, a row of `mark_rows` in specs/, and the form's argument.
 #[derive(Drop)]
 struct Mark {
     pub form: u16,
@@ -34,7 +34,7 @@ enum Step {
 // The token that starts at u, with the units us behind it.
 fn step_of(u: u16, us: &[u16]) -> Step
     requires { length us.now ≤ 254 }
-    ensures { stepBehind us.now result ≡ stepAt u us.now }
+    ensures { step_behind us.now result ≡ step_at u us.now }
 {
     let class = class_of(u);
     match class {
@@ -68,7 +68,7 @@ fn step_of(u: u16, us: &[u16]) -> Step
 // The token at a place of a code.
 fn next(code: &[u16], at: usize) -> Step
     requires { (at < length code.now) × (length code.now ≤ 254) }
-    ensures { stepMeant code.now at result ≡ stepAt (get_or code.now at 0) (drop (suc at) code.now) }
+    ensures { step_meant code.now at result ≡ step_at (get_or code.now at 0) (drop (suc at) code.now) }
 {
     let u = code[at];
     let from = at + 1;

@@ -43,10 +43,10 @@ each-passes f (x ∷ xs) zero d t u = every-head f x xs t
 each-passes f (x ∷ xs) (suc i) d t u = each-passes f xs i d (every-tail f x xs t) u
 
 -- the element at a place within, and the same of a mapped list
-pub getD-every : {A : Type 0} (f : A → Bool) (xs : List A) (i : ℕ) (a : A) → i < length xs → T (every f xs) → T (f (get_or xs i a))
-getD-every f [] i a h t = absurd (omega arith)
-getD-every f (x ∷ xs) zero a h t = every-head f x xs t
-getD-every f (x ∷ xs) (suc i) a h t = getD-every f xs i a (omega arith) (every-tail f x xs t)
+pub get_or-every : {A : Type 0} (f : A → Bool) (xs : List A) (i : ℕ) (a : A) → i < length xs → T (every f xs) → T (f (get_or xs i a))
+get_or-every f [] i a h t = absurd (omega arith)
+get_or-every f (x ∷ xs) zero a h t = every-head f x xs t
+get_or-every f (x ∷ xs) (suc i) a h t = get_or-every f xs i a (omega arith) (every-tail f x xs t)
 
 pub get_d_map : {A B : Type 0} (f : A → B) (xs : List A) (i : ℕ) (a : A) (b : B) → i < length xs → get_or (map f xs) i b ≡ f (get_or xs i a)
 get_d_map f [] i a b h = absurd (omega arith)

@@ -20,9 +20,9 @@ module _ {A : Type 0} where
   count f (x ∷ xs) = let r = count f xs in cond (f x) (suc r) r
 
   -- the place of the first element that fails a test of place and element, where one does; the list begins at place k
-  unfoldable pub firstFailing : (ℕ → A → Bool) → ℕ → List A → Option ℕ
-  firstFailing f k [] = none
-  firstFailing f k (x ∷ xs) = let r = firstFailing f (suc k) xs in cond (f k x) r (some k)
+  unfoldable pub first_failing : (ℕ → A → Bool) → ℕ → List A → Option ℕ
+  first_failing f k [] = none
+  first_failing f k (x ∷ xs) = let r = first_failing f (suc k) xs in cond (f k x) r (some k)
 
   unfoldable pub is_empty : List A → Bool
   is_empty [] = true

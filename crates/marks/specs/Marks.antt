@@ -2,48 +2,48 @@
 -- Assumes nothing.
 use Rattle.std.specs.Prelude.{ℕ, suc, false, List, [], ◌∷◌, take, drop, get_or}
 use Rattle.std.proofs.Math.Option.{Option, none, some}
-use Rattle.formats.specs.Tokens.{zeroPlace, hashPlace, spacePlace, letterY, letterM, letterD, letterH, letterS, hours, minutes, seconds, short, long, ePlus, eMinus, equal, Written, Token, literal, bare, blank, fill, place, point, comma, percent, at, semicolon, general, half, run, elapsed, colour, condition, exponent, over, overFixed, conditionInside, Placed}
-use Rattle.formats.specs.Kinds.{conditionIn}
-use Rattle.formats.specs.Accept.{tokensOf}
+use Rattle.formats.specs.Tokens.{zero_place, hash_place, space_place, letter_y, letter_m, letter_d, letter_h, letter_s, hours, minutes, seconds, short, long, e_plus, e_minus, equal, Written, Token, literal, bare, blank, fill, place, point, comma, percent, at, semicolon, general, half, run, elapsed, colour, condition, exponent, over, over_fixed, condition_inside, Placed}
+use Rattle.formats.specs.Kinds.{condition_in}
+use Rattle.formats.specs.Accept.{tokens_of}
 
 -- a condition that compares with nothing, where there is none
-unfoldable pub writtenOr : Option Written → Written
-writtenOr none = record { comparison = equal; negative = false; whole = []; decimals = [] }
-writtenOr (some w) = w
+unfoldable pub written_or : Option Written → Written
+written_or none = record { comparison = equal; negative = false; whole = []; decimals = [] }
+written_or (some w) = w
 
-unfoldable pub writtenIn : Option Token → Option Written
-writtenIn none = none
-writtenIn (some t) = conditionIn t
+unfoldable pub written_in : Option Token → Option Written
+written_in none = none
+written_in (some t) = condition_in t
 
 -- the condition that the units inside a bracket write
-unfoldable pub conditionOf : List ℕ → Token
-conditionOf us = condition (writtenOr (writtenIn (conditionInside us)))
+unfoldable pub condition_of : List ℕ → Token
+condition_of us = condition (written_or (written_in (condition_inside us)))
 
 -- the tokens by their forms from 0 on, with the argument a, where the units us stand behind the first one
-unfoldable pub markRows : ℕ → List ℕ → List Token
-markRows a us =
+unfoldable pub mark_rows : ℕ → List ℕ → List Token
+mark_rows a us =
     literal (take a us) ∷ bare a ∷ blank a ∷ fill a
-    ∷ place zeroPlace ∷ place hashPlace ∷ place spacePlace ∷ point ∷ comma ∷ percent ∷ at ∷ semicolon
+    ∷ place zero_place ∷ place hash_place ∷ place space_place ∷ point ∷ comma ∷ percent ∷ at ∷ semicolon
     ∷ general ∷ half short ∷ half long
-    ∷ run letterY a ∷ run letterM a ∷ run letterD a ∷ run letterH a ∷ run letterS a
-    ∷ elapsed hours a ∷ elapsed minutes a ∷ elapsed seconds a ∷ colour a ∷ conditionOf (take a us)
-    ∷ exponent ePlus ∷ exponent eMinus
-    ∷ over zeroPlace ∷ over hashPlace ∷ over spacePlace ∷ overFixed zeroPlace a ∷ overFixed hashPlace a ∷ overFixed spacePlace a ∷ []
+    ∷ run letter_y a ∷ run letter_m a ∷ run letter_d a ∷ run letter_h a ∷ run letter_s a
+    ∷ elapsed hours a ∷ elapsed minutes a ∷ elapsed seconds a ∷ colour a ∷ condition_of (take a us)
+    ∷ exponent e_plus ∷ exponent e_minus
+    ∷ over zero_place ∷ over hash_place ∷ over space_place ∷ over_fixed zero_place a ∷ over_fixed hash_place a ∷ over_fixed space_place a ∷ []
 
 -- the token of a form: its row, and a literal without units for a number that is no form
-unfoldable pub markToken : ℕ → ℕ → List ℕ → Token
-markToken form a us = get_or (markRows a us) form (literal [])
+unfoldable pub mark_token : ℕ → ℕ → List ℕ → Token
+mark_token form a us = get_or (mark_rows a us) form (literal [])
 
 -- the same of a code, where the token's first unit stands at the place start
-unfoldable pub tokenAt : List ℕ → ℕ → ℕ → ℕ → Token
-tokenAt code form argument start = markToken form argument (drop (suc start) code)
+unfoldable pub token_at : List ℕ → ℕ → ℕ → ℕ → Token
+token_at code form argument start = mark_token form argument (drop (suc start) code)
 
 -- the tokens of a buffer with their places, three words a token
-unfoldable pub placedIn : List ℕ → List ℕ → List Placed
-placedIn code [] = []
-placedIn code (f ∷ []) = []
-placedIn code (f ∷ a ∷ []) = []
-placedIn code (f ∷ a ∷ s ∷ ws) = record { token = tokenAt code f a s; start = s } ∷ placedIn code ws
+unfoldable pub placed_in : List ℕ → List ℕ → List Placed
+placed_in code [] = []
+placed_in code (f ∷ []) = []
+placed_in code (f ∷ a ∷ []) = []
+placed_in code (f ∷ a ∷ s ∷ ws) = record { token = token_at code f a s; start = s } ∷ placed_in code ws
 
-unfoldable pub tokensIn : List ℕ → List ℕ → List Token
-tokensIn code words = tokensOf (placedIn code words)
+unfoldable pub tokens_in : List ℕ → List ℕ → List Token
+tokens_in code words = tokens_of (placed_in code words)

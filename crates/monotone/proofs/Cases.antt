@@ -15,12 +15,12 @@ use Rattle.calendar.specs.Names.{units}
 use Rattle.figures.specs.Rounding.{Magnitude}
 use Rattle.formats.specs.Tokens.{equal, at_most, same}
 use Rattle.formats.specs.Where.{implies}
-use Rattle.formats.specs.Choice.{Exact, numberExact, compared}
-use Rattle.formats.specs.Reading.{Reading, refused, shown, codeReading}
-use Rattle.formats.specs.Figures.{readFrom, unitsRead, sameNumber}
+use Rattle.formats.specs.Choice.{Exact, number_exact, compared}
+use Rattle.formats.specs.Reading.{Reading, refused, shown, code_reading}
+use Rattle.formats.specs.Figures.{read_from, units_read, same_number}
 use Rattle.formats.proofs.Evaluate.{evaluated}
-use Rattle.monotone.specs.Codes.{is_plain, isAccepted, plainCode, sectionUnit, firstUnit, lastUnit}
-use Rattle.monotone.specs.Seen.{isAside, keptOf, isDecimal, signed, decimalOf, minusCounted, figureOf, difference, differWithin}
+use Rattle.monotone.specs.Codes.{is_plain, is_accepted, plain_code, section_unit, first_unit, last_unit}
+use Rattle.monotone.specs.Seen.{is_aside, kept_of, is_decimal, signed, decimal_of, minus_counted, figure_of, difference, differ_within}
 
 abbrev pub number : ℤ → ℕ → Number
 number c scale = record { coefficient = c; scale = scale }
@@ -39,41 +39,41 @@ pub record Row : Type 0 where
   pub code : String
   pub first : Number
   pub second : Number
-  pub firstText : String
-  pub secondText : String
+  pub first_text : String
+  pub second_text : String
   pub told : Option Told
 
 abbrev pub speaks : String → Number → Number → String → String → Number → Number → Magnitude → Row
 speaks code x y s t low high unit =
-    record { code = code; first = x; second = y; firstText = s; secondText = t; told = some (record { low = low; high = high; unit = unit }) }
+    record { code = code; first = x; second = y; first_text = s; second_text = t; told = some (record { low = low; high = high; unit = unit }) }
 
 abbrev pub passes : String → Number → Number → String → String → Row
-passes code x y s t = record { code = code; first = x; second = y; firstText = s; secondText = t; told = none }
+passes code x y s t = record { code = code; first = x; second = y; first_text = s; second_text = t; told = none }
 
-unfoldable pub textIs : List ℕ → Reading → Bool
-textIs us (refused a) = false
-textIs us (shown look) = same us look.text
+unfoldable pub text_is : List ℕ → Reading → Bool
+text_is us (refused a) = false
+text_is us (shown look) = same us look.text
 
-unfoldable pub figureIs : Number → Option Exact → Bool
-figureIs n none = false
-figureIs n (some f) = compared equal (numberExact n) f
+unfoldable pub figure_is : Number → Option Exact → Bool
+figure_is n none = false
+figure_is n (some f) = compared equal (number_exact n) f
 
-unfoldable pub toldRight : Row → Option Told → Bool
-toldRight r none = not (plainCode (units r.code))
-toldRight r (some t) =
-    plainCode (units r.code)
-    && figureIs t.low (figureOf (units r.firstText))
-    && figureIs t.high (figureOf (units r.secondText))
-    && compared at_most (numberExact t.low) (numberExact t.high)
-    && sameNumber t.unit (lastUnit (units r.code))
-    && implies (same (units r.firstText) (units r.secondText)) (differWithin t.unit (numberExact r.first) (numberExact r.second))
+unfoldable pub told_right : Row → Option Told → Bool
+told_right r none = not (plain_code (units r.code))
+told_right r (some t) =
+    plain_code (units r.code)
+    && figure_is t.low (figure_of (units r.first_text))
+    && figure_is t.high (figure_of (units r.second_text))
+    && compared at_most (number_exact t.low) (number_exact t.high)
+    && same_number t.unit (last_unit (units r.code))
+    && implies (same (units r.first_text) (units r.second_text)) (differ_within t.unit (number_exact r.first) (number_exact r.second))
 
-unfoldable pub rowRight : Row → Bool
-rowRight r =
-    compared at_most (numberExact r.first) (numberExact r.second)
-    && textIs (units r.firstText) (codeReading (units r.code) (asked (value.Number r.first)) [] 4096)
-    && textIs (units r.secondText) (codeReading (units r.code) (asked (value.Number r.second)) [] 4096)
-    && toldRight r r.told
+unfoldable pub row_right : Row → Bool
+row_right r =
+    compared at_most (number_exact r.first) (number_exact r.second)
+    && text_is (units r.first_text) (code_reading (units r.code) (asked (value.Number r.first)) [] 4096)
+    && text_is (units r.second_text) (code_reading (units r.code) (asked (value.Number r.second)) [] 4096)
+    && told_right r r.told
 
 unfoldable pub rows : List Row
 rows =
@@ -96,11 +96,11 @@ rows =
     ∷ passes "0 0" (number (pos 1) 0) (number (pos 2) 0) "0 1" "0 2"
     ∷ []
 
-pub rows_right : T (every rowRight rows)
-unfolding rows rowRight toldRight figureIs textIs evaluated readFrom unitsRead is_plain isAccepted plainCode sectionUnit firstUnit lastUnit isAside keptOf isDecimal signed decimalOf minusCounted figureOf difference differWithin
+pub rows_right : T (every row_right rows)
+unfolding rows row_right told_right figure_is text_is evaluated read_from units_read is_plain is_accepted plain_code section_unit first_unit last_unit is_aside kept_of is_decimal signed decimal_of minus_counted figure_of difference differ_within
 rows_right = tt
 
 -- no digit; a unit that is none of a figure's; a second point; a minus behind another, or behind a digit
-pub unread : T (every (λ (text : String). not (is_some (figureOf (units text)))) ("" ∷ " " ∷ "." ∷ "-" ∷ "50%" ∷ "1E+0" ∷ "1.2.3" ∷ "--1" ∷ "1-" ∷ []))
-unfolding evaluated readFrom unitsRead isAside keptOf isDecimal signed decimalOf minusCounted figureOf
+pub unread : T (every (λ (text : String). not (is_some (figure_of (units text)))) ("" ∷ " " ∷ "." ∷ "-" ∷ "50%" ∷ "1E+0" ∷ "1.2.3" ∷ "--1" ∷ "1-" ∷ []))
+unfolding evaluated read_from units_read is_aside kept_of is_decimal signed decimal_of minus_counted figure_of
 unread = tt

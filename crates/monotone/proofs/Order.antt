@@ -12,9 +12,9 @@ use Rattle.figures.specs.Rounding.{Magnitude, scaled, nearest, rounded}
 use Rattle.figures.proofs.Tens.{ten-pos}
 use Rattle.figures.proofs.Rounding.{nearest-bound, nearest-monotone, nearest-scale}
 use Rattle.formats.specs.Tokens.{at_most}
-use Rattle.formats.specs.Choice.{Exact, smaller, lessThan, compared}
+use Rattle.formats.specs.Choice.{Exact, smaller, less_than, compared}
 use Rattle.formats.specs.Figures.{Counts}
-use Rattle.monotone.specs.Seen.{signed, difference, differWithin}
+use Rattle.monotone.specs.Seen.{signed, difference, differ_within}
 
 -- of two fractions the greater never rounds to less
 module _ (x y : Magnitude) (d : ℕ) (xpos : 0 < x.below) (ypos : 0 < y.below) where
@@ -93,7 +93,7 @@ module _ (u v m n : Magnitude) (j k : ℕ) (e : Counts m j) (f : Counts n k) (mp
 
   pub figures-order : (p q : Bool) → T (compared at_most (record { negative = p; size = u }) (record { negative = q; size = v }))
       → T (compared at_most (signed p m) (signed q n))
-  unfolding compared lessThan smaller signed
+  unfolding compared less_than smaller signed
   figures-order false false t =
       at_least (n.above * m.below) (m.above * n.below) (counts-order m n j k e f (up (not-less (v.above * u.below) (u.above * v.below) t)))
   figures-order true true t = both_below (down (not-less (u.above * v.below) (v.above * u.below) t))
@@ -121,11 +121,11 @@ gap-least m n D most h g =
 
 -- a / S, divided by K, rounds to r parts of 1 / D
 pub record RoundsTo (a S K D r : ℕ) : Type 0 where
-  pub notAbove : 2 * (r * (S * K)) ≤ 2 * (a * D) + S * K
-  pub notBelow : 2 * (a * D) < 2 * (r * (S * K)) + S * K
+  pub not_above : 2 * (r * (S * K)) ≤ 2 * (a * D) + S * K
+  pub not_below : 2 * (a * D) < 2 * (r * (S * K)) + S * K
 
 pub rounds-to : (a S K D : ℕ) → 0 < S * K → RoundsTo a S K D (nearest (a * D) (S * K))
-rounds-to a S K D pos = let b = nearest-bound (a * D) (S * K) pos in record { notAbove = b.0; notBelow = b.1 }
+rounds-to a S K D pos = let b = nearest-bound (a * D) (S * K) pos in record { not_above = b.0; not_below = b.1 }
 
 -- how many parts a number without percents rounds to
 pub scaled-parts : (m s t d : ℕ) → rounded (scaled m s 0 t) d ≡ nearest (m * 10 ^ d) (10 ^ s * 1000 ^ t) * 10 ^ (15 - d)
@@ -137,7 +137,7 @@ scaled-parts m s t d =
 -- of two that round to the same, the one is above the other by K / D at most
 above-least : (a S c Z K D r : ℕ) → RoundsTo a S K D r → RoundsTo c Z K D r → c * S * D ≤ a * Z * D + K * (S * Z)
 above-least a S c Z K D r x y =
-    let p : 2 * (r * (S * K)) * Z ≤ (2 * (a * D) + S * K) * Z = mul-le-mul_right Z x.notAbove in
+    let p : 2 * (r * (S * K)) * Z ≤ (2 * (a * D) + S * K) * Z = mul-le-mul_right Z x.not_above in
     let q : 2 * (c * D) * S ≤ (2 * (r * (Z * K)) + Z * K) * S = mul-le-mul_right S (omega arith) in
     omega arith
 
@@ -162,9 +162,9 @@ module _ (a S c Z K D r : ℕ) (x : RoundsTo a S K D r) (y : RoundsTo c Z K D r)
       (λ h. absurd (true≢false (signs (eqb-false r 0 h))))
 
   pub unit-apart : (above below : ℕ) → above ≡ K → below ≡ D → (p q : Bool) → ((r ≡ 0 → ⊥) → p ≡ q)
-      → T (differWithin (record { above = above; below = below }) (record { negative = p; size = record { above = a; below = S } })
+      → T (differ_within (record { above = above; below = below }) (record { negative = p; size = record { above = a; below = S } })
       (record { negative = q; size = record { above = c; below = Z } }))
-  unfolding differWithin difference smaller
+  unfolding differ_within difference smaller
   unit-apart above below e f false false signs = rw (e, f) same_sign
   unit-apart above below e f true true signs = rw (e, f) same_sign
   unit-apart above below e f true false signs = rw (e, f) (other_sign signs)

@@ -13,26 +13,26 @@ use Rattle.values.specs.Ranges.{between}
 use Rattle.lists.specs.Lists.{every, any, count}
 use Rattle.lists.proofs.Bools.{no, cond-left, cond-right, and_left, and_right, and_in, by_cases, cond-case, true-T, T_true, carry}
 use Rattle.lists.proofs.Counts.{any-count, positive-count}
-use Rattle.formats.specs.Items.{Item, half, numberKind, itemAllowed, isFill, isPlace, isPoint, isPercent, beforeCut, integerPlaces, decimalPlaces}
+use Rattle.formats.specs.Items.{Item, half, number_kind, item_allowed, is_fill, is_place, is_point, is_percent, before_cut, integer_places, decimal_places}
 use Rattle.formats.proofs.ByNumber.{by_number}
-use Rattle.formats.specs.Text.{digitAfter, along, first_of}
-use Rattle.tables.specs.Words.{Entry, entries_at, entriesIn}
-use Rattle.tables.specs.Encode.{entry, kindWord}
-use Rattle.tables.specs.Decode.{halfAt, item_at, itemsAt, itemsByTag}
-use Rattle.tables.specs.Rules.{entryInRange, all_of, powersFrom, runPowers}
-use Rattle.tables.proofs.Words.{entriesLeft, entries-front}
+use Rattle.formats.specs.Text.{digit_after, along, first_of}
+use Rattle.tables.specs.Words.{Entry, entries_at, entries_in}
+use Rattle.tables.specs.Encode.{entry, kind_word}
+use Rattle.tables.specs.Decode.{half_at, item_at, items_at, items_by_tag}
+use Rattle.tables.specs.Rules.{entry_in_range, all_of, powers_from, run_powers}
+use Rattle.tables.proofs.Words.{entries_left, entries-front}
 use Rattle.tables.proofs.BackEntries.{between-facts, span-at}
 use Rattle.tallies.proofs.Steps.{no-place-beyond}
 use Rattle.number_rows.specs.declared.NumberWalk.{NumberWalk}
 use Rattle.tallies.specs.Tally.{items_of}
 use Rattle.tallies.proofs.Places.{places-bare}
 use Rattle.tallies.proofs.Held.{apart, uncut, no-solidi, holds, holds-back, powers-one, powers-bare}
-use Rattle.number_rows.specs.NumberRows.{numberItems, greatestPower, NumberTold, no_row, noNumber, countedAt, placeTaken, pointTaken, percentTaken, fillTaken, numberAfter}
+use Rattle.number_rows.specs.NumberRows.{number_items, greatest_power, NumberTold, no_row, no_number, counted_at, place_taken, point_taken, percent_taken, fill_taken, number_after}
 
 -- the power and 15 that the next place must have, with n integer places left: before the first place it is theirs
-abbrev digitLeft : ℕ → ℕ → ℕ → ℕ
-digitLeft zero next n = 14 + n
-digitLeft (suc f) next n = next - 1
+abbrev digit_left : ℕ → ℕ → ℕ → ℕ
+digit_left zero next n = 14 + n
+digit_left (suc f) next n = next - 1
 
 -- where a place was met and no point, the integer places that are left run down to the power 0
 abbrev EndsLeft : ℕ → Bool → ℕ → ℕ → Type 0
@@ -41,8 +41,8 @@ EndsLeft (suc f) true next n = Unit {0}
 EndsLeft (suc f) false next n = next ≡ 15 + n
 
 -- the powers without an E, where the digit anew does not matter
-abbrev barePowers : ℕ → List Entry → Bool
-barePowers q es = powersFrom 0 q es
+abbrev bare_powers : ℕ → List Entry → Bool
+bare_powers q es = powers_from 0 q es
 
 -- what is left to be asked of the entries that are left, by what they tell
 pub record Asked (first : ℕ) (point : Bool) (next filled : ℕ) (all ranged : Bool) (f p n : ℕ) (power : ℕ → Bool) : Type 0 where
@@ -50,14 +50,14 @@ pub record Asked (first : ℕ) (point : Bool) (next filled : ℕ) (all ranged : 
   pub ranges : T ranged
   pub fill : filled + f ≤ 1
   pub points : p ≤ cond point 0 1
-  pub powers : T (power (digitLeft first next n))
+  pub powers : T (power (digit_left first next n))
   pub ends : EndsLeft first point next n
 
 abbrev pub Left : NumberWalk → List Entry → Type 0
 Left s es =
-    let is = itemsAt es in
-    Asked s.first s.point s.next s.fills (every (itemAllowed numberKind) is) (every entryInRange es)
-    (count isFill is) (count isPoint is) (integerPlaces is) (λ (q : ℕ). barePowers q es)
+    let is = items_at es in
+    Asked s.first s.point s.next s.fills (every (item_allowed number_kind) is) (every entry_in_range es)
+    (count is_fill is) (count is_point is) (integer_places is) (λ (q : ℕ). bare_powers q es)
 
 -- what is known of the places: there are i before and d behind the point in all, and of these n and m, together c, are left
 abbrev Places : ℕ → Bool → ℕ → ℕ → ℕ → ℕ → ℕ → ℕ → Type 0
@@ -74,8 +74,8 @@ pub record Counted (i d p first : ℕ) (point : Bool) (next percent filled n m c
 
 abbrev pub Known : ℕ → ℕ → ℕ → NumberWalk → List Entry → Type 0
 Known i d p s es =
-    let is = itemsAt es in
-    Counted i d p s.first s.point s.next s.percents s.fills (integerPlaces is) (decimalPlaces is) (count isPlace (beforeCut is)) (count isPercent is)
+    let is = items_at es in
+    Counted i d p s.first s.point s.next s.percents s.fills (integer_places is) (decimal_places is) (count is_place (before_cut is)) (count is_percent is)
 
 -- the limits, and that there is a place
 pub record Within (i d p : ℕ) : Type 0 where
@@ -92,23 +92,23 @@ pub record Turned (i d p : ℕ) (s : NumberWalk) (e : Entry) (es : List Entry) (
 
 -- opens all that an entry with a known tag computes by
 unfoldable computed : Entry → Item
-unfolding item_at itemsAt every count beforeCut integerPlaces decimalPlaces powersFrom all_of along digitAfter entryInRange itemAllowed
+unfolding item_at items_at every count before_cut integer_places decimal_places powers_from all_of along digit_after entry_in_range item_allowed
 computed e = item_at e
 
 module _ (i d p : ℕ) (s : NumberWalk) (a : ℕ) (es : List Entry) where
   -- nothing follows a fault
-  refuted : (t : ℕ) → (Within i d p → Left s (entry t a ∷ es) → ⊥) → Turned i d p s (entry t a) es noNumber
+  refuted : (t : ℕ) → (Within i d p → Left s (entry t a ∷ es) → ⊥) → Turned i d p s (entry t a) es no_number
   refuted t f = record { goes = λ t. absurd t; back = λ t. absurd t; out = λ w l. absurd (f w l) }
 
-  literal-turn : a < 65536 → Known i d p s (entry 1 a ∷ es) → Turned i d p s (entry 1 a) es (countedAt s s.percents s.fills)
+  literal-turn : a < 65536 → Known i d p s (entry 1 a ∷ es) → Turned i d p s (entry 1 a) es (counted_at s s.percents s.fills)
   unfolding computed
   literal-turn h k = record { goes = λ t. k; back = λ t l. rw (lt-ltb a 65536 h) l; out = λ w l. (tt, rw (lt-ltb a 65536 h) at l) }
 
-  blank_turn : a < 65536 → Known i d p s (entry 2 a ∷ es) → Turned i d p s (entry 2 a) es (countedAt s s.percents s.fills)
+  blank_turn : a < 65536 → Known i d p s (entry 2 a ∷ es) → Turned i d p s (entry 2 a) es (counted_at s s.percents s.fills)
   unfolding computed
   blank_turn h k = record { goes = λ t. k; back = λ t l. rw (lt-ltb a 65536 h) l; out = λ w l. (tt, rw (lt-ltb a 65536 h) at l) }
 
-  one-fill : a < 65536 → s.fills ≡ 0 → Known i d p s (entry 3 a ∷ es) → Turned i d p s (entry 3 a) es (countedAt s s.percents 1)
+  one-fill : a < 65536 → s.fills ≡ 0 → Known i d p s (entry 3 a ∷ es) → Turned i d p s (entry 3 a) es (counted_at s s.percents 1)
   unfolding computed
   one-fill h e k =
       record {
@@ -117,14 +117,14 @@ module _ (i d p : ℕ) (s : NumberWalk) (a : ℕ) (es : List Entry) where
         out = λ w l. (tt, record { items = l.items; ranges = rw (lt-ltb a 65536 h) at l.ranges; fill = omega (arith, l.fill); points = l.points; powers = l.powers; ends = l.ends });
       }
 
-  fill-turn : a < 65536 → Known i d p s (entry 3 a ∷ es) → Turned i d p s (entry 3 a) es (fillTaken s)
-  unfolding computed fillTaken
+  fill-turn : a < 65536 → Known i d p s (entry 3 a ∷ es) → Turned i d p s (entry 3 a) es (fill_taken s)
+  unfolding computed fill_taken
   fill-turn h k =
       cond-case (Turned i d p s (entry 3 a) es) (eqb s.fills 0)
       (λ e. one-fill h (eqb-true s.fills 0 e) k)
       (λ e. let some = eqb-false s.fills 0 e in refuted 3 (λ w l. let f = l.fill in omega arith))
 
-  few-percents : eqb a 0 ≡ true → s.percents < 5 → Known i d p s (entry 8 a ∷ es) → Turned i d p s (entry 8 a) es (countedAt s (s.percents + 1) s.fills)
+  few-percents : eqb a 0 ≡ true → s.percents < 5 → Known i d p s (entry 8 a ∷ es) → Turned i d p s (entry 8 a) es (counted_at s (s.percents + 1) s.fills)
   unfolding computed
   few-percents z h k =
       record {
@@ -133,8 +133,8 @@ module _ (i d p : ℕ) (s : NumberWalk) (a : ℕ) (es : List Entry) where
         out = λ w l. (tt, rw z at l);
       }
 
-  percent-turn : Known i d p s (entry 8 a ∷ es) → Turned i d p s (entry 8 a) es (percentTaken s a)
-  unfolding computed percentTaken
+  percent-turn : Known i d p s (entry 8 a ∷ es) → Turned i d p s (entry 8 a) es (percent_taken s a)
+  unfolding computed percent_taken
   percent-turn k =
       cond-case (Turned i d p s (entry 8 a) es) (eqb a 0)
       (λ z. cond-case (Turned i d p s (entry 8 a) es) (ltb s.percents 5)
@@ -142,23 +142,23 @@ module _ (i d p : ℕ) (s : NumberWalk) (a : ℕ) (es : List Entry) where
       (λ e. let most = ltb-false s.percents 5 e in refuted 8 (λ w l. let q = k.percents in let m = w.percents in omega arith)))
       (λ z. refuted 8 (λ w l. rw z at l.ranges))
 
-abbrev walkWith : Bool → Bool → ℕ → ℕ → ℕ → ℕ → NumberWalk
-walkWith fits point first next percents fills =
+abbrev walk_with : Bool → Bool → ℕ → ℕ → ℕ → ℕ → NumberWalk
+walk_with fits point first next percents fills =
     record { fits = fits; point = point; first = first; next = next; percents = percents; fills = fills }
 
 -- a place's range and power, as the rules ask for them
-place-asked : (a q : ℕ) (es : List Entry) → T (every entryInRange (entry 4 a ∷ es)) → T (barePowers q (entry 4 a ∷ es))
-    → (1 ≤ a) × (a ≤ 35) × (a ≡ suc q) × T (every entryInRange es) × T (barePowers (q - 1) es)
+place-asked : (a q : ℕ) (es : List Entry) → T (every entry_in_range (entry 4 a ∷ es)) → T (bare_powers q (entry 4 a ∷ es))
+    → (1 ≤ a) × (a ≤ 35) × (a ≡ suc q) × T (every entry_in_range es) × T (bare_powers (q - 1) es)
 unfolding computed
 place-asked a q es r t =
-    let range = between-facts 1 35 a (cond-left (between 1 35 a) (every entryInRange es) r) in
+    let range = between-facts 1 35 a (cond-left (between 1 35 a) (every entry_in_range es) r) in
     (range.0, range.1, eqb→eq a (suc q) (and_left (eqb a (suc q)) _ t), cond-right (between 1 35 a) _ r, and_right (eqb a (suc q)) _ t)
 
-place-ranged : (a : ℕ) (es : List Entry) → 1 ≤ a → a ≤ 35 → T (every entryInRange es) → T (every entryInRange (entry 4 a ∷ es))
+place-ranged : (a : ℕ) (es : List Entry) → 1 ≤ a → a ≤ 35 → T (every entry_in_range es) → T (every entry_in_range (entry 4 a ∷ es))
 unfolding computed
 place-ranged a es l m t = rw (le-leb 1 a l, le-leb a 35 m) t
 
-place-powered : (a q : ℕ) (es : List Entry) → a ≡ suc q → T (barePowers (q - 1) es) → T (barePowers q (entry 4 a ∷ es))
+place-powered : (a q : ℕ) (es : List Entry) → a ≡ suc q → T (bare_powers (q - 1) es) → T (bare_powers q (entry 4 a ∷ es))
 unfolding computed
 place-powered a q es e t = and_in (eqb a (suc q)) _ (true-T (eq-eqb a (suc q) e)) t
 
@@ -174,18 +174,18 @@ power-ends f false a b n z = (λ e. omega arith, λ e. omega arith)
 
 module _ (i d p : ℕ) (es : List Entry) (fits : Bool) (percents fills : ℕ) where
   abbrev walk : Bool → ℕ → ℕ → NumberWalk
-  walk point first next = walkWith fits point first next percents fills
+  walk point first next = walk_with fits point first next percents fills
 
   abbrev Placed : Bool → ℕ → ℕ → ℕ → NumberWalk → Type 0
   Placed point first next a r = Known i d p (walk point first next) (entry 4 a ∷ es) → Turned i d p (walk point first next) (entry 4 a) es r
 
   -- a place with the power expected; b is the power below
-  power-turn : (point : Bool) (first a b : ℕ) → suc b ≡ a → Placed point first a a (walkWith true point first b percents fills)
+  power-turn : (point : Bool) (first a b : ℕ) → suc b ≡ a → Placed point first a a (walk_with true point first b percents fills)
   unfolding computed
   power-turn point zero a b e k = absurd (omega (arith, k.places))
   power-turn point (suc f) a b e k =
-      let q = power-places f point a b i d (integerPlaces (itemsAt es)) (decimalPlaces (itemsAt es)) (count isPlace (beforeCut (itemsAt es))) e k.places in
-      let ends = power-ends f point a b (integerPlaces (itemsAt es)) e in
+      let q = power-places f point a b i d (integer_places (items_at es)) (decimal_places (items_at es)) (count is_place (before_cut (items_at es))) e k.places in
+      let ends = power-ends f point a b (integer_places (items_at es)) e in
       let below : b - 1 ≡ a - 1 - 1 = omega arith in
       record {
         goes = λ t. record { places = q.1; percents = k.percents; few = k.few; fill = k.fill };
@@ -202,29 +202,29 @@ module _ (i d p : ℕ) (es : List Entry) (fits : Bool) (percents fills : ℕ) wh
       }
 
   -- the first place
-  first-turn : (point : Bool) (next b : ℕ) → b ≤ 34 → Placed point zero next (suc b) (walkWith true false (suc b) b percents fills)
+  first-turn : (point : Bool) (next b : ℕ) → b ≤ 34 → Placed point zero next (suc b) (walk_with true false (suc b) b percents fills)
   unfolding computed
   first-turn point next b m k =
       let q = k.places in
       record {
         goes = λ t. record { places = (omega arith, m, omega arith, q.3); percents = k.percents; few = k.few; fill = k.fill };
         back = λ t l. let e = l.ends in
-            let same : b - 1 ≡ 14 + suc (integerPlaces (itemsAt es)) - 1 = omega arith in
+            let same : b - 1 ≡ 14 + suc (integer_places (items_at es)) - 1 = omega arith in
             record {
               items = l.items;
               ranges = place-ranged (suc b) es (omega arith) (omega arith) l.ranges;
               fill = l.fill;
               points = rw q.0 l.points;
-              powers = place-powered (suc b) (14 + suc (integerPlaces (itemsAt es))) es (omega arith) (rw (← same) l.powers);
+              powers = place-powered (suc b) (14 + suc (integer_places (items_at es))) es (omega arith) (rw (← same) l.powers);
               ends = tt;
             };
-        out = λ w l. let h = place-asked (suc b) (14 + suc (integerPlaces (itemsAt es))) es l.ranges l.powers in
-            let same : b - 1 ≡ 14 + suc (integerPlaces (itemsAt es)) - 1 = omega arith in
+        out = λ w l. let h = place-asked (suc b) (14 + suc (integer_places (items_at es))) es l.ranges l.powers in
+            let same : b - 1 ≡ 14 + suc (integer_places (items_at es)) - 1 = omega arith in
             (tt, record { items = l.items; ranges = h.3; fill = l.fill; points = rw q.0 at l.points; powers = rw same h.4; ends = omega arith });
       }
 
   -- a place with another power
-  wrong-turn : (point : Bool) (f next a : ℕ) → (next ≡ a → ⊥) → Placed point (suc f) next a noNumber
+  wrong-turn : (point : Bool) (f next a : ℕ) → (next ≡ a → ⊥) → Placed point (suc f) next a no_number
   unfolding computed
   wrong-turn false f next a n k =
       refuted i d p (walk false (suc f) next) a es 4 (λ w l. let h = place-asked a (next - 1) es l.ranges l.powers in let x = l.ends in n (omega arith))
@@ -234,25 +234,25 @@ module _ (i d p : ℕ) (es : List Entry) (fits : Bool) (percents fills : ℕ) wh
 
   -- a place where none was expected
   open_turn : (point : Bool) (first next a : ℕ) → (a ≡ 0 → ⊥) → (next ≡ a → ⊥)
-      → Placed point first next a (cond (eqb first 0) (cond (leb a greatestPower) (walkWith true false a (a - 1) percents fills) noNumber) noNumber)
+      → Placed point first next a (cond (eqb first 0) (cond (leb a greatest_power) (walk_with true false a (a - 1) percents fills) no_number) no_number)
   open_turn point (suc f) next a z n k = rw (eqb-suc-zero f) (wrong-turn point f next a n k)
   open_turn point zero next zero z n k = absurd (z refl)
   open_turn point zero next (suc b) z n k =
       let below : suc b - 1 ≡ b = omega arith in
-      cond-case (Turned i d p (walk point zero next) (entry 4 (suc b)) es) (leb (suc b) greatestPower)
-      (λ e. rw below (first-turn point next b (omega (arith, leb-true (suc b) greatestPower e)) k))
+      cond-case (Turned i d p (walk point zero next) (entry 4 (suc b)) es) (leb (suc b) greatest_power)
+      (λ e. rw below (first-turn point next b (omega (arith, leb-true (suc b) greatest_power e)) k))
       (λ e. refuted i d p (walk point zero next) (suc b) es 4
-      (λ w l. let h = place-asked (suc b) _ es l.ranges l.powers in let m = leb-false (suc b) greatestPower e in omega arith))
+      (λ w l. let h = place-asked (suc b) _ es l.ranges l.powers in let m = leb-false (suc b) greatest_power e in omega arith))
 
-  place-turn : (point : Bool) (first next a : ℕ) → Placed point first next a (placeTaken (walk point first next) a)
-  unfolding placeTaken
+  place-turn : (point : Bool) (first next a : ℕ) → Placed point first next a (place_taken (walk point first next) a)
+  unfolding place_taken
   place-turn point first next a k =
       let P : NumberWalk → Type 0 = Turned i d p (walk point first next) (entry 4 a) es in
       cond-case P (eqb a 0)
       (λ z. refuted i d p (walk point first next) a es 4 (λ w l. let h = place-asked a _ es l.ranges l.powers in let e = eqb-true a 0 z in omega arith))
       (λ z. let some = eqb-false a 0 z in
       cond-case P (eqb next a)
-      (λ e. subst (λ (m : ℕ). Placed point first m a (walkWith true point first (a - 1) percents fills)) (sym (eqb-true next a e)) (power-turn point first a (a - 1) (omega arith)) k)
+      (λ e. subst (λ (m : ℕ). Placed point first m a (walk_with true point first (a - 1) percents fills)) (sym (eqb-true next a e)) (power-turn point first a (a - 1) (omega arith)) k)
       (λ e. open_turn point first next a some (eqb-false next a e) k))
 
   -- the point
@@ -260,7 +260,7 @@ module _ (i d p : ℕ) (es : List Entry) (fits : Bool) (percents fills : ℕ) wh
   Pointed point first next a r = Known i d p (walk point first next) (entry 7 a ∷ es) → Turned i d p (walk point first next) (entry 7 a) es r
 
   -- the first that is met
-  early-turn : (next a : ℕ) → eqb a 0 ≡ true → Pointed false zero next a (walkWith true true 15 15 percents fills)
+  early-turn : (next a : ℕ) → eqb a 0 ≡ true → Pointed false zero next a (walk_with true true 15 15 percents fills)
   unfolding computed
   early-turn next a e k =
       let q = k.places in
@@ -271,7 +271,7 @@ module _ (i d p : ℕ) (es : List Entry) (fits : Bool) (percents fills : ℕ) wh
       }
 
   -- behind the place of power 0
-  late-turn : (f a : ℕ) → eqb a 0 ≡ true → Pointed false (suc f) 15 a (walkWith true true (suc f) 15 percents fills)
+  late-turn : (f a : ℕ) → eqb a 0 ≡ true → Pointed false (suc f) 15 a (walk_with true true (suc f) 15 percents fills)
   unfolding computed
   late-turn f a e k =
       let q = k.places in
@@ -281,8 +281,8 @@ module _ (i d p : ℕ) (es : List Entry) (fits : Bool) (percents fills : ℕ) wh
         out = λ w l. (tt, record { items = l.items; ranges = rw e at l.ranges; fill = l.fill; points = omega (arith, l.points); powers = l.powers; ends = tt });
       }
 
-  point-turn : (point : Bool) (first next a : ℕ) → Pointed point first next a (pointTaken (walk point first next) a)
-  unfolding computed pointTaken
+  point-turn : (point : Bool) (first next a : ℕ) → Pointed point first next a (point_taken (walk point first next) a)
+  unfolding computed point_taken
   point-turn true first next a k = refuted i d p (walk true first next) a es 7 (λ w l. let e = l.points in omega arith)
   point-turn false zero next a k =
       cond-case (Turned i d p (walk false zero next) (entry 7 a) es) (not (eqb a 0))
@@ -294,14 +294,14 @@ module _ (i d p : ℕ) (es : List Entry) (fits : Bool) (percents fills : ℕ) wh
       (cond-case P (not (eqb a 0))
       (λ e. refuted i d p (walk false (suc f) next) a es 7 (λ w l. rw (not-true (eqb a 0) e) at l.ranges))
       (λ e. cond-case P (eqb next 15)
-      (λ g. subst (λ (m : ℕ). Pointed false (suc f) m a (walkWith true true (suc f) 15 percents fills)) (sym (eqb-true next 15 g)) (late-turn f a (not-false (eqb a 0) e)) k)
+      (λ g. subst (λ (m : ℕ). Pointed false (suc f) m a (walk_with true true (suc f) 15 percents fills)) (sym (eqb-true next 15 g)) (late-turn f a (not-false (eqb a 0) e)) k)
       (λ g. refuted i d p (walk false (suc f) next) a es 7 (λ w l. let h = l.ends in eqb-false next 15 g (omega arith)))))
 
 -- an item of another kind
-foreign-tag : (t a : ℕ) → itemAllowed numberKind (item_at (entry t a)) ≡ between 1 8 t
-unfolding item_at itemAllowed
+foreign-tag : (t a : ℕ) → item_allowed number_kind (item_at (entry t a)) ≡ between 1 8 t
+unfolding item_at item_allowed
 foreign-tag t a =
-    by_number (itemAllowed numberKind) (λ (n : ℕ). between 1 8 n) (itemsByTag a) 26 (half (halfAt a)) refl
+    by_number (item_allowed number_kind) (λ (n : ℕ). between 1 8 n) (items_by_tag a) 26 (half (half_at a)) refl
     (λ n h. sym (simp (le-leb 1 n (omega arith), lt-leb n 8 (omega arith)))) t
 
 no-figure : (t : ℕ) → between 4 6 t ≡ false → (t ≡ 1 → ⊥) → (t ≡ 2 → ⊥) → (t ≡ 3 → ⊥) → (t ≡ 7 → ⊥) → (t ≡ 8 → ⊥) → between 1 8 t ≡ false
@@ -313,8 +313,8 @@ no-figure t e n₁ n₂ n₃ n₇ n₈ =
     (λ b. b)
 
 module _ (i d p : ℕ) (s : NumberWalk) (a : ℕ) (es : List Entry) where
-  foreign-turn : (t : ℕ) → between 1 8 t ≡ false → Turned i d p s (entry t a) es noNumber
-  unfolding every itemsAt
+  foreign-turn : (t : ℕ) → between 1 8 t ≡ false → Turned i d p s (entry t a) es no_number
+  unfolding every items_at
   foreign-turn t e = refuted i d p s a es t (λ w l. rw (foreign-tag t a ∙ e) at l.items)
 
   -- the three places differ in nothing that is asked
@@ -333,8 +333,8 @@ module _ (i d p : ℕ) (s : NumberWalk) (a : ℕ) (es : List Entry) where
         ),
       ) f.0 (omega arith)
 
-  number-turn : (t : ℕ) → a < 65536 → Known i d p s (entry t a ∷ es) → Turned i d p s (entry t a) es (numberAfter s t a)
-  unfolding numberAfter
+  number-turn : (t : ℕ) → a < 65536 → Known i d p s (entry t a ∷ es) → Turned i d p s (entry t a) es (number_after s t a)
+  unfolding number_after
   number-turn t h k =
       let P : NumberWalk → Type 0 = Turned i d p s (entry t a) es in
       let at : (n : ℕ) (r : NumberWalk) → eqb t n ≡ true → (Known i d p s (entry n a ∷ es) → Turned i d p s (entry n a) es r) → P r =
@@ -351,53 +351,53 @@ module _ (i d p : ℕ) (s : NumberWalk) (a : ℕ) (es : List Entry) where
 -- ---- the whole section
 module _ (es : List Entry) where
   abbrev is : List Item
-  is = itemsAt es
+  is = items_at es
 
   abbrev Limits : Type 0
-  Limits = Within (integerPlaces is) (decimalPlaces is) (count isPercent is)
+  Limits = Within (integer_places is) (decimal_places is) (count is_percent is)
 
   abbrev begun : NumberWalk
-  begun = countedAt noNumber 0 0
+  begun = counted_at no_number 0 0
 
-  number-known : Known (integerPlaces is) (decimalPlaces is) (count isPercent is) begun es
+  number-known : Known (integer_places is) (decimal_places is) (count is_percent is) begun es
   number-known = record { places = (refl, refl, refl, refl); percents = omega arith; few = omega arith; fill = omega arith }
 
-  number-out : T (numberItems es) → Limits × Left begun es
-  unfolding numberItems runPowers kindWord
+  number-out : T (number_items es) → Limits × Left begun es
+  unfolding number_items run_powers kind_word
   number-out t =
-      let integers : integerPlaces is ≤ 20 = search (and_left, and_right, leb→le) depth 6 in
-      let decimals : decimalPlaces is ≤ 15 = search (and_left, and_right, leb→le) depth 6 in
-      let percents : count isPercent is ≤ 5 = search (and_left, and_right, leb→le) depth 6 in
-      let h = holds numberKind es (and_left (items_of 2 es) _ t) in
-      let a = apart numberKind is h.items in
+      let integers : integer_places is ≤ 20 = search (and_left, and_right, leb→le) depth 6 in
+      let decimals : decimal_places is ≤ 15 = search (and_left, and_right, leb→le) depth 6 in
+      let percents : count is_percent is ≤ 5 = search (and_left, and_right, leb→le) depth 6 in
+      let h = holds number_kind es (and_left (items_of 2 es) _ t) in
+      let a = apart number_kind is h.items in
       let bare = uncut is (a.exponents refl) (a.solidi refl) in
-      let some = any-count isPlace is (T_true (any isPlace is) h.made) in (
+      let some = any-count is_place is (T_true (any is_place is) h.made) in (
         record { some = omega (arith, places-bare is bare); integers = integers; decimals = decimals; percents = percents },
-        record { items = h.items; ranges = h.ranges; fill = omega (arith, h.fill); points = (h.figures refl).0; powers = carry (powers-one es (no-solidi is (a.solidi refl)).0 ∙ powers-bare _ 0 (first_of (integerPlaces is)) es bare) (h.figures refl).1; ends = tt },
+        record { items = h.items; ranges = h.ranges; fill = omega (arith, h.fill); points = (h.figures refl).0; powers = carry (powers-one es (no-solidi is (a.solidi refl)).0 ∙ powers-bare _ 0 (first_of (integer_places is)) es bare) (h.figures refl).1; ends = tt },
       )
 
-  number-back : Limits → Left begun es → T (numberItems es)
-  unfolding numberItems runPowers kindWord
+  number-back : Limits → Left begun es → T (number_items es)
+  unfolding number_items run_powers kind_word
   number-back w l =
-      let a = apart numberKind is l.items in
+      let a = apart number_kind is l.items in
       let bare = uncut is (a.exponents refl) (a.solidi refl) in
-      let items : T (items_of 2 es) = holds-back numberKind es (record {
+      let items : T (items_of 2 es) = holds-back number_kind es (record {
         items = l.items;
-        made = true-T (sym (positive-count isPlace is) ∙ lt-ltb 0 (count isPlace is) (omega (arith, w.some, places-bare is bare)));
+        made = true-T (sym (positive-count is_place is) ∙ lt-ltb 0 (count is_place is) (omega (arith, w.some, places-bare is bare)));
         ranges = l.ranges;
         fill = omega (arith, l.fill);
         general = λ e. no e;
-        figures = λ e. (l.points, carry (powers-bare 0 _ (first_of (integerPlaces is)) es bare ∙ sym (powers-one es (no-solidi is (a.solidi refl)).0)) l.powers);
+        figures = λ e. (l.points, carry (powers-bare 0 _ (first_of (integer_places is)) es bare ∙ sym (powers-one es (no-solidi is (a.solidi refl)).0)) l.powers);
         exponent = λ e. no e;
         fraction = λ e. no e;
         dates = λ e. no e;
       }) in
       search (and_in, le→leb) depth 6
 
-  refused-told : (T (numberItems es) → ⊥) → NumberTold es no_row
+  refused-told : (T (number_items es) → ⊥) → NumberTold es no_row
   refused-told f =
       record {
-        fits = by_cases (numberItems es) (λ e. absurd (f (true-T e))) (λ e. sym e);
+        fits = by_cases (number_items es) (λ e. absurd (f (true-T e))) (λ e. sym e);
         integers = λ e. no e;
         decimals = λ e. no e;
         percents = λ e. no e;
@@ -409,27 +409,27 @@ record Ended (first next i d : ℕ) : Type 0 where
   most : next ≤ 15
   integers : first - 15 ≡ i
   decimals : 15 - next ≡ d
-  fewIntegers : i ≤ 20
-  fewDecimals : d ≤ 15
+  few_integers : i ≤ 20
+  few_decimals : d ≤ 15
   some : 0 < i + d
 
-abbrev openEnd : Bool → ℕ → Bool
-openEnd point next = not point && not (eqb next 15)
+abbrev open_end : Bool → ℕ → Bool
+open_end point next = not point && not (eqb next 15)
 
-ended : (first : ℕ) (point : Bool) (next i d : ℕ) → Places first point next i d 0 0 0 → (first ≡ next → ⊥) → openEnd point next ≡ false → Ended first next i d × EndsLeft first point next 0
+ended : (first : ℕ) (point : Bool) (next i d : ℕ) → Places first point next i d 0 0 0 → (first ≡ next → ⊥) → open_end point next ≡ false → Ended first next i d × EndsLeft first point next 0
 ended zero point next i d q n e = absurd (n (sym q.1))
 ended (suc f) true next i d q n e =
-    (record { least = omega arith; most = omega arith; integers = omega arith; decimals = omega arith; fewIntegers = omega arith; fewDecimals = omega arith; some = omega arith }, tt)
+    (record { least = omega arith; most = omega arith; integers = omega arith; decimals = omega arith; few_integers = omega arith; few_decimals = omega arith; some = omega arith }, tt)
 ended (suc f) false next i d q n e =
     let last = eqb-true next 15 (not-false (eqb next 15) e) in
-    (record { least = omega arith; most = omega arith; integers = omega arith; decimals = omega arith; fewIntegers = omega arith; fewDecimals = omega arith; some = omega arith }, omega arith)
+    (record { least = omega arith; most = omega arith; integers = omega arith; decimals = omega arith; few_integers = omega arith; few_decimals = omega arith; some = omega arith }, omega arith)
 
-no_place : (first : ℕ) (point : Bool) (next i d : ℕ) → Places first point next i d 0 0 0 → first ≡ next → 0 < i + d → ⊥
-no_place zero point next i d q e h = omega arith
-no_place (suc f) false next i d q e h = omega arith
-no_place (suc f) true next i d q e h = omega arith
+no_place_lem : (first : ℕ) (point : Bool) (next i d : ℕ) → Places first point next i d 0 0 0 → first ≡ next → 0 < i + d → ⊥
+no_place_lem zero point next i d q e h = omega arith
+no_place_lem (suc f) false next i d q e h = omega arith
+no_place_lem (suc f) true next i d q e h = omega arith
 
-open-end : (first : ℕ) (point : Bool) (next i d : ℕ) → Places first point next i d 0 0 0 → (first ≡ next → ⊥) → openEnd point next ≡ true → EndsLeft first point next 0 → ⊥
+open-end : (first : ℕ) (point : Bool) (next i d : ℕ) → Places first point next i d 0 0 0 → (first ≡ next → ⊥) → open_end point next ≡ true → EndsLeft first point next 0 → ⊥
 open-end zero point next i d q n e h = n (sym q.1)
 open-end (suc f) true next i d q n e h = no e
 open-end (suc f) false next i d q n e h = eqb-false next 15 (not-true (eqb next 15) e) (omega arith)
@@ -438,38 +438,38 @@ open-end (suc f) false next i d q n e h = eqb-false next 15 (not-true (eqb next 
 pub record Counting (words : List ℕ) (n k : ℕ) (s : NumberWalk) : Type 0 where
   pub items : n ≡ length words / 2
   pub inside : k ≤ n
-  pub known : Known (integerPlaces (itemsAt (entriesIn words))) (decimalPlaces (itemsAt (entriesIn words))) (count isPercent (itemsAt (entriesIn words))) s (entriesLeft words n k)
-  pub out : T (numberItems (entriesIn words)) → Limits (entriesIn words) × Left s (entriesLeft words n k)
-  pub back : Limits (entriesIn words) → Left s (entriesLeft words n k) → T (numberItems (entriesIn words))
+  pub known : Known (integer_places (items_at (entries_in words))) (decimal_places (items_at (entries_in words))) (count is_percent (items_at (entries_in words))) s (entries_left words n k)
+  pub out : T (number_items (entries_in words)) → Limits (entries_in words) × Left s (entries_left words n k)
+  pub back : Limits (entries_in words) → Left s (entries_left words n k) → T (number_items (entries_in words))
 
-pub counting-start : (words : List ℕ) (n : ℕ) (s : NumberWalk) → n ≡ length words / 2 → s ≡ begun (entriesIn words) → Counting words n 0 s
+pub counting-start : (words : List ℕ) (n : ℕ) (s : NumberWalk) → n ≡ length words / 2 → s ≡ begun (entries_in words) → Counting words n 0 s
 counting-start words n s e b =
-    let whole : entriesLeft words n 0 ≡ entriesIn words = unfold entriesIn in rw (sub-zero n, e) in
+    let whole : entries_left words n 0 ≡ entries_in words = unfold entries_in in rw (sub-zero n, e) in
     rw b (record {
       items = e;
       inside = omega arith;
-      known = rw whole (number-known (entriesIn words));
-      out = rw whole (number-out (entriesIn words));
-      back = rw whole (number-back (entriesIn words));
+      known = rw whole (number-known (entries_in words));
+      out = rw whole (number-out (entries_in words));
+      back = rw whole (number-back (entries_in words));
     })
 
 module _ (words : List ℕ) (n k : ℕ) (s : NumberWalk) (inv : Counting words n k s) where
   abbrev whole : List Entry
-  whole = entriesIn words
+  whole = entries_in words
 
   abbrev all : List Item
-  all = itemsAt (entriesIn words)
+  all = items_at (entries_in words)
 
   abbrev TurnedBy : NumberWalk → Type 0
   TurnedBy r =
-      Turned (integerPlaces all) (decimalPlaces all) (count isPercent all) s (entry (get_or words (2 * k) 0) (get_or words (2 * k + 1) 0)) (entriesLeft words n (k + 1)) r
+      Turned (integer_places all) (decimal_places all) (count is_percent all) s (entry (get_or words (2 * k) 0) (get_or words (2 * k + 1) 0)) (entries_left words n (k + 1)) r
 
-  turned : (r : NumberWalk) → k < n → get_or words (2 * k + 1) 0 < 65536 → r ≡ numberAfter s (get_or words (2 * k) 0) (get_or words (2 * k + 1) 0) → TurnedBy r
+  turned : (r : NumberWalk) → k < n → get_or words (2 * k + 1) 0 < 65536 → r ≡ number_after s (get_or words (2 * k) 0) (get_or words (2 * k + 1) 0) → TurnedBy r
   turned r h m e =
-      rw e (number-turn _ _ _ s (get_or words (2 * k + 1) 0) (entriesLeft words n (k + 1)) (get_or words (2 * k) 0) m
+      rw e (number-turn _ _ _ s (get_or words (2 * k + 1) 0) (entries_left words n (k + 1)) (get_or words (2 * k) 0) m
       (rw (entries-front words n k h) at inv.known))
 
-  pub counting-step : (r : NumberWalk) → k < n → get_or words (2 * k + 1) 0 < 65536 → r ≡ numberAfter s (get_or words (2 * k) 0) (get_or words (2 * k + 1) 0)
+  pub counting-step : (r : NumberWalk) → k < n → get_or words (2 * k + 1) 0 < 65536 → r ≡ number_after s (get_or words (2 * k) 0) (get_or words (2 * k + 1) 0)
       → r.fits ≡ true → Counting words n (k + 1) r
   counting-step r h m e f =
       let t = turned r h m e in
@@ -482,7 +482,7 @@ module _ (words : List ℕ) (n k : ℕ) (s : NumberWalk) (inv : Counting words n
         back = λ w l. inv.back w (rw front (t.back (true-T f) l));
       }
 
-  pub counting-fault : (r : NumberWalk) → k < n → get_or words (2 * k + 1) 0 < 65536 → r ≡ numberAfter s (get_or words (2 * k) 0) (get_or words (2 * k + 1) 0)
+  pub counting-fault : (r : NumberWalk) → k < n → get_or words (2 * k + 1) 0 < 65536 → r ≡ number_after s (get_or words (2 * k) 0) (get_or words (2 * k + 1) 0)
       → r.fits ≡ false → NumberTold whole no_row
   counting-fault r h m e f =
       refused-told whole
@@ -491,44 +491,44 @@ module _ (words : List ℕ) (n k : ℕ) (s : NumberWalk) (inv : Counting words n
       rw f at fits)
 
   module _ (h : n ≤ k) where
-    none : entriesLeft words n k ≡ []
+    none : entries_left words n k ≡ []
     unfolding entries_at
     none = let z : n - k ≡ 0 = omega (arith, h) in rw z
 
-    places : Places s.first s.point s.next (integerPlaces all) (decimalPlaces all) 0 0 0
-    unfolding itemsAt beforeCut integerPlaces decimalPlaces count
+    places : Places s.first s.point s.next (integer_places all) (decimal_places all) 0 0 0
+    unfolding items_at before_cut integer_places decimal_places count
     places = rw none at inv.known.places
 
     pub counting-none : s.first ≡ s.next → NumberTold whole no_row
-    counting-none e = refused-told whole (λ b. no_place s.first s.point s.next _ _ places e (inv.out b).0.some)
+    counting-none e = refused-told whole (λ b. no_place_lem s.first s.point s.next _ _ places e (inv.out b).0.some)
 
-    pub counting-open : (s.first ≡ s.next → ⊥) → openEnd s.point s.next ≡ true → NumberTold whole no_row
-    unfolding itemsAt integerPlaces
+    pub counting-open : (s.first ≡ s.next → ⊥) → open_end s.point s.next ≡ true → NumberTold whole no_row
+    unfolding items_at integer_places
     counting-open f e =
         refused-told whole (λ b. open-end s.first s.point s.next _ _ places f e (rw none at (inv.out b).1.ends))
 
     -- all items were taken, and all places are counted
-    pub counting-ends : (s.first ≡ s.next → ⊥) → openEnd s.point s.next ≡ false → (15 ≤ s.first) × (s.next ≤ 15)
+    pub counting-ends : (s.first ≡ s.next → ⊥) → open_end s.point s.next ≡ false → (15 ≤ s.first) × (s.next ≤ 15)
     counting-ends f e = let t = (ended s.first s.point s.next _ _ places f e).0 in (t.least, t.most)
 
-    percents-are : s.percents ≡ count isPercent all
-    unfolding itemsAt count
-    percents-are = let p : count isPercent all ≡ s.percents + 0 = rw none at inv.known.percents in omega arith
+    percents-are : s.percents ≡ count is_percent all
+    unfolding items_at count
+    percents-are = let p : count is_percent all ≡ s.percents + 0 = rw none at inv.known.percents in omega arith
 
-    all-taken : (s.first ≡ s.next → ⊥) → openEnd s.point s.next ≡ false → T (numberItems whole)
-    unfolding itemsAt every count integerPlaces powersFrom all_of along
+    all-taken : (s.first ≡ s.next → ⊥) → open_end s.point s.next ≡ false → T (number_items whole)
+    unfolding items_at every count integer_places powers_from all_of along
     all-taken f e =
         let t = ended s.first s.point s.next _ _ places f e in
         let k = inv.known in
-        inv.back (record { some = t.0.some; integers = t.0.fewIntegers; decimals = t.0.fewDecimals; percents = omega (arith, percents-are, k.few) })
+        inv.back (record { some = t.0.some; integers = t.0.few_integers; decimals = t.0.few_decimals; percents = omega (arith, percents-are, k.few) })
         (rw none (record { items = tt; ranges = tt; fill = omega (arith, k.fill); points = omega arith; powers = tt; ends = t.1 }))
 
-    pub counting-told : (s.first ≡ s.next → ⊥) → openEnd s.point s.next ≡ false
+    pub counting-told : (s.first ≡ s.next → ⊥) → open_end s.point s.next ≡ false
         → NumberTold whole (record { fits = true; integers = s.first - 15; decimals = 15 - s.next; percents = s.percents })
     counting-told f e =
         let t = (ended s.first s.point s.next _ _ places f e).0 in
         record {
-          fits = sym (T_true (numberItems whole) (all-taken f e));
+          fits = sym (T_true (number_items whole) (all-taken f e));
           integers = λ b. t.integers;
           decimals = λ b. t.decimals;
           percents = λ b. percents-are;

@@ -1,7 +1,7 @@
 // The items of a number section, in a walk of its own: it keeps little, and ends at the first fault.
 ghost use Rattle.std.specs.Prelude.{◌≡◌};
-ghost use Rattle.tables.specs.Words.{entriesIn};
-ghost use Rattle.number_rows.specs.NumberRows.{NumberTold, no_row, noNumber, placed_at, countedAt, placeTaken, pointTaken, percentTaken, fillTaken, numberAfter};
+ghost use Rattle.tables.specs.Words.{entries_in};
+ghost use Rattle.number_rows.specs.NumberRows.{NumberTold, no_row, no_number, placed_at, counted_at, place_taken, point_taken, percent_taken, fill_taken, number_after};
 
 use tables::tags;
 use values::integers::is_between;
@@ -38,7 +38,7 @@ struct NumberWalk {
 }
 
 fn start() -> NumberWalk
-    ensures { result ≡ countedAt noNumber 0 0 }
+    ensures { result ≡ counted_at no_number 0 0 }
 {
     NumberWalk {
         fits: true,
@@ -51,7 +51,7 @@ fn start() -> NumberWalk
 }
 
 fn refused() -> NumberWalk
-    ensures { result ≡ noNumber }
+    ensures { result ≡ no_number }
 {
     NumberWalk {
         fits: false,
@@ -79,7 +79,7 @@ fn placed(s: NumberWalk, point: bool, first: u16, next: u16) -> NumberWalk
 
 // With the places of before.
 fn counted(s: NumberWalk, percents: u16, fills: u16) -> NumberWalk
-    ensures { result ≡ countedAt s percents fills }
+    ensures { result ≡ counted_at s percents fills }
 {
     NumberWalk {
         fits: true,
@@ -93,7 +93,7 @@ fn counted(s: NumberWalk, percents: u16, fills: u16) -> NumberWalk
 
 // The first place may have any power; each other place has the power below.
 fn place(s: NumberWalk, a: u16) -> NumberWalk
-    ensures { result ≡ placeTaken s a }
+    ensures { result ≡ place_taken s a }
 {
     if a == 0 {
         return refused();
@@ -112,7 +112,7 @@ fn place(s: NumberWalk, a: u16) -> NumberWalk
 
 // The one point stands behind the place of power 0, or before all places.
 fn point(s: NumberWalk, a: u16) -> NumberWalk
-    ensures { result ≡ pointTaken s a }
+    ensures { result ≡ point_taken s a }
 {
     if s.point | (a != 0) {
         return refused();
@@ -127,7 +127,7 @@ fn point(s: NumberWalk, a: u16) -> NumberWalk
 }
 
 fn percent(s: NumberWalk, a: u16) -> NumberWalk
-    ensures { result ≡ percentTaken s a }
+    ensures { result ≡ percent_taken s a }
 {
     if a != 0 {
         return refused();
@@ -139,7 +139,7 @@ fn percent(s: NumberWalk, a: u16) -> NumberWalk
 }
 
 fn fill(s: NumberWalk) -> NumberWalk
-    ensures { result ≡ fillTaken s }
+    ensures { result ≡ fill_taken s }
 {
     if s.fills == 0 {
         return counted(s, s.percents, 1);
@@ -150,7 +150,7 @@ fn fill(s: NumberWalk) -> NumberWalk
 // The walk by one item, with its tag and its argument. Places are most items, so they are told first. An item of another kind,
 // and a tag of none, is refused.
 fn step(s: NumberWalk, tag: u16, a: u16) -> NumberWalk
-    ensures { result ≡ numberAfter s tag a }
+    ensures { result ≡ number_after s tag a }
 {
     if is_between(tags::ZERO_PLACE, tags::SPACE_PLACE, tag) {
         return place(s, a);
@@ -178,7 +178,7 @@ fn no_row() -> NumberRow
 
 // What the items of a number section tell, whose words these are. Its places are as many as the first power and the last one say.
 pub fn number_row(words: &[u16]) -> NumberRow
-    ensures { NumberTold (entriesIn words.now) result }
+    ensures { NumberTold (entries_in words.now) result }
 {
     let n = words.len() / 2;
     let mut s = start();

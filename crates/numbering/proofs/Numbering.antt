@@ -13,24 +13,24 @@ use Rattle.values.specs.Ranges.{between}
 use Rattle.lists.specs.Lists.{every, any}
 use Rattle.lists.proofs.Counts.{any_append}
 use Rattle.lists.proofs.Bools.{by_cases, or-false}
-use Rattle.formats.specs.Items.{Item, itemNumber, elapsed, exponent, isPlace, isPoint, isSolidus, isCut, beforeCut, fromCut, integerPlaces, placesBehind, endPlaces, beforeEnd, numeratorItems, wholeItems, mainItems}
-use Rattle.formats.specs.Text.{digitAfter, along, first_of}
+use Rattle.formats.specs.Items.{Item, item_number, elapsed, exponent, is_place, is_point, is_solidus, is_cut, before_cut, from_cut, integer_places, places_behind, end_places, before_end, numerator_items, whole_items, main_items}
+use Rattle.formats.specs.Text.{digit_after, along, first_of}
 use Rattle.formats.proofs.Each.{by-item, by_place, by-elapsed, by-exponent}
 use Rattle.formats.proofs.Cutting.{cut-case, before-bare, whole-bare, main-exponents, cut-joins, end-joins}
-use Rattle.tables.specs.Words.{Entry, entriesWords}
-use Rattle.tables.specs.Encode.{tag_of, entry_of, entriesFrom, runEntries, entriesOf}
+use Rattle.tables.specs.Words.{Entry, entries_words}
+use Rattle.tables.specs.Encode.{tag_of, entry_of, entries_from, run_entries, entries_of}
 use Rattle.tables.proofs.Words.{length-entries}
 use Rattle.tables.proofs.MadeItems.{entries-length}
-use Rattle.numbering.specs.Number.{cut_in, run_from, integersIn, numberedFrom, FrontNumbered}
+use Rattle.numbering.specs.Number.{cut_in, run_from, integers_in, numbered_from, FrontNumbered}
 use Rattle.numbering.specs.declared.Numbered.{Numbered}
 
 -- what an item's tag tells of it
 record Tells (i : Item) : Type 0 where
-  cut : between 22 24 (tag_of i) ≡ isCut i
-  place : between 4 6 (tag_of i) ≡ isPlace i
-  point : eqb (tag_of i) 7 ≡ isPoint i
+  cut : between 22 24 (tag_of i) ≡ is_cut i
+  place : between 4 6 (tag_of i) ≡ is_place i
+  point : eqb (tag_of i) 7 ≡ is_point i
 
-yes : {i : Item} → between 22 24 (tag_of i) ≡ isCut i → between 4 6 (tag_of i) ≡ isPlace i → eqb (tag_of i) 7 ≡ isPoint i → Tells i
+yes : {i : Item} → between 22 24 (tag_of i) ≡ is_cut i → between 4 6 (tag_of i) ≡ is_place i → eqb (tag_of i) 7 ≡ is_point i → Tells i
 yes a b c = record { cut = a; place = b; point = c }
 
 tells : (i : Item) → Tells i
@@ -43,56 +43,56 @@ tells =
     (λ e n. by-elapsed (λ d. Tells (elapsed d n)) (yes refl refl refl) (yes refl refl refl) (yes refl refl refl) e) (λ h. yes refl refl refl)
     (by-exponent (λ m. Tells (exponent m)) (yes refl refl refl) (yes refl refl refl)) (yes refl refl refl) (λ n. yes refl refl refl)
 
-abbrev wordsFrom : ℕ → ℕ → List Item → List ℕ
-wordsFrom anew q is = entriesWords (entriesFrom anew q is) []
+abbrev words_from : ℕ → ℕ → List Item → List ℕ
+words_from anew q is = entries_words (entries_from anew q is) []
 
-words-length : (anew q : ℕ) (is : List Item) → length (wordsFrom anew q is) ≡ 2 * length is
-words-length anew q is = omega (arith, length-entries (entriesFrom anew q is) [], entries-length anew q is)
+words-length : (anew q : ℕ) (is : List Item) → length (words_from anew q is) ≡ 2 * length is
+words-length anew q is = omega (arith, length-entries (entries_from anew q is) [], entries-length anew q is)
 
 -- ---- what the code finds among the words of items
-cut-found : (anew q : ℕ) (is : List Item) → cut_in (wordsFrom anew q is) ≡ 2 * length (beforeCut is)
-unfolding cut_in beforeCut entriesWords entry_of along
+cut-found : (anew q : ℕ) (is : List Item) → cut_in (words_from anew q is) ≡ 2 * length (before_cut is)
+unfolding cut_in before_cut entries_words entry_of along
 cut-found anew q [] = refl
 cut-found anew q (i ∷ is) =
-    rw (tells i).cut (by_cases (isCut i) (λ e. rw e) (λ e. rw e (omega (arith, cut-found anew (digitAfter anew q i) is))))
+    rw (tells i).cut (by_cases (is_cut i) (λ e. rw e) (λ e. rw e (omega (arith, cut-found anew (digit_after anew q i) is))))
 
 run-found : (anew q i start : ℕ) (is : List Item)
-    → run_from i start (wordsFrom anew q is) ≡ cond (every isPlace is) start (i + 2 * length (beforeEnd is))
-unfolding run_from beforeEnd every entriesWords entry_of along
+    → run_from i start (words_from anew q is) ≡ cond (every is_place is) start (i + 2 * length (before_end is))
+unfolding run_from before_end every entries_words entry_of along
 run-found anew q i start [] = refl
 run-found anew q i start (j ∷ is) =
-    run-found anew (digitAfter anew q j) (i + 2) (cond (between 4 6 (tag_of j)) start (i + 2)) is
+    run-found anew (digit_after anew q j) (i + 2) (cond (between 4 6 (tag_of j)) start (i + 2)) is
     ∙ rw (tells j).place
-    (by_cases (isPlace j)
-    (λ p. rw p (by_cases (every isPlace is) (λ e. rw e) (λ e. rw e (omega arith))))
-    (λ p. rw p (by_cases (every isPlace is) (λ e. rw (e, all_end is e) (omega arith)) (λ e. rw e (omega arith)))))
+    (by_cases (is_place j)
+    (λ p. rw p (by_cases (every is_place is) (λ e. rw e) (λ e. rw e (omega arith))))
+    (λ p. rw p (by_cases (every is_place is) (λ e. rw (e, all_end is e) (omega arith)) (λ e. rw e (omega arith)))))
   where
-    all_end : (is : List Item) → every isPlace is ≡ true → length (beforeEnd is) ≡ 0
+    all_end : (is : List Item) → every is_place is ≡ true → length (before_end is) ≡ 0
     all_end [] e = refl
     all_end (j ∷ js) e = rw e
 
-start-found : (anew q : ℕ) (is : List Item) → run_from 0 0 (wordsFrom anew q is) ≡ 2 * length (beforeEnd is)
-unfolding beforeEnd every
+start-found : (anew q : ℕ) (is : List Item) → run_from 0 0 (words_from anew q is) ≡ 2 * length (before_end is)
+unfolding before_end every
 start-found anew q [] = run-found anew q 0 0 []
-start-found anew q (i ∷ is) = run-found anew q 0 0 (i ∷ is) ∙ by_cases (every isPlace (i ∷ is)) (λ e. rw e) (λ e. rw e (omega arith))
+start-found anew q (i ∷ is) = run-found anew q 0 0 (i ∷ is) ∙ by_cases (every is_place (i ∷ is)) (λ e. rw e) (λ e. rw e (omega arith))
 
-integers-found : (anew q : ℕ) (is : List Item) → any isCut is ≡ false → integersIn (wordsFrom anew q is) ≡ integerPlaces is
-unfolding integersIn integerPlaces entriesWords entry_of any along
+integers-found : (anew q : ℕ) (is : List Item) → any is_cut is ≡ false → integers_in (words_from anew q is) ≡ integer_places is
+unfolding integers_in integer_places entries_words entry_of any along
 integers-found anew q [] bare = refl
 integers-found anew q (i ∷ is) bare =
-    by_cases (isCut i) (λ c. absurd (true≢false (rw c at bare)))
+    by_cases (is_cut i) (λ c. absurd (true≢false (rw c at bare)))
     (λ c.
-    rw ((tells i).place, (tells i).point, integers-found anew (digitAfter anew q i) is (rw c at bare), c)
-    (by_cases (isPoint i) (λ e. rw e) (λ e. rw e)))
+    rw ((tells i).place, (tells i).point, integers-found anew (digit_after anew q i) is (rw c at bare), c)
+    (by_cases (is_point i) (λ e. rw e) (λ e. rw e)))
 
-numbered : (anew q first : ℕ) (is : List Item) → any isCut is ≡ false → numberedFrom first (wordsFrom anew q is) ≡ wordsFrom anew first is
-unfolding numberedFrom entriesWords entry_of digitAfter any along
+numbered : (anew q first : ℕ) (is : List Item) → any is_cut is ≡ false → numbered_from first (words_from anew q is) ≡ words_from anew first is
+unfolding numbered_from entries_words entry_of digit_after any along
 numbered anew q first [] bare = refl
 numbered anew q first (i ∷ is) bare =
-    by_cases (isCut i) (λ c. absurd (true≢false (rw c at bare)))
+    by_cases (is_cut i) (λ c. absurd (true≢false (rw c at bare)))
     (λ c.
     rw ((tells i).place, c)
-    (by_cases (isPlace i)
+    (by_cases (is_place i)
     (λ p. rw (p, numbered anew (q - 1) (first - 1) is (rw c at bare)))
     (λ p. rw (p, numbered anew q first is (rw c at bare)))))
 
@@ -100,170 +100,170 @@ numbered anew q first (i ∷ is) bare =
 -- the digit behind items
 unfoldable behind : ℕ → ℕ → List Item → ℕ
 behind anew q [] = q
-behind anew q (i ∷ is) = behind anew (digitAfter anew q i) is
+behind anew q (i ∷ is) = behind anew (digit_after anew q i) is
 
-words-join : (anew q : ℕ) (xs ys : List Item) → wordsFrom anew q (xs ++ ys) ≡ wordsFrom anew q xs ++ wordsFrom anew (behind anew q xs) ys
-unfolding behind entriesWords along
+words-join : (anew q : ℕ) (xs ys : List Item) → words_from anew q (xs ++ ys) ≡ words_from anew q xs ++ words_from anew (behind anew q xs) ys
+unfolding behind entries_words along
 words-join anew q [] ys = refl
-words-join anew q (x ∷ xs) ys = rw (words-join anew (digitAfter anew q x) xs ys)
+words-join anew q (x ∷ xs) ys = rw (words-join anew (digit_after anew q x) xs ys)
 
-entries-join : (xs ys : List Entry) → entriesWords (xs ++ ys) [] ≡ entriesWords xs [] ++ entriesWords ys []
-unfolding entriesWords
+entries-join : (xs ys : List Entry) → entries_words (xs ++ ys) [] ≡ entries_words xs [] ++ entries_words ys []
+unfolding entries_words
 entries-join [] ys = refl
 entries-join (x ∷ xs) ys = rw (entries-join xs ys)
 
 -- from a cut on the digit before it does not matter
-from_cut : (anew p q : ℕ) (is : List Item) → wordsFrom anew p (fromCut is) ≡ wordsFrom anew q (fromCut is)
-unfolding fromCut entriesWords entry_of digitAfter along
-from_cut anew p q [] = refl
-from_cut anew p q (i ∷ is) =
-    cut-case (λ (j : Item). wordsFrom anew p (fromCut (j ∷ is)) ≡ wordsFrom anew q (fromCut (j ∷ is))) (λ m. refl) refl
-    (λ j e. rw e (from_cut anew p q is)) i
+from_cut_lem : (anew p q : ℕ) (is : List Item) → words_from anew p (from_cut is) ≡ words_from anew q (from_cut is)
+unfolding from_cut entries_words entry_of digit_after along
+from_cut_lem anew p q [] = refl
+from_cut_lem anew p q (i ∷ is) =
+    cut-case (λ (j : Item). words_from anew p (from_cut (j ∷ is)) ≡ words_from anew q (from_cut (j ∷ is))) (λ m. refl) refl
+    (λ j e. rw e (from_cut_lem anew p q is)) i
 
 -- and without one the digit behind it does not
-bare-words : (a b q : ℕ) (is : List Item) → any isCut is ≡ false → wordsFrom a q is ≡ wordsFrom b q is
-unfolding entriesWords digitAfter any along
+bare-words : (a b q : ℕ) (is : List Item) → any is_cut is ≡ false → words_from a q is ≡ words_from b q is
+unfolding entries_words digit_after any along
 bare-words a b q [] bare = refl
 bare-words a b q (i ∷ is) bare =
-    by_cases (isCut i) (λ c. absurd (true≢false (rw c at bare)))
-    (λ c. rw (c, bare-words a b (cond (isPlace i) (q - 1) q) is (rw c at bare)))
+    by_cases (is_cut i) (λ c. absurd (true≢false (rw c at bare)))
+    (λ c. rw (c, bare-words a b (cond (is_place i) (q - 1) q) is (rw c at bare)))
 
 -- the numerator's places are all before the cut
-places-all : (is js : List Item) → every isPlace is ≡ true → integerPlaces (is ++ js) ≡ length is + integerPlaces js
-unfolding every integerPlaces
+places-all : (is js : List Item) → every is_place is ≡ true → integer_places (is ++ js) ≡ length is + integer_places js
+unfolding every integer_places
 places-all [] js e = omega arith
 places-all (i ∷ is) js e =
-    by_cases (isPlace i)
-    (λ p. rw (eqb-true (itemNumber i) 3 p) (omega (arith, places-all is js (rw p at e)))) (λ p. absurd (true≢false (sym (rw p at e))))
+    by_cases (is_place i)
+    (λ p. rw (eqb-true (item_number i) 3 p) (omega (arith, places-all is js (rw p at e)))) (λ p. absurd (true≢false (sym (rw p at e))))
 
-end-places : (is : List Item) → every isPlace (endPlaces is) ≡ true
-unfolding endPlaces every
+end-places : (is : List Item) → every is_place (end_places is) ≡ true
+unfolding end_places every
 end-places [] = refl
-end-places (i ∷ is) = by_cases (every isPlace (i ∷ is)) (λ e. rw e e) (λ e. rw e (end-places is))
+end-places (i ∷ is) = by_cases (every is_place (i ∷ is)) (λ e. rw e e) (λ e. rw e (end-places is))
 
-none_from : (is : List Item) → integerPlaces (fromCut is) ≡ 0
-unfolding fromCut integerPlaces
+none_from : (is : List Item) → integer_places (from_cut is) ≡ 0
+unfolding from_cut integer_places
 none_from [] = refl
 none_from (i ∷ is) =
-    cut-case (λ (j : Item). integerPlaces (fromCut (j ∷ is)) ≡ 0) (λ m. refl) refl (λ j e. rw e (none_from is)) i
+    cut-case (λ (j : Item). integer_places (from_cut (j ∷ is)) ≡ 0) (λ m. refl) refl (λ j e. rw e (none_from is)) i
 
-module _ (is : List Item) (some : any isSolidus is ≡ true) where
+module _ (is : List Item) (some : any is_solidus is ≡ true) where
   abbrev a : ℕ
-  a = first_of (placesBehind is)
+  a = first_of (places_behind is)
 
   abbrev q : ℕ
-  q = first_of (integerPlaces is)
+  q = first_of (integer_places is)
 
   abbrev ws : List ℕ
-  ws = entriesWords (runEntries is) []
+  ws = entries_words (run_entries is) []
 
   abbrev front : List Item
-  front = beforeCut is
+  front = before_cut is
 
   abbrev whole : List Item
-  whole = beforeEnd front
+  whole = before_end front
 
   abbrev run : List Item
-  run = endPlaces front
+  run = end_places front
 
-  whole_is : wholeItems is ≡ whole
-  unfolding wholeItems
+  whole_is : whole_items is ≡ whole
+  unfolding whole_items
   whole_is = rw some
 
-  main-is : mainItems is ≡ run ++ fromCut is
-  unfolding mainItems numeratorItems
+  main-is : main_items is ≡ run ++ from_cut is
+  unfolding main_items numerator_items
   main-is = rw some
 
-  words_are : ws ≡ wordsFrom a q is
-  unfolding runEntries
+  words_are : ws ≡ words_from a q is
+  unfolding run_entries
   words_are = refl
 
   -- the words before the cut, and those from it on
   abbrev later : List ℕ
-  later = wordsFrom a q (fromCut is)
+  later = words_from a q (from_cut is)
 
-  words-cut : ws ≡ wordsFrom a q front ++ later
+  words-cut : ws ≡ words_from a q front ++ later
   words-cut =
-      words_are ∙ ap (wordsFrom a q) (sym (cut-joins is)) ∙ words-join a q front (fromCut is)
-      ∙ ap (λ (us : List ℕ). wordsFrom a q front ++ us) (from_cut a (behind a q front) q is)
+      words_are ∙ ap (words_from a q) (sym (cut-joins is)) ∙ words-join a q front (from_cut is)
+      ∙ ap (λ (us : List ℕ). words_from a q front ++ us) (from_cut_lem a (behind a q front) q is)
 
-  words-front : wordsFrom a q front ≡ wordsFrom a q whole ++ wordsFrom a (behind a q whole) run
-  words-front = ap (wordsFrom a q) (sym (end-joins front)) ∙ words-join a q whole run
+  words-front : words_from a q front ≡ words_from a q whole ++ words_from a (behind a q whole) run
+  words-front = ap (words_from a q) (sym (end-joins front)) ∙ words-join a q whole run
 
   cut-is : cut_in ws ≡ 2 * length front
   cut-is = ap cut_in words_are ∙ cut-found a q is
 
-  before-cut : take (cut_in ws) ws ≡ wordsFrom a q front
+  before-cut : take (cut_in ws) ws ≡ words_from a q front
   before-cut =
-      rw (cut-is ∙ sym (words-length a q front)) (ap (take (length (wordsFrom a q front))) words-cut ∙ take-append_seam (wordsFrom a q front) later)
+      rw (cut-is ∙ sym (words-length a q front)) (ap (take (length (words_from a q front))) words-cut ∙ take-append_seam (words_from a q front) later)
 
   behind-cut : drop (cut_in ws) ws ≡ later
   behind-cut =
-      rw (cut-is ∙ sym (words-length a q front)) (ap (drop (length (wordsFrom a q front))) words-cut ∙ drop-append_seam (wordsFrom a q front) later)
+      rw (cut-is ∙ sym (words-length a q front)) (ap (drop (length (words_from a q front))) words-cut ∙ drop-append_seam (words_from a q front) later)
 
   abbrev start : ℕ
-  start = run_from 0 0 (wordsFrom a q front)
+  start = run_from 0 0 (words_from a q front)
 
   start_is : start ≡ 2 * length whole
   start_is = start-found a q front
 
-  whole_words : take start (wordsFrom a q front) ≡ wordsFrom a q whole
+  whole_words : take start (words_from a q front) ≡ words_from a q whole
   whole_words =
       rw (start_is ∙ sym (words-length a q whole))
-      (ap (take (length (wordsFrom a q whole))) words-front ∙ take-append_seam (wordsFrom a q whole) (wordsFrom a (behind a q whole) run))
+      (ap (take (length (words_from a q whole))) words-front ∙ take-append_seam (words_from a q whole) (words_from a (behind a q whole) run))
 
-  run-words : drop start (wordsFrom a q front) ≡ wordsFrom a (behind a q whole) run
+  run-words : drop start (words_from a q front) ≡ words_from a (behind a q whole) run
   run-words =
       rw (start_is ∙ sym (words-length a q whole))
-      (ap (drop (length (wordsFrom a q whole))) words-front ∙ drop-append_seam (wordsFrom a q whole) (wordsFrom a (behind a q whole) run))
+      (ap (drop (length (words_from a q whole))) words-front ∙ drop-append_seam (words_from a q whole) (words_from a (behind a q whole) run))
 
-  wholes-are : integersIn (take start (wordsFrom a q front)) ≡ integerPlaces (wholeItems is)
-  wholes-are = ap integersIn whole_words ∙ integers-found a q whole (rw whole_is at (whole-bare is)) ∙ ap integerPlaces (sym whole_is)
+  wholes-are : integers_in (take start (words_from a q front)) ≡ integer_places (whole_items is)
+  wholes-are = ap integers_in whole_words ∙ integers-found a q whole (rw whole_is at (whole-bare is)) ∙ ap integer_places (sym whole_is)
 
-  numerators-are : integerPlaces (mainItems is) ≡ length run
-  numerators-are = ap integerPlaces main-is ∙ omega (arith, places-all run (fromCut is) (end-places front), none_from is)
+  numerators-are : integer_places (main_items is) ≡ length run
+  numerators-are = ap integer_places main-is ∙ omega (arith, places-all run (from_cut is) (end-places front), none_from is)
 
   front-size : length front ≡ length whole + length run
   front-size = sym (ap length (end-joins front)) ∙ length-append whole run
 
   -- so many words are the numerator's
-  run-size : (length (wordsFrom a q front) - start) / 2 ≡ length run
+  run-size : (length (words_from a q front) - start) / 2 ≡ length run
   run-size = omega (arith, words-length a q front, start_is, front-size)
 
-  run-bare : any isCut run ≡ false
-  run-bare = (or-false (any isCut whole) (any isCut run) (sym (any_append isCut whole run) ∙ ap (any isCut) (end-joins front) ∙ before-bare is)).1
+  run-bare : any is_cut run ≡ false
+  run-bare = (or-false (any is_cut whole) (any is_cut run) (sym (any_append is_cut whole run) ∙ ap (any is_cut) (end-joins front) ∙ before-bare is)).1
 
-  whole-made : entriesWords (runEntries (wholeItems is)) [] ≡ wordsFrom a (first_of (integerPlaces whole)) whole
-  unfolding runEntries
-  whole-made = rw whole_is (bare-words (first_of (placesBehind whole)) a (first_of (integerPlaces whole)) whole (rw whole_is at (whole-bare is)))
+  whole-made : entries_words (run_entries (whole_items is)) [] ≡ words_from a (first_of (integer_places whole)) whole
+  unfolding run_entries
+  whole-made = rw whole_is (bare-words (first_of (places_behind whole)) a (first_of (integer_places whole)) whole (rw whole_is at (whole-bare is)))
 
-  main-made : entriesWords (runEntries (mainItems is)) [] ≡ wordsFrom a (first_of (length run)) run ++ later
-  unfolding runEntries
+  main-made : entries_words (run_entries (main_items is)) [] ≡ words_from a (first_of (length run)) run ++ later
+  unfolding run_entries
   main-made =
       rw (main-exponents is, numerators-are, main-is)
-      (words-join a (first_of (length run)) run (fromCut is)
-      ∙ ap (λ (us : List ℕ). wordsFrom a (first_of (length run)) run ++ us) (from_cut a (behind a (first_of (length run)) run) q is))
+      (words-join a (first_of (length run)) run (from_cut is)
+      ∙ ap (λ (us : List ℕ). words_from a (first_of (length run)) run ++ us) (from_cut_lem a (behind a (first_of (length run)) run) q is))
 
-  words-made : entriesWords (entriesOf is) []
-      ≡ wordsFrom a (first_of (integerPlaces whole)) whole ++ (wordsFrom a (first_of (length run)) run ++ later)
-  unfolding entriesOf
-  words-made = entries-join (runEntries (wholeItems is)) (runEntries (mainItems is)) ∙ rw (whole-made, main-made)
+  words-made : entries_words (entries_of is) []
+      ≡ words_from a (first_of (integer_places whole)) whole ++ (words_from a (first_of (length run)) run ++ later)
+  unfolding entries_of
+  words-made = entries-join (run_entries (whole_items is)) (run_entries (main_items is)) ∙ rw (whole-made, main-made)
 
   -- the three parts numbered are the words of the table
   numbered-parts :
-      numberedFrom (14 + integerPlaces (wholeItems is)) (wordsFrom a q whole) ++ numberedFrom (14 + length run) (wordsFrom a (behind a q whole) run) ++ later
-      ≡ entriesWords (entriesOf is) []
+      numbered_from (14 + integer_places (whole_items is)) (words_from a q whole) ++ numbered_from (14 + length run) (words_from a (behind a q whole) run) ++ later
+      ≡ entries_words (entries_of is) []
   numbered-parts =
-      rw (whole_is, numbered a q (14 + integerPlaces whole) whole (rw whole_is at (whole-bare is)), numbered a (behind a q whole) (14 + length run) run run-bare)
-      (append_assoc (wordsFrom a (14 + integerPlaces whole) whole) (wordsFrom a (14 + length run) run) later ∙ sym words-made)
+      rw (whole_is, numbered a q (14 + integer_places whole) whole (rw whole_is at (whole-bare is)), numbered a (behind a q whole) (14 + length run) run run-bare)
+      (append_assoc (words_from a (14 + integer_places whole) whole) (words_from a (14 + length run) run) later ∙ sym words-made)
 
   pub fraction-numbered : (old : List ℕ) (cut : ℕ) (r : Numbered) (out : List ℕ) → old ≡ ws → cut ≡ cut_in old → FrontNumbered (take cut old) r out
-      → (out ++ drop cut old ≡ entriesWords (entriesOf is) []) × (r.wholes ≡ integerPlaces (wholeItems is)) × (r.numerators ≡ integerPlaces (mainItems is))
+      → (out ++ drop cut old ≡ entries_words (entries_of is) []) × (r.wholes ≡ integer_places (whole_items is)) × (r.numerators ≡ integer_places (main_items is))
   fraction-numbered old cut r out e h f = from (rw (h, e, before-cut) at f)
     where
-      from : FrontNumbered (wordsFrom a q front) r out
-          → (out ++ drop cut old ≡ entriesWords (entriesOf is) []) × (r.wholes ≡ integerPlaces (wholeItems is)) × (r.numerators ≡ integerPlaces (mainItems is))
+      from : FrontNumbered (words_from a q front) r out
+          → (out ++ drop cut old ≡ entries_words (entries_of is) []) × (r.wholes ≡ integer_places (whole_items is)) × (r.numerators ≡ integer_places (main_items is))
       from g =
-          let w : r.wholes ≡ integerPlaces (wholeItems is) = g.wholes ∙ wholes-are in
+          let w : r.wholes ≡ integer_places (whole_items is) = g.wholes ∙ wholes-are in
           let n : r.numerators ≡ length run = g.numerators ∙ run-size in
           (rw (h, e, behind-cut, g.words, w, n, whole_words, run-words) numbered-parts, w, n ∙ sym numerators-are)

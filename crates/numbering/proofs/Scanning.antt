@@ -11,7 +11,7 @@ use lib.Seq.{drop-cons, take_all, take-append_seam, drop-append_seam, get_or-app
 use lib.Dec.{eqb}
 use Rattle.values.specs.Ranges.{between}
 use Rattle.lists.proofs.Bools.{by_cases}
-use Rattle.numbering.specs.Number.{cut_in, run_from, integersIn, numberedFrom}
+use Rattle.numbering.specs.Number.{cut_in, run_from, integers_in, numbered_from}
 
 module _ (ws : List ℕ) (i : ℕ) where
   both : i + 1 < length ws → drop i ws ≡ get_or ws i 0 ∷ get_or ws (i + 1) 0 ∷ drop (i + 2) ws
@@ -30,13 +30,13 @@ module _ (ws : List ℕ) (i : ℕ) where
   unfolding run_from
   run_past start h = rw (both h)
 
-  pub integers-here : i + 1 < length ws → get_or ws i 0 ≡ 7 → integersIn (drop i ws) ≡ 0
-  unfolding integersIn
+  pub integers-here : i + 1 < length ws → get_or ws i 0 ≡ 7 → integers_in (drop i ws) ≡ 0
+  unfolding integers_in
   integers-here h e = rw (both h, e)
 
   pub integers-past : i + 1 < length ws → eqb (get_or ws i 0) 7 ≡ false
-      → integersIn (drop i ws) ≡ cond (between 4 6 (get_or ws i 0)) (suc (integersIn (drop (i + 2) ws))) (integersIn (drop (i + 2) ws))
-  unfolding integersIn
+      → integers_in (drop i ws) ≡ cond (between 4 6 (get_or ws i 0)) (suc (integers_in (drop (i + 2) ws))) (integers_in (drop (i + 2) ws))
+  unfolding integers_in
   integers-past h e = rw (both h, e)
 
   -- fewer than two words are left
@@ -57,12 +57,12 @@ pub run_end : (ws : List ℕ) (i start : ℕ) → length ws ≤ i + 1 → run_fr
 unfolding run_from
 run_end ws i start = past_all ws i (run_from i start) start refl (λ t. refl)
 
-pub integers-end : (ws : List ℕ) (i : ℕ) → length ws ≤ i + 1 → integersIn (drop i ws) ≡ 0
-unfolding integersIn
-integers-end ws i = past_all ws i integersIn 0 refl (λ t. refl)
+pub integers-end : (ws : List ℕ) (i : ℕ) → length ws ≤ i + 1 → integers_in (drop i ws) ≡ 0
+unfolding integers_in
+integers-end ws i = past_all ws i integers_in 0 refl (λ t. refl)
 
-pub more-places : (ws : List ℕ) (i places r n m : ℕ) → n ≡ places + integersIn (drop i ws)
-    → integersIn (drop i ws) ≡ cond (between 4 6 (get_or ws i 0)) (suc m) m → r ≡ cond (between 4 6 (get_or ws i 0)) (places + 1) places
+pub more-places : (ws : List ℕ) (i places r n m : ℕ) → n ≡ places + integers_in (drop i ws)
+    → integers_in (drop i ws) ≡ cond (between 4 6 (get_or ws i 0)) (suc m) m → r ≡ cond (between 4 6 (get_or ws i 0)) (places + 1) places
     → (n ≡ r + m) × (r ≤ places + 1)
 more-places ws i places r n m e f g =
     by_cases (between 4 6 (get_or ws i 0)) (λ p. (omega (arith, e, rw p at f, rw p at g), omega (arith, rw p at g)))
@@ -85,7 +85,7 @@ pub record Going (first : ℕ) (old room : List ℕ) (digit i : ℕ) : Type 0 wh
   pub left : List ℕ
   pub size : length done ≡ i
   pub rest : room ≡ done ++ left
-  pub whole : numberedFrom first old ≡ done ++ numberedFrom digit left
+  pub whole : numbered_from first old ≡ done ++ numbered_from digit left
 
 pub going_start : (first : ℕ) (old : List ℕ) → Going first old old first 0
 going_start first old = record { done = []; left = old; size = refl; rest = refl; whole = refl }
@@ -93,10 +93,10 @@ going_start first old = record { done = []; left = old; size = refl; rest = refl
 pub going_step : {first : ℕ} {old room : List ℕ} {digit i : ℕ} (out : List ℕ) (r : ℕ) → Going first old room digit i → i + 1 < length room
     → r ≡ cond (between 4 6 (get_or room i 0)) (digit - 1) digit
     → out ≡ cond (between 4 6 (get_or room i 0)) (set room (i + 1) (suc digit)) room → Going first old out r (i + 2)
-unfolding numberedFrom
+unfolding numbered_from
 going_step {first} {old} {room} {digit} {i} out r g h a b = from g.left g.rest g.whole
   where
-    from : (left : List ℕ) → room ≡ g.done ++ left → numberedFrom first old ≡ g.done ++ numberedFrom digit left → Going first old out r (i + 2)
+    from : (left : List ℕ) → room ≡ g.done ++ left → numbered_from first old ≡ g.done ++ numbered_from digit left → Going first old out r (i + 2)
     from [] e w = absurd (omega (arith, ap length e, length-append g.done [], g.size))
     from (t ∷ []) e w = absurd (omega (arith, ap length e, length-append g.done (t ∷ []), g.size))
     from (t ∷ x ∷ ws) e w =
@@ -107,30 +107,30 @@ going_step {first} {old} {room} {digit} {i} out r g h a b = from g.left g.rest g
           left = ws;
           size = length-append g.done (t ∷ suc digit ∷ []) ∙ ap (λ (n : ℕ). n + 2) g.size;
           rest = b ∙ rw (here, p, e, ← g.size) (set_next g.done t x ws (suc digit) ∙ sym (append_assoc g.done (t ∷ suc digit ∷ []) ws));
-          whole = w ∙ rw (a, here, p) (sym (append_assoc g.done (t ∷ suc digit ∷ []) (numberedFrom (digit - 1) ws)));
+          whole = w ∙ rw (a, here, p) (sym (append_assoc g.done (t ∷ suc digit ∷ []) (numbered_from (digit - 1) ws)));
         })
         (λ p. record {
           done = g.done ++ (t ∷ x ∷ []);
           left = ws;
           size = length-append g.done (t ∷ x ∷ []) ∙ ap (λ (n : ℕ). n + 2) g.size;
           rest = b ∙ rw (here, p, e) (sym (append_assoc g.done (t ∷ x ∷ []) ws));
-          whole = w ∙ rw (a, here, p) (sym (append_assoc g.done (t ∷ x ∷ []) (numberedFrom digit ws)));
+          whole = w ∙ rw (a, here, p) (sym (append_assoc g.done (t ∷ x ∷ []) (numbered_from digit ws)));
         })
 
-pub going_end : {first : ℕ} {old room : List ℕ} {digit i : ℕ} → Going first old room digit i → length room ≤ i + 1 → room ≡ numberedFrom first old
-unfolding numberedFrom
+pub going_end : {first : ℕ} {old room : List ℕ} {digit i : ℕ} → Going first old room digit i → length room ≤ i + 1 → room ≡ numbered_from first old
+unfolding numbered_from
 going_end {first} {old} {room} {digit} {i} g h = from g.left g.rest g.whole
   where
-    from : (left : List ℕ) → room ≡ g.done ++ left → numberedFrom first old ≡ g.done ++ numberedFrom digit left → room ≡ numberedFrom first old
+    from : (left : List ℕ) → room ≡ g.done ++ left → numbered_from first old ≡ g.done ++ numbered_from digit left → room ≡ numbered_from first old
     from [] e w = e ∙ sym w
     from (t ∷ []) e w = e ∙ sym w
     from (t ∷ x ∷ ws) e w = absurd (omega (arith, ap length e, length-append g.done (t ∷ x ∷ ws), g.size))
 
 -- ---- two parts numbered, one behind the other
-pub front-put : (old x y : List ℕ) (s f g : ℕ) → length x ≡ s → x ≡ numberedFrom f (take s old)
-    → y ≡ numberedFrom g (take (length (x ++ drop s old) - s) (drop s (x ++ drop s old)))
+pub front-put : (old x y : List ℕ) (s f g : ℕ) → length x ≡ s → x ≡ numbered_from f (take s old)
+    → y ≡ numbered_from g (take (length (x ++ drop s old) - s) (drop s (x ++ drop s old)))
     → take s (x ++ drop s old) ++ (y ++ drop (length (x ++ drop s old) - s) (drop s (x ++ drop s old)))
-    ≡ numberedFrom f (take s old) ++ numberedFrom g (drop s old)
+    ≡ numbered_from f (take s old) ++ numbered_from g (drop s old)
 front-put old x y s f g size e h =
     let d = drop s old in
     let a : take s (x ++ d) ≡ x = ap (λ (k : ℕ). take k (x ++ d)) (sym size) ∙ take-append_seam x d in
@@ -139,7 +139,7 @@ front-put old x y s f g size e h =
     let whole : take (length d) d ≡ d = take_all (length d) d (omega arith) in
     rw (a, ← e)
     (ap (λ (us : List ℕ). x ++ us)
-    (rw (h, b, n, whole, drop_of_length-le d {i = length d} (omega arith)) (append-nil (numberedFrom g d))))
+    (rw (h, b, n, whole, drop_of_length-le d {i = length d} (omega arith)) (append-nil (numbered_from g d))))
 
 pub rest-few : (old x : List ℕ) (s : ℕ) → length x ≡ s → s ≤ length old → length old ≤ 508
     → length (take (length (x ++ drop s old) - s) (drop s (x ++ drop s old))) ≤ 508

@@ -3,10 +3,10 @@
 ghost use Rattle.std.specs.Prelude.{◌≡◌, true, cond, List, [], suc, ◌+◌, ◌-◌, ◌≤◌, ◌<◌, length, get_or, set};
 ghost use Rattle.values.specs.Ranges.{between};
 ghost use Rattle.lists.specs.Lists.{any};
-ghost use Rattle.formats.specs.Items.{Item, isSolidus, integerPlaces, wholeItems, mainItems};
-ghost use Rattle.tables.specs.Words.{entriesWords};
-ghost use Rattle.tables.specs.Encode.{runEntries, entriesOf};
-ghost use Rattle.numbering.specs.Number.{cut_in, run_from, integersIn, numberedFrom, FrontNumbered};
+ghost use Rattle.formats.specs.Items.{Item, is_solidus, integer_places, whole_items, main_items};
+ghost use Rattle.tables.specs.Words.{entries_words};
+ghost use Rattle.tables.specs.Encode.{run_entries, entries_of};
+ghost use Rattle.numbering.specs.Number.{cut_in, run_from, integers_in, numbered_from, FrontNumbered};
 
 use tables::tags;
 use values::integers::{is_between, lowered};
@@ -71,7 +71,7 @@ fn places_with(places: u16, tag: u16) -> u16
 // How many places stand before the first point among item words.
 fn integers_in(words: &[u16]) -> u16
     requires { length words.now ≤ 508 }
-    ensures { (result ≡ integersIn words.now) × (result ≤ 254) }
+    ensures { (result ≡ integers_in words.now) × (result ≤ 254) }
 {
     let mut places: u16 = 0;
     let mut i: usize = 0;
@@ -102,7 +102,7 @@ fn number_item(words: &mut [u16], i: usize, digit: u16) -> u16
 // Writes the powers of places anew: they run down from the first digit, told by its power and 15.
 fn number_run(words: &mut [u16], first: u16)
     requires { (length words.old ≤ 508) × (first ≤ 268) }
-    ensures { words.new ≡ numberedFrom first words.old }
+    ensures { words.new ≡ numbered_from first words.old }
 {
     let mut digit = first;
     let mut i: usize = 0;
@@ -128,8 +128,8 @@ fn number_front(words: &mut [u16]) -> Numbered
 // Writes the powers of a fraction's places over the words of its items.
 pub fn number_fraction(words: &mut [u16]) -> Numbered
     requires { length words.old ≤ 508 }
-    ensures { (is : List Item) → any isSolidus is ≡ true → words.old ≡ entriesWords (runEntries is) []
-        → (words.new ≡ entriesWords (entriesOf is) []) × (result.wholes ≡ integerPlaces (wholeItems is)) × (result.numerators ≡ integerPlaces (mainItems is)) }
+    ensures { (is : List Item) → any is_solidus is ≡ true → words.old ≡ entries_words (run_entries is) []
+        → (words.new ≡ entries_words (entries_of is) []) × (result.wholes ≡ integer_places (whole_items is)) × (result.numerators ≡ integer_places (main_items is)) }
 {
     let cut = cut_start(words);
     number_front(&mut words[..cut])

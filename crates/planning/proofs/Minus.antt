@@ -13,11 +13,11 @@ use borrow.Author.Tests.{eq-eqb, ne_eqb}
 use Rattle.values.specs.declared.Number.{Number}
 use Rattle.lists.specs.Lists.{is_empty}
 use Rattle.formats.specs.Items.{Item, Section}
-use Rattle.formats.specs.Choice.{numberExact}
-use Rattle.formats.specs.Minus.{minus, notNegative, no_item, forNegatives, nought, signFor, signUnits}
+use Rattle.formats.specs.Choice.{number_exact}
+use Rattle.formats.specs.Minus.{minus, not_negative, no_item, for_negatives, nought, sign_for, sign_units}
 use Rattle.choosing.proofs.Choosing.{below-zero}
-use Rattle.section_text.specs.Show.{signText}
-use Rattle.planning.specs.Minus.{minusTold}
+use Rattle.section_text.specs.Show.{sign_text}
+use Rattle.planning.specs.Minus.{minus_told}
 
 empty-told : (is : List Item) (n : ℕ) → n ≡ length is → is_empty is ≡ eqb n 0
 unfolding is_empty
@@ -25,9 +25,9 @@ empty-told [] n e = sym (eq-eqb n 0 e)
 empty-told (i ∷ is) n e = sym (ne_eqb n 0 (λ f. omega arith))
 
 four : (negative empty excepted held : Bool)
-    → signUnits (cond (not negative) notNegative (cond empty no_item (cond excepted forNegatives (cond held nought minus))))
-    ≡ signText (minusTold negative empty excepted held)
-unfolding signUnits signText minusTold
+    → sign_units (cond (not negative) not_negative (cond empty no_item (cond excepted for_negatives (cond held nought minus))))
+    ≡ sign_text (minus_told negative empty excepted held)
+unfolding sign_units sign_text minus_told
 four false true a b = refl
 four false false true b = refl
 four false false false true = refl
@@ -39,7 +39,7 @@ four true false false false = refl
 
 -- the units of the sign
 pub sign-told : (x : Number) (s : Section) (excepted held : Bool) (n : ℕ) → n ≡ length s.items
-    → signUnits (signFor (numberExact x) s excepted held) ≡ signText (minusTold (lt_z x.coefficient (pos 0)) (eqb n 0) excepted held)
-unfolding signFor numberExact
+    → sign_units (sign_for (number_exact x) s excepted held) ≡ sign_text (minus_told (lt_z x.coefficient (pos 0)) (eqb n 0) excepted held)
+unfolding sign_for number_exact
 sign-told x s a b n e =
-    rw (below-zero (numberExact x), empty-told s.items n e) (four (lt_z x.coefficient (pos 0)) (eqb n 0) a b)
+    rw (below-zero (number_exact x), empty-told s.items n e) (four (lt_z x.coefficient (pos 0)) (eqb n 0) a b)

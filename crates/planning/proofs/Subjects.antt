@@ -8,11 +8,11 @@ use lib.Dec.{T}
 use lib.ListN.{get_or}
 use Rattle.lists.specs.Lists.{every}
 use Rattle.lists.proofs.Bools.{every-head, every-tail}
-use Rattle.formats.specs.Items.{Item, Kind, dateKind, numberKind, scientificKind, fractionKind, literalKind, sameKind, showsPlaces, itemAllowed, kind_of, integerPlaces}
+use Rattle.formats.specs.Items.{Item, Kind, date_kind, number_kind, scientific_kind, fraction_kind, literal_kind, same_kind, shows_places, item_allowed, kind_of, integer_places}
 use Rattle.formats.specs.Text.{Context}
 use Rattle.formats.proofs.Each.{by-item}
 use Rattle.tables.specs.Rules.{passes}
-use Rattle.table_words.specs.Sections.{sectionIn}
+use Rattle.table_words.specs.Sections.{section_in}
 use Rattle.table_words.proofs.Bodies.{section-allowed}
 use Rattle.figure_text.specs.Shown.{FiguresAre}
 use Rattle.section_text.specs.declared.Subject.{Subject}
@@ -20,31 +20,31 @@ use Rattle.section_text.specs.Subject.{StandsFor, SubjectIs}
 
 -- a section of this kind shows no places, no instant, no exponent and no fraction
 abbrev pub Unfigured : Kind → Type 0
-Unfigured k = (showsPlaces k ≡ false) × (sameKind dateKind k ≡ false) × (sameKind scientificKind k ≡ false) × (sameKind fractionKind k ≡ false)
+Unfigured k = (shows_places k ≡ false) × (same_kind date_kind k ≡ false) × (same_kind scientific_kind k ≡ false) × (same_kind fraction_kind k ≡ false)
 
 -- where no places are shown there is no integer place
-no-places : (k : Kind) (is : List Item) → T (every (itemAllowed k) is) → showsPlaces k ≡ false → 0 ≡ integerPlaces is
-unfolding integerPlaces itemAllowed
+no-places : (k : Kind) (is : List Item) → T (every (item_allowed k) is) → shows_places k ≡ false → 0 ≡ integer_places is
+unfolding integer_places item_allowed
 no-places k [] t e = refl
 no-places k (i ∷ is) t e =
-    by-item (λ j. T (itemAllowed k j) → 0 ≡ integerPlaces is → 0 ≡ integerPlaces (j ∷ is)) (λ u t r. r) (λ u t r. r) (λ u t r. r)
+    by-item (λ j. T (item_allowed k j) → 0 ≡ integer_places is → 0 ≡ integer_places (j ∷ is)) (λ u t r. r) (λ u t r. r) (λ u t r. r)
     (λ p t r. absurd (rw e at t)) (λ t r. refl) (λ t r. r) (λ t r. r) (λ t r. r)
     (λ n t r. r) (λ n t r. r) (λ n t r. r) (λ n t r. r) (λ n t r. r) (λ n t r. r) (λ n t r. r) (λ o n t r. r) (λ h t r. r) (λ m t r. refl)
     (λ t r. refl) (λ n t r. r)
-    i (every-head (itemAllowed k) i is t) (no-places k is (every-tail (itemAllowed k) i is t) e)
+    i (every-head (item_allowed k) i is t) (no-places k is (every-tail (item_allowed k) i is t) e)
 
-pub section-places : (ws : List ℕ) (i : ℕ) → T (passes ws) → i < get_or ws 0 0 → showsPlaces (kind_of (sectionIn ws i)) ≡ false
-    → 0 ≡ integerPlaces (sectionIn ws i).items
+pub section-places : (ws : List ℕ) (i : ℕ) → T (passes ws) → i < get_or ws 0 0 → shows_places (kind_of (section_in ws i)) ≡ false
+    → 0 ≡ integer_places (section_in ws i).items
 section-places ws i t h e =
-    no-places (kind_of (sectionIn ws i)) (sectionIn ws i).items (section-allowed ws i t h) e
+    no-places (kind_of (section_in ws i)) (section_in ws i).items (section-allowed ws i t h) e
 
 module _ {k : Kind} {digits : List ℕ} {s : Subject} {text : List ℕ} (c : Context) where
   -- nothing is asked of the subject of a literal section, its figures alone of a number section's
-  pub literal-subject : k ≡ literalKind → SubjectIs k digits s text c
+  pub literal-subject : k ≡ literal_kind → SubjectIs k digits s text c
   literal-subject e =
       rw e (record { numeric = λ t. absurd t; general = λ t. absurd t; textual = λ t. absurd t; undated = refl; unscientific = refl; unfractional = refl })
 
-  pub number-subject : k ≡ numberKind → FiguresAre digits s.figures c → SubjectIs k digits s text c
+  pub number-subject : k ≡ number_kind → FiguresAre digits s.figures c → SubjectIs k digits s text c
   number-subject e are =
       rw e (record { numeric = λ t. are; general = λ t. absurd t; textual = λ t. absurd t; undated = refl; unscientific = refl; unfractional = refl })
 

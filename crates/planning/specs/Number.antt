@@ -6,10 +6,10 @@ use Rattle.figures.specs.declared.Signed.{Signed}
 use Rattle.tables.specs.Words.{Entry}
 use Rattle.choosing.specs.declared.Sought.{Sought}
 
-abbrev pub signedSought : Signed → Sought
-signedSought v = record { negative = v.negative; instant = false; above = v.magnitude; scale = v.scale }
+abbrev pub signed_sought : Signed → Sought
+signed_sought v = record { negative = v.negative; instant = false; above = v.magnitude; scale = v.scale }
 
 -- the argument of the first place; 15 where there is none
-unfoldable pub firstArgument : List Entry → ℕ
-firstArgument [] = 15
-firstArgument (e ∷ es) = let r = firstArgument es in cond (between 4 6 e.tag) e.argument r
+unfoldable pub first_argument : List Entry → ℕ
+first_argument [] = 15
+first_argument (e ∷ es) = let r = first_argument es in cond (between 4 6 e.tag) e.argument r

@@ -1,22 +1,22 @@
 // The plan of what is to be shown of a value through a table: a refusal, the text itself, or the section that takes it, with its figures and its
 // minus. No room is needed to make it.
 ghost use Rattle.std.specs.Prelude.{◌≡◌, true, false, List, ◌≤◌, ◌<◌, ◌^◌, ℕ, T, eqb, get_or};
-ghost use Rattle.formats.specs.Items.{numberKind, fractionKind, sameKind, kind_of, integerPlaces};
-ghost use Rattle.formats.specs.Choice.{instantExact, Reason, chosen, choose};
-ghost use Rattle.formats.specs.Reading.{readInstant, showsGeneral, sectionRounded, numberExactly, readValue, reading};
+ghost use Rattle.formats.specs.Items.{number_kind, fraction_kind, same_kind, kind_of, integer_places};
+ghost use Rattle.formats.specs.Choice.{instant_exact, Reason, chosen, choose};
+ghost use Rattle.formats.specs.Reading.{read_instant, shows_general, section_rounded, number_exactly, read_value, reading};
 ghost use Rattle.figures.specs.Digits.{figures};
 ghost use Rattle.figures.specs.Sign.{signed_of};
 ghost use Rattle.values.specs.declared.Number.{Number};
 ghost use Rattle.values.specs.declared.Value.TheVariants as value;
-ghost use Rattle.tables.specs.Words.{entriesIn};
+ghost use Rattle.tables.specs.Words.{entries_in};
 ghost use Rattle.tables.specs.Decode.{decode};
 ghost use Rattle.tables.specs.Rules.{passes};
-ghost use Rattle.table_words.specs.Sections.{sectionIn};
-ghost use Rattle.choosing.specs.Seeking.{instantSought};
-ghost use Rattle.figure_text.specs.Shown.{figuresWith};
-ghost use Rattle.planning.specs.Minus.{minusTold, minusIn};
-ghost use Rattle.planning.specs.Number.{signedSought, firstArgument};
-ghost use Rattle.planning.specs.Plan.{PlanIs, PlansNumber, valueReading, barePlan, digitsPlan};
+ghost use Rattle.table_words.specs.Sections.{section_in};
+ghost use Rattle.choosing.specs.Seeking.{instant_sought};
+ghost use Rattle.figure_text.specs.Shown.{figures_with};
+ghost use Rattle.planning.specs.Minus.{minus_told, minus_in};
+ghost use Rattle.planning.specs.Number.{signed_sought, first_argument};
+ghost use Rattle.planning.specs.Plan.{PlanIs, PlansNumber, value_reading, bare_plan, digits_plan};
 
 use answers::Answer;
 use choosing::{Found, Sought, TextFound};
@@ -62,7 +62,7 @@ fn without_digits(plan: Plan) -> Planned
 
 // Section i, which shows no figures.
 fn bare(i: u16, minus: bool, lent: bool) -> Plan
-    ensures { result ≡ barePlan i minus lent }
+    ensures { result ≡ bare_plan i minus lent }
 {
     Plan::Section(
         i,
@@ -81,8 +81,8 @@ fn bare(i: u16, minus: bool, lent: bool) -> Plan
 // The plan of an instant in section i, where that takes one.
 fn instant_in(table: &[u16], i: u16, d: Day, m: Millisecond) -> Plan
     requires { T (passes table.now) × (i < get_or table.now 0 0) }
-    ensures { (digits text : List ℕ) (why : Reason) → choose (decode table.now) (instantExact d m) ≡ chosen i (sectionIn table.now i) why
-        → PlanIs result digits true table.now text (λ size. readInstant d m size (choose (decode table.now) (instantExact d m))) }
+    ensures { (digits text : List ℕ) (why : Reason) → choose (decode table.now) (instant_exact d m) ≡ chosen i (section_in table.now i) why
+        → PlanIs result digits true table.now text (λ size. read_instant d m size (choose (decode table.now) (instant_exact d m))) }
 {
     let h = head_of(table, i as usize);
     let kind = h.kind;
@@ -97,7 +97,7 @@ fn instant_in(table: &[u16], i: u16, d: Day, m: Millisecond) -> Plan
 
 // An instant as the chooser is asked for it.
 pub fn instant_sought(d: Day, m: Millisecond) -> Sought
-    ensures { result ≡ instantSought d m }
+    ensures { result ≡ instant_sought d m }
 {
     Sought {
         negative: false,
@@ -110,7 +110,7 @@ pub fn instant_sought(d: Day, m: Millisecond) -> Sought
 // The plan of an instant; one out of range is refused.
 fn instant_plan(table: &[u16], d: Day, m: Millisecond) -> Plan
     requires { T (passes table.now) }
-    ensures { (digits text : List ℕ) → PlanIs result digits true table.now text (valueReading table.now (value.Instant d m) text) }
+    ensures { (digits text : List ℕ) → PlanIs result digits true table.now text (value_reading table.now (value.Instant d m) text) }
 {
     if Day::GREATEST < d.0 {
         return Plan::Refused(Answer::Range);
@@ -127,7 +127,7 @@ fn instant_plan(table: &[u16], d: Day, m: Millisecond) -> Plan
 // The plan of a text; one that is too long is refused.
 fn text_plan(table: &[u16], text: &[u16]) -> Plan
     requires { T (passes table.now) }
-    ensures { (digits : List ℕ) → PlanIs result digits true table.now text.now (valueReading table.now value.Text text.now) }
+    ensures { (digits : List ℕ) → PlanIs result digits true table.now text.now (value_reading table.now value.Text text.now) }
 {
     if 1024 < text.len() {
         return Plan::Refused(Answer::Range);
@@ -140,7 +140,7 @@ fn text_plan(table: &[u16], text: &[u16]) -> Plan
 
 // Whether a number has an added minus in a section of so many items, where the exceptions hold or do not.
 fn has_minus(negative: bool, items: u16, excepted: bool, nought: bool) -> bool
-    ensures { result ≡ minusTold negative (eqb items 0) excepted nought }
+    ensures { result ≡ minus_told negative (eqb items 0) excepted nought }
 {
     if items == 0 {
         return false;
@@ -157,7 +157,7 @@ fn has_minus(negative: bool, items: u16, excepted: bool, nought: bool) -> bool
 // The added minus of a number in section i; `nought`: the figures that it shows are nought.
 pub fn added_minus(table: &[u16], i: u16, negative: bool, nought: bool) -> bool
     requires { T (passes table.now) × (i < get_or table.now 0 0) }
-    ensures { result ≡ minusIn table.now i negative nought }
+    ensures { result ≡ minus_in table.now i negative nought }
 {
     let h = head_of(table, i as usize);
     has_minus(negative, h.items, no_minus(table, i as usize), nought)
@@ -174,7 +174,7 @@ fn with_digits(
     grouped: bool,
 ) -> Planned
     requires { T (passes table.now) × (i < get_or table.now 0 0) }
-    ensures { (result.plan ≡ digitsPlan table.now i negative (figuresWith digits integers grouped)) × (result.digits ≡ digits) × (result.exact ≡ exact) }
+    ensures { (result.plan ≡ digits_plan table.now i negative (figures_with digits integers grouped)) × (result.digits ≡ digits) × (result.exact ≡ exact) }
 {
     let figures = figures_of(digits, integers, grouped);
     let minus = added_minus(table, i, negative, figures.used == 0);
@@ -195,7 +195,7 @@ fn with_digits(
 // The plan of a number in section i, which shows General.
 fn general_plan(table: &[u16], i: u16, v: Signed) -> Planned
     requires { T (passes table.now) × (i < get_or table.now 0 0) × (v.magnitude < 10 ^ 15)
-        × T (showsGeneral (kind_of (sectionIn table.now i))) }
+        × T (shows_general (kind_of (section_in table.now i))) }
     ensures { PlansNumber table.now i v result }
 {
     if figures::general_too_wide(v.magnitude, v.scale) {
@@ -208,7 +208,7 @@ fn general_plan(table: &[u16], i: u16, v: Signed) -> Planned
 
 // The argument of the first place among item words; 15 where there is none.
 fn first_argument(items: &[u16]) -> u16
-    ensures { result ≡ firstArgument (entriesIn items.now) }
+    ensures { result ≡ first_argument (entries_in items.now) }
 {
     let n = items.len() / 2;
     let mut k: usize = 0;
@@ -226,8 +226,8 @@ fn first_argument(items: &[u16]) -> u16
 // How many integer places section i has, which is no fraction: powers run down by one from the first place, whose argument is 16 more
 // than its power.
 pub fn integer_places(table: &[u16], i: usize) -> u32
-    requires { T (passes table.now) × (i < get_or table.now 0 0) × (sameKind (kind_of (sectionIn table.now i)) fractionKind ≡ false) }
-    ensures { result ≡ integerPlaces (sectionIn table.now i).items }
+    requires { T (passes table.now) × (i < get_or table.now 0 0) × (same_kind (kind_of (section_in table.now i)) fraction_kind ≡ false) }
+    ensures { result ≡ integer_places (section_in table.now i).items }
 {
     first_argument(items_of(table, i)) as u32 - 15
 }
@@ -235,9 +235,9 @@ pub fn integer_places(table: &[u16], i: usize) -> u32
 // A number rounded as section i shows it, which is a number section: a shift above 15 multiplies, one below 15 divides.
 fn number_digits(table: &[u16], i: usize, v: Signed, exact: &mut bool) -> [u8; 40]
     requires { T (passes table.now) × (i < get_or table.now 0 0) × (v.magnitude < 10 ^ 15) × (v.scale ≤ 15)
-        × (kind_of (sectionIn table.now i) ≡ numberKind) }
-    ensures digits { (x : Number) → v ≡ signed_of x → result ≡ figures (sectionRounded (sectionIn table.now i) x) }
-    ensures exact { (x : Number) → v ≡ signed_of x → exact.new ≡ numberExactly (sectionIn table.now i) x }
+        × (kind_of (section_in table.now i) ≡ number_kind) }
+    ensures digits { (x : Number) → v ≡ signed_of x → result ≡ figures (section_rounded (section_in table.now i) x) }
+    ensures exact { (x : Number) → v ≡ signed_of x → exact.new ≡ number_exactly (section_in table.now i) x }
 {
     let h = head_of(table, i);
     let shift = h.shift as u32;
@@ -250,7 +250,7 @@ fn number_digits(table: &[u16], i: usize, v: Signed, exact: &mut bool) -> [u8; 4
 // The plan of a number in section i, which is a number section.
 fn figures_plan(table: &[u16], i: u16, v: Signed) -> Planned
     requires { T (passes table.now) × (i < get_or table.now 0 0) × (v.magnitude < 10 ^ 15) × (v.scale ≤ 15)
-        × (kind_of (sectionIn table.now i) ≡ numberKind) }
+        × (kind_of (section_in table.now i) ≡ number_kind) }
     ensures { PlansNumber table.now i v result }
 {
     let mut exact = true;
@@ -286,7 +286,7 @@ fn number_in(table: &[u16], i: u16, v: Signed) -> Planned
 
 // A number as the chooser is asked for it.
 pub fn number_sought(v: Signed) -> Sought
-    ensures { result ≡ signedSought v }
+    ensures { result ≡ signed_sought v }
 {
     Sought {
         negative: v.negative,
@@ -300,7 +300,7 @@ pub fn number_sought(v: Signed) -> Sought
 fn number_in_range(table: &[u16], v: Signed) -> Planned
     requires { T (passes table.now) × (v.magnitude < 10 ^ 15) × (v.scale ≤ 15) }
     ensures { (text : List ℕ) (x : Number) → v ≡ signed_of x
-        → PlanIs result.plan result.digits result.exact table.now text (readValue (decode table.now) (value.Number x) text) }
+        → PlanIs result.plan result.digits result.exact table.now text (read_value (decode table.now) (value.Number x) text) }
 {
     match choosing::choose(table, number_sought(v)) {
         Found::Nothing => without_digits(Plan::Refused(Answer::NoSection)),
@@ -311,7 +311,7 @@ fn number_in_range(table: &[u16], v: Signed) -> Planned
 // The plan of a number; one out of range is refused.
 fn number_plan(table: &[u16], x: Number) -> Planned
     requires { T (passes table.now) }
-    ensures { (text : List ℕ) → PlanIs result.plan result.digits result.exact table.now text (valueReading table.now (value.Number x) text) }
+    ensures { (text : List ℕ) → PlanIs result.plan result.digits result.exact table.now text (value_reading table.now (value.Number x) text) }
 {
     match figures::take_number(x) {
         Taken::OutOfRange => without_digits(Plan::Refused(Answer::Range)),

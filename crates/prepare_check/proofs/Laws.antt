@@ -12,19 +12,19 @@ use Rattle.answers.specs.declared.Prepared.{Prepared}
 use Rattle.lists.proofs.Bools.{cond-case}
 use Rattle.formats.specs.Accept.{Accepted, sections, refusal, accept}
 use Rattle.tables.specs.Encode.{encode}
-use Rattle.tables.specs.Calls.{preparedAs, prepared}
+use Rattle.tables.specs.Calls.{prepared_as, prepared}
 use Rattle.writing.specs.Put.{Put}
 use Rattle.writing.proofs.Laws.{drop-first, put-none}
-use Rattle.prepare_check.specs.Lines.{mark, spaced, spacedAll}
+use Rattle.prepare_check.specs.Lines.{mark, spaced, spaced_all}
 
 -- ---- the first of what is left
-pub all_first : (ws : List ℕ) (i : ℕ) → i < length ws → spacedAll (drop i ws) ≡ spaced (get_or ws i 0) ++ spacedAll (drop (i + 1) ws)
-unfolding spacedAll
-all_first ws i h = ap spacedAll (drop-first ws i h)
+pub all_first : (ws : List ℕ) (i : ℕ) → i < length ws → spaced_all (drop i ws) ≡ spaced (get_or ws i 0) ++ spaced_all (drop (i + 1) ws)
+unfolding spaced_all
+all_first ws i h = ap spaced_all (drop-first ws i h)
 
 -- ---- the words that preparing reports lie in the room
-words-as : (a : Accepted) (size : ℕ) → (preparedAs a size).words ≤ size
-unfolding preparedAs
+words-as : (a : Accepted) (size : ℕ) → (prepared_as a size).words ≤ size
+unfolding prepared_as
 words-as (refusal a k) size = omega arith
 words-as (sections ss) size =
     cond-case (λ (p : Prepared). p.words ≤ size) (leb (length (encode ss)) size) (λ e. leb-true (length (encode ss)) size e) (λ e. omega arith)

@@ -12,10 +12,10 @@ mark false = 33 ∷ []
 unfoldable pub spaced : ℕ → List ℕ
 spaced n = (32 ∷ []) ++ numeral 1 n
 
-unfoldable pub spacedAll : List ℕ → List ℕ
-spacedAll [] = []
-spacedAll (w ∷ ws) = spaced w ++ spacedAll ws
+unfoldable pub spaced_all : List ℕ → List ℕ
+spaced_all [] = []
+spaced_all (w ∷ ws) = spaced w ++ spaced_all ws
 
 unfoldable pub line_of : Bool → ℕ → ℕ → List ℕ → List ℕ
 line_of sound answer place words =
-    mark sound ++ numeral 1 answer ++ spaced place ++ spaced (length words) ++ spacedAll words ++ (10 ∷ [])
+    mark sound ++ numeral 1 answer ++ spaced place ++ spaced (length words) ++ spaced_all words ++ (10 ∷ [])

@@ -2,7 +2,7 @@
 ghost use Rattle.std.specs.Prelude.{◌≡◌, ◌+◌, ◌*◌, ◌≤◌, ◌<◌, ◌^◌, length};
 ghost use Rattle.figures.specs.Digits.{numeral};
 ghost use Rattle.writing.specs.Put.{Put};
-ghost use Rattle.prepare_check.specs.Lines.{mark, spaced, spacedAll, line_of};
+ghost use Rattle.prepare_check.specs.Lines.{mark, spaced, spaced_all, line_of};
 
 use writing::{put_numeral, put_unit};
 
@@ -47,7 +47,7 @@ fn put_spaced(room: &mut [u16], at: usize, n: u64) -> usize
 fn put_words(room: &mut [u16], at: usize, words: &[u16]) -> usize
     requires { (at < 2 ^ 60) × (length words.now ≤ 557) }
     ensures within { result ≤ at + 26 * length words.now }
-    ensures put { Put room.old at (spacedAll words.now) result room.new }
+    ensures put { Put room.old at (spaced_all words.now) result room.new }
 {
     let mut o = at;
     let mut i = 0;

@@ -11,89 +11,89 @@ use lib.Dec.{T}
 use borrow.Author.Tests.{le-leb, lt-leb}
 use Rattle.answers.specs.declared.Answer.{Answer}
 use Rattle.answers.specs.declared.Answer.TheVariants as answer
-use Rattle.answers.specs.Number.{donePrepared, refusedPrepared}
+use Rattle.answers.specs.Number.{done_prepared, refused_prepared}
 use Rattle.lists.specs.Lists.{every, overlay}
 use Rattle.lists.proofs.First.{none-every}
-use Rattle.formats.specs.Kinds.{sectionOf}
-use Rattle.formats.specs.Limits.{withinLimits}
-use Rattle.formats.specs.Accept.{parts_in, sectionsIn, fine, refused, limitVerdict, verdict, sections, acceptedBy, accept}
+use Rattle.formats.specs.Kinds.{section_of}
+use Rattle.formats.specs.Limits.{within_limits}
+use Rattle.formats.specs.Accept.{parts_in, sections_in, fine, refused, limit_verdict, verdict, sections, accepted_by, accept}
 use Rattle.formats.proofs.First.{verdict-fine, fine-none}
 use Rattle.formats.proofs.ItemCount.{section-count}
 use Rattle.tables.specs.Encode.{encode}
-use Rattle.tables.specs.Calls.{words_of, table_of, preparedAs, prepared, written, tableAfter}
+use Rattle.tables.specs.Calls.{words_of, table_of, prepared_as, prepared, written, table_after}
 use Rattle.writing.specs.Put.{Put}
 use Rattle.writing.proofs.Laws.{sets-overlay}
 use Rattle.drafting.specs.declared.Draft.{Draft}
 use Rattle.examining.specs.declared.Examined.{Examined}
-use Rattle.drafting.specs.Draft.{draftIn, draftsIn, hasConditionBy}
-use Rattle.preparing.specs.Table.{countedBy, headsBy, tableBy}
+use Rattle.drafting.specs.Draft.{draft_in, drafts_in, has_condition_by}
+use Rattle.preparing.specs.Table.{counted_by, heads_by, table_by}
 use Rattle.examining.specs.Examine.{Sound}
 use Rattle.preparing.proofs.Tabling.{heads-size, table_same}
 
 -- ---- a refusal
 module _ (code : List ℕ) (a : Answer) (k : ℕ) (v : verdict code ≡ refused a k) where
-  pub refused-prepared : (size : ℕ) → prepared code size ≡ refusedPrepared a k
-  unfolding prepared accept acceptedBy preparedAs
+  pub refused-prepared : (size : ℕ) → prepared code size ≡ refused_prepared a k
+  unfolding prepared accept accepted_by prepared_as
   refused-prepared size = rw v
 
-  pub refused-table : (old : List ℕ) → tableAfter code old ≡ old
-  unfolding tableAfter table_of words_of accept acceptedBy written overlay
+  pub refused-table : (old : List ℕ) → table_after code old ≡ old
+  unfolding table_after table_of words_of accept accepted_by written overlay
   refused-table old = rw (v, le-leb 0 (length old) (omega arith))
 
 -- ---- the table
-all-within : (code : List ℕ) → verdict code ≡ fine → T (every withinLimits (parts_in code))
-unfolding limitVerdict
-all-within code v = none-every withinLimits 0 (parts_in code) (fine-none answer.Limit _ (verdict-fine code v).limits-fine)
+all-within : (code : List ℕ) → verdict code ≡ fine → T (every within_limits (parts_in code))
+unfolding limit_verdict
+all-within code v = none-every within_limits 0 (parts_in code) (fine-none answer.Limit _ (verdict-fine code v).limits-fine)
 
 module _ (code : List ℕ) (v : verdict code ≡ fine) {tokens : List ℕ} (r : Examined) (out drafts : List ℕ) (s : Sound code tokens r out drafts) where
   one-least : 1 ≤ r.sections
-  unfolding sectionsIn
-  one-least = omega (arith, s.many, section-count code, length-map (parts_in code) sectionOf)
+  unfolding sections_in
+  one-least = omega (arith, s.many, section-count code, length-map (parts_in code) section_of)
 
   abbrev table : List ℕ
-  table = tableBy r.sections drafts (take r.words out)
+  table = table_by r.sections drafts (take r.words out)
 
-  table_is : table ≡ encode (sectionsIn code)
-  unfolding sectionsIn
+  table_is : table ≡ encode (sections_in code)
+  unfolding sections_in
   table_is = rw s.words (table_same (parts_in code) drafts r.sections s.many one-least s.each (all-within code v))
 
   table-size : length table ≡ 1 + 12 * r.sections + r.words
-  unfolding tableBy
+  unfolding table_by
   table-size =
-      let ds : List Draft = draftsIn r.sections 0 drafts in
-      let first : Bool = hasConditionBy (draftIn drafts 0) in
+      let ds : List Draft = drafts_in r.sections 0 drafts in
+      let first : Bool = has_condition_by (draft_in drafts 0) in
       omega (
         arith,
-        length-append (headsBy (countedBy 0 ds) first 0 ds) (take r.words out),
-        heads-size (countedBy 0 ds) first r.sections 0 drafts,
+        length-append (heads_by (counted_by 0 ds) first 0 ds) (take r.words out),
+        heads-size (counted_by 0 ds) first r.sections 0 drafts,
         length-take-le r.words out s.room,
       )
 
-  accepted : accept code ≡ sections (sectionsIn code)
-  unfolding accept acceptedBy
+  accepted : accept code ≡ sections (sections_in code)
+  unfolding accept accepted_by
   accepted = rw v
 
   module _ (size : ℕ) (e : size ≡ 1 + 12 * r.sections + r.words) where
-    long : length (encode (sectionsIn code)) ≡ size
+    long : length (encode (sections_in code)) ≡ size
     long = sym (ap length table_is) ∙ table-size ∙ sym e
 
-    pub room-prepared : (old : ℕ) → old < size → prepared code old ≡ refusedPrepared answer.TableRoom 0
-    unfolding prepared preparedAs
+    pub room-prepared : (old : ℕ) → old < size → prepared code old ≡ refused_prepared answer.TableRoom 0
+    unfolding prepared prepared_as
     room-prepared old h = rw (accepted, long, lt-leb size old h)
 
-    pub room-table : (old : List ℕ) → length old < size → tableAfter code old ≡ old
-    unfolding tableAfter table_of words_of written
+    pub room-table : (old : List ℕ) → length old < size → table_after code old ≡ old
+    unfolding table_after table_of words_of written
     room-table old h = rw (accepted, long, lt-leb size (length old) h)
 
-    pub done-prepared : (old : ℕ) → size ≤ old → prepared code old ≡ donePrepared size
-    unfolding prepared preparedAs
+    pub done-prepared : (old : ℕ) → size ≤ old → prepared code old ≡ done_prepared size
+    unfolding prepared prepared_as
     done-prepared old h = rw (accepted, long, le-leb size old h)
 
     pub done-table : (old new words : List ℕ) (k : ℕ) → size ≤ length old → words ≡ take r.words out
-        → Put old 0 (tableBy r.sections drafts words) k new → new ≡ tableAfter code old
-    unfolding tableAfter table_of words_of written
+        → Put old 0 (table_by r.sections drafts words) k new → new ≡ table_after code old
+    unfolding table_after table_of words_of written
     done-table old new words k h e put =
-        let fits : length (encode (sectionsIn code)) ≤ length old = omega (arith, long) in
-        let after : tableAfter code old ≡ overlay (encode (sectionsIn code)) old = rw (accepted, long, le-leb size (length old) h) in
-        let set : sets old 0 table ≡ overlay (encode (sectionsIn code)) old = rw table_is (sets-overlay old (encode (sectionsIn code)) fits) in
+        let fits : length (encode (sections_in code)) ≤ length old = omega (arith, long) in
+        let after : table_after code old ≡ overlay (encode (sections_in code)) old = rw (accepted, long, le-leb size (length old) h) in
+        let set : sets old 0 table ≡ overlay (encode (sections_in code)) old = rw table_is (sets-overlay old (encode (sections_in code)) fits) in
         put.room ∙ rw e set ∙ sym after

@@ -1,42 +1,42 @@
 -- The words of a table, from the drafts of a code's sections.
 -- Assumes nothing.
 use Rattle.std.specs.Prelude.{ℕ, ◌+◌, Bool, List, [], ◌∷◌, ◌++◌, map}
-use Rattle.formats.specs.Minus.{exceptionA}
-use Rattle.tables.specs.Words.{Head, headWords}
-use Rattle.tables.specs.Encode.{bit, flagsWord}
-use Rattle.tables.specs.Standing.{countedKinds}
+use Rattle.formats.specs.Minus.{exception_a}
+use Rattle.tables.specs.Words.{Head, head_words}
+use Rattle.tables.specs.Encode.{bit, flags_word}
+use Rattle.tables.specs.Standing.{counted_kinds}
 use Rattle.drafting.specs.declared.Draft.{Draft}
-use Rattle.drafting.specs.Draft.{draftIn, draftsIn, hasConditionBy}
+use Rattle.drafting.specs.Draft.{draft_in, drafts_in, has_condition_by}
 
-abbrev pub draftKind : Draft → ℕ
-draftKind d = d.body.kind
+abbrev pub draft_kind : Draft → ℕ
+draft_kind d = d.body.kind
 
 -- N of sections with these drafts, the first of which is section i
-abbrev pub countedBy : ℕ → List Draft → ℕ
-countedBy i ds = countedKinds i (map draftKind ds)
+abbrev pub counted_by : ℕ → List Draft → ℕ
+counted_by i ds = counted_kinds i (map draft_kind ds)
 
-unfoldable pub headBy : ℕ → ℕ → Bool → Draft → Head
-headBy n i first_has d =
+unfoldable pub head_by : ℕ → ℕ → Bool → Draft → Head
+head_by n i first_has d =
     record {
       kind = d.body.kind;
       colour = d.colour;
       operator = d.operator;
       negative = bit d.negative;
-      wholeLow = d.whole_low;
-      wholeHigh = d.whole_high;
-      millionthsLow = d.millionths_low;
-      millionthsHigh = d.millionths_high;
+      whole_low = d.whole_low;
+      whole_high = d.whole_high;
+      millionths_low = d.millionths_low;
+      millionths_high = d.millionths_high;
       shift = d.body.shift;
-      flags = flagsWord d.body.grouped (exceptionA n i (hasConditionBy d) first_has) d.body.twelve;
+      flags = flags_word d.body.grouped (exception_a n i (has_condition_by d) first_has) d.body.twelve;
       decimals = d.body.decimals;
       items = d.body.items;
     }
 
 -- the words of the heads of these drafts, the first of which stands at place i
-unfoldable pub headsBy : ℕ → Bool → ℕ → List Draft → List ℕ
-headsBy n first_has i [] = []
-headsBy n first_has i (d ∷ ds) = headWords (headBy n i first_has d) [] ++ headsBy n first_has (i + 1) ds
+unfoldable pub heads_by : ℕ → Bool → ℕ → List Draft → List ℕ
+heads_by n first_has i [] = []
+heads_by n first_has i (d ∷ ds) = head_words (head_by n i first_has d) [] ++ heads_by n first_has (i + 1) ds
 
 -- the table of n drafts in a room whose items have these words
-unfoldable pub tableBy : ℕ → List ℕ → List ℕ → List ℕ
-tableBy n ws words = n ∷ (headsBy (countedBy 0 (draftsIn n 0 ws)) (hasConditionBy (draftIn ws 0)) 0 (draftsIn n 0 ws) ++ words)
+unfoldable pub table_by : ℕ → List ℕ → List ℕ → List ℕ
+table_by n ws words = n ∷ (heads_by (counted_by 0 (drafts_in n 0 ws)) (has_condition_by (draft_in ws 0)) 0 (drafts_in n 0 ws) ++ words)

@@ -1,12 +1,12 @@
 // The words of a table: how many sections there are, their heads and their items.
 ghost use Rattle.std.specs.Prelude.{◌≡◌, [], ◌+◌, ◌≤◌, ◌<◌, ◌^◌, length};
-ghost use Rattle.formats.specs.Minus.{exceptionA};
-ghost use Rattle.tables.specs.Words.{headWords};
-ghost use Rattle.tables.specs.Encode.{bit, flagsWord};
-ghost use Rattle.tables.specs.Standing.{countedOne};
+ghost use Rattle.formats.specs.Minus.{exception_a};
+ghost use Rattle.tables.specs.Words.{head_words};
+ghost use Rattle.tables.specs.Encode.{bit, flags_word};
+ghost use Rattle.tables.specs.Standing.{counted_one};
 ghost use Rattle.writing.specs.Put.{Put};
-ghost use Rattle.drafting.specs.Draft.{draftsIn};
-ghost use Rattle.preparing.specs.Table.{countedBy, headBy, headsBy, tableBy};
+ghost use Rattle.drafting.specs.Draft.{drafts_in};
+ghost use Rattle.preparing.specs.Table.{counted_by, head_by, heads_by, table_by};
 
 use drafting::words::draft_at;
 use drafting::{Draft, has_condition};
@@ -24,13 +24,13 @@ fn bit_of(b: bool) -> u16
 
 // A section has no minus by exception (a).
 fn no_minus(counted: usize, i: usize, own: bool, first: bool) -> bool
-    ensures { result ≡ exceptionA counted i own first }
+    ensures { result ≡ exception_a counted i own first }
 {
     (i == 1) & !own & ((counted == 3) | ((counted == 2) & !first))
 }
 
 fn flags_word(grouped: bool, no_minus: bool, twelve: bool) -> u16
-    ensures { result ≡ flagsWord grouped no_minus twelve }
+    ensures { result ≡ flags_word grouped no_minus twelve }
 {
     flags::GROUPING * bit_of(grouped)
         + flags::NO_MINUS * bit_of(no_minus)
@@ -40,7 +40,7 @@ fn flags_word(grouped: bool, no_minus: bool, twelve: bool) -> u16
 // One more where section i is neither text nor fourth.
 fn counted_with(d: Draft, i: usize, counted: usize) -> usize
     requires { counted ≤ 4 }
-    ensures { result ≡ counted + countedOne i d.body.kind }
+    ensures { result ≡ counted + counted_one i d.body.kind }
 {
     let body = d.body;
     if (body.kind == kinds::TEXT) | (i == 3) {
@@ -52,7 +52,7 @@ fn counted_with(d: Draft, i: usize, counted: usize) -> usize
 // How many of n sections are neither text nor fourth: document 01's N.
 fn counted_of(drafts: &[u16], n: usize) -> usize
     requires { (n ≤ 4) × (length drafts.now ≡ 64) }
-    ensures { result ≡ countedBy 0 (draftsIn n 0 drafts.now) }
+    ensures { result ≡ counted_by 0 (drafts_in n 0 drafts.now) }
 {
     let mut counted: usize = 0;
     let mut i: usize = 0;
@@ -66,7 +66,7 @@ fn counted_of(drafts: &[u16], n: usize) -> usize
 // Puts the head of section i, where the first section has a condition or none.
 fn put_head(room: &mut [u16], at: usize, d: Draft, counted: usize, i: usize, first: bool) -> usize
     requires { at < 2 ^ 61 }
-    ensures { Put room.old at (headWords (headBy counted i first d) []) result room.new }
+    ensures { Put room.old at (head_words (head_by counted i first d) []) result room.new }
 {
     let body = d.body;
     let minus = no_minus(counted, i, has_condition(d), first);
@@ -97,7 +97,7 @@ fn put_heads(
     first: bool,
 ) -> usize
     requires { (at < 2 ^ 60) × (n ≤ 4) × (length drafts.now ≡ 64) }
-    ensures { Put room.old at (headsBy counted first 0 (draftsIn n 0 drafts.now)) result room.new }
+    ensures { Put room.old at (heads_by counted first 0 (drafts_in n 0 drafts.now)) result room.new }
 {
     let mut o = at;
     let mut i: usize = 0;
@@ -111,7 +111,7 @@ fn put_heads(
 // Puts the table of n sections whose items have these words.
 pub fn put_table(table: &mut [u16], drafts: &[u16], n: usize, items: &[u16]) -> usize
     requires { (n ≤ 4) × (length drafts.now ≡ 64) × (length items.now ≤ 508) }
-    ensures { Put table.old 0 (tableBy n drafts.now items.now) result table.new }
+    ensures { Put table.old 0 (table_by n drafts.now items.now) result table.new }
 {
     let first = has_condition(draft_at(drafts, 0));
     let counted = counted_of(drafts, n);

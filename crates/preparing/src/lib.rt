@@ -2,7 +2,7 @@
 mod heads;
 
 ghost use Rattle.std.specs.Prelude.{◌≡◌, length};
-ghost use Rattle.tables.specs.Calls.{prepared, tableAfter};
+ghost use Rattle.tables.specs.Calls.{prepared, table_after};
 
 use answers::{Answer, Prepared, done_prepared, number, refused_prepared};
 use examining::examine;
@@ -12,7 +12,7 @@ use tables::heads::WORDS;
 // Prepares a code: the table is written only where it fits.
 pub fn prepare(code: &[u16], table: &mut [u16]) -> Prepared
     ensures answer { result ≡ prepared code.now (length table.old) }
-    ensures table { table.new ≡ tableAfter code.now table.old }
+    ensures table { table.new ≡ table_after code.now table.old }
 {
     let mut tokens = [0u16; 762];
     let mut items = [0u16; 508];

@@ -1,7 +1,7 @@
 // Previews a code: prepares it in a table of its own, and shows a value through that table in the lent room.
 ghost use Rattle.std.specs.Prelude.{◌≡◌, length};
 ghost use Rattle.lists.specs.Lists.{overlay};
-ghost use Rattle.preview.specs.Preview.{refusedPreview, previewed, previewText};
+ghost use Rattle.preview.specs.Preview.{refused_preview, previewed, preview_text};
 
 use answers::{Answer, Shown, number, refused_shown};
 use preparing::prepare;
@@ -16,7 +16,7 @@ pub struct Previewed {
 }
 
 fn refused(answer: Answer, place: u32) -> Previewed
-    ensures { result ≡ refusedPreview answer place }
+    ensures { result ≡ refused_preview answer place }
 {
     Previewed {
         place,
@@ -35,7 +35,7 @@ fn table_room() -> [u16; 557]
 pub fn preview(code: &[u16], ask: Ask, text: &[u16], room: &mut [u16]) -> Previewed
     ensures result { result ≡ previewed code.now ask text.now (length room.old) }
     ensures room { room.new ≡ overlay
-        (previewText code.now ask text.now (length room.old)) room.old }
+        (preview_text code.now ask text.now (length room.old)) room.old }
 {
     let mut table = table_room();
     let p = prepare(code, &mut table);

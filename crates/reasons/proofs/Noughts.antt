@@ -15,30 +15,30 @@ use Rattle.lists.specs.Lists.{is_empty}
 use Rattle.figures.specs.declared.Signed.{Signed}
 use Rattle.figures.specs.Sign.{signed_of}
 use Rattle.figures.proofs.Filling.{lt-or-le}
-use Rattle.exponents.specs.Exponent.{decimal, mantissaOf}
+use Rattle.exponents.specs.Exponent.{decimal, mantissa_of}
 use Rattle.exponents.proofs.Mantissa.{mantissa-nought}
 use Rattle.exponents.proofs.Search.{mantissa-digits}
 use Rattle.figures.proofs.Tens.{ten-pos}
 use Rattle.fractions.specs.declared.Mixed.{Mixed}
-use Rattle.formats.specs.Items.{Item, Section, Kind, showsPlaces, textKind, generalKind, dateKind, numberKind, scientificKind, fractionKind, literalKind, kind_of, integerPlaces, decimalPlaces}
-use Rattle.formats.specs.Where.{hasCondition}
-use Rattle.formats.specs.Choice.{numberExact, zeroExact, lessThan, counted, Reason, chosen, choose}
-use Rattle.formats.specs.Minus.{minus, notNegative, no_item, forNegatives, nought, isOwn, firstHasCondition, exceptionA, signFor}
-use Rattle.formats.specs.Reading.{showsGeneral, sectionFraction, sectionRounded, standingRounded, placesNought, showsNought, numberSign}
+use Rattle.formats.specs.Items.{Item, Section, Kind, shows_places, text_kind, general_kind, date_kind, number_kind, scientific_kind, fraction_kind, literal_kind, kind_of, integer_places, decimal_places}
+use Rattle.formats.specs.Where.{has_condition}
+use Rattle.formats.specs.Choice.{number_exact, zero_exact, less_than, counted, Reason, chosen, choose}
+use Rattle.formats.specs.Minus.{minus, not_negative, no_item, for_negatives, nought, is_own, first_has_condition, exception_a, sign_for}
+use Rattle.formats.specs.Reading.{shows_general, section_fraction, section_rounded, standing_rounded, places_nought, shows_nought, number_sign}
 use Rattle.formats.proofs.Cutting.{scientific-some}
 use Rattle.tables.specs.Words.{Head}
-use Rattle.tables.specs.Encode.{headOf}
+use Rattle.tables.specs.Encode.{head_of}
 use Rattle.tables.specs.Decode.{decode}
 use Rattle.tables.specs.Rules.{passes}
-use Rattle.table_words.specs.Sections.{sectionIn, headIn}
+use Rattle.table_words.specs.Sections.{section_in, head_in}
 use Rattle.table_words.proofs.Bodies.{section-limits, section-exponent}
 use Rattle.choosing.proofs.Choosing.{below-zero}
 use Rattle.choosing.proofs.Finding.{chosen-exception}
 use Rattle.planning.proofs.Numbers.{exact}
 use Rattle.grounds.specs.declared.Minus.{Minus}
 use Rattle.grounds.specs.declared.Minus.TheVariants as held
-use Rattle.grounds.specs.Why.{minusOf}
-use Rattle.reasons.specs.Told.{minusTold}
+use Rattle.grounds.specs.Why.{minus_of}
+use Rattle.reasons.specs.Told.{minus_told}
 
 -- by the kind of the section
 or-none : (b : Bool) → b ≡ (b || false)
@@ -46,74 +46,74 @@ or-none true = refl
 or-none false = refl
 
 -- a section that shows General shows no places
-general-alone : (k : Kind) → T (showsGeneral k) → (a b : Bool) → b ≡ (showsPlaces k && a || showsGeneral k && b)
-unfolding showsGeneral
-general-alone textKind t a b = refl
-general-alone generalKind t a b = refl
-general-alone literalKind t a b = absurd t
-general-alone numberKind t a b = absurd t
-general-alone dateKind t a b = absurd t
-general-alone scientificKind t a b = absurd t
-general-alone fractionKind t a b = absurd t
+general-alone : (k : Kind) → T (shows_general k) → (a b : Bool) → b ≡ (shows_places k && a || shows_general k && b)
+unfolding shows_general
+general-alone text_kind t a b = refl
+general-alone general_kind t a b = refl
+general-alone literal_kind t a b = absurd t
+general-alone number_kind t a b = absurd t
+general-alone date_kind t a b = absurd t
+general-alone scientific_kind t a b = absurd t
+general-alone fraction_kind t a b = absurd t
 
 module _ (z : Section) (x : Number) where
-  pub nought-literal : kind_of z ≡ literalKind → false ≡ showsNought z x
-  unfolding showsNought showsGeneral
+  pub nought-literal : kind_of z ≡ literal_kind → false ≡ shows_nought z x
+  unfolding shows_nought shows_general
   nought-literal k = rw k
 
-  pub nought-date : kind_of z ≡ dateKind → false ≡ showsNought z x
-  unfolding showsNought showsGeneral
+  pub nought-date : kind_of z ≡ date_kind → false ≡ shows_nought z x
+  unfolding shows_nought shows_general
   nought-date k = rw k
 
-  pub nought-number : kind_of z ≡ numberKind → eqb (sectionRounded z x) 0 ≡ showsNought z x
-  unfolding showsNought showsGeneral placesNought
-  nought-number k = or-none (eqb (sectionRounded z x) 0) ∙ rw k refl
+  pub nought-number : kind_of z ≡ number_kind → eqb (section_rounded z x) 0 ≡ shows_nought z x
+  unfolding shows_nought shows_general places_nought
+  nought-number k = or-none (eqb (section_rounded z x) 0) ∙ rw k refl
 
-  pub nought-fraction : kind_of z ≡ fractionKind → placesNought z x ≡ showsNought z x
-  unfolding showsNought showsGeneral
-  nought-fraction k = or-none (placesNought z x) ∙ rw k refl
+  pub nought-fraction : kind_of z ≡ fraction_kind → places_nought z x ≡ shows_nought z x
+  unfolding shows_nought shows_general
+  nought-fraction k = or-none (places_nought z x) ∙ rw k refl
 
-  pub nought-general : T (showsGeneral (kind_of z)) → eqb (standingRounded x) 0 ≡ showsNought z x
-  unfolding showsNought
-  nought-general t = general-alone (kind_of z) t (placesNought z x) (eqb (standingRounded x) 0)
+  pub nought-general : T (shows_general (kind_of z)) → eqb (standing_rounded x) 0 ≡ shows_nought z x
+  unfolding shows_nought
+  nought-general t = general-alone (kind_of z) t (places_nought z x) (eqb (standing_rounded x) 0)
 
-  nought-scientific : kind_of z ≡ scientificKind → eqb (sectionRounded z x) 0 ≡ showsNought z x
-  unfolding showsNought showsGeneral placesNought
-  nought-scientific k = or-none (eqb (sectionRounded z x) 0) ∙ rw k refl
+  nought-scientific : kind_of z ≡ scientific_kind → eqb (section_rounded z x) 0 ≡ shows_nought z x
+  unfolding shows_nought shows_general places_nought
+  nought-scientific k = or-none (eqb (section_rounded z x) 0) ∙ rw k refl
 
 -- what the places of a fraction show
-pub fraction-places : {f : Mixed} (s : Section) (x : Number) → kind_of s ≡ fractionKind → f ≡ sectionFraction s x
-    → eqb f.whole 0 && eqb f.above 0 ≡ placesNought s x
-unfolding placesNought
+pub fraction-places : {f : Mixed} (s : Section) (x : Number) → kind_of s ≡ fraction_kind → f ≡ section_fraction s x
+    → eqb f.whole 0 && eqb f.above 0 ≡ places_nought s x
+unfolding places_nought
 fraction-places s x k e = rw (e, k)
 
 -- a mantissa is nought where the number is
-mantissa-zero : (m s n d : ℕ) → m < 10 ^ 15 → s ≤ 15 → 1 ≤ n → d ≤ 15 → eqb m 0 ≡ eqb (mantissaOf (decimal m s) n d) 0
+mantissa-zero : (m s n d : ℕ) → m < 10 ^ 15 → s ≤ 15 → 1 ≤ n → d ≤ 15 → eqb m 0 ≡ eqb (mantissa_of (decimal m s) n d) 0
 mantissa-zero m s n d small scale one most =
     ⊎_elim
     (λ (pos : 0 < m).
-    let least : 10 ^ 15 ≤ mantissaOf (decimal m s) n d = (mantissa-digits m s n d pos small scale one most).0 in
-    ne_eqb m 0 (λ e. omega arith) ∙ sym (ne_eqb (mantissaOf (decimal m s) n d) 0 (λ e. omega arith)))
+    let least : 10 ^ 15 ≤ mantissa_of (decimal m s) n d = (mantissa-digits m s n d pos small scale one most).0 in
+    ne_eqb m 0 (λ e. omega arith) ∙ sym (ne_eqb (mantissa_of (decimal m s) n d) 0 (λ e. omega arith)))
     (λ (none : m ≤ 0).
     let z : m ≡ 0 = omega arith in
-    eq-eqb m 0 z ∙ sym (eq-eqb (mantissaOf (decimal m s) n d) 0 (mantissa-nought (decimal m s) n d z (ten-pos s))))
+    eq-eqb m 0 z ∙ sym (eq-eqb (mantissa_of (decimal m s) n d) 0 (mantissa-nought (decimal m s) n d z (ten-pos s))))
     (lt-or-le 0 m)
 
-pub scientific-nought : (ws : List ℕ) (i : ℕ) (v : Signed) (x : Number) → T (passes ws) → i < get_or ws 0 0 → kind_of (sectionIn ws i) ≡ scientificKind
-    → v ≡ signed_of x → v.magnitude < 10 ^ 15 → v.scale ≤ 15 → eqb v.magnitude 0 ≡ showsNought (sectionIn ws i) x
-unfolding sectionRounded kind_of
+pub scientific-nought : (ws : List ℕ) (i : ℕ) (v : Signed) (x : Number) → T (passes ws) → i < get_or ws 0 0 → kind_of (section_in ws i) ≡ scientific_kind
+    → v ≡ signed_of x → v.magnitude < 10 ^ 15 → v.scale ≤ 15 → eqb v.magnitude 0 ≡ shows_nought (section_in ws i) x
+unfolding section_rounded kind_of
 scientific-nought ws i v x t l k ev small scale =
-    let s : Section = sectionIn ws i in
-    let n : ℕ = integerPlaces s.items in
-    let d : ℕ = decimalPlaces s.items in
+    let s : Section = section_in ws i in
+    let n : ℕ = integer_places s.items in
+    let d : ℕ = decimal_places s.items in
     mantissa-zero v.magnitude v.scale n d small scale (section-exponent ws i t l (scientific-some s.items k)).integer (section-limits ws i t l).decimals-most
-    ∙ ap (λ m. eqb (mantissaOf m n d) 0) (exact v x ev)
+    ∙ ap (λ m. eqb (mantissa_of m n d) 0) (exact v x ev)
     ∙ rw k at (nought-scientific s x k)
 
 -- ---- the minus
 four : (negative empty excepted held : Bool)
-    → minusTold negative empty excepted held ≡ minusOf (cond (not negative) notNegative (cond empty no_item (cond excepted forNegatives (cond held nought minus))))
-unfolding minusTold minusOf
+    → minus_told negative empty excepted held ≡ minus_of (cond (not negative) not_negative (cond empty no_item (cond excepted for_negatives (cond held nought minus))))
+unfolding minus_told minus_of
 four false empty excepted held = refl
 four true true excepted held = refl
 four true false true held = refl
@@ -122,26 +122,26 @@ four true false false false = refl
 
 -- the first that applies
 module _ (negative excepted zero-shown : Bool) (items : ℕ) where
-  pub told-not-below : negative ≡ false → held.NotBelow ≡ minusTold negative (eqb items 0) excepted zero-shown
-  unfolding minusTold
+  pub told-not-below : negative ≡ false → held.NotBelow ≡ minus_told negative (eqb items 0) excepted zero-shown
+  unfolding minus_told
   told-not-below h = rw h
 
   module _ (below : negative ≡ true) where
-    pub told-empty : items ≡ 0 → held.NoItem ≡ minusTold negative (eqb items 0) excepted zero-shown
-    unfolding minusTold
+    pub told-empty : items ≡ 0 → held.NoItem ≡ minus_told negative (eqb items 0) excepted zero-shown
+    unfolding minus_told
     told-empty e = rw (below, eq-eqb items 0 e)
 
     module _ (some : items ≡ 0 → ⊥) where
-      pub told-excepted : excepted ≡ true → held.ForNegatives ≡ minusTold negative (eqb items 0) excepted zero-shown
-      unfolding minusTold
+      pub told-excepted : excepted ≡ true → held.ForNegatives ≡ minus_told negative (eqb items 0) excepted zero-shown
+      unfolding minus_told
       told-excepted a = rw (below, ne_eqb items 0 some, a)
 
-      pub told-nought : excepted ≡ false → zero-shown ≡ true → held.Nought ≡ minusTold negative (eqb items 0) excepted zero-shown
-      unfolding minusTold
+      pub told-nought : excepted ≡ false → zero-shown ≡ true → held.Nought ≡ minus_told negative (eqb items 0) excepted zero-shown
+      unfolding minus_told
       told-nought a b = rw (below, ne_eqb items 0 some, a, b)
 
-      pub told-added : excepted ≡ false → zero-shown ≡ false → held.Added ≡ minusTold negative (eqb items 0) excepted zero-shown
-      unfolding minusTold
+      pub told-added : excepted ≡ false → zero-shown ≡ false → held.Added ≡ minus_told negative (eqb items 0) excepted zero-shown
+      unfolding minus_told
       told-added a b = rw (below, ne_eqb items 0 some, a, b)
 
 no-item : (is : List Item) → is_empty is ≡ eqb (length is) 0
@@ -149,18 +149,18 @@ unfolding is_empty
 no-item [] = refl
 no-item (i ∷ is) = sym (ne_eqb (length (i ∷ is)) 0 (λ e. omega arith))
 
-negative-is : (v : Signed) (x : Number) → v ≡ signed_of x → v.negative ≡ lessThan (numberExact x) zeroExact
-unfolding numberExact signed_of
-negative-is v x ev = ap (λ (u : Signed). u.negative) ev ∙ sym (below-zero (numberExact x))
+negative-is : (v : Signed) (x : Number) → v ≡ signed_of x → v.negative ≡ less_than (number_exact x) zero_exact
+unfolding number_exact signed_of
+negative-is v x ev = ap (λ (u : Signed). u.negative) ev ∙ sym (below-zero (number_exact x))
 
 pub number-minus : (ws : List ℕ) (i : ℕ) (v : Signed) (x : Number) (why : Reason) → v ≡ signed_of x
-    → choose (decode ws) (numberExact x) ≡ chosen i (sectionIn ws i) why → {h : Head} {excepted held : Bool} {r : Minus} → h ≡ headIn ws i
-    → excepted ≡ exceptionA (counted (decode ws)) i (hasCondition (sectionIn ws i)) (firstHasCondition (decode ws)) → held ≡ showsNought (sectionIn ws i) x
-    → r ≡ minusTold v.negative (eqb h.items 0) excepted held → r ≡ minusOf (numberSign (decode ws) i (sectionIn ws i) why x)
-unfolding numberSign signFor headOf
+    → choose (decode ws) (number_exact x) ≡ chosen i (section_in ws i) why → {h : Head} {excepted held : Bool} {r : Minus} → h ≡ head_in ws i
+    → excepted ≡ exception_a (counted (decode ws)) i (has_condition (section_in ws i)) (first_has_condition (decode ws)) → held ≡ shows_nought (section_in ws i) x
+    → r ≡ minus_told v.negative (eqb h.items 0) excepted held → r ≡ minus_of (number_sign (decode ws) i (section_in ws i) why x)
+unfolding number_sign sign_for head_of
 number-minus ws i v x why ev eo {h} {excepted} {held} eh ee en er =
-    let s : Section = sectionIn ws i in
-    let first : Bool = firstHasCondition (decode ws) in
+    let s : Section = section_in ws i in
+    let first : Bool = first_has_condition (decode ws) in
     let items : h.items ≡ length s.items = ap (λ (y : Head). y.items) eh in
-    let a : excepted ≡ exceptionA (counted (decode ws)) i (isOwn why) first = ee ∙ chosen-exception (decode ws) (numberExact x) i s why first eo in
+    let a : excepted ≡ exception_a (counted (decode ws)) i (is_own why) first = ee ∙ chosen-exception (decode ws) (number_exact x) i s why first eo in
     er ∙ four v.negative (eqb h.items 0) excepted held ∙ rw (negative-is v x ev, items, a, en, ← no-item s.items) refl

@@ -3,10 +3,10 @@
 use Rattle.std.specs.Prelude.{ℕ, List}
 use Rattle.values.specs.declared.Ask.{Ask}
 use Rattle.tables.specs.Decode.{decode}
-use Rattle.tables.specs.Calls.{tableReading}
+use Rattle.tables.specs.Calls.{table_reading}
 use Rattle.grounds.specs.declared.Why.{Why}
-use Rattle.grounds.specs.Why.{groundsOf, whyRead}
+use Rattle.grounds.specs.Why.{grounds_of, why_read}
 
 -- "For a table, a value and the text room's length, give the reason [..]. A refused show gives the same refusal and no reason."
-unfoldable pub tableWhy : List ℕ → Ask → List ℕ → ℕ → Why
-tableWhy table ask text room = whyRead (tableReading table ask text room) (groundsOf (decode table) ask.value)
+unfoldable pub table_why : List ℕ → Ask → List ℕ → ℕ → Why
+table_why table ask text room = why_read (table_reading table ask text room) (grounds_of (decode table) ask.value)

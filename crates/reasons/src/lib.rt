@@ -3,17 +3,17 @@
 ghost use Rattle.std.specs.Prelude.{◌≡◌, ℕ, ◌≤◌, ◌<◌, ◌^◌, [], T, eqb, get_or};
 ghost use Rattle.values.specs.declared.Number.{Number};
 ghost use Rattle.values.specs.declared.Value.TheVariants as value;
-ghost use Rattle.values.specs.Ranges.{numberInRange, valueInRange};
+ghost use Rattle.values.specs.Ranges.{number_in_range, value_in_range};
 ghost use Rattle.figures.specs.Sign.{signed_of};
-ghost use Rattle.formats.specs.Items.{numberKind, scientificKind, fractionKind, kind_of};
-ghost use Rattle.formats.specs.Choice.{Exact, numberExact, instantExact, Reason, chosen, choose, chooseText};
-ghost use Rattle.formats.specs.Reading.{sectionRounded, placesNought, showsNought, numberSign};
+ghost use Rattle.formats.specs.Items.{number_kind, scientific_kind, fraction_kind, kind_of};
+ghost use Rattle.formats.specs.Choice.{Exact, number_exact, instant_exact, Reason, chosen, choose, choose_text};
+ghost use Rattle.formats.specs.Reading.{section_rounded, places_nought, shows_nought, number_sign};
 ghost use Rattle.tables.specs.Decode.{decode};
 ghost use Rattle.tables.specs.Rules.{passes};
-ghost use Rattle.table_words.specs.Sections.{sectionIn};
-ghost use Rattle.grounds.specs.Why.{tried_at, minusOf, numberCut, chosenGrounds, untried, noGrounds, numberGrounds, instantGrounds, textGrounds, groundsOf};
-ghost use Rattle.reasons.specs.Table.{tableWhy};
-ghost use Rattle.reasons.specs.Told.{choiceAt, minusTold, ScalingOf};
+ghost use Rattle.table_words.specs.Sections.{section_in};
+ghost use Rattle.grounds.specs.Why.{tried_at, minus_of, number_cut, chosen_grounds, untried, no_grounds, number_grounds, instant_grounds, text_grounds, grounds_of};
+ghost use Rattle.reasons.specs.Table.{table_why};
+ghost use Rattle.reasons.specs.Told.{choice_at, minus_told, ScalingOf};
 
 use choosing::{Found, TextFound};
 use cuts::{decimals_cut, general_cut, general_nought, rounds_to_nought, scientific_cut};
@@ -28,7 +28,7 @@ use values::{Ask, Day, Millisecond, Number, Value};
 
 // By what section i was chosen, where N sections count: its own condition, or the fallback of its place.
 fn choice_of(counted: u16, i: u16, own: bool) -> ChosenBy
-    ensures { result ≡ choiceAt counted i own }
+    ensures { result ≡ choice_at counted i own }
 {
     if counted == 0 {
         return ChosenBy::General;
@@ -71,8 +71,8 @@ fn tried_at(table: &[u16], i: u16, k: u16) -> Tried
 // The reason for section i, where it was chosen.
 fn chosen_grounds(table: &[u16], i: u16, minus: Minus, cut: u16) -> Grounds
     requires { T (passes table.now) × (i < get_or table.now 0 0) }
-    ensures { (x : Exact) (why : Reason) → choose (decode table.now) x ≡ chosen i (sectionIn table.now i) why
-        → result ≡ chosenGrounds (decode table.now) i why minus cut }
+    ensures { (x : Exact) (why : Reason) → choose (decode table.now) x ≡ chosen i (section_in table.now i) why
+        → result ≡ chosen_grounds (decode table.now) i why minus cut }
 {
     let counted = choosing::counted(table, section_count(table));
     let choice = choice_of(counted, i, has_condition(table, i as usize));
@@ -104,7 +104,7 @@ fn untried(section: u16, choice: ChosenBy) -> Grounds
 
 // Where no section was chosen. (The show is then refused, and this is not told.)
 fn no_grounds() -> Grounds
-    ensures { result ≡ noGrounds }
+    ensures { result ≡ no_grounds }
 {
     untried(0, ChosenBy::OwnCondition)
 }
@@ -119,8 +119,8 @@ struct Scaling {
 
 // That of section i for a number of this scale: a shift above 15 multiplies, one below 15 divides.
 fn scaling_of(table: &[u16], i: usize, scale: u32) -> Scaling
-    requires { T (passes table.now) × (i < get_or table.now 0 0) × (scale ≤ 15) × (kind_of (sectionIn table.now i) ≡ numberKind) }
-    ensures { ScalingOf (sectionIn table.now i) scale result }
+    requires { T (passes table.now) × (i < get_or table.now 0 0) × (scale ≤ 15) × (kind_of (section_in table.now i) ≡ number_kind) }
+    ensures { ScalingOf (section_in table.now i) scale result }
 {
     let h = head_of(table, i);
     let shift = h.shift as u32;
@@ -135,8 +135,8 @@ fn scaling_of(table: &[u16], i: usize, scale: u32) -> Scaling
 
 // Whether a number rounds to nought in section i, which is a number section.
 fn number_nought(table: &[u16], i: usize, v: Signed) -> bool
-    requires { T (passes table.now) × (i < get_or table.now 0 0) × (v.scale ≤ 15) × (kind_of (sectionIn table.now i) ≡ numberKind) }
-    ensures { (x : Number) → v ≡ signed_of x → result ≡ eqb (sectionRounded (sectionIn table.now i) x) 0 }
+    requires { T (passes table.now) × (i < get_or table.now 0 0) × (v.scale ≤ 15) × (kind_of (section_in table.now i) ≡ number_kind) }
+    ensures { (x : Number) → v ≡ signed_of x → result ≡ eqb (section_rounded (section_in table.now i) x) 0 }
 {
     let s = scaling_of(table, i, v.scale);
     rounds_to_nought(v.magnitude, s.up, s.down, s.decimals)
@@ -145,8 +145,8 @@ fn number_nought(table: &[u16], i: usize, v: Signed) -> bool
 // Whether integer part and numerator are nought in section i, which is a fraction section.
 fn fraction_nought(table: &[u16], i: usize, v: Signed) -> bool
     requires { T (passes table.now) × (i < get_or table.now 0 0) × (v.magnitude < 10 ^ 15) × (v.scale ≤ 15)
-        × (kind_of (sectionIn table.now i) ≡ fractionKind) }
-    ensures { (x : Number) → v ≡ signed_of x → result ≡ placesNought (sectionIn table.now i) x }
+        × (kind_of (section_in table.now i) ≡ fraction_kind) }
+    ensures { (x : Number) → v ≡ signed_of x → result ≡ places_nought (section_in table.now i) x }
 {
     let x = section_fraction(table, i, v);
     let f = x.mixed;
@@ -156,7 +156,7 @@ fn fraction_nought(table: &[u16], i: usize, v: Signed) -> bool
 // Exception (b) of the added minus: what section i shows of a number is nought. A mantissa is nought only where the number is.
 fn shows_nought(table: &[u16], i: u16, v: Signed) -> bool
     requires { T (passes table.now) × (i < get_or table.now 0 0) × (v.magnitude < 10 ^ 15) × (v.scale ≤ 15) }
-    ensures { (x : Number) → v ≡ signed_of x → result ≡ showsNought (sectionIn table.now i) x }
+    ensures { (x : Number) → v ≡ signed_of x → result ≡ shows_nought (section_in table.now i) x }
 {
     let h = head_of(table, i as usize);
     let kind = h.kind;
@@ -172,7 +172,7 @@ fn shows_nought(table: &[u16], i: u16, v: Signed) -> bool
 
 // What holds the minus of a number back in a section of so many items, the first that applies.
 fn minus_told(negative: bool, items: u16, excepted: bool, nought: bool) -> Minus
-    ensures { result ≡ minusTold negative (eqb items 0) excepted nought }
+    ensures { result ≡ minus_told negative (eqb items 0) excepted nought }
 {
     if negative {
         if items == 0 {
@@ -193,8 +193,8 @@ fn minus_told(negative: bool, items: u16, excepted: bool, nought: bool) -> Minus
 fn minus_in(table: &[u16], i: u16, v: Signed) -> Minus
     requires { T (passes table.now) × (i < get_or table.now 0 0) × (v.magnitude < 10 ^ 15) × (v.scale ≤ 15) }
     ensures { (x : Number) (why : Reason) → v ≡ signed_of x
-        → choose (decode table.now) (numberExact x) ≡ chosen i (sectionIn table.now i) why
-        → result ≡ minusOf (numberSign (decode table.now) i (sectionIn table.now i) why x) }
+        → choose (decode table.now) (number_exact x) ≡ chosen i (section_in table.now i) why
+        → result ≡ minus_of (number_sign (decode table.now) i (section_in table.now i) why x) }
 {
     let h = head_of(table, i as usize);
     let excepted = no_minus(table, i as usize);
@@ -204,8 +204,8 @@ fn minus_in(table: &[u16], i: u16, v: Signed) -> Minus
 
 // The decimals that section i, a number section, cuts off a number.
 fn number_cut(table: &[u16], i: usize, v: Signed) -> u16
-    requires { T (passes table.now) × (i < get_or table.now 0 0) × (v.scale ≤ 15) × (kind_of (sectionIn table.now i) ≡ numberKind) }
-    ensures { (x : Number) → v ≡ signed_of x → result ≡ numberCut (sectionIn table.now i) x }
+    requires { T (passes table.now) × (i < get_or table.now 0 0) × (v.scale ≤ 15) × (kind_of (section_in table.now i) ≡ number_kind) }
+    ensures { (x : Number) → v ≡ signed_of x → result ≡ number_cut (section_in table.now i) x }
 {
     let s = scaling_of(table, i, v.scale);
     decimals_cut(v.magnitude, s.up, s.down, s.decimals)
@@ -214,8 +214,8 @@ fn number_cut(table: &[u16], i: usize, v: Signed) -> u16
 // Those that section i, a scientific section, cuts off its mantissa.
 fn mantissa_cut(table: &[u16], i: usize, v: Signed) -> u16
     requires { T (passes table.now) × (i < get_or table.now 0 0) × (v.magnitude < 10 ^ 15) × (v.scale ≤ 15)
-        × (kind_of (sectionIn table.now i) ≡ scientificKind) }
-    ensures { (x : Number) → v ≡ signed_of x → result ≡ numberCut (sectionIn table.now i) x }
+        × (kind_of (section_in table.now i) ≡ scientific_kind) }
+    ensures { (x : Number) → v ≡ signed_of x → result ≡ number_cut (section_in table.now i) x }
 {
     let h = head_of(table, i);
     let integers = integer_places(table, i);
@@ -225,7 +225,7 @@ fn mantissa_cut(table: &[u16], i: usize, v: Signed) -> u16
 // The decimals that section i cuts off a number.
 fn section_cut(table: &[u16], i: u16, v: Signed) -> u16
     requires { T (passes table.now) × (i < get_or table.now 0 0) × (v.magnitude < 10 ^ 15) × (v.scale ≤ 15) }
-    ensures { (x : Number) → v ≡ signed_of x → result ≡ numberCut (sectionIn table.now i) x }
+    ensures { (x : Number) → v ≡ signed_of x → result ≡ number_cut (section_in table.now i) x }
 {
     let h = head_of(table, i as usize);
     let kind = h.kind;
@@ -243,8 +243,8 @@ fn section_cut(table: &[u16], i: u16, v: Signed) -> u16
 fn number_in(table: &[u16], i: u16, v: Signed) -> Grounds
     requires { T (passes table.now) × (i < get_or table.now 0 0) × (v.magnitude < 10 ^ 15) × (v.scale ≤ 15) }
     ensures { (x : Number) (why : Reason) → v ≡ signed_of x
-        → choose (decode table.now) (numberExact x) ≡ chosen i (sectionIn table.now i) why
-        → result ≡ numberGrounds (decode table.now) x (chosen i (sectionIn table.now i) why) }
+        → choose (decode table.now) (number_exact x) ≡ chosen i (section_in table.now i) why
+        → result ≡ number_grounds (decode table.now) x (chosen i (section_in table.now i) why) }
 {
     let minus = minus_in(table, i, v);
     let cut = section_cut(table, i, v);
@@ -254,7 +254,7 @@ fn number_in(table: &[u16], i: u16, v: Signed) -> Grounds
 // The reason for a number that is in range.
 fn in_range(table: &[u16], v: Signed) -> Grounds
     requires { T (passes table.now) × (v.magnitude < 10 ^ 15) × (v.scale ≤ 15) }
-    ensures { (x : Number) → v ≡ signed_of x → result ≡ groundsOf (decode table.now) (value.Number x) }
+    ensures { (x : Number) → v ≡ signed_of x → result ≡ grounds_of (decode table.now) (value.Number x) }
 {
     match choosing::choose(table, number_sought(v)) {
         Found::Nothing => no_grounds(),
@@ -264,8 +264,8 @@ fn in_range(table: &[u16], v: Signed) -> Grounds
 
 // The reason for a number.
 fn number_grounds(table: &[u16], x: Number) -> Grounds
-    requires { T (passes table.now) × T (numberInRange x) }
-    ensures { result ≡ groundsOf (decode table.now) (value.Number x) }
+    requires { T (passes table.now) × T (number_in_range x) }
+    ensures { result ≡ grounds_of (decode table.now) (value.Number x) }
 {
     match figures::take_number(x) {
         Taken::OutOfRange => no_grounds(),
@@ -276,7 +276,7 @@ fn number_grounds(table: &[u16], x: Number) -> Grounds
 // The reason for an instant, which is not below 0 and of which no decimals are cut.
 fn instant_grounds(table: &[u16], d: Day, m: Millisecond) -> Grounds
     requires { T (passes table.now) }
-    ensures { result ≡ instantGrounds (decode table.now) (choose (decode table.now) (instantExact d m)) }
+    ensures { result ≡ instant_grounds (decode table.now) (choose (decode table.now) (instant_exact d m)) }
 {
     match choosing::choose(table, instant_sought(d, m)) {
         Found::Nothing => no_grounds(),
@@ -287,7 +287,7 @@ fn instant_grounds(table: &[u16], d: Day, m: Millisecond) -> Grounds
 // The reason for a text.
 fn text_grounds(table: &[u16]) -> Grounds
     requires { T (passes table.now) }
-    ensures { result ≡ textGrounds (chooseText (decode table.now)) }
+    ensures { result ≡ text_grounds (choose_text (decode table.now)) }
 {
     match choosing::choose_text(table) {
         TextFound::Itself => untried(4, ChosenBy::NoSection),
@@ -297,8 +297,8 @@ fn text_grounds(table: &[u16]) -> Grounds
 
 // The reason for a value that is shown.
 fn grounds_of(table: &[u16], value: Value) -> Grounds
-    requires { T (passes table.now) × T (valueInRange value []) }
-    ensures { result ≡ groundsOf (decode table.now) value }
+    requires { T (passes table.now) × T (value_in_range value []) }
+    ensures { result ≡ grounds_of (decode table.now) value }
 {
     match value {
         Value::Number(x) => number_grounds(table, x),
@@ -310,7 +310,7 @@ fn grounds_of(table: &[u16], value: Value) -> Grounds
 // Why a value is shown as it is through the words lent as a table, in a room of this size: the answer of the show where that is refused, else the
 // reason. Nothing is asked of the caller, and nothing is written.
 pub fn why(table: &[u16], ask: Ask, text: &[u16], size: usize) -> Why
-    ensures { result ≡ tableWhy table.now ask text.now size }
+    ensures { result ≡ table_why table.now ask text.now size }
 {
     let answer = answer_of(table, ask, text, size);
     if answers::number(answer) != 0 {

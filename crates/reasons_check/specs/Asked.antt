@@ -4,22 +4,22 @@ use Rattle.std.specs.Prelude.{ℕ, cond, List}
 use Rattle.answers.specs.declared.Answer.TheVariants as answer
 use Rattle.grounds.specs.declared.Why.{Why}
 use Rattle.grounds.specs.declared.Why.TheVariants as why
-use Rattle.grounds.specs.Why.{codeWhy}
+use Rattle.grounds.specs.Why.{code_why}
 use Rattle.requests.specs.Lines.{Field, field, missing}
-use Rattle.requests.specs.Written.{isDigits, numeralUpTo}
-use Rattle.requests.specs.Request.{Request, refused, request, requestOf}
+use Rattle.requests.specs.Written.{is_digits, numeral_up_to}
+use Rattle.requests.specs.Request.{Request, refused, request, request_of}
 
 -- the first three lines in a room of this length: the reason is read off the code itself
-unfoldable pub requestWhy : Request → ℕ → Why
-requestWhy (refused a k) size = why.Refused a
-requestWhy (request code ask text) size = codeWhy code ask text size
+unfoldable pub request_why : Request → ℕ → Why
+request_why (refused a k) size = why.Refused a
+request_why (request code ask text) size = code_why code ask text size
 
 -- the same, the length written in digits; every text fits a room from this length on
-unfoldable pub roomWhy : List ℕ → List ℕ → Why
-roomWhy lines digits =
-    cond (isDigits digits) (requestWhy (requestOf lines) (numeralUpTo 1000000 digits)) (why.Refused answer.Line)
+unfoldable pub room_why : List ℕ → List ℕ → Why
+room_why lines digits =
+    cond (is_digits digits) (request_why (request_of lines) (numeral_up_to 1000000 digits)) (why.Refused answer.Line)
 
 -- the fourth line, `room=`
-unfoldable pub blockWhy : List ℕ → Field → Why
-blockWhy lines missing = why.Refused answer.Line
-blockWhy lines (field digits rest) = roomWhy lines digits
+unfoldable pub block_why : List ℕ → Field → Why
+block_why lines missing = why.Refused answer.Line
+block_why lines (field digits rest) = room_why lines digits

@@ -8,8 +8,8 @@ use Rattle.c_numbers.specs.declared.WhyNumbers.{WhyNumbers}
 unfoldable pub named : List ℕ → ℕ → List ℕ
 named name n = name ++ numeral 1 n
 
-unfoldable pub choiceUnits : WhyNumbers → List ℕ
-choiceUnits w =
+unfoldable pub choice_units : WhyNumbers → List ℕ
+choice_units w =
     named (units " section=") w.section
     ++ named (units " choice=") w.choice
     ++ named (units " first=") w.first
@@ -18,7 +18,7 @@ choiceUnits w =
 unfoldable pub line_of : WhyNumbers → List ℕ
 line_of w =
     named (units "answer=") w.answer
-    ++ choiceUnits w
+    ++ choice_units w
     ++ named (units " minus=") w.minus
     ++ named (units " cut=") w.cut
     ++ (10 ∷ [])

@@ -1,7 +1,7 @@
 // The line that tells a reason, put into a lent room.
 ghost use Rattle.std.specs.Prelude.{◌+◌, ◌≤◌, ◌<◌, ◌^◌, length};
 ghost use Rattle.writing.specs.Put.{Put};
-ghost use Rattle.reasons_check.specs.Lines.{named, choiceUnits, line_of};
+ghost use Rattle.reasons_check.specs.Lines.{named, choice_units, line_of};
 
 use c_numbers::WhyNumbers;
 use requests::bytes::put_bytes;
@@ -23,7 +23,7 @@ fn put_named(room: &mut [u16], at: usize, name: &[u8], n: u16) -> usize
 fn put_choice(room: &mut [u16], at: usize, w: WhyNumbers) -> usize
     requires { at < 2 ^ 59 }
     ensures within { result ≤ at + 136 }
-    ensures put { Put room.old at (choiceUnits w) result room.new }
+    ensures put { Put room.old at (choice_units w) result room.new }
 {
     let a = put_named(room, at, b" section=", w.section);
     let b = put_named(room, a, b" choice=", w.choice);

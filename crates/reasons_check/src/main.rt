@@ -6,10 +6,10 @@ mod lines;
 
 ghost use Rattle.std.specs.Prelude.{◌≡◌, ◌≤◌, ◌<◌, length};
 ghost use Rattle.calendar.specs.Names.{units};
-ghost use Rattle.grounds.specs.Why.{codeWhy};
+ghost use Rattle.grounds.specs.Why.{code_why};
 ghost use Rattle.requests.specs.Lines.{field_of};
-ghost use Rattle.requests.specs.Request.{requestOf};
-ghost use Rattle.reasons_check.specs.Asked.{requestWhy, roomWhy, blockWhy};
+ghost use Rattle.requests.specs.Request.{request_of};
+ghost use Rattle.reasons_check.specs.Asked.{request_why, room_why, block_why};
 
 use answers::{Answer, number};
 use c_numbers::why_numbers;
@@ -64,7 +64,7 @@ fn input_room() -> [u16; 65536]
 
 // The reason that the table of a code gives, which is the code's own; or the refusal of the code.
 fn code_why(code: &[u16], ask: Ask, text: &[u16], size: usize) -> Why
-    ensures { result ≡ codeWhy code.now ask text.now size }
+    ensures { result ≡ code_why code.now ask text.now size }
 {
     let mut table = table_room();
     let p = prepare(code, &mut table);
@@ -78,7 +78,7 @@ fn code_why(code: &[u16], ask: Ask, text: &[u16], size: usize) -> Why
 
 // What three lines are answered in a room of this length.
 fn request_why(request: &[u16], size: usize) -> Why
-    ensures { result ≡ requestWhy (requestOf request.now) size }
+    ensures { result ≡ request_why (request_of request.now) size }
 {
     match read_request(request) {
         RequestRead::Request(code, ask, text) => {
@@ -90,7 +90,7 @@ fn request_why(request: &[u16], size: usize) -> Why
 
 // The same, where the length is written in digits.
 fn room_why(request: &[u16], room: &[u16]) -> Why
-    ensures { result ≡ roomWhy request.now room.now }
+    ensures { result ≡ room_why request.now room.now }
 {
     if is_digits(room) {
         return request_why(request, number_behind(0, room, LARGE) as usize);
@@ -100,7 +100,7 @@ fn room_why(request: &[u16], room: &[u16]) -> Why
 
 // What three lines and a fourth are answered.
 fn block_why(request: &[u16], fourth: &[u16]) -> Why
-    ensures { result ≡ blockWhy request.now (field_of (units "room=") fourth.now) }
+    ensures { result ≡ block_why request.now (field_of (units "room=") fourth.now) }
 {
     match line_at(fourth, 0, b"room=") {
         Line::Content(room) => room_why(request, part_of(fourth, room)),

@@ -11,16 +11,16 @@ use Rattle.values.specs.declared.Ask.{Ask}
 use Rattle.values.specs.Ranges.{in_range}
 use Rattle.lists.specs.Lists.{All, every, is_empty}
 use Rattle.calendar.specs.Names.{units}
-use Rattle.formats.specs.Tokens.{before, starts_with, same, isDigit, digitOf, numberFrom}
-use Rattle.formats.proofs.Cases.{number, instant, aText}
-use Rattle.requests.specs.Lines.{isAscii, is_line, field_of}
-use Rattle.requests.specs.Written.{sortOf, isDigits, numeralUpTo, signedBy, unsignedOf, number_of, instantOf, value_of, text_of}
-use Rattle.requests.specs.Request.{Request, malformed, request, fromEnd, fromValue, fromThird, fromKind, fromSecond, fromFirst, requestOf}
+use Rattle.formats.specs.Tokens.{before, starts_with, same, is_digit, digit_of, number_from}
+use Rattle.formats.proofs.Cases.{number, instant, a_text}
+use Rattle.requests.specs.Lines.{is_ascii, is_line, field_of}
+use Rattle.requests.specs.Written.{sort_of, is_digits, numeral_up_to, signed_by, unsigned_of, number_of, instant_of, value_of, text_of}
+use Rattle.requests.specs.Request.{Request, malformed, request, from_end, from_value, from_third, from_kind, from_second, from_first, request_of}
 
 -- to open `worked` is to open every definition that reading a request goes through
 unfoldable pub worked : List ℕ → Request
-unfolding units every is_empty before starts_with same isDigit digitOf numberFrom isAscii is_line field_of sortOf isDigits numeralUpTo signedBy unsignedOf number_of instantOf value_of text_of fromEnd fromValue fromThird fromKind fromSecond fromFirst requestOf
-worked input = requestOf input
+unfolding units every is_empty before starts_with same is_digit digit_of number_from is_ascii is_line field_of sort_of is_digits numeral_up_to signed_by unsigned_of number_of instant_of value_of text_of from_end from_value from_third from_kind from_second from_first request_of
+worked input = request_of input
 
 pub record Case : Type 0 where
   pub input : List ℕ
@@ -42,7 +42,7 @@ unfolding units
 texted n =
     record {
       input = units "code=@\nkind=text\nvalue=" ++ replicate n 97 ++ units "\n";
-      asks = request (units "@") aText (replicate n 97);
+      asks = request (units "@") a_text (replicate n 97);
     }
 
 unfoldable pub cases : List Case
@@ -78,7 +78,7 @@ cases =
     ∷ wrong "kind=number\ncode=0\nvalue=1\n" 1
     -- a byte above 127 makes its line malformed; any other is a unit
     ∷ wrong "code=é\nkind=number\nvalue=1\n" 1
-    ∷ record { input = units "code=\t\r\nkind=text\nvalue=\n"; asks = request (9 ∷ 13 ∷ []) aText [] }
+    ∷ record { input = units "code=\t\r\nkind=text\nvalue=\n"; asks = request (9 ∷ 13 ∷ []) a_text [] }
     -- each line needs its line feed, and nothing follows the third
     ∷ wrong "" 1
     ∷ wrong "code=0" 1
@@ -90,7 +90,7 @@ cases =
 
 -- the input asks for what its case says
 abbrev pub Right : Case → Type 0
-Right c = requestOf c.input ≡ c.asks
+Right c = request_of c.input ≡ c.asks
 
 pub cases-right : All Right cases
 unfolding cases worked
@@ -106,5 +106,5 @@ pub limits-out : All (λ (a : Ask). in_range a [] ≡ false) large
 unfolding large
 limits-out = (refl, (refl, (refl, (refl, (refl, (refl, (refl, tt)))))))
 
-pub text_out : in_range aText (replicate 1025 97) ≡ false
+pub text_out : in_range a_text (replicate 1025 97) ≡ false
 text_out = refl

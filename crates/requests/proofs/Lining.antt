@@ -20,7 +20,7 @@ use Rattle.lexing.specs.Scan.{member}
 use Rattle.formats.proofs.Lexing.{word-most}
 use Rattle.lexing.proofs.Scanning.{before-leading, rest_all}
 use Rattle.requests.specs.Bytes.{low_byte}
-use Rattle.requests.specs.Lines.{isAscii, is_line, missing, field_of}
+use Rattle.requests.specs.Lines.{is_ascii, is_line, missing, field_of}
 use Rattle.requests.specs.Reads.{part_of, Content}
 
 -- ---- every unit
@@ -37,12 +37,12 @@ module _ (f : ℕ → Bool) (us : List ℕ) (i : ℕ) where
   unfolding every
   every-past h = rw drop_of_length-le
 
-pub ascii-not : (u : ℕ) → 127 < u → isAscii u ≡ false
-unfolding isAscii
+pub ascii-not : (u : ℕ) → 127 < u → is_ascii u ≡ false
+unfolding is_ascii
 ascii-not u h = lt-leb u 127 h
 
-pub ascii-is : (u : ℕ) → u ≤ 127 → isAscii u ≡ true
-unfolding isAscii
+pub ascii-is : (u : ℕ) → u ≤ 127 → is_ascii u ≡ true
+unfolding is_ascii
 ascii-is u h = le-leb u 127 h
 
 -- ---- a line
@@ -50,7 +50,7 @@ pub line-long : (name line : List ℕ) → 2048 < length line → false ≡ is_l
 unfolding is_line
 line-long name line h = rw (lt-leb (length line) 2048 h)
 
-pub line-short : (name line : List ℕ) (a b : Bool) → length line ≤ 2048 → a ≡ every isAscii line → b ≡ starts_with name line
+pub line-short : (name line : List ℕ) (a b : Bool) → length line ≤ 2048 → a ≡ every is_ascii line → b ≡ starts_with name line
     → (a && b) ≡ is_line name line
 unfolding is_line
 line-short name line a b h e f = rw (le-leb (length line) 2048 h, e, f)
@@ -60,9 +60,9 @@ pub line-says : (name line : List ℕ) → is_line name line ≡ true → (lengt
 unfolding is_line
 line-says name line e =
     let t = true-T e in
-    let l = and_left (leb (length line) 2048 && every isAscii line) (starts_with name line) t in
-    let r = and_right (leb (length line) 2048 && every isAscii line) (starts_with name line) t in
-    (leb-true (length line) 2048 (T_true _ (and_left (leb (length line) 2048) (every isAscii line) l)), word-most name line (T_true _ r))
+    let l = and_left (leb (length line) 2048 && every is_ascii line) (starts_with name line) t in
+    let r = and_right (leb (length line) 2048 && every is_ascii line) (starts_with name line) t in
+    (leb-true (length line) 2048 (T_true _ (and_left (leb (length line) 2048) (every is_ascii line) l)), word-most name line (T_true _ r))
 
 -- what is behind the first units of a part
 pub drop-take : (k n : ℕ) (us : List ℕ) → drop k (take n us) ≡ take (n - k) (drop k us)

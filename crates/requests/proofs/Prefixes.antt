@@ -22,8 +22,8 @@ use Rattle.requests.specs.declared.written.SortRead.TheVariants.{Known, Unknown}
 use Rattle.requests.specs.declared.written.ValueRead.{ValueRead}
 use Rattle.requests.specs.declared.written.ValueRead.TheVariants as read
 use Rattle.requests.specs.Lines.{is_line, Field, field, missing, field_of}
-use Rattle.requests.specs.Written.{sortOf, value_of, text_of}
-use Rattle.requests.specs.Request.{Request, fromEnd, fromValue, fromThird, fromKind, fromSecond, fromFirst, requestOf}
+use Rattle.requests.specs.Written.{sort_of, value_of, text_of}
+use Rattle.requests.specs.Request.{Request, from_end, from_value, from_third, from_kind, from_second, from_first, request_of}
 use Rattle.requests.proofs.Lining.{line-long, drop-take}
 
 before-take : (u m : ℕ) (us : List ℕ) → before u (take m us) ≡ min m (before u us)
@@ -78,30 +78,30 @@ module _ (F : Field → Request) (name us : List ℕ) (m : ℕ) (h : 2049 ≤ m)
       ]
 
 -- ---- what is left to read of each line on
-end-prefix : (code : List ℕ) (ask : Ask) (text rest : List ℕ) (j : ℕ) → 1 ≤ j → fromEnd code ask text (take j rest) ≡ fromEnd code ask text rest
-unfolding fromEnd is_empty
+end-prefix : (code : List ℕ) (ask : Ask) (text rest : List ℕ) (j : ℕ) → 1 ≤ j → from_end code ask text (take j rest) ≡ from_end code ask text rest
+unfolding from_end is_empty
 end-prefix code ask text rest zero h = absurd (omega arith)
 end-prefix code ask text [] (suc j) h = refl
 end-prefix code ask text (u ∷ us) (suc j) h = refl
 
-value-prefix : (code : List ℕ) (o : ValueRead) (text rest : List ℕ) (j : ℕ) → 1 ≤ j → fromValue code o text (take j rest) ≡ fromValue code o text rest
-unfolding fromValue
+value-prefix : (code : List ℕ) (o : ValueRead) (text rest : List ℕ) (j : ℕ) → 1 ≤ j → from_value code o text (take j rest) ≡ from_value code o text rest
+unfolding from_value
 value-prefix code read.Malformed text rest j h = refl
 value-prefix code (read.Known v) text rest j h = end-prefix code (asked v) text rest j h
 
-kind-prefix : (code : List ℕ) (k : SortRead) (rest : List ℕ) (j : ℕ) → 2050 ≤ j → fromKind code k (take j rest) ≡ fromKind code k rest
-unfolding fromKind fromThird
+kind-prefix : (code : List ℕ) (k : SortRead) (rest : List ℕ) (j : ℕ) → 2050 ≤ j → from_kind code k (take j rest) ≡ from_kind code k rest
+unfolding from_kind from_third
 kind-prefix code Unknown rest j h = refl
 kind-prefix code (Known s) rest j h =
-    field-prefix (fromThird code s) (units "value=") rest j (omega arith)
+    field-prefix (from_third code s) (units "value=") rest j (omega arith)
     (λ c r i l. value-prefix code (value_of s c) (text_of s c) r i (omega arith))
 
 second-prefix : (code rest : List ℕ) (j : ℕ) → 4099 ≤ j
-    → fromSecond code (field_of (units "kind=") (take j rest)) ≡ fromSecond code (field_of (units "kind=") rest)
-unfolding fromSecond
+    → from_second code (field_of (units "kind=") (take j rest)) ≡ from_second code (field_of (units "kind=") rest)
+unfolding from_second
 second-prefix code rest j h =
-    field-prefix (fromSecond code) (units "kind=") rest j (omega arith) (λ c r i l. kind-prefix code (sortOf c) r i (omega arith))
+    field-prefix (from_second code) (units "kind=") rest j (omega arith) (λ c r i l. kind-prefix code (sort_of c) r i (omega arith))
 
-pub request-prefix : (input : List ℕ) (n : ℕ) → 6148 ≤ n → requestOf (take n input) ≡ requestOf input
-unfolding requestOf fromFirst
-request-prefix input n h = field-prefix fromFirst (units "code=") input n (omega arith) (λ c r i l. second-prefix c r i (omega arith))
+pub request-prefix : (input : List ℕ) (n : ℕ) → 6148 ≤ n → request_of (take n input) ≡ request_of input
+unfolding request_of from_first
+request-prefix input n h = field-prefix from_first (units "code=") input n (omega arith) (λ c r i l. second-prefix c r i (omega arith))

@@ -36,15 +36,15 @@ LineAt input at name (line.Content p) = Content input at name p
 LineAt input at name line.Malformed = field_of name (drop at input) ≡ missing
 
 -- the part that is the text beside a value
-abbrev pub textPart : Sort → Part → Part
-textPart sort.Number p = record { start = 0; end = 0 }
-textPart sort.Instant p = record { start = 0; end = 0 }
-textPart sort.Text p = p
+abbrev pub text_part : Sort → Part → Part
+text_part sort.Number p = record { start = 0; end = 0 }
+text_part sort.Instant p = record { start = 0; end = 0 }
+text_part sort.Text p = p
 
 -- the request that is returned: a malformed line is 14, and the code and the text are parts of the input
-abbrev pub requestAs : List ℕ → RequestRead → Request
-requestAs input (told.Malformed line) = malformed line
-requestAs input (told.Request code ask text) = request (part_of input code) ask (part_of input text)
+abbrev pub request_as : List ℕ → RequestRead → Request
+request_as input (told.Malformed line) = malformed line
+request_as input (told.Request code ask text) = request (part_of input code) ask (part_of input text)
 
 abbrev pub PartsWithin : List ℕ → RequestRead → Type 0
 PartsWithin input (told.Malformed line) = Unit {0}
@@ -52,5 +52,5 @@ PartsWithin input (told.Request code ask text) = Within input code × Within inp
 
 -- what is returned of the input is this request. Two correct readers may differ only in which of several equal parts they name.
 pub record Reads (input : List ℕ) (q : Request) (r : RequestRead) : Type 0 where
-  pub same : requestAs input r ≡ q
+  pub same : request_as input r ≡ q
   pub parts : PartsWithin input r

@@ -13,7 +13,7 @@ use Rattle.requests.specs.declared.written.SortRead.TheVariants.{Known, Unknown}
 use Rattle.requests.specs.declared.written.ValueRead.{ValueRead}
 use Rattle.requests.specs.declared.written.ValueRead.TheVariants as read
 use Rattle.requests.specs.Lines.{Field, field, missing, field_of}
-use Rattle.requests.specs.Written.{sortOf, value_of, text_of}
+use Rattle.requests.specs.Written.{sort_of, value_of, text_of}
 
 pub data Request : Type 0 where
   refused : Answer → (place : ℕ) → Request
@@ -24,32 +24,32 @@ abbrev pub malformed : ℕ → Request
 malformed line = refused answer.Line line
 
 -- line 4: "nothing after the third (else line 4)"
-unfoldable pub fromEnd : List ℕ → Ask → List ℕ → List ℕ → Request
-fromEnd code ask text rest = cond (is_empty rest) (request code ask text) (malformed 4)
+unfoldable pub from_end : List ℕ → Ask → List ℕ → List ℕ → Request
+from_end code ask text rest = cond (is_empty rest) (request code ask text) (malformed 4)
 
 -- line 3, `value=`
-unfoldable pub fromValue : List ℕ → ValueRead → List ℕ → List ℕ → Request
-fromValue code read.Malformed text rest = malformed 3
-fromValue code (read.Known v) text rest = fromEnd code (asked v) text rest
+unfoldable pub from_value : List ℕ → ValueRead → List ℕ → List ℕ → Request
+from_value code read.Malformed text rest = malformed 3
+from_value code (read.Known v) text rest = from_end code (asked v) text rest
 
-unfoldable pub fromThird : List ℕ → Sort → Field → Request
-fromThird code s missing = malformed 3
-fromThird code s (field content rest) = fromValue code (value_of s content) (text_of s content) rest
+unfoldable pub from_third : List ℕ → Sort → Field → Request
+from_third code s missing = malformed 3
+from_third code s (field content rest) = from_value code (value_of s content) (text_of s content) rest
 
 -- line 2, `kind=`
-unfoldable pub fromKind : List ℕ → SortRead → List ℕ → Request
-fromKind code Unknown rest = malformed 2
-fromKind code (Known s) rest = fromThird code s (field_of (units "value=") rest)
+unfoldable pub from_kind : List ℕ → SortRead → List ℕ → Request
+from_kind code Unknown rest = malformed 2
+from_kind code (Known s) rest = from_third code s (field_of (units "value=") rest)
 
-unfoldable pub fromSecond : List ℕ → Field → Request
-fromSecond code missing = malformed 2
-fromSecond code (field content rest) = fromKind code (sortOf content) rest
+unfoldable pub from_second : List ℕ → Field → Request
+from_second code missing = malformed 2
+from_second code (field content rest) = from_kind code (sort_of content) rest
 
 -- line 1, `code=`
-unfoldable pub fromFirst : Field → Request
-fromFirst missing = malformed 1
-fromFirst (field content rest) = fromSecond content (field_of (units "kind=") rest)
+unfoldable pub from_first : Field → Request
+from_first missing = malformed 1
+from_first (field content rest) = from_second content (field_of (units "kind=") rest)
 
 -- what the whole input's bytes ask for
-unfoldable pub requestOf : List ℕ → Request
-requestOf input = fromFirst (field_of (units "code=") input)
+unfoldable pub request_of : List ℕ → Request
+request_of input = from_first (field_of (units "code=") input)

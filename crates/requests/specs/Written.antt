@@ -7,7 +7,7 @@ use Rattle.std.specs.Prelude.{ℕ, suc, ◌^◌, min, Bool, true, false, cond, n
 use Rattle.values.specs.declared.Value.TheVariants as value
 use Rattle.lists.specs.Lists.{every, is_empty}
 use Rattle.calendar.specs.Names.{units}
-use Rattle.formats.specs.Tokens.{before, starts_with, same, isDigit, digitOf, numberFrom}
+use Rattle.formats.specs.Tokens.{before, starts_with, same, is_digit, digit_of, number_from}
 use Rattle.requests.specs.declared.written.Sort.{Sort}
 use Rattle.requests.specs.declared.written.Sort.TheVariants as sort
 use Rattle.requests.specs.declared.written.SortRead.{SortRead}
@@ -16,8 +16,8 @@ use Rattle.requests.specs.declared.written.ValueRead.{ValueRead}
 use Rattle.requests.specs.declared.written.ValueRead.TheVariants as read
 
 -- "kind is number, instant or text"
-unfoldable pub sortOf : List ℕ → SortRead
-sortOf us =
+unfoldable pub sort_of : List ℕ → SortRead
+sort_of us =
     cond (same (units "number") us) (Known sort.Number)
     (cond (same (units "instant") us) (Known sort.Instant)
     (cond (same (units "text") us) (Known sort.Text) Unknown))
@@ -29,55 +29,55 @@ abbrev pub solidus : ℕ
 solidus = 47
 
 -- "digits": one or more
-unfoldable pub isDigits : List ℕ → Bool
-isDigits us = not (is_empty us) && every isDigit us
+unfoldable pub is_digits : List ℕ → Bool
+is_digits us = not (is_empty us) && every is_digit us
 
 -- the number that digits write, or the limit where it is larger; zeros in front do not count
-unfoldable pub numeralUpTo : ℕ → List ℕ → ℕ
-numeralUpTo limit us = min (numberFrom 0 (map digitOf us)) limit
+unfoldable pub numeral_up_to : ℕ → List ℕ → ℕ
+numeral_up_to limit us = min (number_from 0 (map digit_of us)) limit
 
 -- a coefficient of the first limit is out of range, and a day and a millisecond of the second (`limits-out`), as all that are larger are
-abbrev pub coefficientLimit : ℕ
-coefficientLimit = 10 ^ 15
+abbrev pub coefficient_limit : ℕ
+coefficient_limit = 10 ^ 15
 
-abbrev pub countLimit : ℕ
-countLimit = 10 ^ 9
+abbrev pub count_limit : ℕ
+count_limit = 10 ^ 9
 
 -- `-0` is the number 0
-unfoldable pub signedBy : Bool → ℕ → ℤ
-signedBy negative n = cond negative (neg_ℤ (pos n)) (pos n)
+unfoldable pub signed_by : Bool → ℕ → ℤ
+signed_by negative n = cond negative (neg_ℤ (pos n)) (pos n)
 
 -- "digits, and optionally a point and digits, whose count is the scale", with the sign in front
-unfoldable pub unsignedOf : Bool → List ℕ → ValueRead
-unsignedOf negative us =
+unfoldable pub unsigned_of : Bool → List ℕ → ValueRead
+unsigned_of negative us =
     let n = before point us in
     let whole = take n us in
     let decimals = drop (suc n) us in
-    cond (isDigits whole && (eqb n (length us) || isDigits decimals))
+    cond (is_digits whole && (eqb n (length us) || is_digits decimals))
     (read.Known (value.Number (record {
-      coefficient = signedBy negative (numeralUpTo coefficientLimit (whole ++ decimals));
+      coefficient = signed_by negative (numeral_up_to coefficient_limit (whole ++ decimals));
       scale = length decimals;
     })))
     read.Malformed
 
 -- "an optional minus"
 unfoldable pub number_of : List ℕ → ValueRead
-number_of us = cond (starts_with (units "-") us) (unsignedOf true (drop 1 us)) (unsignedOf false us)
+number_of us = cond (starts_with (units "-") us) (unsigned_of true (drop 1 us)) (unsigned_of false us)
 
 -- "instant as `day/ms`"
-unfoldable pub instantOf : List ℕ → ValueRead
-instantOf us =
+unfoldable pub instant_of : List ℕ → ValueRead
+instant_of us =
     let n = before solidus us in
     let day = take n us in
     let millisecond = drop (suc n) us in
-    cond (isDigits day && isDigits millisecond)
-    (read.Known (value.Instant (record { 0 = numeralUpTo countLimit day }) (record { 0 = numeralUpTo countLimit millisecond })))
+    cond (is_digits day && is_digits millisecond)
+    (read.Known (value.Instant (record { 0 = numeral_up_to count_limit day }) (record { 0 = numeral_up_to count_limit millisecond })))
     read.Malformed
 
 -- the value that a line of this kind writes, where it is well formed; any text is
 unfoldable pub value_of : Sort → List ℕ → ValueRead
 value_of sort.Number us = number_of us
-value_of sort.Instant us = instantOf us
+value_of sort.Instant us = instant_of us
 value_of sort.Text us = read.Known value.Text
 
 -- the text beside the value

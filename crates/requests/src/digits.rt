@@ -1,14 +1,14 @@
 // Digits of a lent run of units.
 ghost use Rattle.std.specs.Prelude.{◌≡◌, map, ◌-◌, ◌^◌, ◌≤◌, min, T};
 ghost use Rattle.lists.specs.Lists.{every};
-ghost use Rattle.formats.specs.Tokens.{isDigit, digitOf, numberFrom};
-ghost use Rattle.requests.specs.Written.{isDigits};
+ghost use Rattle.formats.specs.Tokens.{is_digit, digit_of, number_from};
+ghost use Rattle.requests.specs.Written.{is_digits};
 
 use lexing::scan::{Set, scan};
 
 // One digit or more, and nothing else.
 pub fn is_digits(us: &[u16]) -> bool
-    ensures { result ≡ isDigits us.now }
+    ensures { result ≡ is_digits us.now }
 {
     if us.len() == 0 {
         return false;
@@ -34,8 +34,8 @@ fn at_most(n: u64, limit: u64) -> u64
 // The number that digits write behind those of v, or the limit where it is larger. It never grows past the limit, so that any
 // count of digits can be read.
 pub fn number_behind(v: u64, us: &[u16], limit: u64) -> u64
-    requires { (v ≤ limit) × (limit ≤ 10 ^ 15) × T (every isDigit us.now) }
-    ensures { result ≡ min (numberFrom v (map digitOf us.now)) limit }
+    requires { (v ≤ limit) × (limit ≤ 10 ^ 15) × T (every is_digit us.now) }
+    ensures { result ≡ min (number_from v (map digit_of us.now)) limit }
 {
     let mut n = v;
     let mut i: usize = 0;

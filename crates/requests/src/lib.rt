@@ -7,9 +7,9 @@ mod written;
 ghost use Rattle.std.specs.Prelude.{◌≡◌, ◌+◌, ◌≤◌, length, drop};
 ghost use Rattle.calendar.specs.Names.{units};
 ghost use Rattle.requests.specs.Lines.{field_of};
-ghost use Rattle.requests.specs.Written.{sortOf, value_of, text_of};
-ghost use Rattle.requests.specs.Request.{fromValue, fromThird, fromKind, fromSecond, requestOf};
-ghost use Rattle.requests.specs.Reads.{part_of, Within, Ended, textPart, Reads};
+ghost use Rattle.requests.specs.Written.{sort_of, value_of, text_of};
+ghost use Rattle.requests.specs.Request.{from_value, from_third, from_kind, from_second, request_of};
+ghost use Rattle.requests.specs.Reads.{part_of, Within, Ended, text_part, Reads};
 
 use lines::{Line, Part, line_at};
 use values::{Ask, asked};
@@ -35,7 +35,7 @@ pub fn part_of(input: &[u16], p: Part) -> &[u16]
 
 // The part that is the text beside a value.
 fn text_part(sort: Sort, value: Part) -> Part
-    ensures { result ≡ textPart sort value }
+    ensures { result ≡ text_part sort value }
 {
     match sort {
         Sort::Number => Part { start: 0, end: 0 },
@@ -47,7 +47,7 @@ fn text_part(sort: Sort, value: Part) -> Part
 // The value, and nothing behind its line.
 fn from_value(input: &[u16], code: Part, sort: Sort, value: Part) -> RequestRead
     requires { Ended input.now code × Ended input.now value }
-    ensures { Reads input.now (fromValue (part_of input.now code) (value_of sort (part_of input.now value)) (text_of sort (part_of input.now value)) (drop (value.end + 1) input.now)) result }
+    ensures { Reads input.now (from_value (part_of input.now code) (value_of sort (part_of input.now value)) (text_of sort (part_of input.now value)) (drop (value.end + 1) input.now)) result }
 {
     match value_of(sort, part_of(input, value)) {
         ValueRead::Known(v) => {
@@ -64,7 +64,7 @@ fn from_value(input: &[u16], code: Part, sort: Sort, value: Part) -> RequestRead
 // The third line, which starts at a place.
 fn from_third(input: &[u16], code: Part, sort: Sort, at: usize) -> RequestRead
     requires { Ended input.now code × (at ≤ length input.now) }
-    ensures { Reads input.now (fromThird (part_of input.now code) sort (field_of (units "value=") (drop at input.now))) result }
+    ensures { Reads input.now (from_third (part_of input.now code) sort (field_of (units "value=") (drop at input.now))) result }
 {
     match line_at(input, at, b"value=") {
         Line::Content(value) => from_value(input, code, sort, value),
@@ -75,7 +75,7 @@ fn from_third(input: &[u16], code: Part, sort: Sort, at: usize) -> RequestRead
 // The kind, and the third line.
 fn from_kind(input: &[u16], code: Part, kind: Part) -> RequestRead
     requires { Ended input.now code × Ended input.now kind }
-    ensures { Reads input.now (fromKind (part_of input.now code) (sortOf (part_of input.now kind)) (drop (kind.end + 1) input.now)) result }
+    ensures { Reads input.now (from_kind (part_of input.now code) (sort_of (part_of input.now kind)) (drop (kind.end + 1) input.now)) result }
 {
     match sort_of(part_of(input, kind)) {
         SortRead::Known(sort) => from_third(input, code, sort, kind.end + 1),
@@ -86,7 +86,7 @@ fn from_kind(input: &[u16], code: Part, kind: Part) -> RequestRead
 // The second line, behind the code.
 fn from_second(input: &[u16], code: Part) -> RequestRead
     requires { Ended input.now code }
-    ensures { Reads input.now (fromSecond (part_of input.now code) (field_of (units "kind=") (drop (code.end + 1) input.now))) result }
+    ensures { Reads input.now (from_second (part_of input.now code) (field_of (units "kind=") (drop (code.end + 1) input.now))) result }
 {
     let at = code.end + 1;
     match line_at(input, at, b"kind=") {
@@ -97,7 +97,7 @@ fn from_second(input: &[u16], code: Part) -> RequestRead
 
 // The request that the input makes.
 pub fn read_request(input: &[u16]) -> RequestRead
-    ensures { Reads input.now (requestOf input.now) result }
+    ensures { Reads input.now (request_of input.now) result }
 {
     match line_at(input, 0, b"code=") {
         Line::Content(code) => from_second(input, code),

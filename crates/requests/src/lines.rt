@@ -1,7 +1,7 @@
 // Lines of a lent run of units: a name, what stands behind it, and a line feed.
 ghost use Rattle.std.specs.Prelude.{◌≡◌, ◌≤◌, length};
 ghost use Rattle.lists.specs.Lists.{every};
-ghost use Rattle.requests.specs.Lines.{isAscii, is_line};
+ghost use Rattle.requests.specs.Lines.{is_ascii, is_line};
 ghost use Rattle.requests.specs.Reads.{LineAt};
 
 use lexing::scan::{Set, scan, starts_with};
@@ -30,7 +30,7 @@ pub enum Line {
 
 // Every unit is ASCII.
 fn is_ascii(us: &[u16]) -> bool
-    ensures { result ≡ every isAscii us.now }
+    ensures { result ≡ every is_ascii us.now }
 {
     let mut i: usize = 0;
     while i < us.len() {

@@ -1,8 +1,8 @@
 // A value as its line writes it. A number too large is read as one that is out of range too.
 ghost use Rattle.std.specs.Prelude.{◌≡◌, ◌^◌, ◌≤◌, T, length};
 ghost use Rattle.lists.specs.Lists.{every};
-ghost use Rattle.formats.specs.Tokens.{isDigit};
-ghost use Rattle.requests.specs.Written.{numeralUpTo, signedBy, sortOf, unsignedOf, number_of, instantOf, value_of};
+ghost use Rattle.formats.specs.Tokens.{is_digit};
+ghost use Rattle.requests.specs.Written.{numeral_up_to, signed_by, sort_of, unsigned_of, number_of, instant_of, value_of};
 
 use super::digits::{is_digits, number_behind};
 use lexing::scan::{Set, is_word, scan, starts_with};
@@ -42,7 +42,7 @@ const LATE: u64 = 1000000000;
 
 // The kind that the units name.
 pub fn sort_of(us: &[u16]) -> SortRead
-    ensures { result ≡ sortOf us.now }
+    ensures { result ≡ sort_of us.now }
 {
     if is_word(us, b"number") {
         return SortRead::Known(Sort::Number);
@@ -59,7 +59,7 @@ pub fn sort_of(us: &[u16]) -> SortRead
 // The coefficient of a sign and a magnitude.
 fn signed(negative: bool, n: u64) -> i64
     requires { n ≤ 10 ^ 15 }
-    ensures { result ≡ signedBy negative n }
+    ensures { result ≡ signed_by negative n }
 {
     let c = n as i64;
     if negative { -c } else { c }
@@ -68,7 +68,7 @@ fn signed(negative: bool, n: u64) -> i64
 // A number behind its sign: digits, and perhaps a point and digits.
 fn unsigned(negative: bool, us: &[u16]) -> ValueRead
     requires { length us.now ≤ 2048 }
-    ensures { result ≡ unsignedOf negative us.now }
+    ensures { result ≡ unsigned_of negative us.now }
 {
     let n = scan(us, Set::But(POINT));
     let digits = &us[..n];
@@ -107,15 +107,15 @@ fn number(us: &[u16]) -> ValueRead
 
 // A day number or a millisecond.
 fn count(us: &[u16]) -> u32
-    requires { T (every isDigit us.now) }
-    ensures { result ≡ numeralUpTo (10 ^ 9) us.now }
+    requires { T (every is_digit us.now) }
+    ensures { result ≡ numeral_up_to (10 ^ 9) us.now }
 {
     number_behind(0, us, LATE) as u32
 }
 
 // An instant: a day number, a solidus, a millisecond.
 fn instant(us: &[u16]) -> ValueRead
-    ensures { result ≡ instantOf us.now }
+    ensures { result ≡ instant_of us.now }
 {
     let n = scan(us, Set::But(SOLIDUS));
     if n == us.len() {

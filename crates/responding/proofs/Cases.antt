@@ -6,10 +6,10 @@ use mathlib.Core.List.{List, [], ◌∷◌}
 use Rattle.lists.specs.Lists.{All}
 use Rattle.calendar.specs.Names.{units}
 use Rattle.formats.proofs.Evaluate.{evaluated}
-use Rattle.tables.specs.Calls.{shownAs, textAs}
-use Rattle.preview.specs.Preview.{place_of, previewed, previewText}
+use Rattle.tables.specs.Calls.{shown_as, text_as}
+use Rattle.preview.specs.Preview.{place_of, previewed, preview_text}
 use Rattle.requests.proofs.Cases.{worked}
-use Rattle.responding.specs.Respond.{line_of, fiveLines, lines_of, responseOf}
+use Rattle.responding.specs.Respond.{line_of, five_lines, lines_of, response_of}
 
 pub record Case : Type 0 where
   pub input : String
@@ -30,6 +30,6 @@ cases =
     ∷ record { input = "code=0\nkind=number\nvalue=1\n\n"; answer = "answer=14\nplace=4\ncolour=0\nexact=0\ntext=\n" }
     ∷ []
 
-pub cases-hold : All (λ (c : Case). responseOf (units c.input) ≡ units c.answer) cases
-unfolding cases evaluated worked line_of fiveLines lines_of responseOf place_of previewed previewText shownAs textAs
+pub cases-hold : All (λ (c : Case). response_of (units c.input) ≡ units c.answer) cases
+unfolding cases evaluated worked line_of five_lines lines_of response_of place_of previewed preview_text shown_as text_as
 cases-hold = (refl, (refl, (refl, (refl, (refl, (refl, tt))))))

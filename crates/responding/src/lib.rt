@@ -4,9 +4,9 @@ mod lines;
 ghost use Rattle.std.specs.Prelude.{◌≡◌, ◌≤◌, length, take};
 ghost use Rattle.lists.specs.Lists.{overlay};
 ghost use Rattle.tables.specs.Calls.{written};
-ghost use Rattle.requests.specs.Request.{request, requestOf};
+ghost use Rattle.requests.specs.Request.{request, request_of};
 ghost use Rattle.responding.specs.Answers.{Answers};
-ghost use Rattle.responding.specs.Respond.{responseOf, responded};
+ghost use Rattle.responding.specs.Respond.{response_of, responded};
 
 use answers::Answer;
 use lines::put_lines;
@@ -57,7 +57,7 @@ fn respond_to(code: &[u16], ask: Ask, text: &[u16], out: &mut [u16]) -> Told
 
 // Puts the lines that the input is answered.
 fn respond(input: &[u16], out: &mut [u16]) -> Told
-    ensures { Answers (requestOf input.now) out.old result out.new }
+    ensures { Answers (request_of input.now) out.old result out.new }
 {
     match read_request(input) {
         RequestRead::Request(code, ask, text) => {
@@ -88,8 +88,8 @@ fn output_room() -> [u16; 4236]
 // read: the rest changes no answer.
 pub fn respond_bytes(input: &[u8], out: &mut [u8]) -> Responded
     ensures result { result ≡ responded input.now (length out.old) }
-    ensures out { out.new ≡ written (responseOf input.now) out.old }
-    ensures short { length (responseOf input.now) ≤ 4236 }
+    ensures out { out.new ≡ written (response_of input.now) out.old }
+    ensures short { length (response_of input.now) ≤ 4236 }
 {
     let n = least(input.len(), 6148);
     let mut wide = input_room();
@@ -115,8 +115,8 @@ pub fn respond_bytes(input: &[u8], out: &mut [u8]) -> Responded
 // Answers the first `got` bytes.
 fn respond_front(input: &[u8], got: usize, out: &mut [u8]) -> usize
     requires { 4236 ≤ length out.old }
-    ensures size { result ≡ length (responseOf (take got input.now)) }
-    ensures out { out.new ≡ overlay (responseOf (take got input.now)) out.old }
+    ensures size { result ≡ length (response_of (take got input.now)) }
+    ensures out { out.new ≡ overlay (response_of (take got input.now)) out.old }
 {
     let n = least(got, input.len());
     let r = respond_bytes(&input[..n], out);
@@ -125,8 +125,8 @@ fn respond_front(input: &[u8], got: usize, out: &mut [u8]) -> usize
 
 // For the program, which can lend rooms of these lengths and no others: the first `got` bytes are its input, and every answer fits.
 pub fn respond_input(input: &[u8; 6148], got: usize, out: &mut [u8; 4236]) -> usize
-    ensures size { result ≡ length (responseOf (take got input.now)) }
-    ensures out { out.new ≡ overlay (responseOf (take got input.now)) out.old }
+    ensures size { result ≡ length (response_of (take got input.now)) }
+    ensures out { out.new ≡ overlay (response_of (take got input.now)) out.old }
 {
     respond_front(input, got, out)
 }

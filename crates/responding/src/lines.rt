@@ -2,7 +2,7 @@
 ghost use Rattle.std.specs.Prelude.{◌+◌, ◌≤◌, ◌<◌, ◌^◌, length};
 ghost use Rattle.figures.specs.Digits.{numeral};
 ghost use Rattle.writing.specs.Put.{Put};
-ghost use Rattle.responding.specs.Respond.{line_of, fiveLines};
+ghost use Rattle.responding.specs.Respond.{line_of, five_lines};
 
 use answers::{Answer, number};
 use requests::bytes::put_bytes;
@@ -43,7 +43,7 @@ pub fn put_lines(
 ) -> usize
     requires { length text.now ≤ 4096 }
     ensures within { result ≤ 4236 }
-    ensures put { Put room.old 0 (fiveLines answer place colour exact text.now) result room.new }
+    ensures put { Put room.old 0 (five_lines answer place colour exact text.now) result room.new }
 {
     let a = put_number(room, 0, b"answer=", number(answer) as u64);
     let b = put_number(room, a, b"place=", place as u64);

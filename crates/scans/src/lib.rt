@@ -2,12 +2,12 @@
 ghost use Rattle.std.specs.Prelude.{◌≡◌, Bool, ℕ};
 ghost use Rattle.values.specs.Ranges.{between};
 ghost use Rattle.lists.specs.Lists.{count};
-ghost use Rattle.formats.specs.Items.{Item, beforeCut, fromCut};
-ghost use Rattle.tables.specs.Words.{entriesIn};
+ghost use Rattle.formats.specs.Items.{Item, before_cut, from_cut};
+ghost use Rattle.tables.specs.Words.{entries_in};
 ghost use Rattle.tables.specs.Encode.{entry};
 ghost use Rattle.tables.specs.Decode.{item_at};
 ghost use Rattle.table_words.specs.Runs.{items_in, CutAt};
-ghost use Rattle.scans.specs.Scans.{hasTag, FoundAt};
+ghost use Rattle.scans.specs.Scans.{has_tag, FoundAt};
 
 use tables::tags;
 
@@ -27,14 +27,14 @@ pub fn find_tag(words: &[u16], tag: u16) -> usize
 }
 
 pub fn has_tag(words: &[u16], tag: u16) -> bool
-    ensures { result ≡ hasTag (entriesIn words.now) tag }
+    ensures { result ≡ has_tag (entries_in words.now) tag }
 {
     find_tag(words, tag) < words.len() / 2
 }
 
 // Where the words of the first E or solidus begin among item words; behind all items where there is none.
 pub fn cut_start(items: &[u16]) -> usize
-    ensures { CutAt items.now result (beforeCut (items_in items.now)) (fromCut (items_in items.now)) }
+    ensures { CutAt items.now result (before_cut (items_in items.now)) (from_cut (items_in items.now)) }
 {
     let n = items.len() / 2;
     let mut k: usize = 0;

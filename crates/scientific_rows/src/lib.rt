@@ -1,10 +1,10 @@
 // The items of a scientific section: those before its E and those behind it, each by the walk over a number section's.
 ghost use Rattle.std.specs.Prelude.{◌≡◌, ◌&&◌, ◌∷◌, ◌++◌, ℕ, ◌*◌, ◌/◌, ◌<◌, T, length, get_or};
 ghost use Rattle.values.specs.Ranges.{between};
-ghost use Rattle.tables.specs.Words.{entriesIn};
+ghost use Rattle.tables.specs.Words.{entries_in};
 ghost use Rattle.tables.specs.Encode.{entry};
-ghost use Rattle.scans.specs.Scans.{hasTag};
-ghost use Rattle.scientific_rows.specs.ScientificRows.{ScientificTold, MantissaTold, exponentItems, noScientific};
+ghost use Rattle.scans.specs.Scans.{has_tag};
+ghost use Rattle.scientific_rows.specs.ScientificRows.{ScientificTold, MantissaTold, exponent_items, no_scientific};
 
 use number_rows::number_row;
 use scans::{find_tag, has_tag};
@@ -18,7 +18,7 @@ pub struct ScientificRow {
 }
 
 fn no_row() -> ScientificRow
-    ensures { result ≡ noScientific }
+    ensures { result ≡ no_scientific }
 {
     ScientificRow {
         fits: false,
@@ -28,7 +28,7 @@ fn no_row() -> ScientificRow
 
 // The items before the E: an integer place, and no percent.
 fn mantissa_row(words: &[u16]) -> ScientificRow
-    ensures { MantissaTold (entriesIn words.now) result }
+    ensures { MantissaTold (entries_in words.now) result }
 {
     let row = number_row(words);
     ScientificRow {
@@ -39,7 +39,7 @@ fn mantissa_row(words: &[u16]) -> ScientificRow
 
 // Those behind it: 1 to 3 places, and neither a percent, a point nor a place `?`.
 fn is_exponent(words: &[u16]) -> bool
-    ensures { result ≡ exponentItems (entriesIn words.now) }
+    ensures { result ≡ exponent_items (entries_in words.now) }
 {
     let row = number_row(words);
     if !(row.fits & (row.percents == 0) & (row.integers <= 3)) {
@@ -52,7 +52,7 @@ fn is_exponent(words: &[u16]) -> bool
 }
 
 fn are_filled(mantissa: &[u16], exponent: &[u16]) -> bool
-    ensures { result ≡ (hasTag (entriesIn mantissa.now) 3 && hasTag (entriesIn exponent.now) 3) }
+    ensures { result ≡ (has_tag (entries_in mantissa.now) 3 && has_tag (entries_in exponent.now) 3) }
 {
     if has_tag(mantissa, tags::FILL) {
         return has_tag(exponent, tags::FILL);
@@ -62,7 +62,7 @@ fn are_filled(mantissa: &[u16], exponent: &[u16]) -> bool
 
 // The items before and behind an E with this argument. One fill stands in both.
 fn parts_row(mantissa: &[u16], a: u16, exponent: &[u16]) -> ScientificRow
-    ensures { (t : ℕ) → T (between 22 23 t) → ScientificTold (entriesIn mantissa.now ++ (entry t a ∷ entriesIn exponent.now)) result }
+    ensures { (t : ℕ) → T (between 22 23 t) → ScientificTold (entries_in mantissa.now ++ (entry t a ∷ entries_in exponent.now)) result }
 {
     if a != 0 {
         return no_row();
@@ -79,7 +79,7 @@ fn parts_row(mantissa: &[u16], a: u16, exponent: &[u16]) -> ScientificRow
 // The items before and behind the one at this place, which is an E.
 fn row_at(words: &[u16], at: usize) -> ScientificRow
     requires { (at < length words.now / 2) × T (between 22 23 (get_or words.now (2 * at) 0)) }
-    ensures { ScientificTold (entriesIn words.now) result }
+    ensures { ScientificTold (entries_in words.now) result }
 {
     let i = 2 * at;
     let j = i + 1;
@@ -90,7 +90,7 @@ fn row_at(words: &[u16], at: usize) -> ScientificRow
 
 // What the items of a scientific section tell, whose words these are.
 pub fn scientific_row(words: &[u16]) -> ScientificRow
-    ensures { ScientificTold (entriesIn words.now) result }
+    ensures { ScientificTold (entries_in words.now) result }
 {
     let n = words.len() / 2;
     let plus = find_tag(words, tags::EXPONENT_PLUS);

@@ -11,22 +11,22 @@ use Rattle.answers.specs.declared.Shown.{Shown}
 use Rattle.lists.specs.Lists.{any, every, count}
 use Rattle.lists.proofs.Bools.{no, T_true, and_left, and_right, carry}
 use Rattle.lists.proofs.Counts.{every-both}
-use Rattle.calendar.specs.Date.{dateOf}
-use Rattle.calendar.specs.Clock.{clockOf}
-use Rattle.formats.specs.Items.{exponent, Section, numberKind, scientificKind, kind_of, itemAllowed, isPlace, isSolidus, isCut, beforeCut, fromCut, integerPlaces, placesBehind}
-use Rattle.formats.specs.Text.{Context, itemsUnits, sectionUnits, first_of}
+use Rattle.calendar.specs.Date.{date_of}
+use Rattle.calendar.specs.Clock.{clock_of}
+use Rattle.formats.specs.Items.{exponent, Section, number_kind, scientific_kind, kind_of, item_allowed, is_place, is_solidus, is_cut, before_cut, from_cut, integer_places, places_behind}
+use Rattle.formats.specs.Text.{Context, items_units, section_units, first_of}
 use Rattle.formats.specs.Reading.{look_of, within}
 use Rattle.formats.proofs.Cutting.{before-bare, every-before, every-from, Cut, cut, scientific-some, no-solidus}
-use Rattle.tables.specs.Words.{entriesIn}
-use Rattle.tables.specs.Decode.{itemsAt}
-use Rattle.tables.specs.Rules.{entryInRange, powersFrom}
+use Rattle.tables.specs.Words.{entries_in}
+use Rattle.tables.specs.Decode.{items_at}
+use Rattle.tables.specs.Rules.{entry_in_range, powers_from}
 use Rattle.table_words.specs.Sections.{ItemsOf}
 use Rattle.section_text.specs.declared.Subject.{Subject}
 use Rattle.scientific_sections.specs.declared.Power.{Power}
 use Rattle.table_words.specs.Runs.{CutAt}
 use Rattle.section_text.specs.Walk.{EntriesFit, Known}
 use Rattle.scientific_sections.specs.Power.{ScientificReady, OfScientific}
-use Rattle.section_text.specs.Show.{signText, scientificReading, Shows}
+use Rattle.section_text.specs.Show.{sign_text, scientific_reading, Shows}
 use Rattle.section_text.proofs.Lengths.{subject-short}
 use Rattle.scientific_sections.proofs.PowerItems.{power-short}
 use Rattle.section_text.proofs.Fitting.{sign-short}
@@ -36,30 +36,30 @@ use Rattle.section_text.proofs.Bodies.{items-powers}
 
 -- a room that surely takes the text of the two parts
 pub scientific-short : {digits : List ℕ} {s : Subject} {p : Power} (minus : Bool) (before from : List ℕ) (size : ℕ) → s.lent ≡ false
-    → 41 * (length before + length from) + 1 ≤ size → OfScientific digits s p before from (λ us. length (signText minus ++ us) ≤ size)
+    → 41 * (length before + length from) + 1 ≤ size → OfScientific digits s p before from (λ us. length (sign_text minus ++ us) ≤ size)
 scientific-short minus before from size unlent h m k q i f c j r l g =
-    let us = itemsUnits m q (itemsAt (entriesIn before)) in
-    let vs = itemsUnits c r (itemsAt (entriesIn from)) in
+    let us = items_units m q (items_at (entries_in before)) in
+    let vs = items_units c r (items_at (entries_in from)) in
     let fu = subject-short 82 before (omega arith) (λ t. no (sym unlent ∙ t)) m k q i f in
     let fv = power-short 82 from (omega arith) c j r l g in
     sign-short minus (us ++ vs) size (omega (arith, fu, fv, length-append us vs))
 
 -- a context that shows an exponent in so many places
-abbrev powerContext : ℕ → Bool → ℕ → Context
-powerContext size below places = record {
+abbrev power_context : ℕ → Bool → ℕ → Context
+power_context size below places = record {
   figures = size * 10 ^ 15;
   grouped = false;
-  integerPlaces = places;
+  integer_places = places;
   standing = [];
-  date = dateOf 0;
-  clock = clockOf 0;
+  date = date_of 0;
+  clock = clock_of 0;
   twelve = false;
   elapsed = 0;
   below = below;
 }
 
-module _ {z : Section} {words : List ℕ} {start : ℕ} (o : ItemsOf z words) (k : kind_of z ≡ scientificKind)
-    (x : CutAt words start (beforeCut (itemsAt (entriesIn words))) (fromCut (itemsAt (entriesIn words)))) where
+module _ {z : Section} {words : List ℕ} {start : ℕ} (o : ItemsOf z words) (k : kind_of z ≡ scientific_kind)
+    (x : CutAt words start (before_cut (items_at (entries_in words))) (from_cut (items_at (entries_in words)))) where
   -- the two parts as the code takes them
   abbrev before : List ℕ
   before = take start words
@@ -70,58 +70,58 @@ module _ {z : Section} {words : List ℕ} {start : ℕ} (o : ItemsOf z words) (k
   whole : from ≡ drop start words
   whole = rest_all start words
 
-  before-items : itemsAt (entriesIn before) ≡ beforeCut z.items
-  before-items = x.before ∙ ap beforeCut (sym o.items)
+  before-items : items_at (entries_in before) ≡ before_cut z.items
+  before-items = x.before ∙ ap before_cut (sym o.items)
 
-  from-items : itemsAt (entriesIn from) ≡ fromCut z.items
-  from-items = ap (λ (ws : List ℕ). itemsAt (entriesIn ws)) whole ∙ x.from ∙ ap fromCut (sym o.items)
+  from-items : items_at (entries_in from) ≡ from_cut z.items
+  from-items = ap (λ (ws : List ℕ). items_at (entries_in ws)) whole ∙ x.from ∙ ap from_cut (sym o.items)
 
-  joined : entriesIn words ≡ entriesIn before ++ entriesIn from
-  joined = x.joins ∙ ap (λ (ws : List ℕ). entriesIn before ++ entriesIn ws) (sym whole)
+  joined : entries_in words ≡ entries_in before ++ entries_in from
+  joined = x.joins ∙ ap (λ (ws : List ℕ). entries_in before ++ entries_in ws) (sym whole)
 
-  in-range : T (every entryInRange (entriesIn before) && every entryInRange (entriesIn from))
-  in-range = carry (ap (every entryInRange) joined ∙ every-both entryInRange (entriesIn before) (entriesIn from)) o.in_range
+  in-range : T (every entry_in_range (entries_in before) && every entry_in_range (entries_in from))
+  in-range = carry (ap (every entry_in_range) joined ∙ every-both entry_in_range (entries_in before) (entries_in from)) o.in_range
 
-  held : T (every (itemAllowed scientificKind) z.items)
+  held : T (every (item_allowed scientific_kind) z.items)
   held = rw (← o.items, k) at o.allowed
 
-  no_slash : any isSolidus z.items ≡ false
-  no_slash = no-solidus scientificKind z.items refl held
+  no_slash : any is_solidus z.items ≡ false
+  no_slash = no-solidus scientific_kind z.items refl held
 
-  powers : T (powersFrom (first_of (placesBehind z.items)) (first_of (integerPlaces z.items)) (entriesIn before ++ entriesIn from))
-  powers = carry (ap (powersFrom (first_of (placesBehind z.items)) (first_of (integerPlaces z.items))) joined) (items-powers o (rw (← o.items) no_slash))
+  powers : T (powers_from (first_of (places_behind z.items)) (first_of (integer_places z.items)) (entries_in before ++ entries_in from))
+  powers = carry (ap (powers_from (first_of (places_behind z.items)) (first_of (integer_places z.items))) joined) (items-powers o (rw (← o.items) no_slash))
 
   -- before the E, whatever the context
-  pub mantissa-fit : (m : Context) → EntriesFit numberKind m (first_of (integerPlaces z.items)) (entriesIn before)
+  pub mantissa-fit : (m : Context) → EntriesFit number_kind m (first_of (integer_places z.items)) (entries_in before)
   mantissa-fit m =
-      let bare : any isCut (itemsAt (entriesIn before)) ≡ false = ap (any isCut) before-items ∙ before-bare z.items in
+      let bare : any is_cut (items_at (entries_in before)) ≡ false = ap (any is_cut) before-items ∙ before-bare z.items in
       record {
-        in_range = and_left (every entryInRange (entriesIn before)) (every entryInRange (entriesIn from)) in-range;
-        allowed = rw before-items (plain-allowed (itemAllowed scientificKind) (λ i t. rw (T_true (itemAllowed scientificKind i) t) tt) (beforeCut z.items) (before-bare z.items) (every-before (itemAllowed scientificKind) z.items held));
-        powers = carry (powers-anew _ (first_of m.integerPlaces) _ (entriesIn before) bare) (powers-front _ _ (entriesIn before) (entriesIn from) powers);
+        in_range = and_left (every entry_in_range (entries_in before)) (every entry_in_range (entries_in from)) in-range;
+        allowed = rw before-items (plain-allowed (item_allowed scientific_kind) (λ i t. rw (T_true (item_allowed scientific_kind i) t) tt) (before_cut z.items) (before-bare z.items) (every-before (item_allowed scientific_kind) z.items held));
+        powers = carry (powers-anew _ (first_of m.integer_places) _ (entries_in before) bare) (powers-front _ _ (entries_in before) (entries_in from) powers);
       }
 
   -- from the E on, in a context with the exponent's places
-  pub power-fit : (c : Context) → c.integerPlaces ≡ placesBehind z.items → EntriesFit scientificKind c (first_of (placesBehind z.items)) (entriesIn from)
+  pub power-fit : (c : Context) → c.integer_places ≡ places_behind z.items → EntriesFit scientific_kind c (first_of (places_behind z.items)) (entries_in from)
   unfolding kind_of
   power-fit c places =
       let at : Cut z.items = cut z.items no_slash (scientific-some z.items k) in
       record {
-        in_range = and_right (every entryInRange (entriesIn before)) (every entryInRange (entriesIn from)) in-range;
-        allowed = rw from-items (every-from (itemAllowed scientificKind) z.items held);
-        powers = rw places (powers-behind _ _ _ (entriesIn before) (entriesIn from) (exponent at.mark) at.behind refl (from-items ∙ at.from) powers);
+        in_range = and_right (every entry_in_range (entries_in before)) (every entry_in_range (entries_in from)) in-range;
+        allowed = rw from-items (every-from (item_allowed scientific_kind) z.items held);
+        powers = rw places (powers-behind _ _ _ (entries_in before) (entries_in from) (exponent at.mark) at.behind refl (from-items ∙ at.from) powers);
       }
 
   -- the places that the code counts
-  pub power-places : {n : ℕ} → n ≡ count isPlace (itemsAt (entriesIn from)) → n ≡ placesBehind z.items
-  unfolding placesBehind
-  power-places c = c ∙ ap (count isPlace) from-items
+  pub power-places : {n : ℕ} → n ≡ count is_place (items_at (entries_in from)) → n ≡ places_behind z.items
+  unfolding places_behind
+  power-places c = c ∙ ap (count is_place) from-items
 
   pub scientific-ready : {digits : List ℕ} {s : Subject} {size : ℕ} {below : Bool} {n : ℕ} → s.figures.used ≤ 40 → s.lent ≡ false → size < 100
-      → Known numberKind digits s [] → 1 ≤ placesBehind z.items → placesBehind z.items ≤ 254 → n ≡ count isPlace (itemsAt (entriesIn from))
+      → Known number_kind digits s [] → 1 ≤ places_behind z.items → places_behind z.items ≤ 254 → n ≡ count is_place (items_at (entries_in from))
       → ScientificReady digits s (record { size = size; below = below; places = n }) before from
   scientific-ready {size = size} {below} {n} used unlent small known least most c =
-      let places : n ≡ placesBehind z.items = power-places c in
+      let places : n ≡ places_behind z.items = power-places c in
       record {
         used = used;
         unlent = unlent;
@@ -129,30 +129,30 @@ module _ {z : Section} {words : List ℕ} {start : ℕ} (o : ItemsOf z words) (k
         few = rw whole (rw (length-take start words, length-drop start words) (omega (arith, o.few, x.inside)));
         mantissa = record {
           context = known.context;
-          kind = numberKind;
-          power = first_of (integerPlaces z.items);
+          kind = number_kind;
+          power = first_of (integer_places z.items);
           subject = known.is;
           fit = mantissa-fit known.context;
         };
         power = record {
-          context = powerContext size below n;
-          kind = scientificKind;
-          power = first_of (placesBehind z.items);
+          context = power_context size below n;
+          kind = scientific_kind;
+          power = first_of (places_behind z.items);
           subject = (refl, record { figures = refl; ungrouped = refl; sign = refl }, refl);
-          fit = power-fit (powerContext size below n) places;
+          fit = power-fit (power_context size below n) places;
         };
       }
 
   -- what is shown of the words is what is shown of the section
   pub scientific-shows : {old out : List ℕ} {r : Shown} {colour : ℕ} (size i : ℕ) (minus exact : Bool) (m c : Context)
-      → colour ≡ z.colour → m.integerPlaces ≡ integerPlaces z.items → c.integerPlaces ≡ placesBehind z.items
-      → Shows (within size (look_of (signText minus ++ (itemsUnits m (first_of (integerPlaces z.items)) (itemsAt (entriesIn before))
-      ++ itemsUnits c (first_of (placesBehind z.items)) (itemsAt (entriesIn from)))) colour i exact)) old r out
-      → Shows (scientificReading size z i minus exact m c) old r out
-  unfolding scientificReading sectionUnits
+      → colour ≡ z.colour → m.integer_places ≡ integer_places z.items → c.integer_places ≡ places_behind z.items
+      → Shows (within size (look_of (sign_text minus ++ (items_units m (first_of (integer_places z.items)) (items_at (entries_in before))
+      ++ items_units c (first_of (places_behind z.items)) (items_at (entries_in from)))) colour i exact)) old r out
+      → Shows (scientific_reading size z i minus exact m c) old r out
+  unfolding scientific_reading section_units
   scientific-shows {old} {out} {r} {colour} size i minus exact m c ec em ee h =
-      let front : sectionUnits m (beforeCut z.items) ≡ itemsUnits m (first_of (integerPlaces z.items)) (itemsAt (entriesIn before)) =
-      ap (λ (n : ℕ). itemsUnits m (first_of n) (beforeCut z.items)) em ∙ ap (itemsUnits m (first_of (integerPlaces z.items))) (sym before-items) in
-      let back : sectionUnits c (fromCut z.items) ≡ itemsUnits c (first_of (placesBehind z.items)) (itemsAt (entriesIn from)) =
-      ap (λ (n : ℕ). itemsUnits c (first_of n) (fromCut z.items)) ee ∙ ap (itemsUnits c (first_of (placesBehind z.items))) (sym from-items) in
+      let front : section_units m (before_cut z.items) ≡ items_units m (first_of (integer_places z.items)) (items_at (entries_in before)) =
+      ap (λ (n : ℕ). items_units m (first_of n) (before_cut z.items)) em ∙ ap (items_units m (first_of (integer_places z.items))) (sym before-items) in
+      let back : section_units c (from_cut z.items) ≡ items_units c (first_of (places_behind z.items)) (items_at (entries_in from)) =
+      ap (λ (n : ℕ). items_units c (first_of n) (from_cut z.items)) ee ∙ ap (items_units c (first_of (places_behind z.items))) (sym from-items) in
       rw (front, back, ← ec) h

@@ -1,8 +1,8 @@
 -- What a scientific section's items from the E on are shown from: an exponent below 100, a digit at a time.
 -- Assumes nothing.
 use Rattle.std.specs.Prelude.{ℕ, ◌+◌, ◌*◌, ◌/◌, ◌^◌, ◌≤◌, ◌<◌, ◌≡◌, Bool, false, cond, List, [], ◌++◌, eqb, length}
-use Rattle.formats.specs.Tokens.{ExponentMark, ePlus, eMinus}
-use Rattle.formats.specs.Items.{Kind, scientificKind}
+use Rattle.formats.specs.Tokens.{ExponentMark, e_plus, e_minus}
+use Rattle.formats.specs.Items.{Kind, scientific_kind}
 use Rattle.formats.specs.Text.{Context}
 use Rattle.scientific_sections.specs.declared.Power.{Power}
 use Rattle.section_text.specs.declared.Subject.{Subject}
@@ -17,7 +17,7 @@ pub record ExponentIs (size : ℕ) (below : Bool) (c : Context) : Type 0 where
 
 -- the property of a scientific section's items from the E on
 abbrev pub PowerIs : Power → Kind → Context → Type 0
-PowerIs p k c = (k ≡ scientificKind) × ExponentIs p.size p.below c × (c.integerPlaces ≡ p.places)
+PowerIs p k c = (k ≡ scientific_kind) × ExponentIs p.size p.below c × (c.integer_places ≡ p.places)
 
 -- an exponent that two digits show, in a section that has places for it
 abbrev pub SmallPower : Power → Type 0
@@ -28,8 +28,8 @@ unfoldable pub left_at : ℕ → ℕ → ℕ
 left_at size argument = cond (eqb argument 16) size (cond (eqb argument 17) (size / 10) 0)
 
 -- "22 (E+, 0) and 23 (E-, 0)"
-unfoldable pub markOfTag : ℕ → ExponentMark
-markOfTag t = cond (eqb t 22) ePlus eMinus
+unfoldable pub mark_of_tag : ℕ → ExponentMark
+mark_of_tag t = cond (eqb t 22) e_plus e_minus
 
 -- what is asked of a scientific section's item words, before the E and from it on, to show them
 pub record ScientificReady (digits : List ℕ) (s : Subject) (p : Power) (before from : List ℕ) : Type 0 where

@@ -1,18 +1,18 @@
 // The text of a scientific section, shown whole in a room or not at all: its mantissa, then what stands from its E on.
 ghost use Rattle.std.specs.Prelude.{◌≡◌, false, cond, ◌&&◌, [], ◌∷◌, ◌++◌, ℕ, suc, ◌+◌, ◌/◌, ◌%◌, ◌≤◌, ◌<◌, ◌^◌, T, leb, ltb, eqb, length, get_or};
-ghost use Rattle.figures.specs.Digits.{digitUnit};
-ghost use Rattle.formats.specs.Items.{numberKind, scientificKind, kind_of, integerPlaces, placesBehind};
+ghost use Rattle.figures.specs.Digits.{digit_unit};
+ghost use Rattle.formats.specs.Items.{number_kind, scientific_kind, kind_of, integer_places, places_behind};
 ghost use Rattle.formats.specs.Reading.{look_of, within};
-ghost use Rattle.formats.specs.Text.{Context, idleUnits, placeUnits, exponentUnits};
+ghost use Rattle.formats.specs.Text.{Context, idle_units, place_units, exponent_units};
 ghost use Rattle.tables.specs.Encode.{entry};
-ghost use Rattle.tables.specs.Rules.{entryInRange, passes};
-ghost use Rattle.table_words.specs.Sections.{sectionIn};
+ghost use Rattle.tables.specs.Rules.{entry_in_range, passes};
+ghost use Rattle.table_words.specs.Sections.{section_in};
 ghost use Rattle.writing.specs.Put.{Put};
-ghost use Rattle.figure_text.specs.Shown.{placeOfTag};
+ghost use Rattle.figure_text.specs.Shown.{place_of_tag};
 ghost use Rattle.section_text.specs.Subject.{SubjectIs};
 ghost use Rattle.section_text.specs.Walk.{Ready, ItemPut, OfText, Known};
-ghost use Rattle.scientific_sections.specs.Power.{ExponentIs, PowerIs, SmallPower, left_at, markOfTag, ScientificReady, OfScientific};
-ghost use Rattle.section_text.specs.Show.{signText, scientificReading, Shows};
+ghost use Rattle.scientific_sections.specs.Power.{ExponentIs, PowerIs, SmallPower, left_at, mark_of_tag, ScientificReady, OfScientific};
+ghost use Rattle.section_text.specs.Show.{sign_text, scientific_reading, Shows};
 
 use answers::{Answer, Shown, done_shown, refused_shown};
 use scans::{count_between, cut_start};
@@ -50,7 +50,7 @@ fn left_at(size: u32, argument: u16) -> u32
 fn put_beyond(room: &mut [u16], at: usize, left: u32, first: bool) -> usize
     requires { (at < 2 ^ 62) × (left < 100) }
     ensures within { result ≤ at + 1 }
-    ensures put { Put room.old at (cond (first && ltb 9 left) (digitUnit (left / 10) ∷ []) []) result room.new }
+    ensures put { Put room.old at (cond (first && ltb 9 left) (digit_unit (left / 10) ∷ []) []) result room.new }
 {
     if first & (9 < left) {
         return put_unit(room, at, digit_unit((left / 10) as u8));
@@ -61,7 +61,7 @@ fn put_beyond(room: &mut [u16], at: usize, left: u32, first: bool) -> usize
 // Puts what a place, told by its tag, shows of the lowest digit of what is left.
 fn put_lowest(room: &mut [u16], at: usize, place: u16, left: u32) -> usize
     requires { at < 2 ^ 62 + 1 }
-    ensures { Put room.old at (cond (eqb left 0) (idleUnits (placeOfTag place)) (digitUnit (left % 10) ∷ [])) result room.new }
+    ensures { Put room.old at (cond (eqb left 0) (idle_units (place_of_tag place)) (digit_unit (left % 10) ∷ [])) result room.new }
 {
     if (left != 0) | (place == tags::ZERO_PLACE) {
         return put_unit(room, at, digit_unit((left % 10) as u8));
@@ -75,8 +75,8 @@ fn put_lowest(room: &mut [u16], at: usize, place: u16, left: u32) -> usize
 // Puts what a place of an exponent shows.
 fn put_exponent_place(room: &mut [u16], at: usize, place: u16, argument: u16, p: Power) -> usize
     requires { (at < 2 ^ 62) × SmallPower p }
-    ensures { (c : Context) (q : ℕ) → ExponentIs p.size p.below c → c.integerPlaces ≡ p.places → argument ≡ suc q
-        → Put room.old at (placeUnits c (placeOfTag place) q) result room.new }
+    ensures { (c : Context) (q : ℕ) → ExponentIs p.size p.below c → c.integer_places ≡ p.places → argument ≡ suc q
+        → Put room.old at (place_units c (place_of_tag place) q) result room.new }
 {
     let left = left_at(p.size, argument);
     let a = put_beyond(room, at, left, argument as usize == 15 + p.places);
@@ -86,7 +86,7 @@ fn put_exponent_place(room: &mut [u16], at: usize, place: u16, argument: u16, p:
 // Puts an E, told by its tag, with its sign: `E-` shows no plus.
 fn put_mark(room: &mut [u16], at: usize, mark: u16, below: bool) -> usize
     requires { at < 2 ^ 62 }
-    ensures { Put room.old at (exponentUnits (markOfTag mark) below) result room.new }
+    ensures { Put room.old at (exponent_units (mark_of_tag mark) below) result room.new }
 {
     let a = put_unit(room, at, LETTER_E);
     if below {
@@ -100,7 +100,7 @@ fn put_mark(room: &mut [u16], at: usize, mark: u16, below: bool) -> usize
 
 // Puts the text of a scientific section's item from the E on. (No table has a point or a `?` there: they are shown as an integer part's.)
 fn put_exponent_item(room: &mut [u16], at: usize, tag: u16, argument: u16, p: Power) -> usize
-    requires { (at < 2 ^ 61) × SmallPower p × T (entryInRange (entry tag argument)) }
+    requires { (at < 2 ^ 61) × SmallPower p × T (entry_in_range (entry tag argument)) }
     ensures { ItemPut (PowerIs p) (entry tag argument) room.old at result room.new }
 {
     if (tags::ZERO_PLACE <= tag) & (tag <= tags::SPACE_PLACE) {
@@ -148,7 +148,7 @@ fn put_scientific(
     requires { ScientificReady digits.now s p before.now from.now }
     ensures within { result ≤ 520193 }
     ensures put { OfScientific digits.now s p before.now from.now
-        (λ us. Put room.old 0 (signText minus ++ us) result room.new) }
+        (λ us. Put room.old 0 (sign_text minus ++ us) result room.new) }
 {
     let at = put_text(room, minus, before, digits, s, &before[..0]);
     put_exponent_items(room, at, from, p)
@@ -166,7 +166,7 @@ fn takes_scientific(
 ) -> bool
     requires { ScientificReady digits.now s p before.now from.now }
     ensures { OfScientific digits.now s p before.now from.now
-        (λ us. result ≡ leb (length (signText minus ++ us)) size) }
+        (λ us. result ≡ leb (length (sign_text minus ++ us)) size) }
 {
     if is_roomy(size, before.len() + from.len(), false) {
         return true;
@@ -191,7 +191,7 @@ fn show_scientific_items(
 ) -> Shown
     requires { ScientificReady digits.now s p before.now from.now }
     ensures { OfScientific digits.now s p before.now from.now
-        (λ us. Shows (within size (look_of (signText minus ++ us) colour section exact)) room.old result room.new) }
+        (λ us. Shows (within size (look_of (sign_text minus ++ us) colour section exact)) room.old result room.new) }
 {
     if takes_scientific(size, minus, before, from, digits, s, p) {
         let n = put_scientific(room, minus, before, from, digits, s, p);
@@ -213,12 +213,12 @@ pub fn show_scientific_section(
     below: bool,
     exact: bool,
 ) -> Shown
-    requires { T (passes table.now) × (i < get_or table.now 0 0) × (kind_of (sectionIn table.now i) ≡ scientificKind)
-        × (s.figures.used ≤ 40) × (s.lent ≡ false) × (exponent < 100) × Known numberKind digits.now s [] }
-    ensures { (m e : Context) → SubjectIs numberKind digits.now s [] m
-        → m.integerPlaces ≡ integerPlaces (sectionIn table.now i).items
-        → ExponentIs exponent below e → e.integerPlaces ≡ placesBehind (sectionIn table.now i).items
-        → Shows (scientificReading size (sectionIn table.now i) i minus exact m e) room.old result room.new }
+    requires { T (passes table.now) × (i < get_or table.now 0 0) × (kind_of (section_in table.now i) ≡ scientific_kind)
+        × (s.figures.used ≤ 40) × (s.lent ≡ false) × (exponent < 100) × Known number_kind digits.now s [] }
+    ensures { (m e : Context) → SubjectIs number_kind digits.now s [] m
+        → m.integer_places ≡ integer_places (section_in table.now i).items
+        → ExponentIs exponent below e → e.integer_places ≡ places_behind (section_in table.now i).items
+        → Shows (scientific_reading size (section_in table.now i) i minus exact m e) room.old result room.new }
 {
     let h = head_of(table, i as usize);
     let items = items_of(table, i as usize);

@@ -13,7 +13,7 @@ use Rattle.searching.specs.declared.Search.{Search}
 use Rattle.searching.specs.declared.Turn.{Turn}
 use Rattle.searching.specs.declared.Turn.TheVariants.{Read, Found, Nothing}
 use Rattle.searching.proofs.Steps.{told-cases}
-use Rattle.searching.specs.Machine.{border, answer, between, above, notAbove, started, toldOf}
+use Rattle.searching.specs.Machine.{border, answer, between, above, not_above, started, told_of}
 
 module _ (day : ℕ) (numbers : List ℕ) where
   -- the number kept is that of the last entry known not to be above the day
@@ -43,8 +43,8 @@ module _ (day : ℕ) (numbers : List ℕ) where
       cond_both (λ (t : Turn). Keeps t kept) (leb s.asked s.low) (keeps-answer s.low kept h)
       (cond_both (λ (t : Turn). Keeps t kept) (s.first && leb s.asked border) (e, refl, h) (rw e (keeps-between s.low (s.asked - 1) kept h)))
 
-  keeps-not-above : (s : Search) (kept : ℕ) → s.day ≡ day → kept ≡ get_or numbers s.asked 0 → Keeps (notAbove s) kept
-  unfolding notAbove
+  keeps-not-above : (s : Search) (kept : ℕ) → s.day ≡ day → kept ≡ get_or numbers s.asked 0 → Keeps (not_above s) kept
+  unfolding not_above
   keeps-not-above s kept e h =
       let b : s.asked + 1 - 1 ≡ s.asked = omega arith in
       let next : 0 < s.asked + 1 → kept ≡ get_or numbers (s.asked + 1 - 1) 0 = λ p. rw b h in
@@ -54,7 +54,7 @@ module _ (day : ℕ) (numbers : List ℕ) where
 
   -- a turn keeps it, the entry's number being kept where it is not above the day
   pub keeps-told : (k : ℕ) (s : Search) (kept number : ℕ) → number ≡ get_or numbers k 0 → Keeps (Read k s) kept
-      → Keeps (toldOf s number) (cond (leb number day) number kept)
+      → Keeps (told_of s number) (cond (leb number day) number kept)
   keeps-told k s kept number e (d, a, h) =
       told-cases (λ (t : Turn). Keeps t (cond (leb number day) number kept)) s number
       (λ n. rw (lt-leb number day (omega arith)) (keeps-above s kept d h))

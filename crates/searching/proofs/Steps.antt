@@ -9,24 +9,24 @@ use Rattle.lists.proofs.Bools.{by_cases}
 use Rattle.searching.specs.declared.Search.{Search}
 use Rattle.searching.specs.declared.Turn.{Turn}
 use Rattle.searching.specs.declared.Turn.TheVariants.{Found}
-use Rattle.searching.specs.Machine.{answer, above, notAbove, toldOf}
+use Rattle.searching.specs.Machine.{answer, above, not_above, told_of}
 
 pub answer-found : (n : ℕ) → (n ≡ 0 → ⊥) → Found (n - 1) ≡ answer n
 unfolding answer
 answer-found zero h = absurd (h refl)
 answer-found (suc n) h = let e : suc n - 1 ≡ n = omega arith in rw e
 
-pub told-above : (s : Search) (number : ℕ) → s.day < number → toldOf s number ≡ above s
-unfolding toldOf
+pub told-above : (s : Search) (number : ℕ) → s.day < number → told_of s number ≡ above s
+unfolding told_of
 told-above s number h = let g : s.day ≤ number = omega arith in search (lt-ltb, le-leb)
 
 -- "not above the day": a number equal to the day is none above it
-pub told-not-above : (s : Search) (number : ℕ) → number ≤ s.day → toldOf s number ≡ notAbove s
-unfolding toldOf
+pub told-not-above : (s : Search) (number : ℕ) → number ≤ s.day → told_of s number ≡ not_above s
+unfolding told_of
 told-not-above s number h = search (le-ltb, lt-leb)
 
-pub told-cases : (P : Turn → Type 0) (s : Search) (number : ℕ) → (s.day < number → P (above s)) → (number ≤ s.day → P (notAbove s))
-    → P (toldOf s number)
+pub told-cases : (P : Turn → Type 0) (s : Search) (number : ℕ) → (s.day < number → P (above s)) → (number ≤ s.day → P (not_above s))
+    → P (told_of s number)
 told-cases P s number p q =
     by_cases (ltb s.day number)
     (λ t. let h = ltb-true s.day number t in rw (told-above s number h) (p h))

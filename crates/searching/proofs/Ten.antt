@@ -11,8 +11,8 @@ use lib.ListN.{length, get_or}
 use Rattle.lists.proofs.Bools.{no, cond-case}
 use Rattle.searching.specs.declared.Search.{Search}
 use Rattle.searching.specs.declared.Turn.{Turn}
-use Rattle.searching.specs.Machine.{laterGuess, guessed, border, firstAsked, reading, answer, between, above, notAbove, started}
-use Rattle.searching.specs.Search.{Rising, lastNotAbove, handed, driven, answered}
+use Rattle.searching.specs.Machine.{later_guess, guessed, border, first_asked, reading, answer, between, above, not_above, started}
+use Rattle.searching.specs.Search.{Rising, last_not_above, handed, driven, answered}
 use Rattle.searching.proofs.Last.{Known, known-answer}
 use Rattle.searching.proofs.Turns.{driven-answer}
 use Rattle.searching.proofs.Steps.{told-cases}
@@ -26,7 +26,7 @@ abbrev few : ℕ → Type 0
 few n = n ≤ 401
 
 guess-few : (day : ℕ) → few (guessed day)
-unfolding guessed laterGuess
+unfolding guessed later_guess
 guess-few day =
     cond-case few (ltb day 73416)
     (λ t. omega (arith, ltb-true day 73416 t))
@@ -37,8 +37,8 @@ guess-few day =
     let h = ltb-false 146463 day g in
     cond-case few (ltb day 109940) (λ t. omega (arith, ltb-true day 109940 t)) (λ t. omega arith)))
 
-first-within : (day : ℕ) → firstAsked (guessed day) ≤ 400
-unfolding firstAsked
+first-within : (day : ℕ) → first_asked (guessed day) ≤ 400
+unfolding first_asked
 first-within day =
     cond-case (λ (n : ℕ). n ≤ 400) (ltb border (guessed day))
     (λ t. omega (arith, guess-few day))
@@ -70,7 +70,7 @@ module _ (day : ℕ) (numbers : List ℕ) (size : length numbers ≡ 401) (risin
 
   -- the search has the right answer so many turns on
   abbrev Right : ℕ → Turn → Type 0
-  Right turns t = driven turns numbers t ≡ answered (lastNotAbove day numbers)
+  Right turns t = driven turns numbers t ≡ answered (last_not_above day numbers)
 
   -- where the bounds meet
   right-met : (turns low high : ℕ) → Known day numbers low high → high ≤ low → Right turns (answer low)
@@ -81,7 +81,7 @@ module _ (day : ℕ) (numbers : List ℕ) (size : length numbers ≡ 401) (risin
   -- what a turn needs: where the entry is above the day, and where it is not
   right-told : (turns low last a : ℕ) (first : Bool) → Known day numbers low (suc last) → low ≤ a → a ≤ last
       → (Known day numbers low a → Right turns (above (state low last a first)))
-      → (Known day numbers (a + 1) (suc last) → Right turns (notAbove (state low last a first)))
+      → (Known day numbers (a + 1) (suc last) → Right turns (not_above (state low last a first)))
       → Right (suc turns) (reading day low last a first)
   unfolding driven handed
   right-told turns low last a first k l h p q =
@@ -110,8 +110,8 @@ module _ (day : ℕ) (numbers : List ℕ) (size : length numbers ≡ 401) (risin
   right-not-above : (turns low last a : ℕ) (first : Bool) → Known day numbers (a + 1) (suc last)
       → (a < last → (first && leb border a) ≡ true → Right turns (reading day (a + 1) last (a + 1) false))
       → (a < last → Right turns (between day (a + 1) last))
-      → Right turns (notAbove (state low last a first))
-  unfolding notAbove answer
+      → Right turns (not_above (state low last a first))
+  unfolding not_above answer
   right-not-above turns low last a first k p q =
       cond-case (Right turns) (leb last a)
       (λ t.
@@ -164,6 +164,6 @@ module _ (day : ℕ) (numbers : List ℕ) (size : length numbers ≡ 401) (risin
       (λ m. right-between 9 (a + 1) 400 (omega arith) k (omega arith)))
 
   -- "within ten such turns names the last entry not above the day, or none, for any 401 rising numbers"
-  pub within-ten : driven 10 numbers (started day) ≡ answered (lastNotAbove day numbers)
+  pub within-ten : driven 10 numbers (started day) ≡ answered (last_not_above day numbers)
   unfolding started
-  within-ten = right-first (firstAsked (guessed day)) (first-within day)
+  within-ten = right-first (first_asked (guessed day)) (first-within day)

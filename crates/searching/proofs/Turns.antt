@@ -10,12 +10,12 @@ use lib.ListN.{length, get_or}
 use Rattle.lists.proofs.Bools.{by_cases}
 use Rattle.searching.specs.declared.Search.{Search}
 use Rattle.searching.specs.declared.Turn.TheVariants.{Read, Found, Nothing}
-use Rattle.searching.specs.Machine.{answer, toldOf}
+use Rattle.searching.specs.Machine.{answer, told_of}
 use Rattle.searching.specs.Search.{handed, driven}
 
 module _ (numbers : List ℕ) where
   pub driven-next : (turns k : ℕ) (s : Search) → k < length numbers
-      → driven (suc turns) numbers (Read k s) ≡ driven turns numbers (toldOf s (get_or numbers k 0))
+      → driven (suc turns) numbers (Read k s) ≡ driven turns numbers (told_of s (get_or numbers k 0))
   unfolding driven handed
   driven-next turns k s h = rw (lt-ltb k (length numbers) h)
 

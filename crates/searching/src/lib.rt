@@ -1,6 +1,6 @@
 // Finds the last of 401 rising numbers that is not above a day, without seeing them: it names an entry and is told its number.
 ghost use Rattle.std.specs.Prelude.{◌≡◌, ◌≤◌};
-ghost use Rattle.searching.specs.Machine.{laterGuess, guessed, firstAsked, reading, between, answer, above, notAbove, started, toldOf};
+ghost use Rattle.searching.specs.Machine.{later_guess, guessed, first_asked, reading, between, answer, above, not_above, started, told_of};
 
 // Behind this entry and in front of it there are few enough that eight turns tell them, once its neighbour is told too.
 const BORDER: u32 = 144;
@@ -27,7 +27,7 @@ pub enum Turn {
 // How many years have begun by a day from 2101 on: 2100 and 2200 have no 29 February.
 fn later_guess(day: u32) -> u32
     requires { 73416 ≤ day }
-    ensures { result ≡ laterGuess day }
+    ensures { result ≡ later_guess day }
 {
     if 146463 < day {
         return 401;
@@ -52,7 +52,7 @@ fn guess(day: u32) -> u32
 // The two entries at the border of the guess show whether it is right. The first is the one that leaves the fewer entries untold
 // where it goes as guessed, so that eight turns are enough where the second does not.
 fn first_asked(count: u32) -> u32
-    ensures { result ≡ firstAsked count }
+    ensures { result ≡ first_asked count }
 {
     if BORDER < count {
         return count - 1;
@@ -112,7 +112,7 @@ fn above(s: Search) -> Turn
 
 // The entry asked for is not above the day.
 fn not_above(s: Search) -> Turn
-    ensures { result ≡ notAbove s }
+    ensures { result ≡ not_above s }
 {
     let asked = s.asked;
     let last = s.last;
@@ -135,7 +135,7 @@ pub fn start(day: u32) -> Turn
 
 // Goes on with the number of the entry asked for.
 pub fn told(s: Search, number: u32) -> Turn
-    ensures { result ≡ toldOf s number }
+    ensures { result ≡ told_of s number }
 {
     if s.day < number {
         return above(s);

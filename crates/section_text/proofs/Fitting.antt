@@ -11,31 +11,31 @@ use borrow.Author.Tests.{le-leb, lt-leb}
 use Rattle.answers.specs.declared.Answer.{Answer}
 use Rattle.answers.specs.declared.Answer.TheVariants as answer
 use Rattle.answers.specs.declared.Shown.{Shown}
-use Rattle.answers.specs.Number.{doneShown, refusedShown}
+use Rattle.answers.specs.Number.{done_shown, refused_shown}
 use Rattle.lists.proofs.Bools.{no, true-T}
 use Rattle.formats.specs.Reading.{refused, shown, look_of, within}
-use Rattle.tables.specs.Calls.{shownAs, textAs}
+use Rattle.tables.specs.Calls.{shown_as, text_as}
 use Rattle.writing.specs.Put.{Put}
 use Rattle.writing.proofs.Laws.{put-none}
-use Rattle.section_text.specs.Show.{signText, Shows}
+use Rattle.section_text.specs.Show.{sign_text, Shows}
 
 pub sign-put : {old out : List ℕ} {r : ℕ} (minus : Bool) → minus ≡ true → Put old 0 (45 ∷ []) r out
-    → (r ≤ 1) × Put old 0 (signText minus) r out
-unfolding signText
+    → (r ≤ 1) × Put old 0 (sign_text minus) r out
+unfolding sign_text
 sign-put minus e p = (omega (arith, p.next), rw e p)
 
-pub sign-none : (old : List ℕ) (minus : Bool) → minus ≡ false → (0 ≤ 1) × Put old 0 (signText minus) 0 old
-unfolding signText
+pub sign-none : (old : List ℕ) (minus : Bool) → minus ≡ false → (0 ≤ 1) × Put old 0 (sign_text minus) 0 old
+unfolding sign_text
 sign-none old minus e = (omega arith, rw e (put-none old 0))
 
-pub sign-short : (minus : Bool) (us : List ℕ) (size : ℕ) → length us + 1 ≤ size → length (signText minus ++ us) ≤ size
-unfolding signText
+pub sign-short : (minus : Bool) (us : List ℕ) (size : ℕ) → length us + 1 ≤ size → length (sign_text minus ++ us) ≤ size
+unfolding sign_text
 sign-short true us size h = omega arith
 sign-short false us size h = omega arith
 
 -- a refusal leaves the room alone
-pub shows-refused : (old : List ℕ) (a : Answer) → Shows (refused a) old (refusedShown a) old
-unfolding shownAs textAs
+pub shows-refused : (old : List ℕ) (a : Answer) → Shows (refused a) old (refused_shown a) old
+unfolding shown_as text_as
 shows-refused old a = record { result = refl; room = refl }
 
 -- a room that surely takes a text: no text is lent, and it has 82 units for each two words and one for a minus
@@ -49,13 +49,13 @@ measured p = omega (arith, p.next)
 
 -- a text that is put is shown
 pub shows-put : {old out text : List ℕ} {n : ℕ} (colour i : ℕ) (exact : Bool) → Put old 0 text n out
-    → Shows (shown (look_of text colour i exact)) old (doneShown n colour i exact) out
-unfolding shownAs textAs
+    → Shows (shown (look_of text colour i exact)) old (done_shown n colour i exact) out
+unfolding shown_as text_as
 shows-put colour i exact p = record { result = rw (measured p); room = p.room }
 
 -- a room of so many units refuses a text that it does not take, and shows one that it takes
 module _ (size : ℕ) (text : List ℕ) (colour i : ℕ) (exact : Bool) where
-  pub shows-none : (old : List ℕ) → size < length text → Shows (within size (look_of text colour i exact)) old (refusedShown answer.TextRoom) old
+  pub shows-none : (old : List ℕ) → size < length text → Shows (within size (look_of text colour i exact)) old (refused_shown answer.TextRoom) old
   unfolding within
   shows-none old h = rw (lt-leb (length text) size h) (shows-refused old answer.TextRoom)
 
@@ -65,12 +65,12 @@ module _ (size : ℕ) (text : List ℕ) (colour i : ℕ) (exact : Bool) where
   shows-within h x = rw (le-leb (length text) size h) x
 
   pub shows-all : {old out : List ℕ} {n : ℕ} → length text ≤ size → Put old 0 text n out
-      → Shows (within size (look_of text colour i exact)) old (doneShown n colour i exact) out
+      → Shows (within size (look_of text colour i exact)) old (done_shown n colour i exact) out
   shows-all h p = shows-within h (shows-put colour i exact p)
 
 -- no minus is no text
 pub unsigned : {old out : List ℕ} {r : Shown} (size : ℕ) (text : List ℕ) (colour i : ℕ) (exact : Bool)
     → Shows (within size (look_of text colour i exact)) old r out
-    → Shows (within size (look_of (signText false ++ text) colour i exact)) old r out
-unfolding signText
+    → Shows (within size (look_of (sign_text false ++ text) colour i exact)) old r out
+unfolding sign_text
 unsigned size text colour i exact x = x

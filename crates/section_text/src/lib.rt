@@ -1,16 +1,16 @@
 // The text of a section's items, shown whole in a room or not at all. A room has `size` units, of which those in front are lent: all of
 // them to show a text, none to ask whether it would be shown.
 ghost use Rattle.std.specs.Prelude.{◌≡◌, true, false, List, ◌++◌, ℕ, ◌+◌, ◌*◌, ◌≤◌, ◌<◌, ◌^◌, T, length, get_or};
-ghost use Rattle.formats.specs.Items.{kind_of, integerPlaces};
+ghost use Rattle.formats.specs.Items.{kind_of, integer_places};
 ghost use Rattle.formats.specs.Reading.{shown, look_of, within};
 ghost use Rattle.formats.specs.Text.{Context};
 ghost use Rattle.tables.specs.Encode.{entry};
-ghost use Rattle.tables.specs.Rules.{entryInRange, passes};
-ghost use Rattle.table_words.specs.Sections.{sectionIn};
+ghost use Rattle.tables.specs.Rules.{entry_in_range, passes};
+ghost use Rattle.table_words.specs.Sections.{section_in};
 ghost use Rattle.writing.specs.Put.{Put};
 ghost use Rattle.section_text.specs.Subject.{StandsFor, SubjectIs};
 ghost use Rattle.section_text.specs.Walk.{Ready, ItemPut, OfText, Known};
-ghost use Rattle.section_text.specs.Show.{signText, sectionReading, Shows};
+ghost use Rattle.section_text.specs.Show.{sign_text, section_reading, Shows};
 
 use answers::{Answer, Shown, done_shown, refused_shown};
 use figure_text::Figures;
@@ -52,7 +52,7 @@ fn put_item(
     s: Subject,
     text: &[u16],
 ) -> usize
-    requires { (at < 2 ^ 61) × (s.figures.used ≤ 40) × (s.lent ≡ true → length text.now ≤ 1024) × T (entryInRange (entry tag argument)) }
+    requires { (at < 2 ^ 61) × (s.figures.used ≤ 40) × (s.lent ≡ true → length text.now ≤ 1024) × T (entry_in_range (entry tag argument)) }
     ensures { ItemPut (λ k. SubjectIs k digits.now s text.now) (entry tag argument) room.old at result room.new }
 {
     if (tags::ZERO_PLACE <= tag) & (tag <= tags::SPACE_PLACE) {
@@ -102,7 +102,7 @@ pub fn put_segment(
 // Puts a minus, or nothing.
 pub fn put_sign(room: &mut [u16], minus: bool) -> usize
     ensures within { result ≤ 1 }
-    ensures put { Put room.old 0 (signText minus) result room.new }
+    ensures put { Put room.old 0 (sign_text minus) result room.new }
 {
     if minus {
         return put_unit(room, 0, MINUS);
@@ -123,7 +123,7 @@ pub fn put_text(
         × Ready (λ k. SubjectIs k digits.now s text.now) items.now }
     ensures within { result ≤ 260097 }
     ensures put { OfText (λ k. SubjectIs k digits.now s text.now) items.now
-        (λ us. Put room.old 0 (signText minus ++ us) result room.new) }
+        (λ us. Put room.old 0 (sign_text minus ++ us) result room.new) }
 {
     let at = put_sign(room, minus);
     put_segment(room, at, items, digits, s, text)
@@ -141,7 +141,7 @@ pub fn is_roomy(size: usize, words: usize, lent: bool) -> bool
 fn length_of(minus: bool, items: &[u16], digits: &[u8; 40], s: Subject, text: &[u16]) -> usize
     requires { (s.figures.used ≤ 40) × (s.lent ≡ true → length text.now ≤ 1024) × (length items.now ≤ 508)
         × Ready (λ k. SubjectIs k digits.now s text.now) items.now }
-    ensures { OfText (λ k. SubjectIs k digits.now s text.now) items.now (λ us. result ≡ length (signText minus ++ us)) }
+    ensures { OfText (λ k. SubjectIs k digits.now s text.now) items.now (λ us. result ≡ length (sign_text minus ++ us)) }
 {
     let mut none = [0; 1];
     put_text(&mut none[..0], minus, items, digits, s, text)
@@ -162,7 +162,7 @@ fn write_items(
     requires { (s.figures.used ≤ 40) × (s.lent ≡ true → length text.now ≤ 1024) × (length items.now ≤ 508)
         × Ready (λ k. SubjectIs k digits.now s text.now) items.now }
     ensures { OfText (λ k. SubjectIs k digits.now s text.now) items.now
-        (λ us. Shows (shown (look_of (signText minus ++ us) colour section exact)) room.old result room.new) }
+        (λ us. Shows (shown (look_of (sign_text minus ++ us) colour section exact)) room.old result room.new) }
 {
     let n = put_text(room, minus, items, digits, s, text);
     done_shown(n as u32, colour, section, exact)
@@ -184,7 +184,7 @@ fn show_items(
     requires { (s.figures.used ≤ 40) × (s.lent ≡ true → length text.now ≤ 1024) × (length items.now ≤ 508)
         × Ready (λ k. SubjectIs k digits.now s text.now) items.now }
     ensures { OfText (λ k. SubjectIs k digits.now s text.now) items.now
-        (λ us. Shows (within size (look_of (signText minus ++ us) colour section exact)) room.old result room.new) }
+        (λ us. Shows (within size (look_of (sign_text minus ++ us) colour section exact)) room.old result room.new) }
 {
     if is_roomy(size, items.len(), s.lent) {
         return write_items(room, minus, items, digits, s, text, exact, colour, section);
@@ -208,10 +208,10 @@ pub fn show_section(
     exact: bool,
 ) -> Shown
     requires { T (passes table.now) × (i < get_or table.now 0 0) × (s.figures.used ≤ 40) × (s.lent ≡ true → length text.now ≤ 1024)
-        × Known (kind_of (sectionIn table.now i)) digits.now s text.now }
-    ensures { (c : Context) → SubjectIs (kind_of (sectionIn table.now i)) digits.now s text.now c
-        → c.integerPlaces ≡ integerPlaces (sectionIn table.now i).items
-        → Shows (sectionReading size (sectionIn table.now i) i minus exact c) room.old result room.new }
+        × Known (kind_of (section_in table.now i)) digits.now s text.now }
+    ensures { (c : Context) → SubjectIs (kind_of (section_in table.now i)) digits.now s text.now c
+        → c.integer_places ≡ integer_places (section_in table.now i).items
+        → Shows (section_reading size (section_in table.now i) i minus exact c) room.old result room.new }
 {
     let h = head_of(table, i as usize);
     let items = items_of(table, i as usize);

@@ -2,16 +2,16 @@
 ghost use Rattle.std.specs.Prelude.{◌≡◌, cond, ◌||◌, List, [], ◌+◌, ◌<◌, ◌≤◌, length, get_or, T};
 ghost use Rattle.lists.specs.Lists.{every};
 ghost use Rattle.formats.specs.Items.{Item, settled};
-ghost use Rattle.tables.specs.Words.{entriesWords};
-ghost use Rattle.tables.specs.Encode.{runEntries};
-ghost use Rattle.settling.specs.Settle.{isNoMinute, isRunTag, secondsIn, hoursAfter, settledAt};
+ghost use Rattle.tables.specs.Words.{entries_words};
+ghost use Rattle.tables.specs.Encode.{run_entries};
+ghost use Rattle.settling.specs.Settle.{is_no_minute, is_run_tag, seconds_in, hours_after, settled_at};
 
 use tables::tags;
 use values::integers::is_between;
 
 // A date or time run, or an elapsed item.
 fn is_run(tag: u16) -> bool
-    ensures { result ≡ isRunTag tag }
+    ensures { result ≡ is_run_tag tag }
 {
     is_between(tags::YEAR, tags::ELAPSED_SECONDS, tag) & (tag != tags::PART)
 }
@@ -19,7 +19,7 @@ fn is_run(tag: u16) -> bool
 // Whether the nearest run among these item words is seconds.
 fn seconds_in(words: &[u16]) -> bool
     requires { length words.now ≤ 508 }
-    ensures { result ≡ secondsIn words.now }
+    ensures { result ≡ seconds_in words.now }
 {
     let mut i: usize = 0;
     while i + 1 < words.len() {
@@ -34,7 +34,7 @@ fn seconds_in(words: &[u16]) -> bool
 
 // Whether the nearest run behind an item is hours, where `hours` says it of what stands before the item.
 fn hours_after(tag: u16, hours: bool) -> bool
-    ensures { result ≡ hoursAfter tag hours }
+    ensures { result ≡ hours_after tag hours }
 {
     if is_run(tag) {
         return (tag == tags::HOUR) | (tag == tags::ELAPSED_HOURS);
@@ -45,7 +45,7 @@ fn hours_after(tag: u16, hours: bool) -> bool
 // m means minutes behind hours, or before seconds: the nearest run among the later item words.
 fn means_minutes(hours: bool, later: &[u16]) -> bool
     requires { length later.now ≤ 508 }
-    ensures { result ≡ (hours || secondsIn later.now) }
+    ensures { result ≡ (hours || seconds_in later.now) }
 {
     if hours {
         return true;
@@ -62,8 +62,8 @@ fn month_or_minute(minutes: bool) -> u16
 // Settles the item at the place i, and says whether the nearest run behind it is hours. Most items are no runs, so they are told first.
 fn settle_item(words: &mut [u16], i: usize, hours: bool) -> bool
     requires { (length words.old ≤ 508) × (i + 1 < length words.old) }
-    ensures after { result ≡ hoursAfter (get_or words.old i 0) hours }
-    ensures word { words.new ≡ settledAt words.old i hours }
+    ensures after { result ≡ hours_after (get_or words.old i 0) hours }
+    ensures word { words.new ≡ settled_at words.old i hours }
 {
     let tag = words[i];
     if tag < tags::YEAR {
@@ -80,8 +80,8 @@ fn settle_item(words: &mut [u16], i: usize, hours: bool) -> bool
 // Settles the runs of m among the words of a section's items, each of which is written as a month.
 pub fn settle(words: &mut [u16])
     requires { length words.old ≤ 508 }
-    ensures { (is : List Item) → T (every isNoMinute is) → words.old ≡ entriesWords (runEntries is) []
-        → words.new ≡ entriesWords (runEntries (settled is)) [] }
+    ensures { (is : List Item) → T (every is_no_minute is) → words.old ≡ entries_words (run_entries is) []
+        → words.new ≡ entries_words (run_entries (settled is)) [] }
 {
     let mut hours = false;
     let mut i: usize = 0;

@@ -6,12 +6,12 @@ use mathlib.Core.Bool.{Bool, true, false}
 use mathlib.Core.List.{List}
 use Rattle.answers.specs.declared.Answer.TheVariants as answer
 use Rattle.answers.specs.declared.Shown.{Shown}
-use Rattle.answers.specs.Number.{refusedShown}
+use Rattle.answers.specs.Number.{refused_shown}
 use Rattle.values.specs.declared.Ask.{Ask}
 use Rattle.formats.specs.Reading.{Reading, reading}
 use Rattle.tables.specs.Decode.{decode}
 use Rattle.tables.specs.Rules.{passes}
-use Rattle.tables.specs.Calls.{tableReading}
+use Rattle.tables.specs.Calls.{table_reading}
 use Rattle.section_text.specs.Show.{Shows}
 use Rattle.section_text.proofs.Fitting.{shows-refused}
 
@@ -20,10 +20,10 @@ shows-as {old} {out} {r} e x = subst (λ (z : Reading). Shows z old r out) (sym 
 
 module _ (ws : List ℕ) (ask : Ask) (text : List ℕ) (size : ℕ) {b : Bool} (e : b ≡ passes ws) where
   pub table-shows : {old out : List ℕ} {r : Shown} → b ≡ true → Shows (reading (decode ws) ask text size) old r out
-      → Shows (tableReading ws ask text size) old r out
-  unfolding tableReading
+      → Shows (table_reading ws ask text size) old r out
+  unfolding table_reading
   table-shows f y = rw (sym e ∙ f) y
 
-  pub table-refused : (old : List ℕ) → b ≡ false → Shows (tableReading ws ask text size) old (refusedShown answer.Table) old
-  unfolding tableReading
+  pub table-refused : (old : List ℕ) → b ≡ false → Shows (table_reading ws ask text size) old (refused_shown answer.Table) old
+  unfolding table_reading
   table-refused old f = rw (sym e ∙ f) (shows-refused old answer.Table)

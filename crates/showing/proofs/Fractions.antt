@@ -17,44 +17,44 @@ use Rattle.figures.specs.declared.Signed.{Signed}
 use Rattle.figures.specs.Sign.{signed_of}
 use Rattle.exponents.specs.Exponent.{decimal}
 use Rattle.fractions.specs.declared.Mixed.{Mixed}
-use Rattle.fractions.specs.Fractions.{over, nearestFraction, fractionOf, mixedExactly}
+use Rattle.fractions.specs.Fractions.{over, nearest_fraction, fraction_of, mixed_exactly}
 use Rattle.fractions.proofs.Telling.{TellsSmall, nearest-tells-small, over-tells-small}
-use Rattle.formats.specs.Items.{Item, solidus, fixed, half, itemInRange, Section, fractionKind, kind_of, isPlace, isSolidus, isFixed, beforeCut, fromCut, beforeEnd, placesBehind, denominatorFits, wholeItems}
-use Rattle.formats.specs.Reading.{fixedIn, fractionFor, isParted, sectionFraction, placesNought, numberExactly}
+use Rattle.formats.specs.Items.{Item, solidus, fixed, half, item_in_range, Section, fraction_kind, kind_of, is_place, is_solidus, is_fixed, before_cut, from_cut, before_end, places_behind, denominator_fits, whole_items}
+use Rattle.formats.specs.Reading.{fixed_in, fraction_for, is_parted, section_fraction, places_nought, number_exactly}
 use Rattle.formats.proofs.ByNumber.{by_number}
 use Rattle.formats.proofs.Cutting.{cut-joins, cut-any, every-from, no-exponent, solidus-cut}
-use Rattle.tables.specs.Words.{entries_at, entriesIn}
+use Rattle.tables.specs.Words.{entries_at, entries_in}
 use Rattle.tables.specs.Encode.{entry}
-use Rattle.tables.specs.Decode.{halfAt, item_at, itemsAt, itemsByTag}
+use Rattle.tables.specs.Decode.{half_at, item_at, items_at, items_by_tag}
 use Rattle.tables.specs.Rules.{passes}
 use Rattle.tables.proofs.BackEntries.{between-facts, items-ranged}
-use Rattle.table_words.specs.Sections.{sectionIn, ItemsOf}
+use Rattle.table_words.specs.Sections.{section_in, ItemsOf}
 use Rattle.table_words.proofs.Bodies.{section-allowed, section-limits}
 use Rattle.table_words.specs.Runs.{items_in, CutAt}
 use Rattle.formats.proofs.Exactness.{exactly-fraction}
-use Rattle.section_text.specs.Show.{fractionReading}
+use Rattle.section_text.specs.Show.{fraction_reading}
 use Rattle.table_words.proofs.Cuts.{rest_all}
 use Rattle.fraction_sections.proofs.Parts.{section-rules}
-use Rattle.planning.specs.Minus.{minusIn}
-use Rattle.planning.specs.Plan.{fractionShown}
+use Rattle.planning.specs.Minus.{minus_in}
+use Rattle.planning.specs.Plan.{fraction_shown}
 use Rattle.planning.proofs.Numbers.{exact}
 
 -- ---- the fixed number, where what stands before it has none
-fixed-behind : (is js : List Item) → any isFixed is ≡ false → fixedIn (is ++ js) ≡ fixedIn js
-unfolding fixedIn any
+fixed-behind : (is js : List Item) → any is_fixed is ≡ false → fixed_in (is ++ js) ≡ fixed_in js
+unfolding fixed_in any
 fixed-behind [] js none = refl
-fixed-behind (i ∷ is) js none = by_cases (isFixed i) (λ e. absurd (true≢false (rw e at none))) (λ e. rw e (fixed-behind is js (rw e at none)))
+fixed-behind (i ∷ is) js none = by_cases (is_fixed i) (λ e. absurd (true≢false (rw e at none))) (λ e. rw e (fixed-behind is js (rw e at none)))
 
-fixed-tag : (t a : ℕ) → isFixed (item_at (entry t a)) ≡ eqb t 25
+fixed-tag : (t a : ℕ) → is_fixed (item_at (entry t a)) ≡ eqb t 25
 unfolding item_at
 fixed-tag t a =
-    by_number isFixed (λ (n : ℕ). eqb n 25) (itemsByTag a) 26 (half (halfAt a)) refl
+    by_number is_fixed (λ (n : ℕ). eqb n 25) (items_by_tag a) 26 (half (half_at a)) refl
     (λ n h. sym (ne_eqb n 25 (λ e. omega arith))) t
 
 -- the second of the items in words
-second-entry : (n : ℕ) (ws : List ℕ) (i j : Item) (js : List Item) → itemsAt (entries_at n ws) ≡ i ∷ j ∷ js
+second-entry : (n : ℕ) (ws : List ℕ) (i j : Item) (js : List Item) → items_at (entries_at n ws) ≡ i ∷ j ∷ js
     → (2 ≤ n) × (item_at (entry (get_or ws 2 0) (get_or ws 3 0)) ≡ j)
-unfolding entries_at itemsAt
+unfolding entries_at items_at
 second-entry zero ws i j js e = absurd (omega (arith, ap length e))
 second-entry (suc zero) ws i j js e = absurd (omega (arith, ap length e))
 second-entry (suc (suc n)) ws i j js e = (omega arith, rw (← get_or-drop 2 ws 0 0, ← get_or-drop 2 ws 1 0) cc)
@@ -63,54 +63,54 @@ second-entry (suc (suc n)) ws i j js e = (omega arith, rw (← get_or-drop 2 ws 
 record Below (is : List Item) : Type 0 where
   pub first : Item
   pub rest : List Item
-  pub from : fromCut is ≡ solidus ∷ first ∷ rest
-  pub fits : T (denominatorFits (first ∷ rest))
-  pub noFixed : any isFixed (beforeCut is) ≡ false
+  pub from : from_cut is ≡ solidus ∷ first ∷ rest
+  pub fits : T (denominator_fits (first ∷ rest))
+  pub no_fixed : any is_fixed (before_cut is) ≡ false
 
-below : (is js : List Item) → any isFixed (beforeCut is) ≡ false → fromCut is ≡ solidus ∷ js → T (denominatorFits js) → Below is
-unfolding denominatorFits
+below : (is js : List Item) → any is_fixed (before_cut is) ≡ false → from_cut is ≡ solidus ∷ js → T (denominator_fits js) → Below is
+unfolding denominator_fits
 below is [] n e t = absurd t
-below is (j ∷ js) n e t = record { first = j; rest = js; from = e; fits = t; noFixed = n }
+below is (j ∷ js) n e t = record { first = j; rest = js; from = e; fits = t; no_fixed = n }
 
 module _ {is : List Item} (b : Below is) where
-  below-fixed : (a : ℕ) → b.first ≡ fixed a → (any isFixed is ≡ true) × (fixedIn is ≡ a)
-  unfolding any fixedIn
+  below-fixed : (a : ℕ) → b.first ≡ fixed a → (any is_fixed is ≡ true) × (fixed_in is ≡ a)
+  unfolding any fixed_in
   below-fixed a e =
-      (cut-any isFixed is ∙ rw (b.noFixed, b.from, e), sym (ap fixedIn (cut-joins is)) ∙ fixed-behind (beforeCut is) (fromCut is) b.noFixed ∙ rw (b.from, e))
+      (cut-any is_fixed is ∙ rw (b.no_fixed, b.from, e), sym (ap fixed_in (cut-joins is)) ∙ fixed-behind (before_cut is) (from_cut is) b.no_fixed ∙ rw (b.from, e))
 
-  below-places : isFixed b.first ≡ false → (any isFixed is ≡ false) × (1 ≤ placesBehind is)
-  unfolding any denominatorFits placesBehind count
+  below-places : is_fixed b.first ≡ false → (any is_fixed is ≡ false) × (1 ≤ places_behind is)
+  unfolding any denominator_fits places_behind count
   below-places e =
       let u = rw e at b.fits in
-      let p : isPlace b.first ≡ true = T_true (isPlace b.first) (search (and_left, and_right)) in
-      let n : any isFixed b.rest ≡ false = not_so (any isFixed b.rest) (search (and_left, and_right)) in
-      (cut-any isFixed is ∙ rw (b.noFixed, b.from, e, n), rw (b.from, p) (omega arith))
+      let p : is_place b.first ≡ true = T_true (is_place b.first) (search (and_left, and_right)) in
+      let n : any is_fixed b.rest ≡ false = not_so (any is_fixed b.rest) (search (and_left, and_right)) in
+      (cut-any is_fixed is ∙ rw (b.no_fixed, b.from, e, n), rw (b.from, p) (omega arith))
 
 -- ---- what the words of a fraction section's items say, cut at the solidus
 abbrev Fixes : List Item → ℕ → Type 0
-Fixes is a = (any isFixed is ≡ true) × (fixedIn is ≡ a) × (1 ≤ a) × (a ≤ 999)
+Fixes is a = (any is_fixed is ≡ true) × (fixed_in is ≡ a) × (1 ≤ a) × (a ≤ 999)
 
 pub record FractionWords (s : Section) (words : List ℕ) (start : ℕ) : Type 0 where
   pub inside : start + 4 ≤ length words
-  pub parted : any isPlace (beforeEnd (items_in (take start words))) ≡ isParted s.items
+  pub parted : any is_place (before_end (items_in (take start words))) ≡ is_parted s.items
   pub fixed : get_or words (start + 2) 0 ≡ 25 → Fixes s.items (get_or words (start + 3) 0)
-  pub unfixed : (get_or words (start + 2) 0 ≡ 25 → ⊥) → (any isFixed s.items ≡ false) × (1 ≤ placesBehind s.items)
-  pub places : count isPlace (items_in (take (length words - start) (drop start words))) ≡ placesBehind s.items
-  pub few : placesBehind s.items ≤ 3
+  pub unfixed : (get_or words (start + 2) 0 ≡ 25 → ⊥) → (any is_fixed s.items ≡ false) × (1 ≤ places_behind s.items)
+  pub places : count is_place (items_in (take (length words - start) (drop start words))) ≡ places_behind s.items
+  pub few : places_behind s.items ≤ 3
 
-module _ (ws : List ℕ) (i : ℕ) (t : T (passes ws)) (l : i < get_or ws 0 0) (k : kind_of (sectionIn ws i) ≡ fractionKind) where
-  has-solidus : any isSolidus (sectionIn ws i).items ≡ true
-  has-solidus = sym (positive-count isSolidus (sectionIn ws i).items) ∙ rw (section-rules ws i t l k).one
+module _ (ws : List ℕ) (i : ℕ) (t : T (passes ws)) (l : i < get_or ws 0 0) (k : kind_of (section_in ws i) ≡ fraction_kind) where
+  has-solidus : any is_solidus (section_in ws i).items ≡ true
+  has-solidus = sym (positive-count is_solidus (section_in ws i).items) ∙ rw (section-rules ws i t l k).one
 
-  section-below : Below (sectionIn ws i).items
+  section-below : Below (section_in ws i).items
   section-below =
-      let is : List Item = (sectionIn ws i).items in
+      let is : List Item = (section_in ws i).items in
       let rules = section-rules ws i t l k in
-      let c = solidus-cut is (no-exponent (kind_of (sectionIn ws i)) is (rw k) (section-allowed ws i t l)) has-solidus in
-      below is c.behind rules.noFixed c.from (rw c.from at rules.denominator)
+      let c = solidus-cut is (no-exponent (kind_of (section_in ws i)) is (rw k) (section-allowed ws i t l)) has-solidus in
+      below is c.behind rules.no_fixed c.from (rw c.from at rules.denominator)
 
-  module _ {words : List ℕ} (o : ItemsOf (sectionIn ws i) words) {start : ℕ}
-      (c : CutAt words start (beforeCut (items_in words)) (fromCut (items_in words))) where
+  module _ {words : List ℕ} (o : ItemsOf (section_in ws i) words) {start : ℕ}
+      (c : CutAt words start (before_cut (items_in words)) (from_cut (items_in words))) where
     words-below : Below (items_in words)
     words-below = subst Below o.items section-below
 
@@ -121,7 +121,7 @@ module _ (ws : List ℕ) (i : ℕ) (t : T (passes ws)) (l : i < get_or ws 0 0) (
     argument = get_or words (start + 3) 0
 
     first-words : (start + 4 ≤ length words) × (item_at (entry tag argument) ≡ words-below.first)
-    unfolding entriesIn
+    unfolding entries_in
     first-words =
         let z = second-entry (length (drop start words) / 2) (drop start words) solidus words-below.first words-below.rest (c.from ∙ words-below.from) in
         (omega (arith, z.0, length-drop start words, c.inside), rw (get_or-drop start words 2 0, get_or-drop start words 3 0) at z.1)
@@ -131,27 +131,27 @@ module _ (ws : List ℕ) (i : ℕ) (t : T (passes ws)) (l : i < get_or ws 0 0) (
     first-fixed f = sym first-words.1 ∙ rw f
 
     first_range : tag ≡ 25 → (1 ≤ argument) × (argument ≤ 999)
-    unfolding itemInRange
+    unfolding item_in_range
     first_range f =
         let b = words-below in
-        let all = rw b.from at (every-from itemInRange (items_in words) (items-ranged (entriesIn words) o.in_range)) in
-        let one = every-head itemInRange b.first b.rest (every-tail itemInRange solidus (b.first ∷ b.rest) all) in
+        let all = rw b.from at (every-from item_in_range (items_in words) (items-ranged (entries_in words) o.in_range)) in
+        let one = every-head item_in_range b.first b.rest (every-tail item_in_range solidus (b.first ∷ b.rest) all) in
         between-facts 1 999 argument (rw (first-fixed f) at one)
 
-    pub fraction_words : FractionWords (sectionIn ws i) words start
-    unfolding isParted wholeItems placesBehind
+    pub fraction_words : FractionWords (section_in ws i) words start
+    unfolding is_parted whole_items places_behind
     fraction_words =
         record {
           inside = first-words.0;
           parted = rw (c.before, has-solidus, o.items);
           fixed = λ f. let b = rw (← o.items) at (below-fixed words-below argument (first-fixed f)) in (b.0, b.1, (first_range f).0, (first_range f).1);
-          unfixed = λ f. rw o.items (below-places words-below (sym (ap isFixed first-words.1) ∙ fixed-tag tag argument ∙ ne_eqb tag 25 f));
+          unfixed = λ f. rw o.items (below-places words-below (sym (ap is_fixed first-words.1) ∙ fixed-tag tag argument ∙ ne_eqb tag 25 f));
           places = rw (rest_all start words, c.from, o.items);
           few = (section-limits ws i t l).exponents-most;
         }
 
 pub places-range : {s : Section} {words : List ℕ} {start places : ℕ} → FractionWords s words start → (get_or words (start + 2) 0 ≡ 25 → ⊥)
-    → places ≡ count isPlace (items_in (take (length words - start) (drop start words))) → (1 ≤ places) × (places ≤ 3)
+    → places ≡ count is_place (items_in (take (length words - start) (drop start words))) → (1 ≤ places) × (places ≤ 3)
 places-range w f e = omega (arith, e, w.places, (w.unfixed f).1, w.few)
 
 -- how large the fraction is
@@ -163,35 +163,35 @@ tells-small e s = rw e (s.whole, omega (arith, s.above), s.from, s.up_to)
 
 -- the fraction that the code finds
 module _ {s : Section} {words : List ℕ} {start : ℕ} (w : FractionWords s words start) (v : Signed) (h : v.magnitude < 10 ^ 15) {r : Mixed} {parted : Bool}
-    (ep : parted ≡ any isPlace (beforeEnd (items_in (take start words)))) where
-  pub fixed-is : get_or words (start + 2) 0 ≡ 25 → r ≡ fractionOf parted (over (get_or words (start + 3) 0)) (decimal v.magnitude v.scale)
-      → ((x : Number) → v ≡ signed_of x → r ≡ sectionFraction s x) × Small r
-  unfolding sectionFraction fractionFor fractionOf
+    (ep : parted ≡ any is_place (before_end (items_in (take start words)))) where
+  pub fixed-is : get_or words (start + 2) 0 ≡ 25 → r ≡ fraction_of parted (over (get_or words (start + 3) 0)) (decimal v.magnitude v.scale)
+      → ((x : Number) → v ≡ signed_of x → r ≡ section_fraction s x) × Small r
+  unfolding section_fraction fraction_for fraction_of
   fixed-is f er =
       let b = w.fixed f in (
-        λ x ev. er ∙ ap (fractionOf parted (over (get_or words (start + 3) 0))) (exact v x ev) ∙ rw (ep ∙ w.parted, b.0, b.1),
+        λ x ev. er ∙ ap (fraction_of parted (over (get_or words (start + 3) 0))) (exact v x ev) ∙ rw (ep ∙ w.parted, b.0, b.1),
         tells-small er (over-tells-small parted v.magnitude v.scale h (get_or words (start + 3) 0) b.2 b.3),
       )
 
-  pub places_is : {places : ℕ} → (get_or words (start + 2) 0 ≡ 25 → ⊥) → places ≡ count isPlace (items_in (take (length words - start) (drop start words)))
-      → r ≡ fractionOf parted (nearestFraction places) (decimal v.magnitude v.scale)
-      → ((x : Number) → v ≡ signed_of x → r ≡ sectionFraction s x) × Small r
-  unfolding sectionFraction fractionFor fractionOf
+  pub places_is : {places : ℕ} → (get_or words (start + 2) 0 ≡ 25 → ⊥) → places ≡ count is_place (items_in (take (length words - start) (drop start words)))
+      → r ≡ fraction_of parted (nearest_fraction places) (decimal v.magnitude v.scale)
+      → ((x : Number) → v ≡ signed_of x → r ≡ section_fraction s x) × Small r
+  unfolding section_fraction fraction_for fraction_of
   places_is {places} f e er =
       let n = places-range w f e in (
-        λ x ev. er ∙ ap (fractionOf parted (nearestFraction places)) (exact v x ev) ∙ rw (ep ∙ w.parted, e ∙ w.places, (w.unfixed f).0),
+        λ x ev. er ∙ ap (fraction_of parted (nearest_fraction places)) (exact v x ev) ∙ rw (ep ∙ w.parted, e ∙ w.places, (w.unfixed f).0),
         tells-small er (nearest-tells-small parted v.magnitude v.scale h places n.0 n.1),
       )
 
 -- it is the number itself where the section is exact
-pub fraction-exactly : {f : Mixed} {b : Bool} (s : Section) (v : Signed) (x : Number) → v ≡ signed_of x → kind_of s ≡ fractionKind → f ≡ sectionFraction s x
-    → b ≡ mixedExactly (decimal v.magnitude v.scale) f → b ≡ numberExactly s x
+pub fraction-exactly : {f : Mixed} {b : Bool} (s : Section) (v : Signed) (x : Number) → v ≡ signed_of x → kind_of s ≡ fraction_kind → f ≡ section_fraction s x
+    → b ≡ mixed_exactly (decimal v.magnitude v.scale) f → b ≡ number_exactly s x
 fraction-exactly s v x ev k ef e = e ∙ rw (exact v x ev, ef) (sym (exactly-fraction s x k))
 
 -- the reading, with the minus as the code finds it: what is shown is nought where the whole number and the numerator are
 pub fraction-minus : (ws : List ℕ) (i : ℕ) (negative : Bool) (x : Number) {minus b : Bool} {f : Mixed}
-    → minus ≡ minusIn ws i negative (eqb f.whole 0 && eqb f.above 0) → kind_of (sectionIn ws i) ≡ fractionKind
-    → f ≡ sectionFraction (sectionIn ws i) x → b ≡ numberExactly (sectionIn ws i) x → (size : ℕ)
-    → fractionShown ws i negative x size ≡ fractionReading size (sectionIn ws i) i minus b f
-unfolding placesNought
+    → minus ≡ minus_in ws i negative (eqb f.whole 0 && eqb f.above 0) → kind_of (section_in ws i) ≡ fraction_kind
+    → f ≡ section_fraction (section_in ws i) x → b ≡ number_exactly (section_in ws i) x → (size : ℕ)
+    → fraction_shown ws i negative x size ≡ fraction_reading size (section_in ws i) i minus b f
+unfolding places_nought
 fraction-minus ws i negative x em k ef ee size = rw (em, ee, ef, k)

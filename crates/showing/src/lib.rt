@@ -2,17 +2,17 @@
 // them to show a value, none to ask what would be answered.
 ghost use Rattle.std.specs.Prelude.{◌≡◌, true, false, ◌≤◌, ◌<◌, ◌^◌, T, length, get_or};
 ghost use Rattle.lists.specs.Lists.{any};
-ghost use Rattle.formats.specs.Items.{dateKind, scientificKind, fractionKind, kind_of, isPlace, beforeEnd};
-ghost use Rattle.formats.specs.Reading.{look_of, within, instantContext, sectionFraction, numberExactly, instantExactly, reading};
+ghost use Rattle.formats.specs.Items.{date_kind, scientific_kind, fraction_kind, kind_of, is_place, before_end};
+ghost use Rattle.formats.specs.Reading.{look_of, within, instant_context, section_fraction, number_exactly, instant_exactly, reading};
 ghost use Rattle.figures.specs.Sign.{signed_of};
 ghost use Rattle.values.specs.declared.Number.{Number};
 ghost use Rattle.tables.specs.Decode.{decode};
 ghost use Rattle.tables.specs.Rules.{passes};
-ghost use Rattle.tables.specs.Calls.{tableReading, showing, roomAfter};
-ghost use Rattle.table_words.specs.Sections.{sectionIn};
+ghost use Rattle.tables.specs.Calls.{table_reading, showing, room_after};
+ghost use Rattle.table_words.specs.Sections.{section_in};
 ghost use Rattle.table_words.specs.Runs.{items_in};
-ghost use Rattle.section_text.specs.Show.{sectionReading, Shows};
-ghost use Rattle.planning.specs.Plan.{NumberOf, scientificOf, fractionShown};
+ghost use Rattle.section_text.specs.Show.{section_reading, Shows};
+ghost use Rattle.planning.specs.Plan.{NumberOf, scientific_of, fraction_shown};
 
 use answers::{Answer, Shown, done_shown, refused_shown};
 use date_sections::show_dated_section;
@@ -43,9 +43,9 @@ fn show_plain(room: &mut [u16], size: usize, text: &[u16]) -> Shown
 
 // Shows an instant in section i, which is a date-time section.
 fn show_dated(room: &mut [u16], size: usize, table: &[u16], i: u16, d: Day, m: Millisecond) -> Shown
-    requires { T (passes table.now) × (i < get_or table.now 0 0) × (kind_of (sectionIn table.now i) ≡ dateKind) }
-    ensures { Shows (sectionReading size (sectionIn table.now i) i false
-        (instantExactly (sectionIn table.now i) m) (instantContext (sectionIn table.now i) d m)) room.old result room.new }
+    requires { T (passes table.now) × (i < get_or table.now 0 0) × (kind_of (section_in table.now i) ≡ date_kind) }
+    ensures { Shows (section_reading size (section_in table.now i) i false
+        (instant_exactly (section_in table.now i) m) (instant_context (section_in table.now i) d m)) room.old result room.new }
 {
     let dated = date_text::shows_date(items_of(table, i as usize));
     let moment = date_text::moment_of(is_twelve_hour(table, i as usize), dated, d, m);
@@ -55,10 +55,10 @@ fn show_dated(room: &mut [u16], size: usize, table: &[u16], i: u16, d: Day, m: M
 // Shows a number in section i, which is a scientific section. (The plan has the number alone: the mantissa's digits and the exponent
 // would be carried through it by every value.)
 fn show_scientific(room: &mut [u16], size: usize, table: &[u16], i: u16, v: Signed) -> Shown
-    requires { T (passes table.now) × (i < get_or table.now 0 0) × (kind_of (sectionIn table.now i) ≡ scientificKind)
+    requires { T (passes table.now) × (i < get_or table.now 0 0) × (kind_of (section_in table.now i) ≡ scientific_kind)
         × (v.magnitude < 10 ^ 15) × (v.scale ≤ 15) × NumberOf v }
     ensures { (x : Number) → v ≡ signed_of x
-        → Shows (scientificOf table.now i v.negative x size) room.old result room.new }
+        → Shows (scientific_of table.now i v.negative x size) room.old result room.new }
 {
     let h = head_of(table, i as usize);
     let integers = integer_places(table, i as usize);
@@ -77,7 +77,7 @@ fn show_scientific(room: &mut [u16], size: usize, table: &[u16], i: u16, v: Sign
 
 // Whether there is an integer place among the item words before a solidus: a place before the run at their end, the numerator's.
 fn is_parted(before: &[u16]) -> bool
-    ensures { result ≡ any isPlace (beforeEnd (items_in before.now)) }
+    ensures { result ≡ any is_place (before_end (items_in before.now)) }
 {
     let end = run_start(before);
     let places = count_between(&before[..end], tags::ZERO_PLACE, tags::SPACE_PLACE);
@@ -86,10 +86,10 @@ fn is_parted(before: &[u16]) -> bool
 
 // The fraction of a number in section i, which is a fraction section. Directly behind its solidus stands the fixed number or a place.
 pub fn section_fraction(table: &[u16], i: usize, v: Signed) -> Nearest
-    requires { T (passes table.now) × (i < get_or table.now 0 0) × (kind_of (sectionIn table.now i) ≡ fractionKind)
+    requires { T (passes table.now) × (i < get_or table.now 0 0) × (kind_of (section_in table.now i) ≡ fraction_kind)
         × (v.magnitude < 10 ^ 15) × (v.scale ≤ 15) }
-    ensures is { (x : Number) → v ≡ signed_of x → result.mixed ≡ sectionFraction (sectionIn table.now i) x }
-    ensures exact { (x : Number) → v ≡ signed_of x → result.exact ≡ numberExactly (sectionIn table.now i) x }
+    ensures is { (x : Number) → v ≡ signed_of x → result.mixed ≡ section_fraction (section_in table.now i) x }
+    ensures exact { (x : Number) → v ≡ signed_of x → result.exact ≡ number_exactly (section_in table.now i) x }
     ensures small { (result.mixed.whole ≤ 10 ^ 15) × (result.mixed.above < 10 ^ 19) × (1 ≤ result.mixed.below) × (result.mixed.below ≤ 999) }
 {
     let items = items_of(table, i);
@@ -106,10 +106,10 @@ pub fn section_fraction(table: &[u16], i: usize, v: Signed) -> Nearest
 
 // Shows a number in section i, which is a fraction section.
 fn show_fraction(room: &mut [u16], size: usize, table: &[u16], i: u16, v: Signed) -> Shown
-    requires { T (passes table.now) × (i < get_or table.now 0 0) × (kind_of (sectionIn table.now i) ≡ fractionKind)
+    requires { T (passes table.now) × (i < get_or table.now 0 0) × (kind_of (section_in table.now i) ≡ fraction_kind)
         × (v.magnitude < 10 ^ 15) × (v.scale ≤ 15) }
     ensures { (x : Number) → v ≡ signed_of x
-        → Shows (fractionShown table.now i v.negative x size) room.old result room.new }
+        → Shows (fraction_shown table.now i v.negative x size) room.old result room.new }
 {
     let x = section_fraction(table, i as usize, v);
     let f = x.mixed;
@@ -141,7 +141,7 @@ fn show_value(room: &mut [u16], size: usize, table: &[u16], ask: Ask, text: &[u1
 
 // Shows a value through the words lent as a table.
 fn show_in(table: &[u16], ask: Ask, text: &[u16], room: &mut [u16], size: usize) -> Shown
-    ensures { Shows (tableReading table.now ask text.now size) room.old result room.new }
+    ensures { Shows (table_reading table.now ask text.now size) room.old result room.new }
 {
     if checking::check(table) {
         return show_value(room, size, table, ask, text);
@@ -162,7 +162,7 @@ pub fn answer_of(table: &[u16], ask: Ask, text: &[u16], size: usize) -> Answer
 // and a value out of range 9. `text` is read only where the value is a text.
 pub fn show(table: &[u16], ask: Ask, text: &[u16], room: &mut [u16]) -> Shown
     ensures result { result ≡ showing table.now ask text.now (length room.old) }
-    ensures room { room.new ≡ roomAfter table.now ask text.now room.old }
+    ensures room { room.new ≡ room_after table.now ask text.now room.old }
 {
     let size = room.len();
     show_in(table, ask, text, room, size)

@@ -1,10 +1,10 @@
 // Where the sections of a code stand in it.
 ghost use Rattle.std.specs.Prelude.{◌≡◌, ◌+◌, ◌*◌, ◌≤◌, length, take};
 ghost use Rattle.formats.specs.Tokens.{lex};
-ghost use Rattle.formats.specs.Accept.{fine, placed_of, semicolons, spanBy, sectionSpan, sectionPart};
-ghost use Rattle.lexing.specs.Buffer.{semicolonsIn};
+ghost use Rattle.formats.specs.Accept.{fine, placed_of, semicolons, span_by, section_span, section_part};
+ghost use Rattle.lexing.specs.Buffer.{semicolons_in};
 ghost use Rattle.examining.specs.Examine.{Buffered};
-ghost use Rattle.spans.specs.Span.{SpanIs, startBehind, endBefore, unitPlace};
+ghost use Rattle.spans.specs.Span.{SpanIs, start_behind, end_before, unit_place};
 
 use answers::number;
 use examining::examine;
@@ -26,8 +26,8 @@ fn empty_start() -> SectionSpan
 
 // The place behind the semicolon before section n, or the start of the code.
 fn start_behind(tokens: &[u16], count: usize, n: usize) -> usize
-    requires { (3 * count ≤ length tokens.now) × (count ≤ 254) × (startBehind 0 n (semicolonsIn (take (3 * count) tokens.now)) ≤ 254) }
-    ensures { result ≡ startBehind 0 n (semicolonsIn (take (3 * count) tokens.now)) }
+    requires { (3 * count ≤ length tokens.now) × (count ≤ 254) × (start_behind 0 n (semicolons_in (take (3 * count) tokens.now)) ≤ 254) }
+    ensures { result ≡ start_behind 0 n (semicolons_in (take (3 * count) tokens.now)) }
 {
     if n == 0 {
         return 0;
@@ -38,8 +38,8 @@ fn start_behind(tokens: &[u16], count: usize, n: usize) -> usize
 // The place of the semicolon behind section n, or behind the last section the end of the code.
 fn end_before(tokens: &[u16], count: usize, last: usize, n: usize, end: usize) -> usize
     requires count_in_bounds { (3 * count ≤ length tokens.now) × (count ≤ 254) }
-    requires last_value { last ≡ length (semicolonsIn (take (3 * count) tokens.now)) }
-    ensures { result ≡ endBefore end n (semicolonsIn (take (3 * count) tokens.now)) }
+    requires last_value { last ≡ length (semicolons_in (take (3 * count) tokens.now)) }
+    ensures { result ≡ end_before end n (semicolons_in (take (3 * count) tokens.now)) }
 {
     if n < last {
         return semicolon_place(tokens, count, n);
@@ -51,7 +51,7 @@ fn end_before(tokens: &[u16], count: usize, last: usize, n: usize, end: usize) -
 fn span_between(code: &[u16], tokens: &[u16], count: usize, last: usize, n: usize) -> SectionSpan
     requires buffered { Buffered code.now tokens.now count }
     requires last_value { (last ≡ length (semicolons (placed_of (lex code.now)))) × (n ≤ last) }
-    ensures { SpanIs code.now (spanBy fine n code.now) result }
+    ensures { SpanIs code.now (span_by fine n code.now) result }
 {
     let start = start_behind(tokens, count, n);
     let end = end_before(tokens, count, last, n, code.len());
@@ -63,8 +63,8 @@ fn span_between(code: &[u16], tokens: &[u16], count: usize, last: usize, n: usiz
 
 // Where section n of a code stands. A refused code and a missing section have the empty part at the start.
 pub fn section_span(code: &[u16], n: usize) -> SectionSpan
-    ensures start { result.start ≡ (sectionSpan n code.now).start }
-    ensures size { result.size ≡ (sectionSpan n code.now).size }
+    ensures start { result.start ≡ (section_span n code.now).start }
+    ensures size { result.size ≡ (section_span n code.now).size }
     ensures inside { result.start + result.size ≤ length code.now }
 {
     let mut tokens = [0u16; 762];
@@ -84,8 +84,8 @@ pub fn section_span(code: &[u16], n: usize) -> SectionSpan
 
 // Section n of a code, as a part of it; of a refused code or a missing section the empty part at the start.
 pub fn section_of(code: &[u16], n: usize) -> &[u16]
-    ensures part { result.now ≡ sectionPart n code.now }
-    ensures place { result.ref_ptr ≡ unitPlace code.entry.ref_ptr (sectionSpan n code.now).start }
+    ensures part { result.now ≡ section_part n code.now }
+    ensures place { result.ref_ptr ≡ unit_place code.entry.ref_ptr (section_span n code.now).start }
 {
     let s = section_span(code, n);
     let start = s.start;

@@ -6,10 +6,10 @@ use mathlib.Core.Bool.{false}
 use mathlib.Core.List.{List}
 use Prim.Native.Nat.{ℕ}
 use Rattle.answers.specs.declared.Answer.TheVariants as answer
-use Rattle.answers.specs.Number.{refusedPrepared}
+use Rattle.answers.specs.Number.{refused_prepared}
 use Rattle.lists.proofs.Bools.{by_cases}
 use Rattle.streams.specs.declared.Stream.{Stream}
-use Rattle.streams.specs.Streams.{runs, feeding, closed, ending, endingRoom}
+use Rattle.streams.specs.Streams.{runs, feeding, closed, ending, ending_room}
 use Rattle.streams.proofs.Steps.{fed-again, end-again, room-again}
 
 module _ (s : Stream) (size : ℕ) where
@@ -23,8 +23,8 @@ module _ (s : Stream) (size : ℕ) where
   pub fed-over : (part : List ℕ) → feeding over part ≡ record { stream = over; answer = answer.Ended; place = 0 }
   fed-over part = sym (fed-again over end-final part)
 
-  pub ended-over : (larger : ℕ) → ending over larger ≡ record { stream = over; prepared = refusedPrepared answer.Ended 0 }
+  pub ended-over : (larger : ℕ) → ending over larger ≡ record { stream = over; prepared = refused_prepared answer.Ended 0 }
   ended-over larger = sym (end-again over end-final larger refl)
 
-  pub room-over : (old : List ℕ) → endingRoom over old ≡ old
+  pub room-over : (old : List ℕ) → ending_room over old ≡ old
   room-over old = sym (room-again over end-final old)

@@ -15,10 +15,10 @@ use Rattle.answers.specs.declared.Answer.TheVariants as answer
 use Rattle.lists.specs.Lists.{overlay}
 use Rattle.lists.proofs.Bools.{by_cases}
 use Rattle.writing.proofs.Laws.{sets-append, sets-out, sets-overlay}
-use Rattle.tables.specs.Calls.{prepared, tableAfter}
+use Rattle.tables.specs.Calls.{prepared, table_after}
 use Rattle.streams.specs.declared.Stream.{Stream}
 use Rattle.streams.specs.declared.Finished.{Finished}
-use Rattle.streams.specs.Streams.{started, grown, runs, feeding, joined, tooLong, stands_for, joinedPrepared, joinedTable, ending, endingRoom, fedAll}
+use Rattle.streams.specs.Streams.{started, grown, runs, feeding, joined, too_long, stands_for, joined_prepared, joined_table, ending, ending_room, fed_all}
 use Rattle.streams.proofs.Steps.{stands-kept, stands-long, end-as, room_as}
 use Rattle.streams.proofs.Long.{long-prepared, long-table}
 
@@ -66,8 +66,8 @@ holds-fed {code} {s} part h = rw h.running (record {
   running = h.running;
 })
 
-holds-all : (parts : List (List ℕ)) {code : List ℕ} {s : Stream} → Holds code s → Holds (code ++ flatten parts) (fedAll parts s)
-unfolding fedAll flatten
+holds-all : (parts : List (List ℕ)) {code : List ℕ} {s : Stream} → Holds code s → Holds (code ++ flatten parts) (fed_all parts s)
+unfolding fed_all flatten
 holds-all [] {code} {s} h = rw append-nil h
 holds-all (part ∷ parts) {code} {s} h = rw (← append_assoc code part (flatten parts)) (holds-all parts (holds-fed part h))
 
@@ -85,35 +85,35 @@ module _ {code : List ℕ} {s : Stream} (h : Holds code s) where
       let c : s.count ≡ length code = omega (arith, h.count) in
       stands-kept s (omega arith) ∙ ap joined (rw (c, h.units) (front code l))
 
-  held-long : 254 < length code → stands_for s ≡ tooLong
+  held-long : 254 < length code → stands_for s ≡ too_long
   held-long l = stands-long s (omega (arith, h.count))
 
-  holds-prepared : (size : ℕ) → joinedPrepared (stands_for s) size ≡ prepared code size
-  unfolding joinedPrepared
+  holds-prepared : (size : ℕ) → joined_prepared (stands_for s) size ≡ prepared code size
+  unfolding joined_prepared
   holds-prepared size =
       by_length code (λ l. rw (held-long l) (sym (long-prepared code l size))) (λ l. rw (held_kept l))
 
-  holds-table : (old : List ℕ) → joinedTable (stands_for s) old ≡ tableAfter code old
-  unfolding joinedTable
+  holds-table : (old : List ℕ) → joined_table (stands_for s) old ≡ table_after code old
+  unfolding joined_table
   holds-table old =
       by_length code (λ l. rw (held-long l) (sym (long-table code l old))) (λ l. rw (held_kept l))
 
 -- ---- from the start
 module _ (parts : List (List ℕ)) where
-  held : Holds (flatten parts) (fedAll parts started)
+  held : Holds (flatten parts) (fed_all parts started)
   held = holds-all parts holds-start
 
   -- "Feeding answers 0, however long the code grows."
-  pub feeding-done : (part : List ℕ) → ((feeding (fedAll parts started) part).answer ≡ answer.Done) × ((feeding (fedAll parts started) part).place ≡ 0)
+  pub feeding-done : (part : List ℕ) → ((feeding (fed_all parts started) part).answer ≡ answer.Done) × ((feeding (fed_all parts started) part).place ≡ 0)
   unfolding feeding
   feeding-done part = rw held.running (refl, refl)
 
   -- the end gives what preparing the joined code gives, and leaves the room so
-  pub joined-prepared : (size : ℕ) → (ending (fedAll parts started) size).prepared ≡ prepared (flatten parts) size
+  pub joined-prepared : (size : ℕ) → (ending (fed_all parts started) size).prepared ≡ prepared (flatten parts) size
   joined-prepared size =
-      let s : Stream = fedAll parts started in
+      let s : Stream = fed_all parts started in
       let finished = end-as s held.running refl size refl refl in
       sym (ap (λ (f : Finished). f.prepared) finished) ∙ holds-prepared held size
 
-  pub joined-table : (old : List ℕ) → endingRoom (fedAll parts started) old ≡ tableAfter (flatten parts) old
-  joined-table old = sym (room_as (fedAll parts started) held.running refl old refl) ∙ holds-table held old
+  pub joined-table : (old : List ℕ) → ending_room (fed_all parts started) old ≡ table_after (flatten parts) old
+  joined-table old = sym (room_as (fed_all parts started) held.running refl old refl) ∙ holds-table held old

@@ -10,23 +10,23 @@ use borrow.Author.Tests.{le-leb, lt-leb}
 use Rattle.answers.specs.declared.Answer.{Answer}
 use Rattle.answers.specs.declared.Answer.TheVariants as answer
 use Rattle.answers.specs.declared.Prepared.{Prepared}
-use Rattle.answers.specs.Number.{refusedPrepared}
+use Rattle.answers.specs.Number.{refused_prepared}
 use Rattle.writing.specs.Put.{Put}
 use Rattle.streams.specs.declared.Stream.{Stream}
 use Rattle.streams.specs.declared.Fed.{Fed}
 use Rattle.streams.specs.declared.Finished.{Finished}
-use Rattle.streams.specs.Streams.{grown, runs, feeding, Joined, joined, tooLong, stands_for, joinedPrepared, joinedTable, closed, ending, endingRoom}
+use Rattle.streams.specs.Streams.{grown, runs, feeding, Joined, joined, too_long, stands_for, joined_prepared, joined_table, closed, ending, ending_room}
 
-abbrev pub fedAs : Stream → Answer → Fed
-fedAs s a = record { stream = s; answer = a; place = 0 }
+abbrev pub fed_as : Stream → Answer → Fed
+fed_as s a = record { stream = s; answer = a; place = 0 }
 
-abbrev pub finishedAs : Stream → Prepared → Finished
-finishedAs s p = record { stream = s; prepared = p }
+abbrev pub finished_as : Stream → Prepared → Finished
+finished_as s p = record { stream = s; prepared = p }
 
 -- ---- while it runs
 pub fed-open : (s : Stream) (part : List ℕ) {at next count : ℕ} {units : List ℕ} → runs s ≡ true
     → Put s.units at part next units → at ≡ s.count → count ≡ min next 255
-    → fedAs (record { units = units; count = count; ended = s.ended }) answer.Done ≡ feeding s part
+    → fed_as (record { units = units; count = count; ended = s.ended }) answer.Done ≡ feeding s part
 unfolding feeding grown
 fed-open s part {at} {next} {count} {units} r p behind e =
     let size : count ≡ min (s.count + length part) 255 = omega (arith, behind, e, p.next) in
@@ -37,29 +37,29 @@ module _ (s : Stream) where
   unfolding stands_for
   stands-kept h = rw (le-leb s.count 254 h)
 
-  pub stands-long : 254 < s.count → stands_for s ≡ tooLong
+  pub stands-long : 254 < s.count → stands_for s ≡ too_long
   unfolding stands_for
   stands-long h = rw (lt-leb s.count 254 h)
 
 module _ (s : Stream) (r : runs s ≡ true) {j : Joined} (e : stands_for s ≡ j) where
-  pub end-as : {t : Stream} {p : Prepared} (size : ℕ) → t ≡ closed s → p ≡ joinedPrepared j size → finishedAs t p ≡ ending s size
+  pub end-as : {t : Stream} {p : Prepared} (size : ℕ) → t ≡ closed s → p ≡ joined_prepared j size → finished_as t p ≡ ending s size
   unfolding ending
   end-as size g f = rw (g, f, ← e, r)
 
-  pub room_as : {after : List ℕ} (old : List ℕ) → after ≡ joinedTable j old → after ≡ endingRoom s old
-  unfolding endingRoom
+  pub room_as : {after : List ℕ} (old : List ℕ) → after ≡ joined_table j old → after ≡ ending_room s old
+  unfolding ending_room
   room_as old f = rw (f, ← e, r)
 
 -- ---- when it has ended
 module _ (s : Stream) (over : runs s ≡ false) where
-  pub fed-again : (part : List ℕ) → fedAs s answer.Ended ≡ feeding s part
+  pub fed-again : (part : List ℕ) → fed_as s answer.Ended ≡ feeding s part
   unfolding feeding
   fed-again part = rw over
 
-  pub end-again : {p : Prepared} (size : ℕ) → p ≡ refusedPrepared answer.Ended 0 → finishedAs s p ≡ ending s size
+  pub end-again : {p : Prepared} (size : ℕ) → p ≡ refused_prepared answer.Ended 0 → finished_as s p ≡ ending s size
   unfolding ending
   end-again size e = rw (over, e)
 
-  pub room-again : (old : List ℕ) → old ≡ endingRoom s old
-  unfolding endingRoom
+  pub room-again : (old : List ℕ) → old ≡ ending_room s old
+  unfolding ending_room
   room-again old = rw over

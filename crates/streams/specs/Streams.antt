@@ -4,8 +4,8 @@ use Rattle.std.specs.Prelude.{ℕ, ◌+◌, min, Bool, cond, List, [], ◌∷◌
 use Rattle.std.proofs.lemmas.List.Edits.{sets}
 use Rattle.answers.specs.declared.Answer.TheVariants as answer
 use Rattle.answers.specs.declared.Prepared.{Prepared}
-use Rattle.answers.specs.Number.{refusedPrepared}
-use Rattle.tables.specs.Calls.{prepared, tableAfter}
+use Rattle.answers.specs.Number.{refused_prepared}
+use Rattle.tables.specs.Calls.{prepared, table_after}
 use Rattle.streams.specs.declared.Stream.{Stream}
 use Rattle.streams.specs.declared.Fed.{Fed}
 use Rattle.streams.specs.declared.Finished.{Finished}
@@ -34,19 +34,19 @@ feeding s part =
 -- what a stream stands for: the joined code, or one that is too long, whatever it holds
 pub data Joined : Type 0 where
   joined : List ℕ → Joined
-  tooLong : Joined
+  too_long : Joined
 
 unfoldable pub stands_for : Stream → Joined
-stands_for s = cond (leb s.count 254) (joined (take s.count s.units)) tooLong
+stands_for s = cond (leb s.count 254) (joined (take s.count s.units)) too_long
 
 -- "exactly the answer, place, words written and table of the joined code in that room" (R155)
-unfoldable pub joinedPrepared : Joined → ℕ → Prepared
-joinedPrepared (joined code) size = prepared code size
-joinedPrepared tooLong size = refusedPrepared answer.CodeLength 0
+unfoldable pub joined_prepared : Joined → ℕ → Prepared
+joined_prepared (joined code) size = prepared code size
+joined_prepared too_long size = refused_prepared answer.CodeLength 0
 
-unfoldable pub joinedTable : Joined → List ℕ → List ℕ
-joinedTable (joined code) old = tableAfter code old
-joinedTable tooLong old = old
+unfoldable pub joined_table : Joined → List ℕ → List ℕ
+joined_table (joined code) old = table_after code old
+joined_table too_long old = old
 
 -- "The end, even one refused, is final" (R155)
 unfoldable pub closed : Stream → Stream
@@ -56,14 +56,14 @@ closed s = record { units = s.units; count = s.count; ended = 1 }
 unfoldable pub ending : Stream → ℕ → Finished
 ending s size =
     cond (runs s)
-    (record { stream = closed s; prepared = joinedPrepared (stands_for s) size })
-    (record { stream = s; prepared = refusedPrepared answer.Ended 0 })
+    (record { stream = closed s; prepared = joined_prepared (stands_for s) size })
+    (record { stream = s; prepared = refused_prepared answer.Ended 0 })
 
 -- what ending leaves in the table room
-unfoldable pub endingRoom : Stream → List ℕ → List ℕ
-endingRoom s old = cond (runs s) (joinedTable (stands_for s) old) old
+unfoldable pub ending_room : Stream → List ℕ → List ℕ
+ending_room s old = cond (runs s) (joined_table (stands_for s) old) old
 
 -- a stream when these parts were fed, one after the other
-unfoldable pub fedAll : List (List ℕ) → Stream → Stream
-fedAll [] s = s
-fedAll (part ∷ parts) s = fedAll parts (feeding s part).stream
+unfoldable pub fed_all : List (List ℕ) → Stream → Stream
+fed_all [] s = s
+fed_all (part ∷ parts) s = fed_all parts (feeding s part).stream

@@ -1,6 +1,6 @@
 // A code that arrives in parts: a stream keeps what has come, and its end prepares the joined code.
 ghost use Rattle.std.specs.Prelude.{◌≡◌, length};
-ghost use Rattle.streams.specs.Streams.{started, feeding, ending, endingRoom};
+ghost use Rattle.streams.specs.Streams.{started, feeding, ending, ending_room};
 
 use answers::{Answer, Prepared, refused_prepared};
 use preparing::prepare;
@@ -72,7 +72,7 @@ impl Stream {
     // The code is complete: the end is final, and prepares what has come.
     pub fn end(mut self, table: &mut [u16]) -> Finished
         ensures result { result ≡ ending self (length table.old) }
-        ensures table { table.new ≡ endingRoom self table.old }
+        ensures table { table.new ≡ ending_room self table.old }
     {
         if self.ended != 0 {
             return Finished {

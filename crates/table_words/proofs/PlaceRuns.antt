@@ -10,29 +10,29 @@ use lib.ListN.{length, get_or}
 use Rattle.values.specs.Ranges.{between}
 use Rattle.lists.specs.Lists.{every}
 use Rattle.lists.proofs.Bools.{by_cases, not_so, not-false, true-T, T_true, every-cons}
-use Rattle.formats.specs.Items.{Item, isPlace, startPlaces, behindStart, endPlaces, beforeEnd}
+use Rattle.formats.specs.Items.{Item, is_place, start_places, behind_start, end_places, before_end}
 use Rattle.formats.proofs.Cutting.{end-joins}
-use Rattle.tables.specs.Words.{entries_at, entriesIn}
+use Rattle.tables.specs.Words.{entries_at, entries_in}
 use Rattle.tables.specs.Encode.{entry}
-use Rattle.tables.specs.Decode.{item_at, itemsAt}
-use Rattle.tables.proofs.Words.{entriesLeft, entries-front}
+use Rattle.tables.specs.Decode.{item_at, items_at}
+use Rattle.tables.proofs.Words.{entries_left, entries-front}
 use Rattle.tables.proofs.BackEntries.{place-tag}
 use Rattle.table_words.specs.Runs.{items_in, CutAt}
 use Rattle.table_words.proofs.Cuts.{Finds, cut_at, entries-joined, items-append}
 
 -- ---- at the start
-pub start-joins : (is : List Item) → startPlaces is ++ behindStart is ≡ is
-unfolding startPlaces behindStart
+pub start-joins : (is : List Item) → start_places is ++ behind_start is ≡ is
+unfolding start_places behind_start
 start-joins [] = refl
-start-joins (i ∷ is) = by_cases (isPlace i) (λ e. rw e (ap (λ (js : List Item). i ∷ js) (start-joins is))) (λ e. rw e)
+start-joins (i ∷ is) = by_cases (is_place i) (λ e. rw e (ap (λ (js : List Item). i ∷ js) (start-joins is))) (λ e. rw e)
 
-pub start-run : (is : List Item) → T (every isPlace (startPlaces is))
-unfolding startPlaces every
+pub start-run : (is : List Item) → T (every is_place (start_places is))
+unfolding start_places every
 start-run [] = tt
-start-run (i ∷ is) = by_cases (isPlace i) (λ e. rw (e, e) (start-run is)) (λ e. rw e tt)
+start-run (i ∷ is) = by_cases (is_place i) (λ e. rw (e, e) (start-run is)) (λ e. rw e tt)
 
-pub finds-run : Finds (λ (t : ℕ). not (between 4 6 t)) startPlaces behindStart
-unfolding behindStart
+pub finds-run : Finds (λ (t : ℕ). not (between 4 6 t)) start_places behind_start
+unfolding behind_start
 finds-run = record {
   joins = start-joins;
   none = refl;
@@ -41,67 +41,67 @@ finds-run = record {
 }
 
 -- ---- at the end
-end-all : (is : List Item) → T (every isPlace is) → endPlaces is ≡ is
-unfolding endPlaces
+end-all : (is : List Item) → T (every is_place is) → end_places is ≡ is
+unfolding end_places
 end-all [] t = refl
-end-all (i ∷ is) t = rw (T_true (every isPlace (i ∷ is)) t)
+end-all (i ∷ is) t = rw (T_true (every is_place (i ∷ is)) t)
 
-end-other : (is : List Item) (i : Item) (js : List Item) → isPlace i ≡ false → every isPlace (is ++ (i ∷ js)) ≡ false
+end-other : (is : List Item) (i : Item) (js : List Item) → is_place i ≡ false → every is_place (is ++ (i ∷ js)) ≡ false
 unfolding every
 end-other [] i js e = rw e
-end-other (h ∷ is) i js e = rw (end-other is i js e) (by_cases (isPlace h) (λ t. rw t) (λ t. rw t))
+end-other (h ∷ is) i js e = rw (end-other is i js e) (by_cases (is_place h) (λ t. rw t) (λ t. rw t))
 
-end-run : (is : List Item) (i : Item) (js : List Item) → isPlace i ≡ false → T (every isPlace js) → endPlaces (is ++ (i ∷ js)) ≡ js
-unfolding endPlaces
+end-run : (is : List Item) (i : Item) (js : List Item) → is_place i ≡ false → T (every is_place js) → end_places (is ++ (i ∷ js)) ≡ js
+unfolding end_places
 end-run [] i js e t = rw (end-other [] i js e) (end-all js t)
 end-run (h ∷ is) i js e t = rw (end-other (h ∷ is) i js e) (end-run is i js e t)
 
 -- the words walked from the last item down
 module _ (words : List ℕ) (k : ℕ) (h : 0 < k) (most : k ≤ length words / 2) where
   -- the item met next
-  abbrev pub lastItem : Item
-  lastItem = item_at (entry (get_or words (2 * (k - 1)) 0) (get_or words (2 * (k - 1) + 1) 0))
+  abbrev pub last_item : Item
+  last_item = item_at (entry (get_or words (2 * (k - 1)) 0) (get_or words (2 * (k - 1) + 1) 0))
 
-  pub last-left : itemsAt (entriesLeft words (length words / 2) (k - 1)) ≡ lastItem ∷ itemsAt (entriesLeft words (length words / 2) k)
-  unfolding itemsAt
+  pub last-left : items_at (entries_left words (length words / 2) (k - 1)) ≡ last_item ∷ items_at (entries_left words (length words / 2) k)
+  unfolding items_at
   last-left =
       let next : k - 1 + 1 ≡ k = omega arith in
-      ap itemsAt (entries-front words (length words / 2) (k - 1) (omega arith)) ∙ rw next
+      ap items_at (entries-front words (length words / 2) (k - 1) (omega arith)) ∙ rw next
 
-  pub last-parts : items_in words ≡ itemsAt (entries_at (k - 1) words) ++ (lastItem ∷ itemsAt (entriesLeft words (length words / 2) k))
-  unfolding entriesIn
+  pub last-parts : items_in words ≡ items_at (entries_at (k - 1) words) ++ (last_item ∷ items_at (entries_left words (length words / 2) k))
+  unfolding entries_in
   last-parts =
-      ap itemsAt (entries-joined (length words / 2) (k - 1) words (omega arith))
-      ∙ items-append (entries_at (k - 1) words) (entriesLeft words (length words / 2) (k - 1))
-      ∙ ap (λ (js : List Item). itemsAt (entries_at (k - 1) words) ++ js) last-left
+      ap items_at (entries-joined (length words / 2) (k - 1) words (omega arith))
+      ∙ items-append (entries_at (k - 1) words) (entries_left words (length words / 2) (k - 1))
+      ∙ ap (λ (js : List Item). items_at (entries_at (k - 1) words) ++ js) last-left
 
 -- a loop from the last item down: those behind are places
 pub record Backing (words : List ℕ) (k : ℕ) : Type 0 where
   pub inside : k ≤ length words / 2
-  pub run : T (every isPlace (itemsAt (entriesLeft words (length words / 2) k)))
+  pub run : T (every is_place (items_at (entries_left words (length words / 2) k)))
 
 pub backing-start : (words : List ℕ) → Backing words (length words / 2)
-unfolding entries_at itemsAt every
+unfolding entries_at items_at every
 backing-start words = let none : length words / 2 - length words / 2 ≡ 0 = omega arith in record { inside = omega arith; run = rw none tt }
 
 module _ {words : List ℕ} {k : ℕ} (s : Backing words k) where
   pub backing-step : 0 < k → not (between 4 6 (get_or words (2 * (k - 1)) 0)) ≡ false → Backing words (k - 1)
   backing-step h t = record {
     inside = omega (arith, s.inside);
-    run = rw (last-left words k h s.inside) (every-cons isPlace _ _ (true-T (place-tag _ _ ∙ not-false _ t)) s.run);
+    run = rw (last-left words k h s.inside) (every-cons is_place _ _ (true-T (place-tag _ _ ∙ not-false _ t)) s.run);
   }
 
-  pub backing-met : 0 < k → not (between 4 6 (get_or words (2 * (k - 1)) 0)) ≡ true → CutAt words (2 * k) (beforeEnd (items_in words)) (endPlaces (items_in words))
-  unfolding entriesIn
+  pub backing-met : 0 < k → not (between 4 6 (get_or words (2 * (k - 1)) 0)) ≡ true → CutAt words (2 * k) (before_end (items_in words)) (end_places (items_in words))
+  unfolding entries_in
   backing-met h t =
       cut_at words (length words / 2) k _ _ refl s.inside (end-joins (items_in words))
-      (ap endPlaces (last-parts words k h s.inside)
-      ∙ end-run (itemsAt (entries_at (k - 1) words)) (lastItem words k h s.inside) _ (place-tag _ _ ∙ not_so (between 4 6 (get_or words (2 * (k - 1)) 0)) (true-T t)) s.run)
+      (ap end_places (last-parts words k h s.inside)
+      ∙ end-run (items_at (entries_at (k - 1) words)) (last_item words k h s.inside) _ (place-tag _ _ ∙ not_so (between 4 6 (get_or words (2 * (k - 1)) 0)) (true-T t)) s.run)
 
-  pub backing-end : k ≤ 0 → CutAt words 0 (beforeEnd (items_in words)) (endPlaces (items_in words))
-  unfolding entriesIn
+  pub backing-end : k ≤ 0 → CutAt words 0 (before_end (items_in words)) (end_places (items_in words))
+  unfolding entries_in
   backing-end h =
       let zero : k ≡ 0 = omega arith in
       let less : length words / 2 - 0 ≡ length words / 2 = omega arith in
-      let all : T (every isPlace (items_in words)) = rw (zero, less) at s.run in
+      let all : T (every is_place (items_in words)) = rw (zero, less) at s.run in
       cut_at words (length words / 2) 0 _ _ refl (omega arith) (end-joins (items_in words)) (end-all (items_in words) all ∙ rw less)

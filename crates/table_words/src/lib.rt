@@ -2,14 +2,14 @@
 pub mod runs;
 
 ghost use Rattle.std.specs.Prelude.{◌≡◌, ◌+◌, ◌*◌, ◌≤◌, ◌<◌, T, length, get_or, drop};
-ghost use Rattle.formats.specs.Where.{hasCondition, isText};
+ghost use Rattle.formats.specs.Where.{has_condition, is_text};
 ghost use Rattle.formats.specs.Choice.{counted};
-ghost use Rattle.formats.specs.Minus.{firstHasCondition, exceptionA};
-ghost use Rattle.tables.specs.Words.{headAt};
-ghost use Rattle.tables.specs.Encode.{hasHalf};
+ghost use Rattle.formats.specs.Minus.{first_has_condition, exception_a};
+ghost use Rattle.tables.specs.Words.{head_at};
+ghost use Rattle.tables.specs.Encode.{has_half};
 ghost use Rattle.tables.specs.Decode.{two_words, decode};
-ghost use Rattle.tables.specs.Rules.{headInRange, passes};
-ghost use Rattle.table_words.specs.Sections.{headFrom, sectionIn, headIn, itemsStart, ItemsOf};
+ghost use Rattle.tables.specs.Rules.{head_in_range, passes};
+ghost use Rattle.table_words.specs.Sections.{head_from, section_in, head_in, items_start, ItemsOf};
 
 use tables::{flags, heads, kinds};
 
@@ -41,7 +41,7 @@ pub fn section_count(table: &[u16]) -> usize
 // The words of the head of section i, of words that need not be a table.
 pub fn head_at(table: &[u16], i: usize) -> HeadWords
     requires { (i ≤ 3) × (13 + 12 * i ≤ length table.now) }
-    ensures { headFrom result ≡ headAt (drop (1 + 12 * i) table.now) }
+    ensures { head_from result ≡ head_at (drop (1 + 12 * i) table.now) }
 {
     let a = 1 + heads::WORDS * i;
     HeadWords {
@@ -70,8 +70,8 @@ pub fn number(low: u16, high: u16) -> u32
 // The words of the head of section i: those that the section has.
 pub fn head_of(table: &[u16], i: usize) -> HeadWords
     requires { T (passes table.now) × (i < get_or table.now 0 0) }
-    ensures words { headFrom result ≡ headIn table.now i }
-    ensures range { T (headInRange (headFrom result)) }
+    ensures words { head_from result ≡ head_in table.now i }
+    ensures range { T (head_in_range (head_from result)) }
 {
     head_at(table, i)
 }
@@ -79,7 +79,7 @@ pub fn head_of(table: &[u16], i: usize) -> HeadWords
 // Whether section i is a text section.
 pub fn is_text(table: &[u16], i: usize) -> bool
     requires { T (passes table.now) × (i < get_or table.now 0 0) }
-    ensures { result ≡ isText (sectionIn table.now i) }
+    ensures { result ≡ is_text (section_in table.now i) }
 {
     let h = head_of(table, i);
     h.kind == kinds::TEXT
@@ -88,7 +88,7 @@ pub fn is_text(table: &[u16], i: usize) -> bool
 // Whether section i has a condition.
 pub fn has_condition(table: &[u16], i: usize) -> bool
     requires { T (passes table.now) × (i < get_or table.now 0 0) }
-    ensures { result ≡ hasCondition (sectionIn table.now i) }
+    ensures { result ≡ has_condition (section_in table.now i) }
 {
     let h = head_of(table, i);
     h.operator != 0
@@ -97,7 +97,7 @@ pub fn has_condition(table: &[u16], i: usize) -> bool
 // Whether section i groups digits.
 pub fn is_grouped(table: &[u16], i: usize) -> bool
     requires { T (passes table.now) × (i < get_or table.now 0 0) }
-    ensures { result ≡ (sectionIn table.now i).grouped }
+    ensures { result ≡ (section_in table.now i).grouped }
 {
     let h = head_of(table, i);
     h.flags % 2 == flags::GROUPING
@@ -106,7 +106,7 @@ pub fn is_grouped(table: &[u16], i: usize) -> bool
 // Whether section i has a 12-hour clock.
 pub fn is_twelve_hour(table: &[u16], i: usize) -> bool
     requires { T (passes table.now) × (i < get_or table.now 0 0) }
-    ensures { result ≡ hasHalf (sectionIn table.now i).items }
+    ensures { result ≡ has_half (section_in table.now i).items }
 {
     let h = head_of(table, i);
     flags::TWELVE_HOUR <= h.flags
@@ -115,8 +115,8 @@ pub fn is_twelve_hour(table: &[u16], i: usize) -> bool
 // Exception (a) of the added minus: a table that passes has its flag right.
 pub fn no_minus(table: &[u16], i: usize) -> bool
     requires { T (passes table.now) × (i < get_or table.now 0 0) }
-    ensures { result ≡ exceptionA (counted (decode table.now)) i (hasCondition (sectionIn table.now i))
-        (firstHasCondition (decode table.now)) }
+    ensures { result ≡ exception_a (counted (decode table.now)) i (has_condition (section_in table.now i))
+        (first_has_condition (decode table.now)) }
 {
     let h = head_of(table, i);
     h.flags / flags::NO_MINUS % 2 == 1
@@ -125,7 +125,7 @@ pub fn no_minus(table: &[u16], i: usize) -> bool
 // Where the item words of section i begin.
 fn items_start(table: &[u16], i: usize) -> usize
     requires { T (passes table.now) × (i < get_or table.now 0 0) }
-    ensures { result ≡ itemsStart table.now i }
+    ensures { result ≡ items_start table.now i }
 {
     let mut start = 1 + heads::WORDS * section_count(table);
     let mut k: usize = 0;
@@ -140,7 +140,7 @@ fn items_start(table: &[u16], i: usize) -> usize
 // The words of section i's items.
 pub fn items_of(table: &[u16], i: usize) -> &[u16]
     requires { T (passes table.now) × (i < get_or table.now 0 0) }
-    ensures { ItemsOf (sectionIn table.now i) result.now }
+    ensures { ItemsOf (section_in table.now i) result.now }
 {
     let start = items_start(table, i);
     let h = head_at(table, i);

@@ -1,12 +1,12 @@
 // The runs of places at the end and at the start of item words.
-ghost use Rattle.formats.specs.Items.{endPlaces, beforeEnd, startPlaces, behindStart};
+ghost use Rattle.formats.specs.Items.{end_places, before_end, start_places, behind_start};
 ghost use Rattle.table_words.specs.Runs.{items_in, CutAt};
 
 use tables::tags;
 
 // Where the run of places at the end of item words begins.
 pub fn run_start(items: &[u16]) -> usize
-    ensures { CutAt items.now result (beforeEnd (items_in items.now)) (endPlaces (items_in items.now)) }
+    ensures { CutAt items.now result (before_end (items_in items.now)) (end_places (items_in items.now)) }
 {
     let mut k = items.len() / 2;
     while 0 < k {
@@ -22,7 +22,7 @@ pub fn run_start(items: &[u16]) -> usize
 
 // Where the run of places at their start ends.
 pub fn run_end(items: &[u16]) -> usize
-    ensures { CutAt items.now result (startPlaces (items_in items.now)) (behindStart (items_in items.now)) }
+    ensures { CutAt items.now result (start_places (items_in items.now)) (behind_start (items_in items.now)) }
 {
     let n = items.len() / 2;
     let mut k: usize = 0;

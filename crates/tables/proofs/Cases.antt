@@ -11,15 +11,15 @@ use Rattle.calendar.specs.Names.{units}
 use Rattle.formats.specs.Reading.{Reading}
 use Rattle.formats.proofs.Cases.{all-equal, Case, cases}
 use Rattle.tables.specs.Rules.{passes}
-use Rattle.tables.specs.Calls.{table_of, tableReading}
-use Rattle.tables.proofs.Evaluate.{evaluatedTable}
+use Rattle.tables.specs.Calls.{table_of, table_reading}
+use Rattle.tables.proofs.Evaluate.{evaluated_table}
 
-abbrev pub readThroughTable : Case → Reading
-readThroughTable c = tableReading (table_of (units c.code)) c.ask c.text c.room
+abbrev pub read_through_table : Case → Reading
+read_through_table c = table_reading (table_of (units c.code)) c.ask c.text c.room
 
-pub cases-through-table : All (λ (c : Case). readThroughTable c ≡ c.answer) cases
-unfolding cases evaluatedTable
-cases-through-table = all-equal readThroughTable (λ (c : Case). c.answer) cases refl
+pub cases-through-table : All (λ (c : Case). read_through_table c ≡ c.answer) cases
+unfolding cases evaluated_table
+cases-through-table = all-equal read_through_table (λ (c : Case). c.answer) cases refl
 
 pub record Made : Type 0 where
   pub code : String
@@ -48,12 +48,12 @@ made =
     ∷ makes "# ?/8" (1 ∷ 6 ∷ 0 ∷ 0 ∷ 0 ∷ 0 ∷ 0 ∷ 0 ∷ 0 ∷ 0 ∷ 0 ∷ 0 ∷ 5 ∷ 5 ∷ 16 ∷ 1 ∷ 32 ∷ 6 ∷ 16 ∷ 24 ∷ 0 ∷ 25 ∷ 8 ∷ [])
     ∷ []
 
-abbrev pub wordsMade : Made → List ℕ
-wordsMade m = table_of (units m.code)
+abbrev pub words_made : Made → List ℕ
+words_made m = table_of (units m.code)
 
-pub made-right : All (λ (m : Made). wordsMade m ≡ m.words) made
-unfolding made evaluatedTable
-made-right = all-equal wordsMade (λ (m : Made). m.words) made refl
+pub made-right : All (λ (m : Made). words_made m ≡ m.words) made
+unfolding made evaluated_table
+made-right = all-equal words_made (λ (m : Made). m.words) made refl
 
 -- the twelve words of a section without colour and condition, in front of what follows
 abbrev pub plain : ℕ → ℕ → ℕ → ℕ → ℕ → List ℕ → List ℕ
@@ -65,14 +65,14 @@ copies zero tag argument ws = ws
 copies (suc n) tag argument ws = tag ∷ argument ∷ copies n tag argument ws
 
 -- n places `0`, their words running down by one from p
-unfoldable pub placesDown : ℕ → ℕ → List ℕ → List ℕ
-placesDown zero p ws = ws
-placesDown (suc n) p ws = 4 ∷ p ∷ placesDown n (pred p) ws
+unfoldable pub places_down : ℕ → ℕ → List ℕ → List ℕ
+places_down zero p ws = ws
+places_down (suc n) p ws = 4 ∷ p ∷ places_down n (pred p) ws
 
 -- in the order of the table rules' sentence
-unfoldable pub brokenTables : List (List ℕ)
-unfolding copies placesDown
-brokenTables =
+unfoldable pub broken_tables : List (List ℕ)
+unfolding copies places_down
+broken_tables =
     -- no section; five sections; a word behind the end; a word missing; 255 items
     (0 ∷ [])
     ∷ (5 ∷ plain 0 0 0 0 0 (plain 0 0 0 0 0 (plain 0 0 0 0 0 (plain 0 0 0 0 0 (plain 0 0 0 0 0 [])))))
@@ -104,8 +104,8 @@ brokenTables =
     ∷ (3 ∷ plain 0 0 0 0 0 (plain 0 0 2 0 0 (0 ∷ 0 ∷ 1 ∷ 0 ∷ 5 ∷ 0 ∷ 0 ∷ 0 ∷ 0 ∷ 0 ∷ 0 ∷ 0 ∷ [])))
     ∷ (4 ∷ plain 0 0 0 0 0 (plain 0 0 2 0 0 (plain 0 0 0 0 0 (0 ∷ 3 ∷ 0 ∷ 0 ∷ 0 ∷ 0 ∷ 0 ∷ 0 ∷ 0 ∷ 0 ∷ 0 ∷ 0 ∷ []))))
     -- limits: 21 integer places; 16 decimal places; six percents; six dividing commas
-    ∷ (1 ∷ plain 2 15 0 0 21 (placesDown 21 36 []))
-    ∷ (1 ∷ plain 2 15 0 16 17 (7 ∷ 0 ∷ placesDown 16 15 []))
+    ∷ (1 ∷ plain 2 15 0 0 21 (places_down 21 36 []))
+    ∷ (1 ∷ plain 2 15 0 16 17 (7 ∷ 0 ∷ places_down 16 15 []))
     ∷ (1 ∷ plain 2 24 0 0 7 (4 ∷ 16 ∷ copies 6 8 0 []))
     ∷ (1 ∷ plain 2 1 0 0 3 (4 ∷ 16 ∷ 8 ∷ 0 ∷ 8 ∷ 0 ∷ []))
     -- two fills
@@ -138,7 +138,7 @@ brokenTables =
     ∷ (1 ∷ plain 5 0 0 0 5 (4 ∷ 16 ∷ 7 ∷ 0 ∷ 4 ∷ 15 ∷ 22 ∷ 0 ∷ 4 ∷ 16 ∷ []))
     ∷ (1 ∷ plain 5 0 0 0 3 (4 ∷ 17 ∷ 22 ∷ 0 ∷ 4 ∷ 16 ∷ []))
     ∷ (1 ∷ plain 5 0 0 0 3 (4 ∷ 16 ∷ 22 ∷ 0 ∷ 4 ∷ 17 ∷ []))
-    ∷ (1 ∷ plain 5 0 0 0 6 (4 ∷ 16 ∷ 22 ∷ 0 ∷ placesDown 4 19 []))
+    ∷ (1 ∷ plain 5 0 0 0 6 (4 ∷ 16 ∷ 22 ∷ 0 ∷ places_down 4 19 []))
     ∷ (1 ∷ plain 5 0 0 0 3 (4 ∷ 16 ∷ 22 ∷ 0 ∷ 6 ∷ 16 ∷ []))
     ∷ (1 ∷ plain 5 0 0 0 4 (4 ∷ 16 ∷ 22 ∷ 0 ∷ 4 ∷ 16 ∷ 7 ∷ 0 ∷ []))
     ∷ (1 ∷ plain 5 0 0 0 2 (4 ∷ 16 ∷ 22 ∷ 0 ∷ []))
@@ -161,30 +161,30 @@ brokenTables =
     ∷ (1 ∷ plain 6 0 0 0 4 (4 ∷ 16 ∷ 1 ∷ 32 ∷ 24 ∷ 0 ∷ 4 ∷ 16 ∷ []))
     ∷ (1 ∷ plain 6 0 0 0 4 (4 ∷ 16 ∷ 24 ∷ 0 ∷ 1 ∷ 32 ∷ 4 ∷ 16 ∷ []))
     ∷ (1 ∷ plain 6 0 0 0 2 (4 ∷ 16 ∷ 24 ∷ 0 ∷ []))
-    ∷ (1 ∷ plain 6 0 0 0 6 (4 ∷ 16 ∷ 24 ∷ 0 ∷ placesDown 4 19 []))
+    ∷ (1 ∷ plain 6 0 0 0 6 (4 ∷ 16 ∷ 24 ∷ 0 ∷ places_down 4 19 []))
     ∷ (1 ∷ plain 6 0 0 0 5 (4 ∷ 16 ∷ 24 ∷ 0 ∷ 4 ∷ 16 ∷ 1 ∷ 32 ∷ 4 ∷ 16 ∷ []))
     ∷ (1 ∷ plain 6 0 0 0 4 (4 ∷ 16 ∷ 24 ∷ 0 ∷ 25 ∷ 8 ∷ 25 ∷ 8 ∷ []))
     ∷ (1 ∷ plain 6 0 0 0 4 (25 ∷ 8 ∷ 4 ∷ 16 ∷ 24 ∷ 0 ∷ 4 ∷ 16 ∷ []))
     ∷ (1 ∷ plain 6 0 0 0 5 (4 ∷ 16 ∷ 2 ∷ 65 ∷ 4 ∷ 16 ∷ 24 ∷ 0 ∷ 4 ∷ 16 ∷ []))
     ∷ (1 ∷ plain 6 0 0 0 5 (4 ∷ 17 ∷ 1 ∷ 32 ∷ 4 ∷ 16 ∷ 24 ∷ 0 ∷ 4 ∷ 16 ∷ []))
     ∷ (1 ∷ plain 6 0 0 0 3 (4 ∷ 16 ∷ 24 ∷ 0 ∷ 4 ∷ 17 ∷ []))
-    ∷ (1 ∷ plain 6 0 0 0 23 (placesDown 21 36 (24 ∷ 0 ∷ 4 ∷ 16 ∷ [])))
-    ∷ (1 ∷ plain 6 0 0 0 25 (placesDown 21 36 (1 ∷ 32 ∷ 4 ∷ 16 ∷ 24 ∷ 0 ∷ 4 ∷ 16 ∷ [])))
+    ∷ (1 ∷ plain 6 0 0 0 23 (places_down 21 36 (24 ∷ 0 ∷ 4 ∷ 16 ∷ [])))
+    ∷ (1 ∷ plain 6 0 0 0 25 (places_down 21 36 (1 ∷ 32 ∷ 4 ∷ 16 ∷ 24 ∷ 0 ∷ 4 ∷ 16 ∷ [])))
     ∷ (1 ∷ plain 6 0 0 0 4 (7 ∷ 0 ∷ 4 ∷ 16 ∷ 24 ∷ 0 ∷ 4 ∷ 16 ∷ []))
     ∷ []
 
-pub broken-refused : any passes brokenTables ≡ false
-unfolding brokenTables evaluatedTable
+pub broken-refused : any passes broken_tables ≡ false
+unfolding broken_tables evaluated_table
 broken-refused = refl
 
 -- tables that pass: 254 items; all places and percents that may be; five dividing commas; the greatest condition; a point and decimals
 -- alone; a percent and a comma; equal runs side by side; an elapsed run of nine; minutes before seconds; all places that a scientific
 -- section may have; those of a fraction; the greatest fixed number; a literal `/` beside a solidus; an empty section
-unfoldable pub soundTables : List (List ℕ)
-unfolding copies placesDown
-soundTables =
+unfoldable pub sound_tables : List (List ℕ)
+unfolding copies places_down
+sound_tables =
     (2 ∷ plain 0 0 0 0 127 (plain 0 0 2 0 127 (copies 254 1 65535 [])))
-    ∷ (1 ∷ plain 2 25 1 15 41 (placesDown 20 35 (7 ∷ 0 ∷ placesDown 15 15 (copies 5 8 0 []))))
+    ∷ (1 ∷ plain 2 25 1 15 41 (places_down 20 35 (7 ∷ 0 ∷ places_down 15 15 (copies 5 8 0 []))))
     ∷ (1 ∷ plain 2 0 0 0 1 (4 ∷ 16 ∷ []))
     ∷ (1 ∷ 1 ∷ 0 ∷ 1 ∷ 0 ∷ 51711 ∷ 15258 ∷ 16959 ∷ 15 ∷ 0 ∷ 0 ∷ 0 ∷ 1 ∷ 9 ∷ 0 ∷ [])
     ∷ (1 ∷ plain 2 15 0 1 2 (7 ∷ 0 ∷ 4 ∷ 15 ∷ []))
@@ -192,13 +192,13 @@ soundTables =
     ∷ (1 ∷ plain 4 0 0 0 2 (11 ∷ 2 ∷ 11 ∷ 2 ∷ []))
     ∷ (1 ∷ plain 4 0 0 0 1 (18 ∷ 9 ∷ []))
     ∷ (1 ∷ plain 4 0 0 0 3 (12 ∷ 1 ∷ 15 ∷ 2 ∷ 16 ∷ 1 ∷ []))
-    ∷ (1 ∷ plain 5 0 0 15 40 (placesDown 20 35 (7 ∷ 0 ∷ placesDown 15 15 (23 ∷ 0 ∷ placesDown 3 18 []))))
-    ∷ (1 ∷ plain 6 0 0 0 45 (placesDown 20 35 (1 ∷ 32 ∷ placesDown 20 35 (24 ∷ 0 ∷ placesDown 3 18 []))))
+    ∷ (1 ∷ plain 5 0 0 15 40 (places_down 20 35 (7 ∷ 0 ∷ places_down 15 15 (23 ∷ 0 ∷ places_down 3 18 []))))
+    ∷ (1 ∷ plain 6 0 0 0 45 (places_down 20 35 (1 ∷ 32 ∷ places_down 20 35 (24 ∷ 0 ∷ places_down 3 18 []))))
     ∷ (1 ∷ plain 6 0 0 0 3 (4 ∷ 16 ∷ 24 ∷ 0 ∷ 25 ∷ 999 ∷ []))
     ∷ (1 ∷ plain 6 0 0 0 5 (4 ∷ 16 ∷ 1 ∷ 47 ∷ 4 ∷ 16 ∷ 24 ∷ 0 ∷ 4 ∷ 16 ∷ []))
     ∷ (1 ∷ plain 0 0 0 0 0 [])
     ∷ []
 
-pub sound-pass : every passes soundTables ≡ true
-unfolding soundTables evaluatedTable
+pub sound-pass : every passes sound_tables ≡ true
+unfolding sound_tables evaluated_table
 sound-pass = refl

@@ -10,14 +10,14 @@ use lib.Dec.{T, leb, ltb, eqb, leb→le, le→leb, ltb→lt, eqb→eq, eqb_refl}
 use Rattle.lists.specs.Lists.{every, count, is_some}
 use Rattle.lists.proofs.Bools.{and_left, and_right, and_in, true-T, by_cases}
 use Rattle.formats.specs.Tokens.{Comparison}
-use Rattle.formats.specs.Items.{Condition, Section, numberKind, sameKind, kind_of, isPercent, integerPlaces, wholeItems, mainItems, decimalPlaces, itemInRange, showsPlaces, placesBehind}
+use Rattle.formats.specs.Items.{Condition, Section, number_kind, same_kind, kind_of, is_percent, integer_places, whole_items, main_items, decimal_places, item_in_range, shows_places, places_behind}
 use Rattle.formats.specs.Where.{implies}
-use Rattle.formats.specs.Limits.{sectionWithin}
-use Rattle.formats.specs.WellFormed.{conditionInRange, dividingFits, sectionFormed, sectionFits}
+use Rattle.formats.specs.Limits.{section_within}
+use Rattle.formats.specs.WellFormed.{condition_in_range, dividing_fits, section_formed, section_fits}
 use Rattle.tables.specs.Words.{Head}
-use Rattle.tables.specs.Encode.{comparisonWord, operatorWord, bit, negativeWord, wholePart, millionthsPart, low_word, high_word, shiftWord, flagsWord, noMinus, hasHalf, decimalsWord, headOf}
-use Rattle.tables.specs.Decode.{comparisonAt, two_words, whole_at, millionthsAt, conditionAt, groupedAt, thousandsAt}
-use Rattle.tables.specs.Rules.{headInRange, conditionFits, shiftTells}
+use Rattle.tables.specs.Encode.{comparison_word, operator_word, bit, negative_word, whole_part, millionths_part, low_word, high_word, shift_word, flags_word, no_minus, has_half, decimals_word, head_of}
+use Rattle.tables.specs.Decode.{comparison_at, two_words, whole_at, millionths_at, condition_at, grouped_at, thousands_at}
+use Rattle.tables.specs.Rules.{head_in_range, condition_fits, shift_tells}
 use Rattle.formats.proofs.Each.{by-comparison}
 use Rattle.tables.proofs.Ranges.{head-in-ranges}
 use Rattle.tables.proofs.Standing.{kind-most}
@@ -25,26 +25,26 @@ use Rattle.tables.proofs.Standing.{kind-most}
 -- what a section that is formed keeps to
 pub record Formed (s : Section) : Type 0 where
   pub colour-most : s.colour ≤ 56
-  pub condition : T (conditionInRange s.condition)
-  pub items-in-range : T (every itemInRange s.items)
-  pub dividing : T (dividingFits s)
-  pub fits : T (sectionFits s)
-  pub within : T (sectionWithin s)
+  pub condition : T (condition_in_range s.condition)
+  pub items-in-range : T (every item_in_range s.items)
+  pub dividing : T (dividing_fits s)
+  pub fits : T (section_fits s)
+  pub within : T (section_within s)
 
-pub formed : (s : Section) → T (sectionFormed s) → Formed s
-unfolding sectionFormed sectionFits
+pub formed : (s : Section) → T (section_formed s) → Formed s
+unfolding section_formed section_fits
 formed s t = search (and_left, and_right, leb→le) depth 12
 
 pub record Within (s : Section) : Type 0 where
-  pub wholes-most : integerPlaces (wholeItems s.items) ≤ 20
-  pub integers-most : integerPlaces (mainItems s.items) ≤ 20
-  pub decimals-most : decimalPlaces s.items ≤ 15
-  pub exponents-most : placesBehind s.items ≤ 3
-  pub percents-most : count isPercent s.items ≤ 5
+  pub wholes-most : integer_places (whole_items s.items) ≤ 20
+  pub integers-most : integer_places (main_items s.items) ≤ 20
+  pub decimals-most : decimal_places s.items ≤ 15
+  pub exponents-most : places_behind s.items ≤ 3
+  pub percents-most : count is_percent s.items ≤ 5
   pub thousands-most : s.thousands ≤ 5
 
-pub within-limits : (s : Section) → T (sectionWithin s) → Within s
-unfolding sectionWithin
+pub within-limits : (s : Section) → T (section_within s) → Within s
+unfolding section_within
 within-limits s t = search (and_left, and_right, leb→le) depth 8
 
 -- two words
@@ -61,24 +61,24 @@ unfolding high_word
 high-word n h = omega arith
 
 -- the condition
-comparison-back : (c : Comparison) → comparisonAt (comparisonWord c) ≡ c
-unfolding comparisonAt comparisonWord
-comparison-back = by-comparison (λ c. comparisonAt (comparisonWord c) ≡ c) refl refl refl refl refl refl
+comparison-back : (c : Comparison) → comparison_at (comparison_word c) ≡ c
+unfolding comparison_at comparison_word
+comparison-back = by-comparison (λ c. comparison_at (comparison_word c) ≡ c) refl refl refl refl refl refl
 
-comparison-some : (c : Comparison) → eqb (comparisonWord c) 0 ≡ false
-unfolding comparisonWord
-comparison-some = by-comparison (λ c. eqb (comparisonWord c) 0 ≡ false) refl refl refl refl refl refl
+comparison-some : (c : Comparison) → eqb (comparison_word c) 0 ≡ false
+unfolding comparison_word
+comparison-some = by-comparison (λ c. eqb (comparison_word c) 0 ≡ false) refl refl refl refl refl refl
 
 -- the operator word tells whether there is a condition
-pub operator-some : (o : Option Condition) → not (eqb (operatorWord o) 0) ≡ is_some o
-unfolding operatorWord is_some
+pub operator-some : (o : Option Condition) → not (eqb (operator_word o) 0) ≡ is_some o
+unfolding operator_word is_some
 operator-some none = refl
 operator-some (some c) = rw (comparison-some c.comparison)
 
-comparison-most : (c : Comparison) → comparisonWord c ≤ 6
-unfolding comparisonWord
+comparison-most : (c : Comparison) → comparison_word c ≤ 6
+unfolding comparison_word
 comparison-most =
-    by-comparison (λ c. comparisonWord c ≤ 6) (omega arith) (omega arith) (omega arith) (omega arith) (omega arith) (omega arith)
+    by-comparison (λ c. comparison_word c ≤ 6) (omega arith) (omega arith) (omega arith) (omega arith) (omega arith) (omega arith)
 
 pub bit-most : (b : Bool) → bit b ≤ 1
 unfolding bit
@@ -92,23 +92,23 @@ bit-back false = refl
 
 -- the words of a header that are those of a condition, or of none
 pub record Says (h : Head) (o : Option Condition) : Type 0 where
-  pub operator : h.operator ≡ operatorWord o
-  pub negative : h.negative ≡ negativeWord o
-  pub whole : whole_at h ≡ wholePart o
-  pub millionths : millionthsAt h ≡ millionthsPart o
+  pub operator : h.operator ≡ operator_word o
+  pub negative : h.negative ≡ negative_word o
+  pub whole : whole_at h ≡ whole_part o
+  pub millionths : millionths_at h ≡ millionths_part o
 
-pub says : (n i : ℕ) (first_has : Bool) (s : Section) → Says (headOf n i first_has s) s.condition
-unfolding headOf whole_at millionthsAt
+pub says : (n i : ℕ) (first_has : Bool) (s : Section) → Says (head_of n i first_has s) s.condition
+unfolding head_of whole_at millionths_at
 says n i first_has s =
     record {
       operator = refl;
       negative = refl;
-      whole = words_back (wholePart s.condition);
-      millionths = words_back (millionthsPart s.condition);
+      whole = words_back (whole_part s.condition);
+      millionths = words_back (millionths_part s.condition);
     }
 
-pub condition-back : (h : Head) (o : Option Condition) → Says h o → conditionAt h ≡ o
-unfolding conditionAt operatorWord negativeWord wholePart millionthsPart
+pub condition-back : (h : Head) (o : Option Condition) → Says h o → condition_at h ≡ o
+unfolding condition_at operator_word negative_word whole_part millionths_part
 condition-back h none e = rw e.operator
 condition-back h (some c) e =
     let m : c.millionths / 10 ^ 6 * 10 ^ 6 + c.millionths % 10 ^ 6 ≡ c.millionths = omega arith in
@@ -124,71 +124,71 @@ condition-back h (some c) e =
     )
 
 -- the flags
-pub grouped-back : (grouping minus twelve : Bool) → groupedAt (flagsWord grouping minus twelve) ≡ grouping
-unfolding groupedAt flagsWord
+pub grouped-back : (grouping minus twelve : Bool) → grouped_at (flags_word grouping minus twelve) ≡ grouping
+unfolding grouped_at flags_word
 grouped-back g m t =
     let e : (bit g + 2 * bit m + 4 * bit t) % 2 ≡ bit g = omega (arith, bit-most g) in
     rw e (bit-back g)
 
-flags-most : (grouping minus twelve : Bool) → flagsWord grouping minus twelve ≤ 7
-unfolding flagsWord
+flags-most : (grouping minus twelve : Bool) → flags_word grouping minus twelve ≤ 7
+unfolding flags_word
 flags-most g m t = omega (arith, bit-most g, bit-most m, bit-most t)
 
 -- the shift
-pub thousands-back : (p t : ℕ) → t ≤ 5 → thousandsAt (15 + 2 * p - 3 * t) p ≡ t
-unfolding thousandsAt
+pub thousands-back : (p t : ℕ) → t ≤ 5 → thousands_at (15 + 2 * p - 3 * t) p ≡ t
+unfolding thousands_at
 thousands-back p t h = omega arith
 
-pub shift-tells : (p t : ℕ) → t ≤ 5 → T (shiftTells (15 + 2 * p - 3 * t) p)
-unfolding shiftTells
+pub shift-tells : (p t : ℕ) → t ≤ 5 → T (shift_tells (15 + 2 * p - 3 * t) p)
+unfolding shift_tells
 shift-tells p t h =
     let a : T (leb t 5) = le→leb t 5 h in
     let e : 15 + 2 * p - 3 * t + 3 * t ≡ 15 + 2 * p = omega arith in
     rw (thousands-back p t h, e) (and_in (leb t 5) (eqb (15 + 2 * p) (15 + 2 * p)) a (eqb_refl (15 + 2 * p)))
 
-shift-most : (s : Section) → Within s → shiftWord s ≤ 25
-unfolding shiftWord
-shift-most s w = by_cases (sameKind (kind_of s) numberKind) (λ e. rw e (omega arith)) (λ e. rw e (omega arith))
+shift-most : (s : Section) → Within s → shift_word s ≤ 25
+unfolding shift_word
+shift-most s w = by_cases (same_kind (kind_of s) number_kind) (λ e. rw e (omega arith)) (λ e. rw e (omega arith))
 
-decimals-most : (s : Section) → Within s → decimalsWord s ≤ 15
-unfolding decimalsWord
-decimals-most s w = by_cases (showsPlaces (kind_of s)) (λ e. rw e (omega arith)) (λ e. rw e (omega arith))
+decimals-most : (s : Section) → Within s → decimals_word s ≤ 15
+unfolding decimals_word
+decimals-most s w = by_cases (shows_places (kind_of s)) (λ e. rw e (omega arith)) (λ e. rw e (omega arith))
 
 -- the words of a condition in range
 record Ranges (o : Option Condition) : Type 0 where
-  operator-most : operatorWord o ≤ 6
-  negative-most : negativeWord o ≤ 1
-  whole-most : wholePart o ≤ 999999999
-  millionths-most : millionthsPart o ≤ 999999
+  operator-most : operator_word o ≤ 6
+  negative-most : negative_word o ≤ 1
+  whole-most : whole_part o ≤ 999999999
+  millionths-most : millionths_part o ≤ 999999
 
-ranges : (o : Option Condition) → T (conditionInRange o) → Ranges o
-unfolding conditionInRange operatorWord negativeWord wholePart millionthsPart
+ranges : (o : Option Condition) → T (condition_in_range o) → Ranges o
+unfolding condition_in_range operator_word negative_word whole_part millionths_part
 ranges none t = omega arith
 ranges (some c) t =
     let h : c.millionths < 10 ^ 15 = search (and_left, ltb→lt) in
     omega (arith, comparison-most c.comparison, bit-most c.negative)
 
-pub head-in-range : (n i : ℕ) (first_has : Bool) (s : Section) → T (sectionFormed s) → length s.items ≤ 254
-    → T (headInRange (headOf n i first_has s))
-unfolding headOf
+pub head-in-range : (n i : ℕ) (first_has : Bool) (s : Section) → T (section_formed s) → length s.items ≤ 254
+    → T (head_in_range (head_of n i first_has s))
+unfolding head_of
 head-in-range n i first_has s t h =
     let f = formed s t in
     let w = within-limits s f.within in
     let r = ranges s.condition f.condition in
     let e = says n i first_has s in
-    head-in-ranges (headOf n i first_has s) record {
+    head-in-ranges (head_of n i first_has s) record {
       kind = kind-most (kind_of s);
       colour = f.colour-most;
       operator = r.operator-most;
       negative = r.negative-most;
-      wholeLow = low-word (wholePart s.condition);
-      wholeHigh = high-word (wholePart s.condition) r.whole-most;
+      whole_low = low-word (whole_part s.condition);
+      whole_high = high-word (whole_part s.condition) r.whole-most;
       whole = rw e.whole r.whole-most;
-      millionthsLow = low-word (millionthsPart s.condition);
-      millionthsHigh = high-word (millionthsPart s.condition) (omega arith);
+      millionths_low = low-word (millionths_part s.condition);
+      millionths_high = high-word (millionths_part s.condition) (omega arith);
       millionths = rw e.millionths r.millionths-most;
       shift = shift-most s w;
-      flags = flags-most s.grouped (noMinus n i first_has s) (hasHalf s.items);
+      flags = flags-most s.grouped (no_minus n i first_has s) (has_half s.items);
       decimals = decimals-most s w;
       items = h;
     }
@@ -208,8 +208,8 @@ sign_fits true m t =
     by_cases (eqb (m / 10 ^ 6) 0 && eqb (m % 10 ^ 6) 0) (λ e. absurd (not-zero m h (true-T e))) (λ e. rw e tt)
 sign_fits false m t = by_cases (eqb (m / 10 ^ 6) 0 && eqb (m % 10 ^ 6) 0) (λ e. rw e tt) (λ e. rw e tt)
 
-pub condition-fits : (h : Head) (o : Option Condition) → Says h o → T (conditionInRange o) → T (conditionFits h)
-unfolding conditionFits conditionInRange operatorWord negativeWord wholePart millionthsPart
+pub condition-fits : (h : Head) (o : Option Condition) → Says h o → T (condition_in_range o) → T (condition_fits h)
+unfolding condition_fits condition_in_range operator_word negative_word whole_part millionths_part
 condition-fits h none e t = rw (e.whole, e.millionths, e.operator, e.negative) tt
 condition-fits h (some c) e t =
     let u : T (implies c.negative (ltb 0 c.millionths)) = search (and_left, and_right) in

@@ -4,7 +4,7 @@ use Rattle.std.specs.Prelude.{ℕ, cond, List, [], length, leb}
 use Rattle.answers.specs.declared.Answer.TheVariants as answer
 use Rattle.answers.specs.declared.Prepared.{Prepared}
 use Rattle.answers.specs.declared.Shown.{Shown}
-use Rattle.answers.specs.Number.{donePrepared, doneShown, refusedPrepared, refusedShown}
+use Rattle.answers.specs.Number.{done_prepared, done_shown, refused_prepared, refused_shown}
 use Rattle.values.specs.declared.Ask.{Ask}
 use Rattle.lists.specs.Lists.{overlay}
 use Rattle.formats.specs.Accept.{Accepted, sections, refusal, accept}
@@ -22,39 +22,39 @@ unfoldable pub table_of : List ℕ → List ℕ
 table_of code = words_of (accept code)
 
 -- preparing in a table room of `size` words; 7: "the table needs more words than lent" (R107)
-unfoldable pub preparedAs : Accepted → ℕ → Prepared
-preparedAs (refusal a k) size = refusedPrepared a k
-preparedAs (sections ss) size =
-    cond (leb (length (encode ss)) size) (donePrepared (length (encode ss))) (refusedPrepared answer.TableRoom 0)
+unfoldable pub prepared_as : Accepted → ℕ → Prepared
+prepared_as (refusal a k) size = refused_prepared a k
+prepared_as (sections ss) size =
+    cond (leb (length (encode ss)) size) (done_prepared (length (encode ss))) (refused_prepared answer.TableRoom 0)
 
 unfoldable pub prepared : List ℕ → ℕ → Prepared
-prepared code size = preparedAs (accept code) size
+prepared code size = prepared_as (accept code) size
 
 -- what fits stands in front, what does not is not written: "Memory past the reported length keeps its contents." (R8)
 unfoldable pub written : List ℕ → List ℕ → List ℕ
 written new old = cond (leb (length new) (length old)) (overlay new old) old
 
 -- what preparing leaves in the table room (R107)
-unfoldable pub tableAfter : List ℕ → List ℕ → List ℕ
-tableAfter code old = written (table_of code) old
+unfoldable pub table_after : List ℕ → List ℕ → List ℕ
+table_after code old = written (table_of code) old
 
 -- the reading through a table; 8: "the table breaks a table rule" (R110)
-unfoldable pub tableReading : List ℕ → Ask → List ℕ → ℕ → Reading
-tableReading table ask text room = cond (passes table) (reading (decode table) ask text room) (refused answer.Table)
+unfoldable pub table_reading : List ℕ → Ask → List ℕ → ℕ → Reading
+table_reading table ask text room = cond (passes table) (reading (decode table) ask text room) (refused answer.Table)
 
 -- "Showing a table that passes returns its reading's answer; with 0 also its colour, section and text length, and the room
 -- begins with its text." "showing passes it up": whether what is shown is exact (R6)
-unfoldable pub shownAs : Reading → Shown
-shownAs (refused a) = refusedShown a
-shownAs (shown look) = doneShown (length look.text) look.colour look.section look.exact
+unfoldable pub shown_as : Reading → Shown
+shown_as (refused a) = refused_shown a
+shown_as (shown look) = done_shown (length look.text) look.colour look.section look.exact
 
-unfoldable pub textAs : Reading → List ℕ
-textAs (refused a) = []
-textAs (shown look) = look.text
+unfoldable pub text_as : Reading → List ℕ
+text_as (refused a) = []
+text_as (shown look) = look.text
 
 unfoldable pub showing : List ℕ → Ask → List ℕ → ℕ → Shown
-showing table ask text size = shownAs (tableReading table ask text size)
+showing table ask text size = shown_as (table_reading table ask text size)
 
 -- what showing leaves in the text room (R110)
-unfoldable pub roomAfter : List ℕ → Ask → List ℕ → List ℕ → List ℕ
-roomAfter table ask text old = overlay (textAs (tableReading table ask text (length old))) old
+unfoldable pub room_after : List ℕ → Ask → List ℕ → List ℕ → List ℕ
+room_after table ask text old = overlay (text_as (table_reading table ask text (length old))) old

@@ -9,10 +9,10 @@ pub record Head : Type 0 where
   pub colour : ℕ
   pub operator : ℕ
   pub negative : ℕ
-  pub wholeLow : ℕ
-  pub wholeHigh : ℕ
-  pub millionthsLow : ℕ
-  pub millionthsHigh : ℕ
+  pub whole_low : ℕ
+  pub whole_high : ℕ
+  pub millionths_low : ℕ
+  pub millionths_high : ℕ
   pub shift : ℕ
   pub flags : ℕ
   pub decimals : ℕ
@@ -29,71 +29,71 @@ pub record Row : Type 0 where
   pub entries : List Entry
 
 -- each writer puts its words in front of those that follow
-unfoldable pub headWords : Head → List ℕ → List ℕ
-headWords h ws =
-    h.kind ∷ h.colour ∷ h.operator ∷ h.negative ∷ h.wholeLow ∷ h.wholeHigh ∷ h.millionthsLow ∷ h.millionthsHigh
+unfoldable pub head_words : Head → List ℕ → List ℕ
+head_words h ws =
+    h.kind ∷ h.colour ∷ h.operator ∷ h.negative ∷ h.whole_low ∷ h.whole_high ∷ h.millionths_low ∷ h.millionths_high
     ∷ h.shift ∷ h.flags ∷ h.decimals ∷ h.items ∷ ws
 
-unfoldable pub headsWords : List Row → List ℕ → List ℕ
-headsWords [] ws = ws
-headsWords (r ∷ rs) ws = headWords r.head (headsWords rs ws)
+unfoldable pub heads_words : List Row → List ℕ → List ℕ
+heads_words [] ws = ws
+heads_words (r ∷ rs) ws = head_words r.head (heads_words rs ws)
 
-unfoldable pub entriesWords : List Entry → List ℕ → List ℕ
-entriesWords [] ws = ws
-entriesWords (e ∷ es) ws = e.tag ∷ e.argument ∷ entriesWords es ws
+unfoldable pub entries_words : List Entry → List ℕ → List ℕ
+entries_words [] ws = ws
+entries_words (e ∷ es) ws = e.tag ∷ e.argument ∷ entries_words es ws
 
-unfoldable pub bodiesWords : List Row → List ℕ → List ℕ
-bodiesWords [] ws = ws
-bodiesWords (r ∷ rs) ws = entriesWords r.entries (bodiesWords rs ws)
+unfoldable pub bodies_words : List Row → List ℕ → List ℕ
+bodies_words [] ws = ws
+bodies_words (r ∷ rs) ws = entries_words r.entries (bodies_words rs ws)
 
 -- "Word 0: sections [..]. Then 12 words a section [..]. Then two words an item, section by section" (R89)
-unfoldable pub tableWords : List Row → List ℕ
-tableWords rs = length rs ∷ headsWords rs (bodiesWords rs [])
+unfoldable pub table_words : List Row → List ℕ
+table_words rs = length rs ∷ heads_words rs (bodies_words rs [])
 
 -- the words read back; a word past the end is read as 0
-unfoldable pub headAt : List ℕ → Head
-headAt ws =
+unfoldable pub head_at : List ℕ → Head
+head_at ws =
     record {
       kind = get_or ws 0 0;
       colour = get_or ws 1 0;
       operator = get_or ws 2 0;
       negative = get_or ws 3 0;
-      wholeLow = get_or ws 4 0;
-      wholeHigh = get_or ws 5 0;
-      millionthsLow = get_or ws 6 0;
-      millionthsHigh = get_or ws 7 0;
+      whole_low = get_or ws 4 0;
+      whole_high = get_or ws 5 0;
+      millionths_low = get_or ws 6 0;
+      millionths_high = get_or ws 7 0;
       shift = get_or ws 8 0;
       flags = get_or ws 9 0;
       decimals = get_or ws 10 0;
       items = get_or ws 11 0;
     }
 
-unfoldable pub headsAt : ℕ → List ℕ → List Head
-headsAt zero ws = []
-headsAt (suc n) ws = headAt ws ∷ headsAt n (drop 12 ws)
+unfoldable pub heads_at : ℕ → List ℕ → List Head
+heads_at zero ws = []
+heads_at (suc n) ws = head_at ws ∷ heads_at n (drop 12 ws)
 
 unfoldable pub entries_at : ℕ → List ℕ → List Entry
 entries_at zero ws = []
 entries_at (suc n) ws = record { tag = get_or ws 0 0; argument = get_or ws 1 0 } ∷ entries_at n (drop 2 ws)
 
 -- those that stand in a section's item words, two words each
-unfoldable pub entriesIn : List ℕ → List Entry
-entriesIn words = entries_at (length words / 2) words
+unfoldable pub entries_in : List ℕ → List Entry
+entries_in words = entries_at (length words / 2) words
 
 unfoldable pub rows_at : List Head → List ℕ → List Row
 rows_at [] ws = []
 rows_at (h ∷ hs) ws = record { head = h; entries = entries_at h.items ws } ∷ rows_at hs (drop (2 * h.items) ws)
 
-unfoldable pub headsIn : List ℕ → List Head
-headsIn ws = headsAt (get_or ws 0 0) (drop 1 ws)
+unfoldable pub heads_in : List ℕ → List Head
+heads_in ws = heads_at (get_or ws 0 0) (drop 1 ws)
 
-unfoldable pub rowsIn : List ℕ → List Row
-rowsIn ws = rows_at (headsIn ws) (drop (1 + 12 * get_or ws 0 0) ws)
+unfoldable pub rows_in : List ℕ → List Row
+rows_in ws = rows_at (heads_in ws) (drop (1 + 12 * get_or ws 0 0) ws)
 
-unfoldable pub itemsSaid : List Head → ℕ
-itemsSaid [] = 0
-itemsSaid (h ∷ hs) = h.items + itemsSaid hs
+unfoldable pub items_said : List Head → ℕ
+items_said [] = 0
+items_said (h ∷ hs) = h.items + items_said hs
 
 -- "Word 0: sections, 1 to 4", "exactly those words and no more" (R95)
-unfoldable pub exactWords : List ℕ → Bool
-exactWords ws = between 1 4 (get_or ws 0 0) && eqb (length ws) (1 + 12 * get_or ws 0 0 + 2 * itemsSaid (headsIn ws))
+unfoldable pub exact_words : List ℕ → Bool
+exact_words ws = between 1 4 (get_or ws 0 0) && eqb (length ws) (1 + 12 * get_or ws 0 0 + 2 * items_said (heads_in ws))

@@ -55,8 +55,8 @@ unfolding packed
 first-digit [] h = refl
 first-digit (c ∷ cs) h = let few = h.0 in omega arith
 
-pub digit_at : (cs : List ℕ) (j : ℕ) → Small cs → packed cs / 256 ^ j % 256 ≡ get_or cs j 0
-digit_at cs j h = rw (digits_from cs j h) (dropped cs j h)
+pub digit_at_lem : (cs : List ℕ) (j : ℕ) → Small cs → packed cs / 256 ^ j % 256 ≡ get_or cs j 0
+digit_at_lem cs j h = rw (digits_from cs j h) (dropped cs j h)
   where
     dropped : (cs : List ℕ) (j : ℕ) → Small cs → packed (drop j cs) % 256 ≡ get_or cs j 0
     dropped cs zero h = first-digit cs h

@@ -8,25 +8,25 @@ use native.Mathlib.Omega.{arith}
 use borrow.Author.Tests.{eqb-true, le-leb, leb-false, lt-leb, ltb-true, ltb-false}
 use Rattle.values.specs.Ranges.{between}
 use Rattle.tables.specs.Encode.{entry, bit}
-use Rattle.formats.specs.Items.{itemMakes}
-use Rattle.formats.specs.Limits.{elapsedShort, fixedSmall}
+use Rattle.formats.specs.Items.{item_makes}
+use Rattle.formats.specs.Limits.{elapsed_short, fixed_small}
 use Rattle.tables.specs.Words.{Entry}
 use Rattle.tables.specs.Decode.{item_at}
 use Rattle.tallies.specs.declared.Walk.{Walk}
-use Rattle.tallies.specs.Walk.{weight, behindUnit, numberWeight, unitAfter, countedOf, placed_of, elapsedOf, fixed_of, step_of}
+use Rattle.tallies.specs.Walk.{weight, behind_unit, number_weight, unit_after, counted_of, placed_of, elapsed_of, fixed_of, step_of}
 use Rattle.lists.proofs.Bools.{by_cases, true-T}
 use Rattle.tables.proofs.BackEntries.{between-facts, span-at, late-tag}
 
 -- opens all that a step at a known tag computes by
 unfoldable pub computed : Walk → Entry → Walk
-unfolding step_of numberWeight weight bit unitAfter item_at itemMakes elapsedShort fixedSmall
+unfolding step_of number_weight weight bit unit_after item_at item_makes elapsed_short fixed_small
 computed w e = step_of w e
 
 module _ (w : Walk) (a : ℕ) where
   -- `?` is misplaced behind an E
   space-step : placed_of w 6 ≡ step_of w (entry 6 a)
   unfolding computed
-  space-step = by_cases (eqb w.unit behindUnit) (λ u. rw (eqb-true w.unit behindUnit u)) (λ u. rw u)
+  space-step = by_cases (eqb w.unit behind_unit) (λ u. rw (eqb-true w.unit behind_unit u)) (λ u. rw u)
 
   pub place-step : (t : ℕ) → between 4 6 t ≡ true → placed_of w t ≡ step_of w (entry t a)
   unfolding computed
@@ -35,7 +35,7 @@ module _ (w : Walk) (a : ℕ) where
       span-at (λ (k : ℕ). placed_of w k ≡ step_of w (entry k a)) 4 3 t (refl, (refl, (space-step, tt))) f.0 (omega arith)
 
   abbrev Elapsed : ℕ → ℕ → Type 0
-  Elapsed t date = elapsedOf w date a ≡ step_of w (entry t a)
+  Elapsed t date = elapsed_of w date a ≡ step_of w (entry t a)
 
   pub elapsed-steps : Elapsed 18 4294967296 × Elapsed 19 1099511627776 × Elapsed 20 281474976710656
   unfolding computed
@@ -46,7 +46,7 @@ module _ (w : Walk) (a : ℕ) where
   unfolding computed
   fixed-step = by_cases (ltb 999 a) (λ h. rw (h, lt-leb a 999 (ltb-true 999 a h))) (λ h. rw (h, le-leb a 999 (ltb-false 999 a h)))
 
-  pub unknown-step : (t : ℕ) → 25 < t → countedOf w 0 1099511627776 0 ≡ step_of w (entry t a)
+  pub unknown-step : (t : ℕ) → 25 < t → counted_of w 0 1099511627776 0 ≡ step_of w (entry t a)
   unfolding computed
   unknown-step t h = rw (late-tag t a h)
 

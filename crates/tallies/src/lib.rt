@@ -1,9 +1,9 @@
 // What the rules ask of a section's items, told by counts: one pass over their words, and the rules as tests on the counts.
 ghost use Rattle.std.specs.Prelude.{◌≡◌, ◌≤◌, ◌<◌, length};
-ghost use Rattle.tables.specs.Words.{entriesIn};
+ghost use Rattle.tables.specs.Words.{entries_in};
 ghost use Rattle.tables.specs.Encode.{entry};
-ghost use Rattle.tallies.specs.Tally.{tally_of, hasPlaces, hasNumberItems, Uncut, Cut, kindTold, allowedTold, noPlainTold, exponentTold, itemsFitTold, withinTold, fractionTold, decimalsTold};
-ghost use Rattle.tallies.specs.Walk.{countedOf, placed_of, elapsedOf, fixed_of, step_of, start_of, finishedOf, Few, Weights};
+ghost use Rattle.tallies.specs.Tally.{tally_of, has_places, has_number_items, Uncut, Cut, kind_told, allowed_told, no_plain_told, exponent_told, items_fit_told, within_told, fraction_told, decimals_told};
+ghost use Rattle.tallies.specs.Walk.{counted_of, placed_of, elapsed_of, fixed_of, step_of, start_of, finished_of, Few, Weights};
 
 use tables::{kinds, tags};
 use values::integers::is_between;
@@ -121,7 +121,7 @@ fn start() -> Walk
 
 fn counted(w: Walk, number: u64, other: u64, date: u64) -> Walk
     requires { Few 253 w × Weights number other date }
-    ensures { result ≡ countedOf w number other date }
+    ensures { result ≡ counted_of w number other date }
 {
     Walk {
         numbers: w.numbers + number,
@@ -189,7 +189,7 @@ fn fixed(w: Walk, a: u16) -> Walk
 
 fn elapsed(w: Walk, date: u64, a: u16) -> Walk
     requires { Few 253 w × Weights 0 0 date }
-    ensures { result ≡ elapsedOf w date a }
+    ensures { result ≡ elapsed_of w date a }
 {
     if 9 < a {
         return counted(w, 0, LONG_ELAPSED_RUNS, date);
@@ -235,7 +235,7 @@ fn step(w: Walk, tag: u16, a: u16) -> Walk
 
 // What a walk tells: the digits of its numbers.
 fn tally_of(w: Walk) -> Tally
-    ensures { result ≡ finishedOf w }
+    ensures { result ≡ finished_of w }
 {
     Tally {
         short: w.others / LONG_RUNS % 256 == 0,
@@ -265,7 +265,7 @@ fn tally_of(w: Walk) -> Tally
 // What the items of a section tell, whose words these are.
 pub fn tally_words(words: &[u16]) -> Tally
     requires { length words.now ≤ 508 }
-    ensures { result ≡ tally_of (entriesIn words.now) }
+    ensures { result ≡ tally_of (entries_in words.now) }
 {
     let n = words.len() / 2;
     let mut w = start();
@@ -282,14 +282,14 @@ pub fn tally_words(words: &[u16]) -> Tally
 // Most sections have no E and no solidus: their tests look at nothing that only these bring.
 fn has_places(t: Tally) -> bool
     requires { Uncut t }
-    ensures { result ≡ hasPlaces t }
+    ensures { result ≡ has_places t }
 {
     (0 < t.integers) | (0 < t.decimals)
 }
 
 fn has_number_items(t: Tally) -> bool
     requires { Uncut t }
-    ensures { result ≡ hasNumberItems t }
+    ensures { result ≡ has_number_items t }
 {
     has_places(t) | ((0 < t.points) | (0 < t.percents))
 }
@@ -297,7 +297,7 @@ fn has_number_items(t: Tally) -> bool
 // The kind word of a section without them.
 pub fn kind(t: Tally) -> u16
     requires { Uncut t }
-    ensures { result ≡ kindTold t }
+    ensures { result ≡ kind_told t }
 {
     if t.texts {
         return kinds::TEXT;
@@ -317,7 +317,7 @@ pub fn kind(t: Tally) -> u16
 // No item belongs to another kind than the section's.
 fn allowed(t: Tally) -> bool
     requires { Uncut t }
-    ensures { result ≡ allowedTold t }
+    ensures { result ≡ allowed_told t }
 {
     let numbers = has_number_items(t);
     if t.texts {
@@ -337,7 +337,7 @@ fn allowed(t: Tally) -> bool
 
 // No elapsed item stands beside its plain equivalent.
 fn no_plain(t: Tally) -> bool
-    ensures { result ≡ noPlainTold t }
+    ensures { result ≡ no_plain_told t }
 {
     if t.elapsed_hours | (t.elapsed_minutes | t.elapsed_seconds) {
         return !(t.elapsed_hours & t.hours)
@@ -349,14 +349,14 @@ fn no_plain(t: Tally) -> bool
 // One E, behind an integer place, with an exponent place and neither point nor `?` behind it.
 fn exponent_fits(t: Tally) -> bool
     requires { 0 < t.exponents }
-    ensures { result ≡ exponentTold t }
+    ensures { result ≡ exponent_told t }
 {
     (t.exponents <= 1) & (1 <= t.integers) & (1 <= t.places_behind) & !t.misplaced
 }
 
 pub fn items_fit(t: Tally) -> bool
     requires { Uncut t }
-    ensures { result ≡ itemsFitTold t }
+    ensures { result ≡ items_fit_told t }
 {
     allowed(t) & ((t.generals <= 1) & ((t.points <= 1) & ((t.elapsed <= 1) & no_plain(t))))
 }
@@ -364,14 +364,14 @@ pub fn items_fit(t: Tally) -> bool
 // The limits, but for that on exponent places.
 pub fn within(t: Tally, thousands: u16) -> bool
     requires { t.places_behind ≤ 3 }
-    ensures { result ≡ withinTold t thousands }
+    ensures { result ≡ within_told t thousands }
 {
     (t.integers <= 20) & ((t.decimals <= 15) & ((t.percents <= 5) & ((thousands <= 5) & t.short)))
 }
 
 pub fn decimals_word(t: Tally) -> u16
     requires { Uncut t }
-    ensures { result ≡ decimalsTold t }
+    ensures { result ≡ decimals_told t }
 {
     if kind(t) == kinds::NUMBER {
         t.decimals
@@ -383,7 +383,7 @@ pub fn decimals_word(t: Tally) -> u16
 // The kind word of a section with an E or a solidus.
 pub fn cut_kind(t: Tally) -> u16
     requires { Cut t }
-    ensures { result ≡ kindTold t }
+    ensures { result ≡ kind_told t }
 {
     if t.texts {
         return kinds::TEXT;
@@ -402,8 +402,8 @@ pub fn cut_kind(t: Tally) -> u16
 
 // A scientific section holds no date item, percent or solidus.
 fn scientific_items_fit(t: Tally) -> bool
-    requires { kindTold t ≡ 5 }
-    ensures { result ≡ itemsFitTold t }
+    requires { kind_told t ≡ 5 }
+    ensures { result ≡ items_fit_told t }
 {
     (!t.dates & (!(0 < t.percents) & !(0 < t.solidi)))
         & ((t.points <= 1) & ((t.elapsed <= 1) & (no_plain(t) & exponent_fits(t))))
@@ -411,8 +411,8 @@ fn scientific_items_fit(t: Tally) -> bool
 
 // A fraction holds no date item, point or percent.
 fn fraction_items_fit(t: Tally) -> bool
-    requires { kindTold t ≡ 6 }
-    ensures { result ≡ itemsFitTold t }
+    requires { kind_told t ≡ 6 }
+    ensures { result ≡ items_fit_told t }
 {
     (!t.dates & (!(0 < t.points) & !(0 < t.percents))) & ((t.elapsed <= 1) & no_plain(t))
 }
@@ -420,7 +420,7 @@ fn fraction_items_fit(t: Tally) -> bool
 // No text, General or date-time section holds an E or a solidus.
 pub fn cut_items_fit(t: Tally) -> bool
     requires { Cut t }
-    ensures { result ≡ itemsFitTold t }
+    ensures { result ≡ items_fit_told t }
 {
     let kind = cut_kind(t);
     if kind == kinds::SCIENTIFIC {
@@ -434,7 +434,7 @@ pub fn cut_items_fit(t: Tally) -> bool
 
 // The limits of a fraction, whose integer places and numerator stand apart.
 pub fn fraction_within(t: Tally, thousands: u16, wholes: u16, numerators: u16) -> bool
-    ensures { result ≡ fractionTold t thousands wholes numerators }
+    ensures { result ≡ fraction_told t thousands wholes numerators }
 {
     (wholes <= 20)
         & ((numerators <= 20)
@@ -444,7 +444,7 @@ pub fn fraction_within(t: Tally, thousands: u16, wholes: u16, numerators: u16) -
 
 pub fn cut_decimals(t: Tally) -> u16
     requires { Cut t }
-    ensures { result ≡ decimalsTold t }
+    ensures { result ≡ decimals_told t }
 {
     if kinds::SCIENTIFIC <= cut_kind(t) {
         t.decimals

@@ -13,60 +13,60 @@ use Rattle.values.specs.declared.Value.TheVariants as value
 use Rattle.values.specs.declared.Ask.{Ask}
 
 -- "a day number 0 to 2,958,465 and a millisecond 0 to 86,399,999" (R3)
-abbrev pub dayLeast : ℕ
-dayLeast = 0
+abbrev pub day_least : ℕ
+day_least = 0
 
-abbrev pub dayGreatest : ℕ
-dayGreatest = 2958465
+abbrev pub day_greatest : ℕ
+day_greatest = 2958465
 
-abbrev pub millisecondLeast : ℕ
-millisecondLeast = 0
+abbrev pub millisecond_least : ℕ
+millisecond_least = 0
 
-abbrev pub millisecondGreatest : ℕ
-millisecondGreatest = 86399999
+abbrev pub millisecond_greatest : ℕ
+millisecond_greatest = 86399999
 
 abbrev pub between : ℕ → ℕ → ℕ → Bool
 between least greatest n = leb least n && leb n greatest
 
 -- what the makers answer (R4)
-abbrev pub dayOf : ℕ → DayMade
-dayOf n = cond (between dayLeast dayGreatest n) (day.Made (record { 0 = n })) day.OutOfRange
+abbrev pub day_of : ℕ → DayMade
+day_of n = cond (between day_least day_greatest n) (day.Made (record { 0 = n })) day.OutOfRange
 
-abbrev pub millisecondOf : ℕ → MillisecondMade
-millisecondOf n =
-    cond (between millisecondLeast millisecondGreatest n) (millisecond.Made (record { 0 = n })) millisecond.OutOfRange
+abbrev pub millisecond_of : ℕ → MillisecondMade
+millisecond_of n =
+    cond (between millisecond_least millisecond_greatest n) (millisecond.Made (record { 0 = n })) millisecond.OutOfRange
 
 -- the answer list's number of what a maker answers: 0 done, 9 out of range
-abbrev pub dayAnswer : DayMade → ℕ
-dayAnswer (day.Made d) = 0
-dayAnswer day.OutOfRange = 9
+abbrev pub day_answer : DayMade → ℕ
+day_answer (day.Made d) = 0
+day_answer day.OutOfRange = 9
 
-abbrev pub millisecondAnswer : MillisecondMade → ℕ
-millisecondAnswer (millisecond.Made m) = 0
-millisecondAnswer millisecond.OutOfRange = 9
+abbrev pub millisecond_answer : MillisecondMade → ℕ
+millisecond_answer (millisecond.Made m) = 0
+millisecond_answer millisecond.OutOfRange = 9
 
-abbrev pub rangeAnswer : ℕ → ℕ → ℕ → ℕ
-rangeAnswer least greatest n = cond (between least greatest n) 0 9
+abbrev pub range_answer : ℕ → ℕ → ℕ → ℕ
+range_answer least greatest n = cond (between least greatest n) 0 9
 
 -- "a signed coefficient of at most fifteen digits and a scale 0 to 15" (R2)
-abbrev pub numberInRange : Number → Bool
-numberInRange x = ltb (nat_abs x.coefficient) (10 ^ 15) && leb x.scale 15
+abbrev pub number_in_range : Number → Bool
+number_in_range x = ltb (nat_abs x.coefficient) (10 ^ 15) && leb x.scale 15
 
-abbrev pub instantInRange : Day → Millisecond → Bool
-instantInRange d m = between dayLeast dayGreatest d.0 && between millisecondLeast millisecondGreatest m.0
+abbrev pub instant_in_range : Day → Millisecond → Bool
+instant_in_range d m = between day_least day_greatest d.0 && between millisecond_least millisecond_greatest m.0
 
 -- "A text has 0 to 1,024 units." (R5)
-abbrev pub textInRange : List ℕ → Bool
-textInRange text = leb (length text) 1024
+abbrev pub text_in_range : List ℕ → Bool
+text_in_range text = leb (length text) 1024
 
-abbrev pub valueInRange : Value → List ℕ → Bool
-valueInRange (value.Number x) text = numberInRange x
-valueInRange (value.Instant d m) text = instantInRange d m
-valueInRange value.Text text = textInRange text
+abbrev pub value_in_range : Value → List ℕ → Bool
+value_in_range (value.Number x) text = number_in_range x
+value_in_range (value.Instant d m) text = instant_in_range d m
+value_in_range value.Text text = text_in_range text
 
 -- all that is asked for is in its range; a value's text is the one lent beside it
 abbrev pub in_range : Ask → List ℕ → Bool
-in_range ask text = valueInRange ask.value text
+in_range ask text = value_in_range ask.value text
 
 -- a value, and nothing else, asked for
 abbrev pub asked : Value → Ask

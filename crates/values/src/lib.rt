@@ -2,7 +2,7 @@
 pub mod integers;
 
 ghost use Rattle.std.specs.Prelude.{◌≡◌};
-ghost use Rattle.values.specs.Ranges.{dayLeast, dayGreatest, dayOf, dayAnswer, millisecondLeast, millisecondGreatest, millisecondOf, millisecondAnswer, rangeAnswer, asked};
+ghost use Rattle.values.specs.Ranges.{day_least, day_greatest, day_of, day_answer, millisecond_least, millisecond_greatest, millisecond_of, millisecond_answer, range_answer, asked};
 
 // "A day number and a millisecond of the day are two units": a type for each, so that no call takes one for the other.
 // The field is open: a value out of range can be asked for, and is answered 9.
@@ -31,9 +31,9 @@ impl Day {
 
     // The day with this number, where it is one.
     pub fn new(n: u32) -> DayMade
-        ensures made { result ≡ dayOf n }
-        ensures* ends { do ⌜ ((← (⟦Day::LEAST⟧).entry) ≡ dayLeast) × ((← (⟦Day::GREATEST⟧).entry) ≡ dayGreatest) ⌝ }
-        ensures answered { dayAnswer result ≡ rangeAnswer dayLeast dayGreatest n }
+        ensures made { result ≡ day_of n }
+        ensures* ends { do ⌜ ((← (⟦Day::LEAST⟧).entry) ≡ day_least) × ((← (⟦Day::GREATEST⟧).entry) ≡ day_greatest) ⌝ }
+        ensures answered { day_answer result ≡ range_answer day_least day_greatest n }
     {
         if n < Self::LEAST {
             return DayMade::OutOfRange;
@@ -52,9 +52,9 @@ impl Millisecond {
 
     // The millisecond of the day with this number, where it is one.
     pub fn new(n: u32) -> MillisecondMade
-        ensures made { result ≡ millisecondOf n }
-        ensures* ends { do ⌜ ((← (⟦Millisecond::LEAST⟧).entry) ≡ millisecondLeast) × ((← (⟦Millisecond::GREATEST⟧).entry) ≡ millisecondGreatest) ⌝ }
-        ensures answered { millisecondAnswer result ≡ rangeAnswer millisecondLeast millisecondGreatest n }
+        ensures made { result ≡ millisecond_of n }
+        ensures* ends { do ⌜ ((← (⟦Millisecond::LEAST⟧).entry) ≡ millisecond_least) × ((← (⟦Millisecond::GREATEST⟧).entry) ≡ millisecond_greatest) ⌝ }
+        ensures answered { millisecond_answer result ≡ range_answer millisecond_least millisecond_greatest n }
     {
         if n < Self::LEAST {
             return MillisecondMade::OutOfRange;

@@ -3,7 +3,7 @@
 pub mod units;
 
 ghost use Rattle.std.specs.Prelude.{◌≡◌, [], ◌∷◌, ◌+◌, ◌<◌, ◌^◌, length};
-ghost use Rattle.figures.specs.Digits.{digitUnit, digitUnits, numeral};
+ghost use Rattle.figures.specs.Digits.{digit_unit, digit_units, numeral};
 ghost use Rattle.writing.specs.Put.{Put};
 
 use values::integers;
@@ -39,7 +39,7 @@ pub fn put_units(room: &mut [u16], at: usize, text: &[u16]) -> usize
 
 // The unit that shows a digit.
 pub fn digit_unit(d: u8) -> u16
-    ensures { result ≡ digitUnit d }
+    ensures { result ≡ digit_unit d }
 {
     units::ZERO + d as u16
 }
@@ -48,7 +48,7 @@ pub fn digit_unit(d: u8) -> u16
 // before `at`, none is looked for.
 pub fn put_digits(room: &mut [u16], at: usize, count: u32, n: u64) -> usize
     requires { at + count < 2 ^ 63 }
-    ensures { Put room.old at (digitUnits count n) result room.new }
+    ensures { Put room.old at (digit_units count n) result room.new }
 {
     let end = at + count as usize;
     if room.len() <= at {
@@ -67,7 +67,7 @@ pub fn put_digits(room: &mut [u16], at: usize, count: u32, n: u64) -> usize
 // Puts a number below 100 at `at`, in two digits.
 fn put_two(room: &mut [u16], at: usize, n: u64) -> usize
     requires { (at < 2 ^ 62) × (n < 100) }
-    ensures { Put room.old at (digitUnits 2 n) result room.new }
+    ensures { Put room.old at (digit_units 2 n) result room.new }
 {
     let a = put_unit(room, at, digit_unit((n / 10) as u8));
     put_unit(room, a, digit_unit((n % 10) as u8))

@@ -2,13 +2,13 @@
 -- Assumes nothing.
 use mathlib.Core.Path.{sym, ◌∙◌}
 use borrow.Author.Tests.{lt-ltb}
-use Rattle.bare_rows.specs.BareRows.{bareEntry}
+use Rattle.bare_rows.specs.BareRows.{bare_entry}
 use borrow.Author.Rules.{rules}
 use Rattle.bare_rows.proofs.is_bare.Statement.{statement}
 use Rattle.bare_rows.proofs.is_bare.Tie as tie
 
 pub is-bare-spec : {M : Type 1} → statement M
-unfolding bareEntry
+unfolding bare_entry
 is-bare-spec =
     tie.close
     (tie.spec

@@ -5,20 +5,20 @@ use native.Mathlib.Omega.{arith}
 use mathlib.Core.Path.{◌≡◌, refl, sym, ◌∙◌}
 use lib.ListN.{length, drop}
 use borrow.Author.Rules.{rules}
-use Rattle.boards.specs.Boards.{widestFrom, widestOf}
+use Rattle.boards.specs.Boards.{widest_from, widest_of}
 use Rattle.boards.proofs.Widths.{widest-next, widest-end}
 use Rattle.boards.proofs.widest_of.Statement.{statement}
 use Rattle.boards.proofs.widest_of.Tie as tie
 
 abbrev invariant-loop : tie.invariant-loop
 invariant-loop filled lengths rows w₀ k₀ w k =
-    (rows ≡ min (length filled) (length lengths)) × (k ≤ rows) × (widestFrom w (drop k filled) (drop k lengths) ≡ widestOf filled lengths)
+    (rows ≡ min (length filled) (length lengths)) × (k ≤ rows) × (widest_from w (drop k filled) (drop k lengths) ≡ widest_of filled lengths)
 
 abbrev decreases-loop : tie.decreases-loop
 decreases-loop filled lengths rows w₀ k₀ w k = rows - k
 
 loop-holds : tie.Need-loop-init invariant-loop decreases-loop
-unfolding widestOf
+unfolding widest_of
 loop-holds c = (c.least.ensures, omega arith, refl)
 
 loop-again : tie.Need-loop-preserved invariant-loop decreases-loop

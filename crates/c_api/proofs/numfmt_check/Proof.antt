@@ -1,7 +1,7 @@
 -- `c_api::numfmt_check` meets its contract.
 -- Assumes nothing.
 use mathlib.Core.Path.{ap, ◌∙◌}
-use Rattle.c_numbers.specs.Numbers.{checkNumber}
+use Rattle.c_numbers.specs.Numbers.{check_number}
 use borrow.Author.Rules.{rules}
 use Rattle.c_api.proofs.numfmt_check.Statement.{statement}
 use Rattle.c_api.proofs.numfmt_check.Tie as tie
@@ -12,4 +12,4 @@ numfmt-check-spec =
     (tie.spec
     (λ c κs. search rules)
     (λ c κs. search rules)
-    (λ c. c.check-number.ensures ∙ ap checkNumber c.before.check.ensures))
+    (λ c. c.check-number.ensures ∙ ap check_number c.before.check.ensures))

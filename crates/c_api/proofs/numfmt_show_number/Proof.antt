@@ -3,7 +3,7 @@
 use mathlib.Core.Path.{ap, ◌∙◌}
 use lib.IntN.{ℤ}
 use mir.Facts.{to_z-of_z}
-use Rattle.c_numbers.specs.Numbers.{numberAsk}
+use Rattle.c_numbers.specs.Numbers.{number_ask}
 use Rattle.c_api.proofs.Told.{shown-asked, room-asked}
 use borrow.Author.Rules.{rules}
 use Rattle.c_api.proofs.numfmt_show_number.Statement.{statement}
@@ -14,7 +14,7 @@ returns c =
     let s = c.before.before.before in
     let n = s.before.before.before in
     let b = n.before.before.before in
-    let back = ap (λ (z : ℤ). numberAsk z b.args.scale) (to_z-of_z b.ranges.coefficient) in
+    let back = ap (λ (z : ℤ). number_ask z b.args.scale) (to_z-of_z b.ranges.coefficient) in
     let a = n.number-ask.ensures ∙ back in
     (shown-asked a _ _ _ c.shown-numbers.ensures s.show.ensures.0, room-asked a _ _ _ s.show.ensures.1)
 

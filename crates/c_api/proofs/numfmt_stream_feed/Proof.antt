@@ -1,7 +1,7 @@
 -- `c_api::numfmt_stream_feed` meets its contract.
 -- Assumes nothing.
 use mathlib.Core.Path.{ap, ◌∙◌}
-use Rattle.c_numbers.specs.Numbers.{fedNumbers}
+use Rattle.c_numbers.specs.Numbers.{fed_numbers}
 use borrow.Author.Rules.{rules}
 use Rattle.c_api.proofs.numfmt_stream_feed.Statement.{statement}
 use Rattle.c_api.proofs.numfmt_stream_feed.Tie as tie
@@ -12,4 +12,4 @@ numfmt-stream-feed-spec =
     (tie.spec
     (λ c κs. search rules)
     (λ c κs. search rules)
-    (λ c. c.fed-numbers.ensures ∙ ap fedNumbers c.before.feed.ensures))
+    (λ c. c.fed-numbers.ensures ∙ ap fed_numbers c.before.feed.ensures))

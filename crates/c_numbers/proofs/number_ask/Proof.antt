@@ -4,7 +4,7 @@ use mathlib.Core.Path.{ap, ◌∙◌}
 use lib.IntN.{ℤ}
 use mir.Facts.{to_z-of_z}
 use borrow.Author.Rules.{rules}
-use Rattle.c_numbers.specs.Numbers.{numberAsk}
+use Rattle.c_numbers.specs.Numbers.{number_ask}
 use Rattle.c_numbers.proofs.number_ask.Statement.{statement}
 use Rattle.c_numbers.proofs.number_ask.Tie as tie
 
@@ -13,4 +13,4 @@ number-ask-spec =
     tie.close
     (tie.spec
     (λ c κs. search rules)
-    (λ c. c.asked.ensures ∙ ap (λ (z : ℤ). numberAsk z c.before.args.scale) (to_z-of_z c.before.ranges.coefficient)))
+    (λ c. c.asked.ensures ∙ ap (λ (z : ℤ). number_ask z c.before.args.scale) (to_z-of_z c.before.ranges.coefficient)))

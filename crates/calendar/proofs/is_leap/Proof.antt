@@ -7,12 +7,12 @@ use lib.Dec.{eqb}
 use native.Mathlib.Omega.{arith}
 use borrow.Author.Rules.{rules}
 use borrow.Author.Tests.{eq-eqb, ne_eqb}
-use Rattle.calendar.specs.Year.{gregorianLeap, leap}
+use Rattle.calendar.specs.Year.{gregorian_leap, leap}
 use Rattle.calendar.proofs.is_leap.Statement.{statement}
 use Rattle.calendar.proofs.is_leap.Tie as tie
 
 returns : tie.Need-returns
-unfolding gregorianLeap leap
+unfolding gregorian_leap leap
 returns c =
     let k : ℕ = c.before.args.years in
     rw (
@@ -22,7 +22,7 @@ returns c =
     )
 
 returns-2 : tie.Need-returns-2
-unfolding gregorianLeap leap
+unfolding gregorian_leap leap
 returns-2 c =
     let k : ℕ = c.before.before.args.years in
     rw (
@@ -33,13 +33,13 @@ returns-2 c =
     )
 
 returns-3 : tie.Need-returns-3
-unfolding gregorianLeap leap
+unfolding gregorian_leap leap
 returns-3 c =
     let k : ℕ = c.before.before.before.args.years in
     rw (eq-eqb ((1900 + k) % 400) 0 c.if3.true) (sym (or-true (eqb k 0)))
 
 returns-4 : tie.Need-returns-4
-unfolding gregorianLeap leap
+unfolding gregorian_leap leap
 returns-4 c =
     let k : ℕ = c.before.before.before.args.years in
     rw (

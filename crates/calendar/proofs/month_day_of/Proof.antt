@@ -4,7 +4,7 @@ use mathlib.Core.Path.{sym, ap}
 use Prim.Native.Nat.{◌≤◌}
 use native.Mathlib.Omega.{arith}
 use borrow.Author.Rules.{rules}
-use Rattle.calendar.specs.Made.{madeMonthDay}
+use Rattle.calendar.specs.Made.{made_month_day}
 use Rattle.calendar.proofs.Months.{outside, inside, month-of-moved}
 use Rattle.calendar.proofs.month_day_of.Statement.{statement}
 use Rattle.calendar.proofs.month_day_of.Tie as tie
@@ -21,7 +21,7 @@ returns-2 : tie.Need-returns-2
 returns-2 c =
     let a = c.before.before.before.args in
     let l = c.before.before.is-leap in
-    ap madeMonthDay
+    ap made_month_day
     (sym (month-of-moved a.years a.n c.moved.result l.result l.ensures (day c).0 (day c).1 c.moved.ensures.0))
 
 pub month-day-of-spec : {M : Type 1} → statement M

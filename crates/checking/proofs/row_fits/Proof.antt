@@ -8,10 +8,10 @@ use mathlib.Core.List.{List}
 use borrow.Author.Tests.{not-true, not-false}
 use Rattle.tables.specs.Words.{Entry}
 use Rattle.tables.proofs.Ranges.{head-ranges}
-use Rattle.table_words.specs.Sections.{headFrom}
+use Rattle.table_words.specs.Sections.{head_from}
 use Rattle.lists.proofs.Bools.{carry}
 use Rattle.tallies.specs.Tally.{items_of}
-use Rattle.checking.proofs.Rows.{Front, refused, no_number, number-answer, no-dated, dated-answer, no_bare, bare-answer, rowed, cut-rowed, front_of, number-again, other-again}
+use Rattle.checking.proofs.Rows.{Front, refused, no_number_lem, number-answer, no-dated, dated-answer, no_bare, bare-answer, rowed, cut-rowed, front_of, number-again, other-again}
 use borrow.Author.Rules.{rules}
 use Rattle.checking.proofs.row_fits.Statement.{statement}
 use Rattle.checking.proofs.row_fits.Tie as tie
@@ -20,16 +20,16 @@ returns : tie.Need-returns
 returns c =
     let h = c.before.before in
     rowed _ _ _ _ h.head_at.ensures
-    (refused (headFrom h.head_at.result) _ (λ r t. absurd (omega (arith, (head-ranges (headFrom h.head_at.result) r.head).colour))))
+    (refused (head_from h.head_at.result) _ (λ r t. absurd (omega (arith, (head-ranges (head_from h.head_at.result) r.head).colour))))
 
 returns-2 : tie.Need-returns-2
 returns-2 c =
     let h = c.before.before.before.before in
     rowed _ _ _ _ h.head_at.ensures
-    (refused (headFrom h.head_at.result) _ (λ r t. carry (sym c.before.condition-fits.ensures ∙ not-true _ c.if2.true) t))
+    (refused (head_from h.head_at.result) _ (λ r t. carry (sym c.before.condition-fits.ensures ∙ not-true _ c.if2.true) t))
 
 -- what is known of the head before the items
-front : (c : tie.After-struct-known2) → Front (headFrom c.before.before.before.before.before.head_at.result)
+front : (c : tie.After-struct-known2) → Front (head_from c.before.before.before.before.before.head_at.result)
 front c =
     let t = c.before.before in
     let f = t.before.before.before in
@@ -43,7 +43,7 @@ returns-3 c =
     let k = n.before.before in
     let h = k.before.before.before.before.before.head_at in
     rowed _ _ _ _ h.ensures
-    (no_number (headFrom h.result) _ n.before.if3.true (front k) _ n.number-row.ensures (not-true _ c.if4.true))
+    (no_number_lem (head_from h.result) _ n.before.if3.true (front k) _ n.number-row.ensures (not-true _ c.if4.true))
 
 returns-4 : tie.Need-returns-4
 returns-4 c =
@@ -51,7 +51,7 @@ returns-4 c =
     let k = n.before.before in
     let h = k.before.before.before.before.before.head_at in
     rowed _ _ _ _ h.ensures
-    (number-answer (headFrom h.result) _ n.before.if3.true (front k) _ n.number-row.ensures (not-false _ c.before.before.if4.false) _
+    (number-answer (head_from h.result) _ n.before.if3.true (front k) _ n.number-row.ensures (not-false _ c.before.before.if4.false) _
     (number-again _ _ _ h.ensures c.before.head-at2.ensures _ _ _ _ c.number_fits.ensures))
 
 returns-5 : tie.Need-returns-5
@@ -59,7 +59,7 @@ returns-5 c =
     let d = c.before.before in
     let k = d.before.before.before.before in
     let h = k.before.before.before.before.before.head_at in
-    rowed _ _ _ _ h.ensures (no-dated (headFrom h.result) _ d.before.if5.true _ d.dated-row.ensures (not-true _ c.if6.true))
+    rowed _ _ _ _ h.ensures (no-dated (head_from h.result) _ d.before.if5.true _ d.dated-row.ensures (not-true _ c.if6.true))
 
 returns-6 : tie.Need-returns-6
 returns-6 c =
@@ -67,7 +67,7 @@ returns-6 c =
     let k = d.before.before.before.before in
     let h = k.before.before.before.before.before.head_at in
     rowed _ _ _ _ h.ensures
-    (dated-answer (headFrom h.result) _ d.before.if5.true (front k) _ d.dated-row.ensures (not-false _ c.before.before.if6.false) _
+    (dated-answer (head_from h.result) _ d.before.if5.true (front k) _ d.dated-row.ensures (not-false _ c.before.before.if6.false) _
     (other-again _ _ _ h.ensures c.before.head-at3.ensures _ _ c.other-fits.ensures))
 
 returns-7 : tie.Need-returns-7
@@ -89,7 +89,7 @@ returns-8 c =
     let i = d.before.before in
     let h = i.before.before.before.before.before.before.head_at in
     rowed _ _ _ _ h.ensures
-    (no_bare (headFrom h.result) _ i.if3.false m _ (bare _ _ _ m (b.bare-fits.ensures i.if3.false d.if5.false)) c.if8.true)
+    (no_bare (head_from h.result) _ i.if3.false m _ (bare _ _ _ m (b.bare-fits.ensures i.if3.false d.if5.false)) c.if8.true)
 
 returns-9 : tie.Need-returns-9
 returns-9 c =
@@ -100,7 +100,7 @@ returns-9 c =
     let k = i.before in
     let h = k.before.before.before.before.before.head_at in
     rowed _ _ _ _ h.ensures
-    (bare-answer (headFrom h.result) _ i.if3.false m d.if5.false (front k) _
+    (bare-answer (head_from h.result) _ i.if3.false m d.if5.false (front k) _
     (bare _ _ _ m (b.bare-fits.ensures i.if3.false d.if5.false)) c.before.before.if8.false _
     (other-again _ _ _ h.ensures c.before.head-at4.ensures _ _ c.other-fits2.ensures))
 

@@ -2,12 +2,12 @@
 -- Assumes nothing.
 use native.Mathlib.Omega.{arith}
 use borrow.Author.Tests.{lt-ltb, le-ltb}
-use Rattle.choosing.specs.Comparing.{partsOrder, wholeOrder}
+use Rattle.choosing.specs.Comparing.{parts_order, whole_order}
 use Rattle.choosing.proofs.compare_parts.Statement.{statement}
 use Rattle.choosing.proofs.compare_parts.Tie as tie
 
 pub compare-parts-spec : {M : Type 1} → statement M
-unfolding partsOrder wholeOrder
+unfolding parts_order whole_order
 compare-parts-spec =
     tie.close
     (tie.spec

@@ -1,6 +1,6 @@
 -- `choosing::condition_holds` meets its contract.
 -- Assumes nothing.
-use Rattle.tables.specs.Decode.{whole_at, millionthsAt}
+use Rattle.tables.specs.Decode.{whole_at, millionths_at}
 use Rattle.tables.proofs.Ranges.{head-ranges}
 use Rattle.choosing.proofs.Conditions.{condition-read}
 use borrow.Author.Rules.{rules}
@@ -8,13 +8,13 @@ use Rattle.choosing.proofs.condition_holds.Statement.{statement}
 use Rattle.choosing.proofs.condition_holds.Tie as tie
 
 compare-requires : tie.Need-compare-requires
-unfolding millionthsAt
+unfolding millionths_at
 compare-requires c κs =
     let h = c.before.before in
     (h.before.before.requires.3, rw c.number2.ensures (head-ranges _ h.head_of.ensures.1).millionths)
 
 returns : tie.Need-returns
-unfolding whole_at millionthsAt
+unfolding whole_at millionths_at
 returns c =
     let o = c.before.before.before in
     let m = o.before in

@@ -3,21 +3,21 @@
 use mathlib.Core.Path.{ap}
 use mathlib.Core.Bool.{not}
 use borrow.Author.Tests.{ne_eqb}
-use Rattle.tables.specs.Decode.{comparisonAt}
-use Rattle.choosing.specs.Comparing.{holdsFor}
+use Rattle.tables.specs.Decode.{comparison_at}
+use Rattle.choosing.specs.Comparing.{holds_for}
 use borrow.Author.Rules.{rules}
 use Rattle.choosing.proofs.holds.Statement.{statement}
 use Rattle.choosing.proofs.holds.Tie as tie
 
 returns-6 : tie.Need-returns-6
-unfolding holdsFor comparisonAt
+unfolding holds_for comparison_at
 returns-6 c =
     let r = c.match.rest in
     simp (ne_eqb _ _ r.0.0.0.0.1, ne_eqb _ _ r.0.0.0.1, ne_eqb _ _ r.0.0.1, ne_eqb _ _ r.0.1, ne_eqb _ _ r.1)
     (ap not c.before.before.is-equal.ensures)
 
 pub holds-spec : {M : Type 1} → statement M
-unfolding holdsFor comparisonAt
+unfolding holds_for comparison_at
 holds-spec =
     tie.close
     (tie.spec

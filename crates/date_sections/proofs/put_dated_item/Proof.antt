@@ -1,7 +1,7 @@
 -- `date_sections::put_dated_item` meets its contract.
 -- Assumes nothing.
 use native.Mathlib.Omega.{arith}
-use Rattle.formats.specs.Text.{itemUnits}
+use Rattle.formats.specs.Text.{item_units}
 use Rattle.tables.specs.Decode.{item_at}
 use Rattle.tables.proofs.BackEntries.{tag-known}
 use Rattle.writing.proofs.Laws.{put-none}
@@ -12,21 +12,21 @@ use Rattle.date_sections.proofs.put_dated_item.Statement.{statement}
 use Rattle.date_sections.proofs.put_dated_item.Tie as tie
 
 literal : tie.Need-returns-2
-unfolding itemUnits item_at
+unfolding item_units item_at
 literal c =
     let p = c.before.before in
     let k = p.before.before in
     (λ x kind q i f. rw k.match.keys1 p.put-unit.ensures, loose-day _ _ _ k.before.before.before.requires.1 (omega arith) (omega arith))
 
 blank : tie.Need-returns-3
-unfolding itemUnits item_at
+unfolding item_units item_at
 blank c =
     let p = c.before.before in
     let k = p.before.before in
     (λ x kind q i f. rw k.match.keys2 p.put-unit2.ensures, loose-day _ _ _ k.before.before.before.requires.1 (omega arith) (omega arith))
 
 fill : tie.Need-returns-4
-unfolding itemUnits item_at
+unfolding item_units item_at
 fill c =
     let g = c.before in
     let o = c.match.rest in

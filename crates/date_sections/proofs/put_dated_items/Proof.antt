@@ -5,8 +5,8 @@ use Prim.Native.Nat.{◌-◌}
 use native.Mathlib.Omega.{arith}
 use mathlib.Core.Path.{refl}
 use Rattle.lists.specs.Lists.{any}
-use Rattle.tables.specs.Words.{entriesIn}
-use Rattle.date_text.specs.Moment.{datedEntry}
+use Rattle.tables.specs.Words.{entries_in}
+use Rattle.date_text.specs.Moment.{dated_entry}
 use Rattle.date_text.proofs.Moments.{dated-at}
 use Rattle.date_sections.specs.Dated.{DatedIs}
 use Rattle.date_sections.proofs.Dated.{dated-put, dated-short}
@@ -18,7 +18,7 @@ use Rattle.date_sections.proofs.put_dated_items.Statement.{statement}
 use Rattle.date_sections.proofs.put_dated_items.Tie as tie
 
 abbrev invariant-loop : tie.invariant-loop
-invariant-loop room₀ items m n k₀ o₀ finest₀ room k o finest = Walking (DatedIs m (any datedEntry (entriesIn items))) room₀ 0 items n k room o × Finest items n k finest
+invariant-loop room₀ items m n k₀ o₀ finest₀ room k o finest = Walking (DatedIs m (any dated_entry (entries_in items))) room₀ 0 items n k room o × Finest items n k finest
 
 abbrev decreases-loop : tie.decreases-loop
 decreases-loop room₀ items m n k₀ o₀ finest₀ room k o finest = n - k

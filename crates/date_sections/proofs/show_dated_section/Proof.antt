@@ -2,7 +2,7 @@
 -- Assumes nothing.
 use mathlib.Core.Path.{ap}
 use Rattle.tables.specs.Words.{Head}
-use Rattle.tables.specs.Encode.{headOf}
+use Rattle.tables.specs.Encode.{head_of}
 use mathlib.Core.Bool.{false}
 use Rattle.date_sections.proofs.FinestUnit.{dated-exactly}
 use Rattle.section_text.proofs.Fitting.{unsigned}
@@ -20,7 +20,7 @@ show-dated-items-requires c κs =
     (e.few, dated-ready e p.2 p.3)
 
 returns : tie.Need-returns
-unfolding headOf
+unfolding head_of
 returns c =
     let s = c.before.before in
     let o = s.before.before in

@@ -1,12 +1,12 @@
 -- `date_text::hour_shown` meets its contract.
 -- Assumes nothing.
-use Rattle.formats.specs.Text.{hourShown}
+use Rattle.formats.specs.Text.{hour_shown}
 use borrow.Author.Rules.{rules}
 use Rattle.date_text.proofs.hour_shown.Statement.{statement}
 use Rattle.date_text.proofs.hour_shown.Tie as tie
 
 pub hour-shown-spec : {M : Type 1} → statement M
-unfolding hourShown
+unfolding hour_shown
 hour-shown-spec =
     tie.close
     (tie.spec

@@ -2,14 +2,14 @@
 -- Assumes nothing.
 use native.Mathlib.Omega.{arith}
 use Rattle.figures.proofs.Past.{past}
-use Rattle.calendar.specs.Names.{units, monthNames, monthName}
+use Rattle.calendar.specs.Names.{units, month_names, month_name}
 use Rattle.date_text.specs.Letters.{packed}
 use Rattle.date_text.proofs.Letters.{no-month}
 use Rattle.date_text.proofs.month_letters.Statement.{statement}
 use Rattle.date_text.proofs.month_letters.Tie as tie
 
 pub month-letters-spec : {M : Type 1} → statement M
-unfolding packed monthName monthNames units
+unfolding packed month_name month_names units
 month-letters-spec =
     tie.close
     (tie.spec

@@ -5,7 +5,7 @@ use Prim.Native.Nat.{◌+◌, ◌≤◌}
 use native.Mathlib.Omega.{arith}
 use Rattle.writing.specs.Put.{Rest}
 use Rattle.writing.proofs.Laws.{rest_put, rest-done}
-use Rattle.date_text.specs.Letters.{lettersUpTo}
+use Rattle.date_text.specs.Letters.{letters_up_to}
 use Rattle.date_text.proofs.Letters.{letters-step, letters-none, letters-zero}
 use borrow.Author.Rules.{rules}
 use Rattle.date_text.proofs.put_letters.Statement.{statement}
@@ -13,7 +13,7 @@ use Rattle.date_text.proofs.put_letters.Tie as tie
 
 abbrev invariant-loop : tie.invariant-loop
 invariant-loop room₀ at most letters left₀ rest₀ o₀ room left rest o =
-    Rest room₀ at (lettersUpTo most letters) room o (lettersUpTo left rest) × (o + left ≤ at + most)
+    Rest room₀ at (letters_up_to most letters) room o (letters_up_to left rest) × (o + left ≤ at + most)
 
 abbrev decreases-loop : tie.decreases-loop
 decreases-loop room₀ at most letters left₀ rest₀ o₀ room left rest o = left

@@ -4,23 +4,23 @@ use Prim.Native.Nat.{min}
 use mathlib.Core.Path.{sym, ap, ◌∙◌}
 use native.Mathlib.Omega.{arith}
 use borrow.Author.Rules.{rules}
-use Rattle.calendar.specs.Clock.{Clock, clockOf}
-use Rattle.formats.specs.Text.{itemUnits}
-use Rattle.formats.specs.Reading.{itemSpan}
+use Rattle.calendar.specs.Clock.{Clock, clock_of}
+use Rattle.formats.specs.Text.{item_units}
+use Rattle.formats.specs.Reading.{item_span}
 use Rattle.tables.specs.Decode.{item_at}
 use Rattle.date_text.proofs.Spans.{with-day, named-day}
 use Rattle.date_text.proofs.put_moment_item.Statement.{statement}
 use Rattle.date_text.proofs.put_moment_item.Tie as tie
 
 part : tie.Need-returns
-unfolding clockOf itemUnits item_at itemSpan
+unfolding clock_of item_units item_at item_span
 part c =
     let p = c.before.before.before.before in
     let k = p.before.before.before.if1.true in
     (λ x q i d. rw k (rw (ap (λ (k : Clock). k.thousandth) i.clock) at p.put-part.ensures), rw k (c.finer.ensures ∙ ap (min _) c.before.part-span.ensures))
 
 half-day : tie.Need-returns-2
-unfolding clockOf itemUnits item_at itemSpan
+unfolding clock_of item_units item_at item_span
 half-day c =
     let p = c.before.before in
     let k = p.before.before.before.if2.true in

@@ -4,14 +4,14 @@ use Prim.Native.Nat.{◌-◌}
 use mathlib.Core.Path.{refl, sym, ◌∙◌}
 use Rattle.lists.specs.Lists.{any}
 use Rattle.tables.proofs.Words.{Seeking, seeking-start, seeking-front, seeking-step, seeking-end}
-use Rattle.date_text.specs.Moment.{datedEntry}
+use Rattle.date_text.specs.Moment.{dated_entry}
 use Rattle.date_text.proofs.Moments.{dated-here, dated-later}
 use borrow.Author.Rules.{rules}
 use Rattle.date_text.proofs.shows_date.Statement.{statement}
 use Rattle.date_text.proofs.shows_date.Tie as tie
 
 abbrev invariant-loop : tie.invariant-loop
-invariant-loop items n k₀ k = Seeking (any datedEntry) items n k
+invariant-loop items n k₀ k = Seeking (any dated_entry) items n k
 
 abbrev decreases-loop : tie.decreases-loop
 decreases-loop items n k₀ k = n - k

@@ -2,14 +2,14 @@
 -- Assumes nothing.
 use native.Mathlib.Omega.{arith}
 use Rattle.figures.proofs.Past.{past}
-use Rattle.calendar.specs.Names.{units, weekdayNames, weekdayName}
+use Rattle.calendar.specs.Names.{units, weekday_names, weekday_name}
 use Rattle.date_text.specs.Letters.{packed}
 use Rattle.date_text.proofs.Letters.{no-weekday}
 use Rattle.date_text.proofs.weekday_letters.Statement.{statement}
 use Rattle.date_text.proofs.weekday_letters.Tie as tie
 
 pub weekday-letters-spec : {M : Type 1} → statement M
-unfolding packed weekdayName weekdayNames units
+unfolding packed weekday_name weekday_names units
 weekday-letters-spec =
     tie.close
     (tie.spec

@@ -3,12 +3,12 @@
 use mathlib.Core.Path.{◌≡◌, refl}
 use native.Mathlib.Omega.{arith}
 use borrow.Author.Tests.{eq-eqb, ne_eqb}
-use Rattle.formats.specs.Text.{yearUnits}
+use Rattle.formats.specs.Text.{year_units}
 use Rattle.date_text.proofs.year_numeral.Statement.{statement}
 use Rattle.date_text.proofs.year_numeral.Tie as tie
 
 pub year-numeral-spec : {M : Type 1} → statement M
-unfolding yearUnits
+unfolding year_units
 year-numeral-spec =
     tie.close
     (tie.spec

@@ -8,7 +8,7 @@ use lib.Dec.{leb}
 use borrow.Author.Tests.{leb-true, leb-false, le-leb, lt-leb}
 use borrow.Author.Rules.{rules}
 use Rattle.lists.proofs.Bools.{by_cases}
-use Rattle.emitting.specs.Emit.{formDigit}
+use Rattle.emitting.specs.Emit.{form_digit}
 use Rattle.emitting.proofs.digit_after.Statement.{statement}
 use Rattle.emitting.proofs.digit_after.Tie as tie
 
@@ -22,8 +22,8 @@ low n l a b c = omega arith
 late : (anew n q : ℕ) → 33 ≤ n → q ≡ cond (leb 25 n && leb n 32) anew q
 late anew n q l = rw (le-leb 25 n (omega arith), lt-leb n 32 (omega arith))
 
-other : (anew n q : ℕ) → (n ≡ 4 → ⊥) → (n ≡ 5 → ⊥) → (n ≡ 6 → ⊥) → (n ≡ 25 → ⊥) → (n ≡ 26 → ⊥) → (n ≡ 27 → ⊥) → (n ≡ 28 → ⊥) → (n ≡ 29 → ⊥) → (n ≡ 30 → ⊥) → (n ≡ 31 → ⊥) → (n ≡ 32 → ⊥) → q ≡ formDigit anew n q
-unfolding formDigit
+other : (anew n q : ℕ) → (n ≡ 4 → ⊥) → (n ≡ 5 → ⊥) → (n ≡ 6 → ⊥) → (n ≡ 25 → ⊥) → (n ≡ 26 → ⊥) → (n ≡ 27 → ⊥) → (n ≡ 28 → ⊥) → (n ≡ 29 → ⊥) → (n ≡ 30 → ⊥) → (n ≡ 31 → ⊥) → (n ≡ 32 → ⊥) → q ≡ form_digit anew n q
+unfolding form_digit
 other anew n q a b c d e f g h i j k =
     by_cases (leb 4 n)
     (λ x.
@@ -35,7 +35,7 @@ other anew n q a b c d e f g h i j k =
     before n l = omega arith
 
 pub digit-after-spec : {M : Type 1} → statement M
-unfolding formDigit
+unfolding form_digit
 digit-after-spec =
     tie.close
     (tie.spec

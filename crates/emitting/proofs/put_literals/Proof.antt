@@ -6,7 +6,7 @@ use native.Mathlib.Omega.{arith}
 use lib.ListN.{take, drop}
 use Rattle.writing.specs.Put.{Rest}
 use Rattle.writing.proofs.Laws.{rest-start, rest_put, rest-done}
-use Rattle.emitting.specs.Emit.{literalWords}
+use Rattle.emitting.specs.Emit.{literal_words}
 use Rattle.emitting.proofs.Buffer.{literals-first, literals-none, literals_end}
 use borrow.Author.Rules.{rules}
 use Rattle.emitting.proofs.put_literals.Statement.{statement}
@@ -14,7 +14,7 @@ use Rattle.emitting.proofs.put_literals.Tie as tie
 
 abbrev invariant-loop : tie.invariant-loop
 invariant-loop room₀ at code from count o₀ i₀ more₀ room o i more =
-    Rest room₀ at (literalWords (take count (drop from code))) room o (literalWords (take more (drop i code)))
+    Rest room₀ at (literal_words (take count (drop from code))) room o (literal_words (take more (drop i code)))
     × (o + 2 * from ≡ at + 2 * i)
 
 abbrev decreases-loop : tie.decreases-loop

@@ -7,7 +7,7 @@ use native.Mathlib.Omega.{arith}
 use lib.ListN.{drop}
 use borrow.Author.Tests.{ne_eqb}
 use Rattle.formats.specs.Kinds.{leading_zeros}
-use Rattle.marks.specs.Marks.{tokensIn}
+use Rattle.marks.specs.Marks.{tokens_in}
 use Rattle.emitting.proofs.Buffer.{zeros-next, zeros-stop, zeros-end, zeros-all, zeros-three}
 use borrow.Author.Rules.{rules}
 use Rattle.emitting.proofs.zeros_from.Statement.{statement}
@@ -15,7 +15,7 @@ use Rattle.emitting.proofs.zeros_from.Tie as tie
 
 abbrev invariant-loop : tie.invariant-loop
 invariant-loop body i n₀ j₀ n j =
-    (leading_zeros (tokensIn [] (drop i body)) ≡ n + leading_zeros (tokensIn [] (drop j body))) × (n ≤ 3) × (j ≡ i + 3 * n)
+    (leading_zeros (tokens_in [] (drop i body)) ≡ n + leading_zeros (tokens_in [] (drop j body))) × (n ≤ 3) × (j ≡ i + 3 * n)
 
 abbrev decreases-loop : tie.decreases-loop
 decreases-loop body i n₀ j₀ n j = 3 - n

@@ -5,7 +5,7 @@ use native.Mathlib.Omega.{arith}
 use mathlib.Core.Path.{◌≡◌, refl, sym}
 use mathlib.Core.List.{List}
 use lib.ListN.{length, take}
-use Rattle.formats.specs.Accept.{fine, lengthVerdict}
+use Rattle.formats.specs.Accept.{fine, length_verdict}
 use Rattle.lexing.specs.declared.buffer.Filled.TheVariants.{All}
 use Rattle.examining.specs.Examine.{Buffered}
 use Rattle.examining.proofs.Answering.{examined-refused, examined-front, length_none, length_over, length-fair, filled-few, filled-count, filled-all, filled-bad, token-inside}
@@ -21,7 +21,7 @@ module _ (f : tie.After-fill) where
   small : length code ≤ 254
   small = f.before.before.if2.left
 
-  fair : lengthVerdict code ≡ fine
+  fair : length_verdict code ≡ fine
   fair = length-fair _ f.before.before.before.if1.left small
 
   module _ (n k : ℕ) (e : f.fill.result ≡ All n k) where

@@ -1,12 +1,12 @@
 -- `figure_text::ends_group` meets its contract: each arm is computed.
 -- Assumes nothing.
-use Rattle.formats.specs.Text.{endsGroup}
+use Rattle.formats.specs.Text.{ends_group}
 use Rattle.figure_text.proofs.Digits.{no_end}
 use Rattle.figure_text.proofs.ends_group.Statement.{statement}
 use Rattle.figure_text.proofs.ends_group.Tie as tie
 
 pub ends-group-spec : {M : Type 1} → statement M
-unfolding endsGroup
+unfolding ends_group
 ends-group-spec =
     tie.close
     (tie.spec

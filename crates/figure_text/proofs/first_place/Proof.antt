@@ -3,12 +3,12 @@
 use native.Mathlib.Omega.{arith}
 use borrow.Author.Rules.{rules}
 use borrow.Author.Tests.{eq-eqb, ne_eqb}
-use Rattle.figure_text.specs.Shown.{firstPlace}
+use Rattle.figure_text.specs.Shown.{first_place}
 use Rattle.figure_text.proofs.first_place.Statement.{statement}
 use Rattle.figure_text.proofs.first_place.Tie as tie
 
 pub first-place-spec : {M : Type 1} → statement M
-unfolding firstPlace
+unfolding first_place
 first-place-spec =
     tie.close
     (tie.spec

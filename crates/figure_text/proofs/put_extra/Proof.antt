@@ -5,7 +5,7 @@ use Prim.Native.Nat.{◌+◌, ◌-◌, ◌*◌, ◌≤◌}
 use native.Mathlib.Omega.{arith}
 use borrow.Author.Rules.{rules}
 use lib.ListN.{length}
-use Rattle.formats.specs.Text.{Context, extraUnits}
+use Rattle.formats.specs.Text.{Context, extra_units}
 use Rattle.writing.proofs.Laws.{put-size}
 use Rattle.writing.specs.Put.{Rest}
 use Rattle.figure_text.specs.Shown.{FiguresAre}
@@ -19,7 +19,7 @@ invariant-loop room₀ at digits f q k₀ o₀ room k o =
     × (o + 2 * k ≤ at + 80)
     × (length room ≡ length room₀)
     × ((c : Context) → FiguresAre digits f c → 15 ≤ q → q ≤ 40
-    → Rest room₀ at (extraUnits c.figures c.grouped q (40 - q)) room o (extraUnits c.figures c.grouped q (k - q)))
+    → Rest room₀ at (extra_units c.figures c.grouped q (40 - q)) room o (extra_units c.figures c.grouped q (k - q)))
 
 abbrev decreases-loop : tie.decreases-loop
 decreases-loop room₀ at digits f q k₀ o₀ room k o = k

@@ -2,13 +2,13 @@
 -- Assumes nothing.
 use native.Mathlib.Omega.{arith}
 use borrow.Author.Rules.{rules}
-use Rattle.formats.specs.Text.{placeUnits}
+use Rattle.formats.specs.Text.{place_units}
 use Rattle.writing.proofs.Laws.{put-put}
 use Rattle.figure_text.proofs.put_place.Statement.{statement}
 use Rattle.figure_text.proofs.put_place.Tie as tie
 
 returns : tie.Need-returns
-unfolding placeUnits
+unfolding place_units
 returns c =
     let p = c.before.before in
     (omega arith, λ x are. put-put (p.before.before.before.before.put-before.ensures.1 x are) (p.put-figure.ensures.1 x are))

@@ -5,7 +5,7 @@ use Prim.Native.Nat.{ℕ, ◌+◌, ◌-◌, ◌/◌, ◌^◌, ◌≤◌}
 use native.Mathlib.Omega.{arith}
 use borrow.Author.Rules.{rules}
 use lib.ListN.{length}
-use Rattle.figures.specs.Digits.{figures, digitUnits}
+use Rattle.figures.specs.Digits.{figures, digit_units}
 use Rattle.writing.proofs.Laws.{rest-start, put-size}
 use Rattle.writing.specs.Put.{Rest}
 use Rattle.figure_text.proofs.General.{run-turn, run-done}
@@ -18,7 +18,7 @@ invariant-loop room₀ at digits high low k₀ o₀ room k o =
     × (o + k ≤ at + high)
     × (length room ≡ length room₀)
     × ((n : ℕ) → digits ≡ figures n
-    → Rest room₀ at (digitUnits (high - low) (n / 10 ^ low)) room o (digitUnits (k - low) (n / 10 ^ low)))
+    → Rest room₀ at (digit_units (high - low) (n / 10 ^ low)) room o (digit_units (k - low) (n / 10 ^ low)))
 
 abbrev decreases-loop : tie.decreases-loop
 decreases-loop room₀ at digits high low k₀ o₀ room k o = k

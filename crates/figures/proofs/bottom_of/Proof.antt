@@ -4,19 +4,19 @@ use mathlib.Core.Path.{◌≡◌, refl, ◌∙◌}
 use Prim.Native.Nat.{◌-◌, ◌≤◌}
 use native.Mathlib.Omega.{arith}
 use borrow.Author.Rules.{rules}
-use Rattle.figures.specs.Places.{lowestFrom, lowestPlace}
+use Rattle.figures.specs.Places.{lowest_from, lowest_place}
 use Rattle.figures.proofs.Passed.{lowest-passed}
 use Rattle.figures.proofs.bottom_of.Statement.{statement}
 use Rattle.figures.proofs.bottom_of.Tie as tie
 
 abbrev invariant-loop : tie.invariant-loop
-invariant-loop digits k₀ k = (k ≤ 40) × (lowestFrom (40 - k) k digits ≡ lowestPlace digits)
+invariant-loop digits k₀ k = (k ≤ 40) × (lowest_from (40 - k) k digits ≡ lowest_place digits)
 
 abbrev decreases-loop : tie.decreases-loop
 decreases-loop digits k₀ k = 40 - k
 
 loop-holds : tie.Need-loop-init invariant-loop decreases-loop
-unfolding lowestPlace
+unfolding lowest_place
 loop-holds c = (omega arith, refl)
 
 returns : tie.Need-returns invariant-loop decreases-loop

@@ -4,13 +4,13 @@ use mathlib.Core.Path.{◌≡◌, ◌∙◌}
 use Prim.Native.Nat.{◌-◌, ◌≤◌}
 use native.Mathlib.Omega.{arith}
 use borrow.Author.Rules.{rules}
-use Rattle.figures.specs.Places.{lowestFrom, lowestPlace}
+use Rattle.figures.specs.Places.{lowest_from, lowest_place}
 use Rattle.figures.proofs.Places.{lowest-here, lowest-further, lowest-end, lowest-number}
 use Rattle.figures.proofs.lowest_place.Statement.{statement}
 use Rattle.figures.proofs.lowest_place.Tie as tie
 
 abbrev invariant-loop : tie.invariant-loop
-invariant-loop digits k₀ k = (k ≤ 40) × (lowestFrom (40 - k) k digits ≡ lowestPlace digits)
+invariant-loop digits k₀ k = (k ≤ 40) × (lowest_from (40 - k) k digits ≡ lowest_place digits)
 
 abbrev decreases-loop : tie.decreases-loop
 decreases-loop digits k₀ k = 40 - k

@@ -4,13 +4,13 @@ use mathlib.Core.Path.{◌≡◌, ◌∙◌}
 use Prim.Native.Nat.{◌≤◌}
 use native.Mathlib.Omega.{arith}
 use borrow.Author.Rules.{rules}
-use Rattle.figures.specs.Places.{placesUsed}
+use Rattle.figures.specs.Places.{places_used}
 use Rattle.figures.proofs.Places.{used-here, used-below, used-end, used-number}
 use Rattle.figures.proofs.places_used.Statement.{statement}
 use Rattle.figures.proofs.places_used.Tie as tie
 
 abbrev invariant-loop : tie.invariant-loop
-invariant-loop digits k₀ k = (k ≤ 40) × (placesUsed k digits ≡ placesUsed 40 digits)
+invariant-loop digits k₀ k = (k ≤ 40) × (places_used k digits ≡ places_used 40 digits)
 
 abbrev decreases-loop : tie.decreases-loop
 decreases-loop digits k₀ k = k

@@ -4,13 +4,13 @@ use mathlib.Core.Path.{◌≡◌, refl, ◌∙◌}
 use Prim.Native.Nat.{◌≤◌}
 use native.Mathlib.Omega.{arith}
 use borrow.Author.Rules.{rules}
-use Rattle.figures.specs.Places.{placesUsed}
+use Rattle.figures.specs.Places.{places_used}
 use Rattle.figures.proofs.Passed.{used-word}
 use Rattle.figures.proofs.top_of.Statement.{statement}
 use Rattle.figures.proofs.top_of.Tie as tie
 
 abbrev invariant-loop : tie.invariant-loop
-invariant-loop digits k₀ k = (k ≤ 40) × (placesUsed k digits ≡ placesUsed 40 digits)
+invariant-loop digits k₀ k = (k ≤ 40) × (places_used k digits ≡ places_used 40 digits)
 
 abbrev decreases-loop : tie.decreases-loop
 decreases-loop digits k₀ k = k

@@ -4,7 +4,7 @@ use native.Mathlib.Omega.{arith}
 use mathlib.Core.Path.{ap}
 use mathlib.Core.Bool.{Bool, ◌&&◌}
 use lib.Dec.{eqb}
-use Rattle.formats.specs.Items.{isPlace}
+use Rattle.formats.specs.Items.{is_place}
 use Rattle.tables.proofs.BackEntries.{place-tag}
 use Rattle.fraction_sections.proofs.Fractions.{places-told}
 use borrow.Author.Rules.{rules}
@@ -13,7 +13,7 @@ use Rattle.fraction_sections.proofs.is_blank.Tie as tie
 
 returns : tie.Need-returns
 returns c =
-    ap (λ (b : Bool). b && eqb c.before.before.args.above 0) (places-told _ _ _ (omega arith) (c.count-between.ensures isPlace place-tag))
+    ap (λ (b : Bool). b && eqb c.before.before.args.above 0) (places-told _ _ _ (omega arith) (c.count-between.ensures is_place place-tag))
 
 pub is-blank-spec : {M : Type 1} → statement M
 is-blank-spec =

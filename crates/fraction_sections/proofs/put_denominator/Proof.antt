@@ -5,7 +5,7 @@ use mathlib.Core.Path.{sym}
 use lib.ListN.{length-replicate}
 use lib.Seq.{length-take-le}
 use Prim.Native.Nat.{ℕ}
-use Rattle.formats.specs.Reading.{denominatorUnits}
+use Rattle.formats.specs.Reading.{denominator_units}
 use Rattle.writing.proofs.Laws.{put-put}
 use Rattle.fraction_sections.proofs.Denominators.{shown-segment, shown-spaceless}
 use borrow.Author.Rules.{rules}
@@ -19,7 +19,7 @@ put-whole-requires c κs =
     (omega (arith, b.requires.0), rw w.shown-words.ensures (shown-segment b.requires.2 b.requires.1))
 
 returns : tie.Need-returns
-unfolding denominatorUnits
+unfolding denominator_units
 returns c =
     let s = c.before.before in
     let n = s.before in

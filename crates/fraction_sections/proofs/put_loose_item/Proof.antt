@@ -2,7 +2,7 @@
 -- Assumes nothing.
 use Rattle.tables.specs.Decode.{item_at}
 use Rattle.writing.proofs.Laws.{put-none}
-use Rattle.fraction_sections.specs.Fraction.{looseUnits}
+use Rattle.fraction_sections.specs.Fraction.{loose_units}
 use Rattle.fraction_sections.proofs.Loose.{loose-other}
 use borrow.Author.Rules.{rules}
 use Rattle.fraction_sections.proofs.put_loose_item.Statement.{statement}
@@ -15,7 +15,7 @@ returns-4 c =
     rw (loose-other _ _ _ o.0.0.1 o.0.1 o.1) p.put-unit2.ensures
 
 pub put-loose-item-spec : {M : Type 1} → statement M
-unfolding looseUnits item_at
+unfolding loose_units item_at
 put-loose-item-spec =
     tie.close
     (tie.spec

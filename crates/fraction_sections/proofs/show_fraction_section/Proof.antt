@@ -4,7 +4,7 @@ use native.Mathlib.Omega.{arith}
 use mathlib.Core.Path.{sym, ap}
 use lib.Seq.{length-take-le}
 use Rattle.tables.specs.Words.{Head}
-use Rattle.tables.specs.Encode.{headOf}
+use Rattle.tables.specs.Encode.{head_of}
 use Rattle.table_words.proofs.Bodies.{section-limits}
 use Rattle.fraction_sections.proofs.Parts.{section-rules, parts-few, fraction-ready, fraction-shows}
 use borrow.Author.Rules.{rules}
@@ -26,7 +26,7 @@ show-mixed-requires c κs =
     fraction-ready o.items_of.ensures p.2 (section-rules _ _ p.0 p.1 p.2) (section-limits _ _ p.0 p.1) x.cut-start.ensures y.run-start.ensures
 
 returns : tie.Need-returns
-unfolding headOf
+unfolding head_of
 returns c =
     let m = c.before.before in
     let y = m.before.before.before.before.before in

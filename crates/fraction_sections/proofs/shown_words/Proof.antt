@@ -1,12 +1,12 @@
 -- `fraction_sections::shown_words` meets its contract.
 -- Assumes nothing.
-use Rattle.fraction_sections.specs.Fraction.{shownWords}
+use Rattle.fraction_sections.specs.Fraction.{shown_words}
 use borrow.Author.Rules.{rules}
 use Rattle.fraction_sections.proofs.shown_words.Statement.{statement}
 use Rattle.fraction_sections.proofs.shown_words.Tie as tie
 
 returns : tie.Need-returns
-unfolding shownWords
+unfolding shown_words
 returns c =
     let t3 = c.before in
     let w5 = t3.before in

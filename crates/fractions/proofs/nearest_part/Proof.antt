@@ -23,7 +23,7 @@ loop-holds : tie.Need-loop-init invariant-loop decreases-loop
 loop-holds c = start_between (omega arith) (omega arith)
 
 add-if1 : tie.Need-overflow-add-if1 invariant-loop decreases-loop
-add-if1 c = let b = c.before.before.loop.invariant in omega (arith, b.lowUpTo, b.highUpTo)
+add-if1 c = let b = c.before.before.loop.invariant in omega (arith, b.low_up_to, b.high_up_to)
 
 returns : tie.Need-returns invariant-loop decreases-loop
 returns c =

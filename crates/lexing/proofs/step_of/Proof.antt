@@ -2,9 +2,9 @@
 -- Assumes nothing.
 use mathlib.Core.Path.{◌∙◌}
 use borrow.Author.Rules.{rules}
-use Rattle.marks.specs.Marks.{markToken, markRows}
-use Rattle.lexing.specs.Marks.{stepBehind}
-use Rattle.lexing.specs.Classes.{classStep}
+use Rattle.marks.specs.Marks.{mark_token, mark_rows}
+use Rattle.lexing.specs.Marks.{step_behind}
+use Rattle.lexing.specs.Classes.{class_step}
 use Rattle.lexing.proofs.Classing.{class-marked, class-place, class-single, letter-low, class-letter, class-none, class-step}
 use Rattle.lexing.proofs.step_of.Statement.{statement}
 use Rattle.lexing.proofs.step_of.Tie as tie
@@ -43,31 +43,31 @@ letter-run-requires c κs =
     (a.requires, letter-low _ 0 a.args.us.now c.before.if3.false r.0.0.0.0.1 r.0.0.0.1 r.0.0.1, search rules)
 
 returns : tie.Need-returns
-unfolding classStep
+unfolding class_step
 returns c = class-step _ c.before.before.before.before.args.u c.before.before.before.before.args.us.now c.before.before.class_of.ensures _ (c.quoted-literal.ensures ∙ rw c.before.match.keys1)
 
 returns-2 : tie.Need-returns-2
-unfolding classStep stepBehind markToken markRows
+unfolding class_step step_behind mark_token mark_rows
 returns-2 c = class-step _ c.before.before.before.args.u c.before.before.before.args.us.now c.before.class_of.ensures _ (rw c.match.keys2)
 
 returns-3 : tie.Need-returns-3
-unfolding classStep
+unfolding class_step
 returns-3 c = class-step _ c.before.before.before.before.args.u c.before.before.before.before.args.us.now c.before.before.class_of.ensures _ (c.general-word.ensures ∙ rw c.before.match.keys3)
 
 returns-4 : tie.Need-returns-4
-unfolding classStep
+unfolding class_step
 returns-4 c = class-step _ c.before.before.before.before.args.u c.before.before.before.before.args.us.now c.before.before.class_of.ensures _ (c.half-day-word.ensures ∙ rw c.before.match.keys4)
 
 returns-5 : tie.Need-returns-5
-unfolding classStep
+unfolding class_step
 returns-5 c = class-step _ c.before.before.before.before.args.u c.before.before.before.before.args.us.now c.before.before.class_of.ensures _ (c.escaped-literal.ensures ∙ rw c.before.match.keys5)
 
 returns-6 : tie.Need-returns-6
-unfolding classStep
+unfolding class_step
 returns-6 c = class-step _ c.before.before.before.before.args.u c.before.before.before.before.args.us.now c.before.before.class_of.ensures _ (c.bracketed-token.ensures ∙ rw c.before.match.keys6)
 
 returns-7 : tie.Need-returns-7
-unfolding classStep
+unfolding class_step
 returns-7 c = class-step _ c.before.before.before.before.args.u c.before.before.before.before.args.us.now c.before.before.class_of.ensures _ (c.exponent-word.ensures ∙ rw c.before.match.keys7)
 
 returns-8 : tie.Need-returns-8

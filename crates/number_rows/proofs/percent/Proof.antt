@@ -1,13 +1,13 @@
 -- `number_rows::percent` meets its contract.
 -- Assumes nothing.
 use borrow.Author.Tests.{eq-eqb, ne_eqb, lt-ltb, le-ltb}
-use Rattle.number_rows.specs.NumberRows.{percentTaken}
+use Rattle.number_rows.specs.NumberRows.{percent_taken}
 use borrow.Author.Rules.{rules}
 use Rattle.number_rows.proofs.percent.Statement.{statement}
 use Rattle.number_rows.proofs.percent.Tie as tie
 
 pub percent-spec : {M : Type 1} → statement M
-unfolding percentTaken
+unfolding percent_taken
 percent-spec =
     tie.close
     (tie.spec

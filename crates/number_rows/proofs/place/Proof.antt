@@ -1,13 +1,13 @@
 -- `number_rows::place` meets its contract.
 -- Assumes nothing.
 use borrow.Author.Tests.{eq-eqb, ne_eqb, le-leb, lt-leb}
-use Rattle.number_rows.specs.NumberRows.{greatestPower, placeTaken}
+use Rattle.number_rows.specs.NumberRows.{greatest_power, place_taken}
 use borrow.Author.Rules.{rules}
 use Rattle.number_rows.proofs.place.Statement.{statement}
 use Rattle.number_rows.proofs.place.Tie as tie
 
 pub place-spec : {M : Type 1} → statement M
-unfolding placeTaken
+unfolding place_taken
 place-spec =
     tie.close
     (tie.spec
@@ -21,7 +21,7 @@ place-spec =
     rw (c.refused2.ensures, ne_eqb a.a 0 (search rules), ne_eqb a.s.next a.a (search rules), ne_eqb a.s.first 0 (search rules)))
     (λ c. search rules) (λ c κs. search rules)
     (λ c. let a = c.before.before.before.before.before.before.before.args in
-    rw (c.placed2.ensures, ne_eqb a.a 0 (search rules), ne_eqb a.s.next a.a (search rules), eq-eqb a.s.first 0 (search rules), le-leb a.a greatestPower (search rules)))
+    rw (c.placed2.ensures, ne_eqb a.a 0 (search rules), ne_eqb a.s.next a.a (search rules), eq-eqb a.s.first 0 (search rules), le-leb a.a greatest_power (search rules)))
     (λ c κs. search rules)
     (λ c. let a = c.before.before.before.before.before.before.before.args in
-    rw (c.refused3.ensures, ne_eqb a.a 0 (search rules), ne_eqb a.s.next a.a (search rules), eq-eqb a.s.first 0 (search rules), lt-leb a.a greatestPower (search rules))))
+    rw (c.refused3.ensures, ne_eqb a.a 0 (search rules), ne_eqb a.s.next a.a (search rules), eq-eqb a.s.first 0 (search rules), lt-leb a.a greatest_power (search rules))))

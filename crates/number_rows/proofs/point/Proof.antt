@@ -1,13 +1,13 @@
 -- `number_rows::point` meets its contract.
 -- Assumes nothing.
 use borrow.Author.Tests.{eq-eqb, ne_eqb}
-use Rattle.number_rows.specs.NumberRows.{pointTaken}
+use Rattle.number_rows.specs.NumberRows.{point_taken}
 use borrow.Author.Rules.{rules}
 use Rattle.number_rows.proofs.point.Statement.{statement}
 use Rattle.number_rows.proofs.point.Tie as tie
 
 pub point-spec : {M : Type 1} → statement M
-unfolding pointTaken
+unfolding point_taken
 point-spec =
     tie.close
     (tie.spec

@@ -2,13 +2,13 @@
 -- Assumes nothing.
 use mathlib.Core.Path.{sym, ◌∙◌}
 use borrow.Author.Tests.{ne_eqb}
-use Rattle.number_rows.specs.NumberRows.{numberAfter}
+use Rattle.number_rows.specs.NumberRows.{number_after}
 use borrow.Author.Rules.{rules}
 use Rattle.number_rows.proofs.step.Statement.{statement}
 use Rattle.number_rows.proofs.step.Tie as tie
 
 pub step_spec : {M : Type 1} → statement M
-unfolding numberAfter
+unfolding number_after
 step_spec =
     tie.close
     (tie.spec

@@ -5,14 +5,14 @@ use mathlib.Core.Path.{◌≡◌}
 use native.Mathlib.Omega.{arith}
 use lib.ListN.{length, drop}
 use borrow.Author.Tests.{ne_eqb}
-use Rattle.numbering.specs.Number.{integersIn}
+use Rattle.numbering.specs.Number.{integers_in}
 use Rattle.numbering.proofs.Scanning.{integers-here, integers-past, integers-end, more-places}
 use borrow.Author.Rules.{rules}
 use Rattle.numbering.proofs.integers_in.Statement.{statement}
 use Rattle.numbering.proofs.integers_in.Tie as tie
 
 abbrev invariant-loop : tie.invariant-loop
-invariant-loop words places₀ i₀ places i = (integersIn words ≡ places + integersIn (drop i words)) × (2 * places ≤ i) × (i ≤ length words + 1)
+invariant-loop words places₀ i₀ places i = (integers_in words ≡ places + integers_in (drop i words)) × (2 * places ≤ i) × (i ≤ length words + 1)
 
 abbrev decreases-loop : tie.decreases-loop
 decreases-loop words places₀ i₀ places i = length words - i

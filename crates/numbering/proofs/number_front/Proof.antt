@@ -6,7 +6,7 @@ use mathlib.Core.Path.{sym, ◌∙◌, ap}
 use native.Mathlib.Omega.{arith}
 use lib.ListN.{length, take, drop}
 use lib.Seq.{length-take-le}
-use Rattle.numbering.specs.Number.{integersIn, numberedFrom}
+use Rattle.numbering.specs.Number.{integers_in, numbered_from}
 use Rattle.numbering.proofs.Scanning.{front-put, rest-few}
 use borrow.Author.Rules.{rules}
 use Rattle.numbering.proofs.number_front.Statement.{statement}
@@ -47,10 +47,10 @@ returns c =
     let size = n.number-run.auto.0 ∙ length-take-le s a.args.words.now r.run-start.ensures.1 in
     let old = a.args.words.now in
     record {
-      wholes = i.integers-in.ensures.0 ∙ ap (λ k. integersIn (take k old)) e;
+      wholes = i.integers-in.ensures.0 ∙ ap (λ k. integers_in (take k old)) e;
       numerators = ap (λ k. (length old - k) / 2) e;
       words = front-put old n.number-run.new.0 m.number-run2.new.0 s (14 + i.integers-in.result) (14 + (length old - s) / 2) size n.number-run.ensures m.number-run2.ensures
-          ∙ ap (λ k. numberedFrom (14 + i.integers-in.result) (take k old) ++ numberedFrom (14 + (length old - s) / 2) (drop k old)) e;
+          ∙ ap (λ k. numbered_from (14 + i.integers-in.result) (take k old) ++ numbered_from (14 + (length old - s) / 2) (drop k old)) e;
     }
 
 pub number-front-spec : {M : Type 1} → statement M

@@ -3,14 +3,14 @@
 use Prim.Native.Nat.{◌-◌}
 use mathlib.Core.Path.{refl}
 use Rattle.tables.proofs.Words.{Seeking, seeking-start}
-use Rattle.planning.specs.Number.{firstArgument}
+use Rattle.planning.specs.Number.{first_argument}
 use Rattle.planning.proofs.Places.{place-met, place-passed, place_none}
 use borrow.Author.Rules.{rules}
 use Rattle.planning.proofs.first_argument.Statement.{statement}
 use Rattle.planning.proofs.first_argument.Tie as tie
 
 abbrev invariant-loop : tie.invariant-loop
-invariant-loop items n k₀ k = Seeking firstArgument items n k
+invariant-loop items n k₀ k = Seeking first_argument items n k
 
 abbrev decreases-loop : tie.decreases-loop
 decreases-loop items n k₀ k = n - k

@@ -1,12 +1,12 @@
 -- `planning::has_minus` meets its contract.
 -- Assumes nothing.
 use borrow.Author.Tests.{eq-eqb, ne_eqb}
-use Rattle.planning.specs.Minus.{minusTold}
+use Rattle.planning.specs.Minus.{minus_told}
 use Rattle.planning.proofs.has_minus.Statement.{statement}
 use Rattle.planning.proofs.has_minus.Tie as tie
 
 pub has-minus-spec : {M : Type 1} → statement M
-unfolding minusTold
+unfolding minus_told
 has-minus-spec =
     tie.close
     (tie.spec

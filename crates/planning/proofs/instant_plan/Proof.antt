@@ -2,9 +2,9 @@
 -- Assumes nothing.
 use native.Mathlib.Omega.{arith}
 use mathlib.Core.Path.{sym, ◌∙◌}
-use Rattle.formats.specs.Reading.{readValue, readInstant}
+use Rattle.formats.specs.Reading.{read_value, read_instant}
 use Rattle.choosing.proofs.Asking.{instant-scale}
-use Rattle.planning.specs.Plan.{valueReading}
+use Rattle.planning.specs.Plan.{value_reading}
 use Rattle.planning.proofs.Values.{day-beyond, millisecond-beyond, instant-within, found_within, none_found, some-found, sought-exact}
 use borrow.Author.Rules.{rules}
 use Rattle.planning.proofs.instant_plan.Statement.{statement}
@@ -21,7 +21,7 @@ instant-in-requires c κs =
     (h.before.before.before.before.before.before.before.requires, found_within _ _ _ (sym c.before.i.given.1 ∙ h.choose.ensures))
 
 returns-3 : tie.Need-returns-3
-unfolding readValue readInstant
+unfolding read_value read_instant
 returns-3 c =
     let h = c.before.before in
     let s = h.before in
@@ -31,7 +31,7 @@ returns-3 c =
     rw (instant-within a.d a.m (omega arith) (omega arith), none_found _ e (sym c.enum_told.given.1 ∙ h.choose.ensures))
 
 returns-4 : tie.Need-returns-4
-unfolding readValue
+unfolding read_value
 returns-4 c =
     let n = c.before.before in
     let h = n.before.before in
@@ -39,7 +39,7 @@ returns-4 c =
     let a = s.before.before.before.before.before.before.args in
     let e = sought-exact _ _ s.instant-sought.ensures in
     λ digits text.
-    rw (instant-within a.d a.m (omega arith) (omega arith), valueReading)
+    rw (instant-within a.d a.m (omega arith) (omega arith), value_reading)
     (some-found _ e _ (sym n.i.given.1 ∙ h.choose.ensures) (λ why g. c.instant-in.ensures digits text why g))
 
 pub instant-plan-spec : {M : Type 1} → statement M

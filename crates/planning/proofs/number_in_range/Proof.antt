@@ -1,7 +1,7 @@
 -- `planning::number_in_range` meets its contract.
 -- Assumes nothing.
 use mathlib.Core.Path.{sym, ◌∙◌}
-use Rattle.formats.specs.Reading.{readValue, readNumber}
+use Rattle.formats.specs.Reading.{read_value, read_number}
 use Rattle.planning.proofs.Values.{sought-scale, number-exact, found_within, none_found, some-found}
 use borrow.Author.Rules.{rules}
 use Rattle.planning.proofs.number_in_range.Statement.{statement}
@@ -17,7 +17,7 @@ number-in-requires c κs =
     (p.0, found_within _ _ _ (sym c.before.i.given.1 ∙ h.choose.ensures), p.1, p.2)
 
 returns : tie.Need-returns
-unfolding readValue readNumber
+unfolding read_value read_number
 returns c =
     let h = c.before.before.before in
     λ text x ev.
@@ -25,7 +25,7 @@ returns c =
     (λ size. rw (none_found _ (number-exact _ x h.before.number-sought.ensures ev) (sym c.before.enum_told.given.1 ∙ h.choose.ensures)))
 
 returns-2 : tie.Need-returns-2
-unfolding readValue
+unfolding read_value
 returns-2 c =
     let n = c.before.before in
     let h = n.before.before in

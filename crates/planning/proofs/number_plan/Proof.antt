@@ -2,7 +2,7 @@
 -- Assumes nothing.
 use mathlib.Core.Path.{sym, ◌∙◌}
 use Rattle.figures.proofs.Sign.{in-says, out-says}
-use Rattle.planning.specs.Plan.{valueReading}
+use Rattle.planning.specs.Plan.{value_reading}
 use Rattle.planning.proofs.Values.{taken-small}
 use borrow.Author.Rules.{rules}
 use Rattle.planning.proofs.number_plan.Statement.{statement}
@@ -23,7 +23,7 @@ returns-2 : tie.Need-returns-2
 returns-2 c =
     let n = c.before.before in
     let l = in-says _ _ (sym n.before.before.take-number.ensures ∙ n.v.given.1) in
-    λ text. rw (l.0, valueReading) (c.number-in-range.ensures text _ l.1)
+    λ text. rw (l.0, value_reading) (c.number-in-range.ensures text _ l.1)
 
 pub number-plan-spec : {M : Type 1} → statement M
 number-plan-spec =

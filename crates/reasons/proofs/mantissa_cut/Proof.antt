@@ -12,7 +12,7 @@ scientific-cut-requires c κs =
     let h = g.before in
     let p = h.before.before.requires in
     let w = scientific-words _ _ p.0 p.1 p.4 h.head_of.ensures.0 g.integer-places.ensures in
-    (p.2, p.3, w.least, w.most, w.decimalsMost)
+    (p.2, p.3, w.least, w.most, w.decimals_most)
 
 returns : tie.Need-returns
 returns c =

@@ -6,7 +6,7 @@ use Rattle.reasons.proofs.number_cut.Statement.{statement}
 use Rattle.reasons.proofs.number_cut.Tie as tie
 
 decimals-cut-requires : tie.Need-decimals-cut-requires
-decimals-cut-requires c κs = let z = c.scaling-of.ensures in (z.upMost, z.downMost, z.decimalsMost)
+decimals-cut-requires c κs = let z = c.scaling-of.ensures in (z.up_most, z.down_most, z.decimals_most)
 
 returns : tie.Need-returns
 returns c =

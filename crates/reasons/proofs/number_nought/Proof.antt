@@ -6,7 +6,7 @@ use Rattle.reasons.proofs.number_nought.Statement.{statement}
 use Rattle.reasons.proofs.number_nought.Tie as tie
 
 rounds-to-nought-requires : tie.Need-rounds-to-nought-requires
-rounds-to-nought-requires c κs = let z = c.scaling-of.ensures in (z.upMost, z.decimalsMost)
+rounds-to-nought-requires c κs = let z = c.scaling-of.ensures in (z.up_most, z.decimals_most)
 
 returns : tie.Need-returns
 returns c =

@@ -3,7 +3,7 @@
 use native.Mathlib.Omega.{arith}
 use mathlib.Core.Path.{sym, ◌∙◌}
 use Rattle.requests.proofs.Numerals.{digits-each}
-use Rattle.requests.specs.Written.{numeralUpTo}
+use Rattle.requests.specs.Written.{numeral_up_to}
 use Rattle.reasons_check.proofs.Asking.{room-asked, room-malformed}
 use borrow.Author.Rules.{rules}
 use Rattle.reasons_check.proofs.room_why.Statement.{statement}
@@ -13,7 +13,7 @@ number-behind-requires : tie.Need-number-behind-requires
 number-behind-requires c κs = (omega arith, omega arith, digits-each _ (sym c.before.is-digits.ensures ∙ c.if1.true))
 
 returns : tie.Need-returns
-unfolding numeralUpTo
+unfolding numeral_up_to
 returns c =
     let n = c.before in
     let t = n.before in

@@ -3,14 +3,14 @@
 use Prim.Native.Nat.{◌-◌}
 use mathlib.Core.Path.{refl}
 use Rattle.tables.proofs.Words.{Seeking, seeking-start, seeking-step}
-use Rattle.scans.specs.Scans.{hasTag}
+use Rattle.scans.specs.Scans.{has_tag}
 use Rattle.scans.proofs.Scanned.{found_here, found-later, found_none}
 use borrow.Author.Rules.{rules}
 use Rattle.scans.proofs.find_tag.Statement.{statement}
 use Rattle.scans.proofs.find_tag.Tie as tie
 
 abbrev invariant-loop : tie.invariant-loop
-invariant-loop words tag n k₀ k = Seeking (λ es. hasTag es tag) words n k
+invariant-loop words tag n k₀ k = Seeking (λ es. has_tag es tag) words n k
 
 abbrev decreases-loop : tie.decreases-loop
 decreases-loop words tag n k₀ k = n - k

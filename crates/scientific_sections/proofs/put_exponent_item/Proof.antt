@@ -1,7 +1,7 @@
 -- `scientific_sections::put_exponent_item` meets its contract.
 -- Assumes nothing.
 use Rattle.lists.proofs.Bools.{true-T}
-use Rattle.formats.specs.Text.{itemUnits}
+use Rattle.formats.specs.Text.{item_units}
 use Rattle.tables.specs.Decode.{item_at}
 use Rattle.tables.proofs.BackEntries.{between-facts}
 use Rattle.writing.proofs.Laws.{put-none}
@@ -27,7 +27,7 @@ mark c =
     λ x k q i f. rw (mark-units _ _ x k q i.0 t.if2.true r f, i.1.sign) p.put-mark.ensures
 
 point : tie.Need-returns-5
-unfolding itemUnits item_at
+unfolding item_units item_at
 point c =
     let p = c.before.before in
     let t = p.before.before in
@@ -35,14 +35,14 @@ point c =
     λ x k q i f. rw (t.match.keys3, point-bare x _ i.2 s.1) p.put-unit3.ensures
 
 fill : tie.Need-returns-6
-unfolding itemUnits item_at
+unfolding item_units item_at
 fill c =
     let u = c.before in
     let g = u.before in
     λ x k q i f. rw (power-fill k q _ _ i.0 g.before.before.requires.2 g.if1.false u.if2.false c.match.rest f) (put-none _ _)
 
 pub put-exponent-item-spec : {M : Type 1} → statement M
-unfolding itemUnits item_at
+unfolding item_units item_at
 put-exponent-item-spec =
     tie.close
     (tie.spec

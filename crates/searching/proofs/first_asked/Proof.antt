@@ -3,16 +3,16 @@
 use native.Mathlib.Omega.{arith}
 use borrow.Author.Rules.{rules}
 use borrow.Author.Tests.{lt-ltb, le-ltb}
-use Rattle.searching.specs.Machine.{border, firstAsked}
+use Rattle.searching.specs.Machine.{border, first_asked}
 use Rattle.searching.proofs.first_asked.Statement.{statement}
 use Rattle.searching.proofs.first_asked.Tie as tie
 
 returns : tie.Need-returns
-unfolding firstAsked
+unfolding first_asked
 returns c = rw (lt-ltb border c.before.args.count (omega arith))
 
 returns-2 : tie.Need-returns-2
-unfolding firstAsked
+unfolding first_asked
 returns-2 c = rw (le-ltb border c.before.args.count (omega arith))
 
 pub first-asked-spec : {M : Type 1} → statement M

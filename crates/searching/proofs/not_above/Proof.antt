@@ -3,24 +3,24 @@
 use native.Mathlib.Omega.{arith}
 use borrow.Author.Rules.{rules}
 use borrow.Author.Tests.{le-leb, lt-leb}
-use Rattle.searching.specs.Machine.{notAbove}
+use Rattle.searching.specs.Machine.{not_above}
 use Rattle.searching.proofs.not_above.Statement.{statement}
 use Rattle.searching.proofs.not_above.Tie as tie
 
 returns : tie.Need-returns
-unfolding notAbove
+unfolding not_above
 returns c =
     let s = c.before.args.s in
     rw (le-leb s.last s.asked (omega arith))
 
 returns-2 : tie.Need-returns-2
-unfolding notAbove
+unfolding not_above
 returns-2 c =
     let s = c.before.before.before.before.args.s in
     rw (lt-leb s.last s.asked (omega arith), c.before.if2.true) c.reading.ensures
 
 returns-3 : tie.Need-returns-3
-unfolding notAbove
+unfolding not_above
 returns-3 c =
     let s = c.before.before.before.before.args.s in
     rw (lt-leb s.last s.asked (omega arith), c.before.if2.false) c.between.ensures

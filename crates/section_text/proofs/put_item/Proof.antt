@@ -3,8 +3,8 @@
 use native.Mathlib.Omega.{arith}
 use Rattle.lists.proofs.Bools.{true-T}
 use Rattle.calendar.specs.Names.{units}
-use Rattle.formats.specs.Items.{itemAllowed}
-use Rattle.formats.specs.Text.{itemUnits}
+use Rattle.formats.specs.Items.{item_allowed}
+use Rattle.formats.specs.Text.{item_units}
 use Rattle.tables.specs.Decode.{item_at}
 use Rattle.tables.proofs.BackEntries.{between-facts}
 use Rattle.writing.proofs.Laws.{put-none}
@@ -33,7 +33,7 @@ other c =
     λ x k q i f. absurd (late-other k q _ _ g.before.before.before.requires.3 g.if1.false c.match.rest f i.undated i.unscientific i.unfractional)
 
 pub put-item-spec : {M : Type 1} → statement M
-unfolding itemUnits item_at itemAllowed units
+unfolding item_units item_at item_allowed units
 put-item-spec =
     tie.close
     (tie.spec

@@ -2,7 +2,7 @@
 -- Assumes nothing.
 use mathlib.Core.Path.{ap}
 use Rattle.tables.specs.Words.{Head}
-use Rattle.tables.specs.Encode.{headOf}
+use Rattle.tables.specs.Encode.{head_of}
 use Rattle.section_text.proofs.Bodies.{subject-uncut, items-fit, items-ready, items-shows}
 use borrow.Author.Rules.{rules}
 use Rattle.section_text.proofs.show_section.Statement.{statement}
@@ -16,7 +16,7 @@ show-items-requires c κs =
     (p.2, p.3, e.few, items-ready e p.4)
 
 returns : tie.Need-returns
-unfolding headOf
+unfolding head_of
 returns c =
     let s = c.before.before in
     let o = s.before.before in

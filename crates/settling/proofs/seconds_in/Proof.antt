@@ -4,14 +4,14 @@ use Prim.Native.Nat.{◌-◌, ◌≤◌}
 use mathlib.Core.Path.{◌≡◌, refl, sym, ◌∙◌}
 use native.Mathlib.Omega.{arith}
 use lib.ListN.{length, drop}
-use Rattle.settling.specs.Settle.{secondsIn}
+use Rattle.settling.specs.Settle.{seconds_in}
 use Rattle.settling.proofs.Tags.{seconds-here, seconds-past, seconds-none}
 use borrow.Author.Rules.{rules}
 use Rattle.settling.proofs.seconds_in.Statement.{statement}
 use Rattle.settling.proofs.seconds_in.Tie as tie
 
 abbrev invariant-loop : tie.invariant-loop
-invariant-loop words i₀ i = (secondsIn (drop i words) ≡ secondsIn words) × (i ≤ length words)
+invariant-loop words i₀ i = (seconds_in (drop i words) ≡ seconds_in words) × (i ≤ length words)
 
 abbrev decreases-loop : tie.decreases-loop
 decreases-loop words i₀ i = length words - i

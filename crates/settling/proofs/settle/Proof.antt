@@ -8,9 +8,9 @@ use lib.ListN.{length}
 use lib.Dec.{T}
 use Rattle.lists.specs.Lists.{every}
 use Rattle.formats.specs.Items.{Item}
-use Rattle.tables.specs.Words.{entriesWords}
-use Rattle.tables.specs.Encode.{runEntries}
-use Rattle.settling.specs.Settle.{isNoMinute}
+use Rattle.tables.specs.Words.{entries_words}
+use Rattle.tables.specs.Encode.{run_entries}
+use Rattle.settling.specs.Settle.{is_no_minute}
 use Rattle.settling.proofs.Settling.{Going, going_start, going_step, going_end}
 use borrow.Author.Rules.{rules}
 use Rattle.settling.proofs.settle.Statement.{statement}
@@ -18,7 +18,7 @@ use Rattle.settling.proofs.settle.Tie as tie
 
 abbrev invariant-loop : tie.invariant-loop
 invariant-loop words₀ hours₀ i₀ words hours i =
-    ((is : List Item) → T (every isNoMinute is) → words₀ ≡ entriesWords (runEntries is) [] → Going is words hours i) × (length words ≡ length words₀) × (i ≤ length words)
+    ((is : List Item) → T (every is_no_minute is) → words₀ ≡ entries_words (run_entries is) [] → Going is words hours i) × (length words ≡ length words₀) × (i ≤ length words)
 
 abbrev decreases-loop : tie.decreases-loop
 decreases-loop words₀ hours₀ i₀ words hours i = length words - i

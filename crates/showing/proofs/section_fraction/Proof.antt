@@ -3,7 +3,7 @@
 use native.Mathlib.Omega.{arith}
 use mathlib.Core.Path.{sym}
 use lib.Seq.{length-take-le}
-use Rattle.formats.specs.Items.{isPlace}
+use Rattle.formats.specs.Items.{is_place}
 use Rattle.tables.proofs.BackEntries.{place-tag}
 use Rattle.showing.proofs.Fractions.{fraction_words, fixed-is, places-range, places_is, fraction-exactly}
 use borrow.Author.Rules.{rules}
@@ -59,7 +59,7 @@ places-fit c =
     let u = q.before.before in
     let o = u.before in
     let p = o.before.before.requires in
-    omega (arith, places-range (fraction_words _ _ p.0 p.1 p.2 o.items_of.ensures u.cut-start.ensures) d.if1.false (c.count-between.ensures isPlace place-tag))
+    omega (arith, places-range (fraction_words _ _ p.0 p.1 p.2 o.items_of.ensures u.cut-start.ensures) d.if1.false (c.count-between.ensures is_place place-tag))
 
 nearest-fraction-requires : tie.Need-nearest-fraction-requires
 nearest-fraction-requires c κs =
@@ -68,7 +68,7 @@ nearest-fraction-requires c κs =
     let u = q.before.before in
     let o = u.before in
     let p = o.before.before.requires in
-    let r = places-range (fraction_words _ _ p.0 p.1 p.2 o.items_of.ensures u.cut-start.ensures) d.if1.false (c.count-between.ensures isPlace place-tag) in
+    let r = places-range (fraction_words _ _ p.0 p.1 p.2 o.items_of.ensures u.cut-start.ensures) d.if1.false (c.count-between.ensures is_place place-tag) in
     (p.3, p.4, r.0, r.1)
 
 returns-2 : tie.Need-returns-2
@@ -82,7 +82,7 @@ returns-2 c =
     let e = c.nearest-fraction.ensures in
     let f =
     places_is (fraction_words _ _ p.0 p.1 p.2 o.items_of.ensures u.cut-start.ensures) _ p.3 q.is-parted.ensures d.if1.false
-    (n.count-between.ensures isPlace place-tag) e.0 in
+    (n.count-between.ensures is_place place-tag) e.0 in
     (f.0, (λ x ev. fraction-exactly _ _ x ev p.2 (f.0 x ev) e.1, f.1))
 
 pub section-fraction-spec : {M : Type 1} → statement M

@@ -2,7 +2,7 @@
 -- Assumes nothing.
 use native.Mathlib.Omega.{arith}
 use mathlib.Core.Path.{refl}
-use Rattle.formats.specs.Reading.{numberContext, wholeContext, exponentContext}
+use Rattle.formats.specs.Reading.{number_context, whole_context, exponent_context}
 use Rattle.showing.proofs.Mantissas.{scientific-words, mantissa-subject, mantissa-nought, mantissa-exactly, exponent-shows, exponent-most, scientific-minus}
 use Rattle.showing.proofs.Checked.{shows-as}
 use borrow.Author.Rules.{rules}
@@ -15,7 +15,7 @@ round-scientific-requires c κs =
     let h = g.before in
     let p = h.before.before.before.requires in
     let w = scientific-words _ _ p.0 p.1 p.2 h.head_of.ensures.0 g.integer-places.ensures in
-    (p.3, p.4, w.least, w.most, w.decimalsMost)
+    (p.3, p.4, w.least, w.most, w.decimals_most)
 
 show-scientific-section-requires : tie.Need-show-scientific-section-requires
 show-scientific-section-requires c κs =
@@ -37,7 +37,7 @@ show-scientific-section-requires c κs =
     )
 
 returns : tie.Need-returns
-unfolding numberContext exponentContext wholeContext
+unfolding number_context exponent_context whole_context
 returns c =
     let y = c.before.before in
     let m = y.before.before.before in

@@ -4,8 +4,8 @@ use Prim.Native.Nat.{◌+◌, ◌*◌}
 use native.Mathlib.Omega.{arith}
 use mathlib.Core.Path.{◌≡◌}
 use lib.ListN.{take}
-use Rattle.lexing.specs.Buffer.{semicolonsIn}
-use Rattle.spans.specs.Span.{startBehind}
+use Rattle.lexing.specs.Buffer.{semicolons_in}
+use Rattle.spans.specs.Span.{start_behind}
 use Rattle.spans.proofs.Spanning.{behind-none, behind-some}
 use borrow.Author.Rules.{rules}
 use Rattle.spans.proofs.start_behind.Statement.{statement}
@@ -14,7 +14,7 @@ use Rattle.spans.proofs.start_behind.Tie as tie
 -- the place behind the semicolon found
 begins : (c : tie.After-semicolon-place)
     → c.semicolon-place.result + 1
-    ≡ startBehind 0 c.before.before.before.args.n (semicolonsIn (take (3 * c.before.before.before.args.count) c.before.before.before.args.tokens.now))
+    ≡ start_behind 0 c.before.before.before.args.n (semicolons_in (take (3 * c.before.before.before.args.count) c.before.before.before.args.tokens.now))
 begins c = behind-some _ _ _ (omega (arith, c.before.if1.false)) c.semicolon-place.ensures
 
 returns : tie.Need-returns

@@ -2,7 +2,7 @@
 -- Assumes nothing.
 use mathlib.Core.Path.{ap, ◌∙◌}
 use Rattle.tables.specs.Words.{Head}
-use Rattle.tables.specs.Encode.{headOf}
+use Rattle.tables.specs.Encode.{head_of}
 use mathlib.Core.Bool.{not}
 use lib.Dec.{eqb}
 use Rattle.tables.proofs.MadeHeads.{operator-some}
@@ -11,7 +11,7 @@ use Rattle.table_words.proofs.has_condition.Statement.{statement}
 use Rattle.table_words.proofs.has_condition.Tie as tie
 
 returns : tie.Need-returns
-unfolding headOf
+unfolding head_of
 returns c = ap (λ (h : Head). not (eqb h.operator 0)) c.before.head_of.ensures.0 ∙ operator-some _
 
 pub has-condition-spec : {M : Type 1} → statement M

@@ -2,7 +2,7 @@
 -- Assumes nothing.
 use mathlib.Core.Path.{ap, ◌∙◌}
 use Rattle.tables.specs.Words.{Head}
-use Rattle.tables.specs.Encode.{headOf, noMinus}
+use Rattle.tables.specs.Encode.{head_of, no_minus}
 use Prim.Native.Nat.{◌/◌, ◌%◌}
 use lib.Dec.{eqb}
 use Rattle.table_words.proofs.Heads.{minus-told}
@@ -11,7 +11,7 @@ use Rattle.table_words.proofs.no_minus.Statement.{statement}
 use Rattle.table_words.proofs.no_minus.Tie as tie
 
 returns : tie.Need-returns
-unfolding headOf noMinus
+unfolding head_of no_minus
 returns c = ap (λ (h : Head). eqb (h.flags / 2 % 2) 1) c.before.head_of.ensures.0 ∙ minus-told _ _ _
 
 pub no-minus-spec : {M : Type 1} → statement M

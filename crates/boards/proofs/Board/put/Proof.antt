@@ -2,7 +2,7 @@
 -- Assumes nothing.
 use native.Mathlib.Omega.{arith}
 use borrow.Author.Rules.{rules}
-use Rattle.boards.specs.Boards.{shownRow}
+use Rattle.boards.specs.Boards.{shown_row}
 use Rattle.boards.proofs.Putting.{with-width, room-kept, row-refused, room-shown, show-refused, show-done}
 use Rattle.boards.proofs.Board.put.Statement.{statement}
 use Rattle.boards.proofs.Board.put.Tie as tie
@@ -29,7 +29,7 @@ returns-3 c =
     let shows = s.show.ensures in
     let m = n.number.ensures in (
       show-done a.t1 a.row _ _ _ (omega arith) a.room.now shows.0 m (omega arith)
-          (with-width a.t1 a.row (shownRow s.show.result) c.widest_of.ensures),
+          (with-width a.t1 a.row (shown_row s.show.result) c.widest_of.ensures),
       room-shown a.t1 a.row _ _ _ (omega arith) a.room.now shows.0 m shows.1,
     )
 

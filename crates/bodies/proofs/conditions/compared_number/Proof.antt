@@ -2,7 +2,7 @@
 -- Assumes nothing.
 use borrow.Author.Rules.{rules}
 use Rattle.bodies.proofs.Comparing.{whole_length, whole-digits, decimals-part, beyond-whole, beyond-decimals, whole_room, compared}
-use Rattle.formats.specs.Tokens.{isDigit}
+use Rattle.formats.specs.Tokens.{is_digit}
 use Rattle.formats.proofs.Lexing.{leading-most}
 use native.Mathlib.Omega.{arith}
 use Rattle.bodies.proofs.conditions.compared_number.Statement.{statement}
@@ -12,7 +12,7 @@ digits-requires : tie.Need-digits-requires
 digits-requires c κs = search rules
 
 add-least : tie.Need-overflow-add-least
-add-least c = omega (arith, leading-most isDigit c.before.before.args.us.now, c.digits.ensures)
+add-least c = omega (arith, leading-most is_digit c.before.before.args.us.now, c.digits.ensures)
 
 least-requires : tie.Need-least-requires
 least-requires c κs = search rules

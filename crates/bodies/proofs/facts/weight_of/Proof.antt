@@ -1,17 +1,17 @@
 -- `bodies::facts::weight_of` meets its contract.
 -- Assumes nothing.
 use Rattle.lists.specs.Lists.{any}
-use Rattle.bodies.specs.Forms.{dateForms}
+use Rattle.bodies.specs.Forms.{date_forms}
 use Rattle.bodies.proofs.Tests.{weight-none}
 use Rattle.bodies.proofs.facts.weight_of.Statement.{statement}
 use Rattle.bodies.proofs.facts.weight_of.Tie as tie
 
 last : tie.Need-returns-15
-unfolding dateForms
+unfolding date_forms
 last c = weight-none c.before.args.form c.match.rest
 
 pub weight-of-spec : {M : Type 1} → statement M
-unfolding any dateForms
+unfolding any date_forms
 weight-of-spec =
     tie.close
     (tie.spec

@@ -1,7 +1,7 @@
 -- `drafting::drafts::cut_body` meets its contract.
 -- Assumes nothing.
 use borrow.Author.Rules.{rules}
-use Rattle.drafting.specs.Draft.{thousandsBy}
+use Rattle.drafting.specs.Draft.{thousands_by}
 use Rattle.drafting.proofs.Drafting.{no_shift}
 use Rattle.drafting.proofs.drafts.cut_body.Statement.{statement}
 use Rattle.drafting.proofs.drafts.cut_body.Tie as tie
@@ -15,7 +15,7 @@ returns c =
       k.before.before.cut-items-fit.ensures,
       k.cut-kind.ensures,
       c.cut-decimals.ensures,
-      no_shift s.args.t s.args.within (thousandsBy s.args.f s.args.c) s.requires,
+      no_shift s.args.t s.args.within (thousands_by s.args.f s.args.c) s.requires,
     )
 
 pub cut-body-spec : {M : Type 1} → statement M

@@ -6,9 +6,9 @@ use mathlib.Core.List.{List}
 use lib.ListN.{length}
 use Rattle.lists.proofs.Bools.{true-T}
 use Rattle.formats.specs.Tokens.{Token}
-use Rattle.marks.specs.Marks.{tokensIn}
+use Rattle.marks.specs.Marks.{tokens_in}
 use Rattle.writing.proofs.Laws.{put-size}
-use Rattle.drafting.specs.Draft.{settledWords, BodyRead}
+use Rattle.drafting.specs.Draft.{settled_words, BodyRead}
 use Rattle.drafting.proofs.Settled.{body-size, put-read, put-few}
 use Rattle.drafting.proofs.Drafting.{facts-commas, body-read, uncut-read, bare-parted, bare-drafted, cut-put, bare-put}
 use borrow.Author.Rules.{rules}
@@ -18,7 +18,7 @@ use Rattle.drafting.proofs.drafts.draft_body.Tie as tie
 commas-of-requires : tie.Need-commas-of-requires
 commas-of-requires c κs =
     let s = c.before.before.before.before in
-    (s.requires.0.1, λ code. facts-commas _ (tokensIn code s.args.body.now) (c.facts-of.ensures code))
+    (s.requires.0.1, λ code. facts-commas _ (tokens_in code s.args.body.now) (c.facts-of.ensures code))
 
 put-settled-requires : tie.Need-put-settled-requires
 put-settled-requires c κs =
@@ -27,17 +27,17 @@ put-settled-requires c κs =
     let code = s.args.code.now in
     let places = c.before.places_of.ensures in
     let p = s.requires.0 in
-    ((p.0, p.1, p.2, omega (arith, p.3, body-size (tokensIn code s.args.body.now))), (f.facts-of.ensures code, places.0 code, places.1, places.2))
+    ((p.0, p.1, p.2, omega (arith, p.3, body-size (tokens_in code s.args.body.now))), (f.facts-of.ensures code, places.0 code, places.1, places.2))
 
 -- where the body begins to be read, and its tokens
 abbrev start : tie.After-put-settled → tie.Start
 start c = c.before.before.before.before.before.before.before.before
 
 abbrev tokens : tie.After-put-settled → List Token
-tokens c = tokensIn (start c).args.code.now (start c).args.body.now
+tokens c = tokens_in (start c).args.code.now (start c).args.body.now
 
 -- the words of their items have room, and end in it
-room : (c : tie.After-put-settled) → (start c).args.at + length (settledWords (tokens c)) ≤ length (start c).args.items.now
+room : (c : tie.After-put-settled) → (start c).args.at + length (settled_words (tokens c)) ≤ length (start c).args.items.now
 room c = omega (arith, (start c).requires.0.3, body-size (tokens c))
 
 ends : (c : tie.After-put-settled) → ((start c).args.at ≤ c.put-settled.result) × (c.put-settled.result ≤ 508)

@@ -2,7 +2,7 @@
 -- Assumes nothing.
 use native.Mathlib.Omega.{arith}
 use mathlib.Core.Path.{ap}
-use Rattle.marks.specs.Marks.{tokensIn}
+use Rattle.marks.specs.Marks.{tokens_in}
 use Rattle.writing.proofs.Laws.{put-size}
 use Rattle.drafting.specs.declared.places.Places.{Places}
 use Rattle.drafting.proofs.Drafting.{facts-date, facts-fills}
@@ -25,20 +25,20 @@ part-settle-end c =
     let p = c.before.before in
     let s = p.before.before.before.before.before in
     let e = p.put-items.ensures in
-    omega (arith, e.next, put-size e, settled-size (tokensIn s.args.code.now s.args.body.now), s.requires.0.3)
+    omega (arith, e.next, put-size e, settled-size (tokens_in s.args.code.now s.args.body.now), s.requires.0.3)
 
 settle-requires : tie.Need-settle-requires
 settle-requires c κs =
     let p = c.before.before.before in
     let s = p.before.before.before.before.before in
-    put-few p.put-items.ensures (omega (arith, settled-size (tokensIn s.args.code.now s.args.body.now), s.requires.0.3)) s.requires.0.2
+    put-few p.put-items.ensures (omega (arith, settled-size (tokens_in s.args.code.now s.args.body.now), s.requires.0.3)) s.requires.0.2
 
 returns : tie.Need-returns
 returns c =
     let t = c.before.before in
     let p = t.before.before.before.before in
     let s = p.before.before.before.before.before in
-    settled-put (tokensIn s.args.code.now s.args.body.now) p.put-items.ensures s.requires.0.3 t.settle.ensures
+    settled-put (tokens_in s.args.code.now s.args.body.now) p.put-items.ensures s.requires.0.3 t.settle.ensures
 
 pub put-settled-spec : {M : Type 1} → statement M
 put-settled-spec =

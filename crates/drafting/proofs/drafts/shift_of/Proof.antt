@@ -7,7 +7,7 @@ use mathlib.Core.Bool.{true}
 use borrow.Author.Tests.{eq-eqb, ne_eqb, not-true, not-false}
 use Rattle.lists.proofs.Bools.{by_cases}
 use Rattle.tables.specs.Standing.{shift_of}
-use Rattle.tallies.specs.Tally.{kindTold, withinTold}
+use Rattle.tallies.specs.Tally.{kind_told, within_told}
 use Rattle.drafting.proofs.Drafting.{within-bounds}
 use Rattle.drafting.proofs.drafts.shift_of.Statement.{statement}
 use Rattle.drafting.proofs.drafts.shift_of.Tie as tie
@@ -19,11 +19,11 @@ returns-2 : tie.Need-returns-2
 unfolding shift_of
 returns-2 c =
     let a = c.before.before.before.before.args in
-    by_cases (withinTold a.t a.thousands)
-    (λ w. rw (w, ne_eqb (kindTold a.t) 2 (λ e. c.if2.true (c.before.kind.ensures ∙ e))))
+    by_cases (within_told a.t a.thousands)
+    (λ w. rw (w, ne_eqb (kind_told a.t) 2 (λ e. c.if2.true (c.before.kind.ensures ∙ e))))
     (λ w. rw w)
 
-told : (c : tie.After-struct-known) → withinTold c.before.before.before.before.before.args.t c.before.before.before.before.before.args.thousands ≡ true
+told : (c : tie.After-struct-known) → within_told c.before.before.before.before.before.args.t c.before.before.before.before.before.args.thousands ≡ true
 told c = sym c.before.before.before.before.within.ensures ∙ not-false _ c.before.before.before.if1.false
 
 bounds : (c : tie.After-struct-known)
@@ -46,7 +46,7 @@ returns-3 : tie.Need-returns-3
 unfolding shift_of
 returns-3 c =
     let s = c.before.before.before.before.before in
-    rw (told c, eq-eqb (kindTold s.args.t) 2 (sym c.before.before.kind.ensures ∙ c.before.if2.false))
+    rw (told c, eq-eqb (kind_told s.args.t) 2 (sym c.before.before.kind.ensures ∙ c.before.if2.false))
 
 pub shift-of-spec : {M : Type 1} → statement M
 shift-of-spec =

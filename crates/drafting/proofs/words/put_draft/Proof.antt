@@ -9,7 +9,7 @@ use mathlib.Core.List.{List, [], ◌∷◌}
 use borrow.Author.Rules.{rules}
 use lib.ListN.{drop, set, length-set}
 use lib.Seq.{sets}
-use Rattle.drafting.specs.Draft.{draftWords}
+use Rattle.drafting.specs.Draft.{draft_words}
 use Rattle.drafting.proofs.words.put_draft.Statement.{statement}
 use Rattle.drafting.proofs.words.put_draft.Tie as tie
 
@@ -27,7 +27,7 @@ returns c =
     let s = c.before.before.before.before.before.before.before.args in
     let a : ℕ = 16 * s.k in
     let l : List ℕ = set s.room.now a s.d.colour in
-    let ws : List ℕ = drop 1 (draftWords s.d) in
+    let ws : List ℕ = drop 1 (draft_words s.d) in
     stored l a 1 ws ∙ ap (λ (k : ℕ). sets l k ws) (one-add a)
 
 pub put-draft-spec : {M : Type 1} → statement M

@@ -4,14 +4,14 @@ use Prim.Native.Nat.{◌-◌}
 use native.Mathlib.Omega.{arith}
 use mathlib.Core.Path.{sym, ◌∙◌}
 use borrow.Author.Tests.{not-true, not-false}
-use Rattle.examining.specs.Examine.{passesBy}
+use Rattle.examining.specs.Examine.{passes_by}
 use Rattle.examining.proofs.Testing.{Seeking, seeking-start, seeking-fail, seeking-step, seeking-end}
 use borrow.Author.Rules.{rules}
 use Rattle.examining.proofs.verdicts.first_failing.Statement.{statement}
 use Rattle.examining.proofs.verdicts.first_failing.Tie as tie
 
 abbrev invariant-loop : tie.invariant-loop
-invariant-loop drafts n test place₀ place = Seeking (passesBy test n) drafts n place
+invariant-loop drafts n test place₀ place = Seeking (passes_by test n) drafts n place
 
 abbrev decreases-loop : tie.decreases-loop
 decreases-loop drafts n test place₀ place = n - place

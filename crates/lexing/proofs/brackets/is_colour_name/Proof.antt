@@ -5,7 +5,7 @@ use mathlib.Core.Path.{◌≡◌}
 use native.Mathlib.Omega.{arith}
 use borrow.Author.Rules.{rules}
 use Rattle.calendar.specs.Names.{units}
-use Rattle.formats.specs.Tokens.{colourNames}
+use Rattle.formats.specs.Tokens.{colour_names}
 use Rattle.lexing.proofs.brackets.is_colour_name.Statement.{statement}
 use Rattle.lexing.proofs.brackets.is_colour_name.Tie as tie
 
@@ -65,35 +65,35 @@ is-word-requires-8 : tie.Need-is-word-requires-8
 is-word-requires-8 c κs = search rules
 
 returns : tie.Need-returns
-unfolding units colourNames
+unfolding units colour_names
 returns c = rw c.before.before.match.keys1 c.is_IsWord.ensures
 
 returns-2 : tie.Need-returns-2
-unfolding units colourNames
+unfolding units colour_names
 returns-2 c = rw c.before.before.match.keys2 c.is-word2.ensures
 
 returns-3 : tie.Need-returns-3
-unfolding units colourNames
+unfolding units colour_names
 returns-3 c = rw c.before.before.match.keys3 c.is-word3.ensures
 
 returns-4 : tie.Need-returns-4
-unfolding units colourNames
+unfolding units colour_names
 returns-4 c = rw c.before.before.match.keys4 c.is-word4.ensures
 
 returns-5 : tie.Need-returns-5
-unfolding units colourNames
+unfolding units colour_names
 returns-5 c = rw c.before.before.match.keys5 c.is-word5.ensures
 
 returns-6 : tie.Need-returns-6
-unfolding units colourNames
+unfolding units colour_names
 returns-6 c = rw c.before.before.match.keys6 c.is-word6.ensures
 
 returns-7 : tie.Need-returns-7
-unfolding units colourNames
+unfolding units colour_names
 returns-7 c = rw c.before.before.match.keys7 c.is-word7.ensures
 
 returns-8 : tie.Need-returns-8
-unfolding units colourNames
+unfolding units colour_names
 returns-8 c =
     let r = c.before.before.match.rest in
     rw (last c.before.before.before.before.args.k (four _ r.0.0.0.0.0.0.1 r.0.0.0.0.0.1 r.0.0.0.0.1 r.0.0.0.1) c.before.before.before.before.requires r.0.0.1 r.0.1 r.1) c.is-word8.ensures

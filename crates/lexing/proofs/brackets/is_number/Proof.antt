@@ -5,7 +5,7 @@ use mathlib.Core.Bool.{false}
 use borrow.Author.Rules.{rules}
 use lib.ListN.{length-drop}
 use Rattle.formats.specs.Tokens.{equal}
-use Rattle.lexing.specs.Brackets.{isPointed}
+use Rattle.lexing.specs.Brackets.{is_pointed}
 use Rattle.lexing.proofs.Scanning.{rest_all}
 use Rattle.lexing.proofs.Bracketing.{whole-none, whole-all, whole-pointed}
 use Rattle.lexing.proofs.brackets.is_number.Statement.{statement}
@@ -38,7 +38,7 @@ is-decimals-requires c κs = rw (rest_all, length-drop) (search rules)
 returns-3 : tie.Need-returns-3
 returns-3 c =
     let us = c.before.before.before.before.before.before.args.us.now in
-    c.is-decimals.ensures ∙ ap isPointed (rest_all us _) ∙ sym (whole-pointed equal false us _ c.before.before.before.before.scan.ensures.0 c.before.before.before.if1.false (search rules))
+    c.is-decimals.ensures ∙ ap is_pointed (rest_all us _) ∙ sym (whole-pointed equal false us _ c.before.before.before.before.scan.ensures.0 c.before.before.before.if1.false (search rules))
 
 pub is-number-spec : {M : Type 1} → statement M
 is-number-spec =

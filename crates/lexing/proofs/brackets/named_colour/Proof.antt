@@ -4,13 +4,13 @@ use Prim.Native.Nat.{suc, ◌-◌}
 use mathlib.Core.Path.{◌≡◌, refl, sym, ◌∙◌}
 use borrow.Author.Rules.{rules}
 use lib.ListN.{drop}
-use Rattle.formats.specs.Tokens.{colourNames, namedFrom}
+use Rattle.formats.specs.Tokens.{colour_names, named_from}
 use Rattle.lexing.proofs.Bracketing.{named-hit, named-miss, named_none}
 use Rattle.lexing.proofs.brackets.named_colour.Statement.{statement}
 use Rattle.lexing.proofs.brackets.named_colour.Tie as tie
 
 abbrev invariant-loop : tie.invariant-loop
-invariant-loop inside k₀ k = namedFrom 1 colourNames inside ≡ namedFrom (suc k) (drop k colourNames) inside
+invariant-loop inside k₀ k = named_from 1 colour_names inside ≡ named_from (suc k) (drop k colour_names) inside
 
 abbrev decreases-loop : tie.decreases-loop
 decreases-loop inside k₀ k = 8 - k

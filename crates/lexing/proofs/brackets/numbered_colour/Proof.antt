@@ -3,7 +3,7 @@
 use mathlib.Core.Path.{sym, ap, ◌∙◌}
 use borrow.Author.Rules.{rules}
 use Rattle.calendar.specs.Names.{units}
-use Rattle.formats.specs.Tokens.{colourDigits}
+use Rattle.formats.specs.Tokens.{colour_digits}
 use Rattle.formats.proofs.Lexing.{word-most}
 use Rattle.lexing.proofs.Scanning.{rest_all}
 use Rattle.lexing.proofs.Bracketing.{numbered-read, numbered-none}
@@ -34,7 +34,7 @@ returns : tie.Need-returns
 unfolding units
 returns c =
     let us = c.before.before.before.before.before.before.args.inside.now in
-    numbered-read us (sym c.before.before.before.starts-with.ensures ∙ c.before.before.if1.true) _ (c.colour-digits.ensures ∙ ap colourDigits (rest_all us 5))
+    numbered-read us (sym c.before.before.before.starts-with.ensures ∙ c.before.before.if1.true) _ (c.colour-digits.ensures ∙ ap colour_digits (rest_all us 5))
 
 returns-2 : tie.Need-returns-2
 unfolding units

@@ -6,11 +6,11 @@ use mathlib.Core.Path.{◌≡◌, refl}
 use native.Mathlib.Omega.{arith}
 use borrow.Author.Rules.{rules}
 use lib.ListN.{length, drop, get_or}
-use Rattle.formats.specs.Tokens.{stepAt}
+use Rattle.formats.specs.Tokens.{step_at}
 use Rattle.lexing.specs.declared.Mark.{Mark}
 use Rattle.lexing.specs.declared.Step.TheVariants.{Read}
-use Rattle.lexing.specs.Marks.{stepMeant}
-use Rattle.lexing.specs.Buffer.{count_of, semicolonsOf, semicolonsIn}
+use Rattle.lexing.specs.Marks.{step_meant}
+use Rattle.lexing.specs.Buffer.{count_of, semicolons_of, semicolons_in}
 use Rattle.lexing.proofs.Filling.{Filling, filling-start, filling-inside, filling-hit, filling-miss, filling-broken, filling-end}
 use Rattle.lexing.proofs.buffer.fill.Statement.{statement}
 use Rattle.lexing.proofs.buffer.fill.Tie as tie
@@ -35,7 +35,7 @@ module _ (k : tie.After-known-told invariant-loop decreases-loop) where
   abbrev more : ℕ
   more = k.before.m.given.0.1.0
 
-  read : stepMeant code at (Read mark more) ≡ stepAt (get_or code at 0) (drop (suc at) code)
+  read : step_meant code at (Read mark more) ≡ step_at (get_or code at 0) (drop (suc at) code)
   read = rw k.before.m.given.1 at k.before.before.before.next.ensures
 
   inside : at + (more + 1) ≤ length code
@@ -93,7 +93,7 @@ same_length : tie.Need-same-length invariant-loop decreases-loop
 same_length c = search rules
 
 returns : tie.Need-returns invariant-loop decreases-loop
-unfolding count_of semicolonsOf semicolonsIn
+unfolding count_of semicolons_of semicolons_in
 returns c =
     let inv = c.before.before.before.before.loop.invariant in
     record {
@@ -107,7 +107,7 @@ same-length-2 : tie.Need-same-length-2 invariant-loop decreases-loop
 same-length-2 c = search rules
 
 returns-2 : tie.Need-returns-2 invariant-loop decreases-loop
-unfolding count_of semicolonsOf
+unfolding count_of semicolons_of
 returns-2 c =
     let inv = c.before.loop.invariant in
     record { same = filling-end _ _ _ _ _ _ inv c.loop-test.false; few = omega arith; counted = inv.counted; size = inv.size }

@@ -2,18 +2,18 @@
 -- Assumes nothing.
 use Rattle.lists.specs.Lists.{any}
 use Rattle.calendar.specs.Names.{units}
-use Rattle.formats.specs.Tokens.{bareLiterals}
-use Rattle.lexing.specs.Classes.{bareClass}
+use Rattle.formats.specs.Tokens.{bare_literals}
+use Rattle.lexing.specs.Classes.{bare_class}
 use Rattle.lexing.proofs.Classing.{bare-none}
 use Rattle.lexing.proofs.classes.bare_class.Statement.{statement}
 use Rattle.lexing.proofs.classes.bare_class.Tie as tie
 
 last : tie.Need-returns-19
-unfolding bareLiterals units
+unfolding bare_literals units
 last c = bare-none c.before.args.ascii c.match.rest
 
 pub bare-class-spec : {M : Type 1} → statement M
-unfolding bareClass any bareLiterals units
+unfolding bare_class any bare_literals units
 bare-class-spec =
     tie.close
     (tie.spec

@@ -3,8 +3,8 @@
 use native.Mathlib.Omega.{arith}
 use mathlib.Core.Path.{◌∙◌}
 use borrow.Author.Rules.{rules}
-use Rattle.formats.specs.Tokens.{firstRows}
-use Rattle.lexing.specs.Classes.{classNumbers, classIn, class_of}
+use Rattle.formats.specs.Tokens.{first_rows}
+use Rattle.lexing.specs.Classes.{class_numbers, class_in, class_of}
 use Rattle.lexing.proofs.Classing.{class-high, class-bare}
 use Rattle.lexing.proofs.classes.class_of.Statement.{statement}
 use Rattle.lexing.proofs.classes.class_of.Tie as tie
@@ -13,11 +13,11 @@ high : tie.Need-returns
 high c = class-high c.before.args.u (omega (arith, c.if1.true))
 
 last : tie.Need-returns-23
-unfolding firstRows
+unfolding first_rows
 last c = c.bare-class.ensures ∙ class-bare c.before.before.before.args.u c.before.match.rest
 
 pub class-of-spec : {M : Type 1} → statement M
-unfolding class_of classIn classNumbers firstRows
+unfolding class_of class_in class_numbers first_rows
 class-of-spec =
     tie.close
     (tie.spec

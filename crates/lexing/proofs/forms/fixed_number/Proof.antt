@@ -6,7 +6,7 @@ use native.Mathlib.Omega.{arith}
 use borrow.Author.Rules.{rules}
 use lib.ListN.{length, get_or}
 use Rattle.lists.proofs.Bools.{true-T}
-use Rattle.formats.specs.Tokens.{isDigit}
+use Rattle.formats.specs.Tokens.{is_digit}
 use Rattle.lexing.proofs.Scanning.{digit-unit}
 use Rattle.lexing.proofs.Placing.{Digits, digits-start, digits_step, digits-found, digits-end}
 use Rattle.lexing.proofs.forms.fixed_number.Statement.{statement}
@@ -19,19 +19,19 @@ abbrev decreases-loop : tie.decreases-loop
 decreases-loop us v₀ i₀ v i = length us - i
 
 sub-least : tie.Need-overflow-sub-least invariant-loop decreases-loop
-unfolding isDigit
+unfolding is_digit
 sub-least c = (digit-unit (get_or c.before.before.before.before.before.before.before.args.us.now c.before.before.before.before.before.loop.i 0) (true-T (sym c.before.before.is-between.ensures ∙ c.before.if1.true))).0
 
 cast-least : tie.Need-overflow-cast-least invariant-loop decreases-loop
-unfolding isDigit
+unfolding is_digit
 cast-least c = omega (arith, digit-unit (get_or c.before.before.before.before.before.before.before.args.us.now c.before.before.before.before.before.loop.i 0) (true-T (sym c.before.before.is-between.ensures ∙ c.before.if1.true)))
 
 add-least : tie.Need-overflow-add-least invariant-loop decreases-loop
-unfolding isDigit
+unfolding is_digit
 add-least c = omega (arith, digit-unit (get_or c.before.before.before.before.before.before.before.args.us.now c.before.before.before.before.before.loop.i 0) (true-T (sym c.before.before.is-between.ensures ∙ c.before.if1.true)), c.before.before.before.before.before.loop.invariant.small)
 
 pub fixed-number-spec : {M : Type 1} → statement M
-unfolding isDigit
+unfolding is_digit
 fixed-number-spec =
     tie.close
     (tie.spec

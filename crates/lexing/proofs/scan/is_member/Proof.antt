@@ -2,7 +2,7 @@
 -- Assumes nothing.
 use borrow.Author.Tests.{le-leb, lt-leb}
 use borrow.Author.Rules.{rules}
-use Rattle.formats.specs.Tokens.{isDigit}
+use Rattle.formats.specs.Tokens.{is_digit}
 use Rattle.lexing.proofs.scan.is_member.Statement.{statement}
 use Rattle.lexing.proofs.scan.is_member.Tie as tie
 
@@ -22,11 +22,11 @@ returns-2 : tie.Need-returns-2
 returns-2 c = rw c.before.s2.given.1
 
 returns-3 : tie.Need-returns-3
-unfolding isDigit
+unfolding is_digit
 returns-3 c = rw c.before.enum_told.given.1 (simp (le-leb _ _ c.if1.true))
 
 returns-4 : tie.Need-returns-4
-unfolding isDigit
+unfolding is_digit
 returns-4 c = rw c.before.enum_told.given.1 (simp (lt-leb _ _ c.if1.false))
 
 pub is-member-spec : {M : Type 1} → statement M

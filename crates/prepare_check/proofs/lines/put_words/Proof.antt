@@ -5,7 +5,7 @@ use native.Mathlib.Omega.{arith}
 use lib.ListN.{length, drop, drop_of_length-le}
 use Rattle.writing.specs.Put.{Rest}
 use Rattle.writing.proofs.Laws.{rest-start, rest_put, rest-done}
-use Rattle.prepare_check.specs.Lines.{spacedAll}
+use Rattle.prepare_check.specs.Lines.{spaced_all}
 use Rattle.prepare_check.proofs.Laws.{all_first}
 use borrow.Author.Rules.{rules}
 use Rattle.prepare_check.proofs.lines.put_words.Statement.{statement}
@@ -13,7 +13,7 @@ use Rattle.prepare_check.proofs.lines.put_words.Tie as tie
 
 abbrev invariant-loop : tie.invariant-loop
 invariant-loop room₀ at words o₀ i₀ room o i =
-    Rest room₀ at (spacedAll words) room o (spacedAll (drop i words)) × (i ≤ length words) × (o ≤ at + 26 * i)
+    Rest room₀ at (spaced_all words) room o (spaced_all (drop i words)) × (i ≤ length words) × (o ≤ at + 26 * i)
 
 abbrev decreases-loop : tie.decreases-loop
 decreases-loop room₀ at words o₀ i₀ room o i = length words - i
@@ -32,7 +32,7 @@ loop-again c =
     (rest_put (rw (all_first _ _ t.loop-test.true) at l.invariant.0) p.put-spaced.ensures.1, search rules, search rules)
 
 returns : tie.Need-returns invariant-loop decreases-loop
-unfolding spacedAll
+unfolding spaced_all
 returns c =
     let l = c.before.loop in
     (search rules, rest-done (rw (drop_of_length-le _ c.loop-test.false) at l.invariant.0))

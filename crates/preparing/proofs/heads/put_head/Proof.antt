@@ -1,13 +1,13 @@
 -- `preparing::heads::put_head` meets its contract.
 -- Assumes nothing.
-use Rattle.tables.specs.Words.{headWords}
-use Rattle.preparing.specs.Table.{headBy}
+use Rattle.tables.specs.Words.{head_words}
+use Rattle.preparing.specs.Table.{head_by}
 use borrow.Author.Rules.{rules}
 use Rattle.preparing.proofs.heads.put_head.Statement.{statement}
 use Rattle.preparing.proofs.heads.put_head.Tie as tie
 
 returns : tie.Need-returns
-unfolding headWords headBy
+unfolding head_words head_by
 returns c =
     let u = c.before.before in
     let f = u.before.before.before in

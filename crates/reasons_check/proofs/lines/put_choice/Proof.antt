@@ -2,13 +2,13 @@
 -- Assumes nothing.
 use Rattle.calendar.specs.Names.{units}
 use Rattle.writing.proofs.Laws.{put-put}
-use Rattle.reasons_check.specs.Lines.{choiceUnits}
+use Rattle.reasons_check.specs.Lines.{choice_units}
 use borrow.Author.Rules.{rules}
 use Rattle.reasons_check.proofs.lines.put_choice.Statement.{statement}
 use Rattle.reasons_check.proofs.lines.put_choice.Tie as tie
 
 returns : tie.Need-returns
-unfolding choiceUnits units
+unfolding choice_units units
 returns c =
     let d = c.before.before in
     let t = d.before.before.before.before.before in

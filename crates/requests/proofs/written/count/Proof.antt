@@ -1,12 +1,12 @@
 -- `requests::written::count` meets its contract.
 -- Assumes nothing.
 use borrow.Author.Rules.{rules}
-use Rattle.requests.specs.Written.{numeralUpTo}
+use Rattle.requests.specs.Written.{numeral_up_to}
 use Rattle.requests.proofs.written.count.Statement.{statement}
 use Rattle.requests.proofs.written.count.Tie as tie
 
 returns : tie.Need-returns
-unfolding numeralUpTo
+unfolding numeral_up_to
 returns c = search rules
 
 pub count_spec : {M : Type 1} → statement M

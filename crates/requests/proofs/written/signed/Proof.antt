@@ -5,16 +5,16 @@ use borrow.Author.Rules.{rules}
 use mir.Syntax.{w64}
 use lib.IntN.{pos}
 use Rattle.figures.proofs.Sign.{minus-fits, minus_is, back}
-use Rattle.requests.specs.Written.{signedBy}
+use Rattle.requests.specs.Written.{signed_by}
 use Rattle.requests.proofs.written.signed.Statement.{statement}
 use Rattle.requests.proofs.written.signed.Tie as tie
 
 returns : tie.Need-returns
-unfolding signedBy
+unfolding signed_by
 returns c = rw c.if1.true (minus_is w64 (pos c.before.args.n) (omega arith))
 
 returns-2 : tie.Need-returns-2
-unfolding signedBy
+unfolding signed_by
 returns-2 c = rw c.if1.false (back w64 (pos c.before.args.n) (omega arith))
 
 pub signed-spec : {M : Type 1} → statement M

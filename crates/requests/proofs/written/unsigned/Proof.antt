@@ -6,7 +6,7 @@ use borrow.Author.Tests.{not-true, not-false}
 use borrow.Author.Rules.{rules}
 use lib.ListN.{length}
 use lib.Seq.{length-take-le}
-use Rattle.requests.specs.Written.{isDigits}
+use Rattle.requests.specs.Written.{is_digits}
 use Rattle.requests.proofs.Valuing.{behind-mark, coefficient-is, unsigned-none, unsigned-bad, unsigned-whole, unsigned-read}
 use Rattle.requests.proofs.Lining.{scanned}
 use Rattle.requests.proofs.Numerals.{digits-each}
@@ -41,7 +41,7 @@ returns-3 c =
     let s = i.before.before.before in
     let a = s.before.before.args in
     unsigned-bad a.negative a.us.now _ (scanned 46 a.us.now _ s.scan.ensures.0) (sym i.before.is-digits.ensures ∙ not-false _ i.if1.false) f.if2.false
-    (ap isDigits (sym (behind-mark a.us.now s.scan.result)) ∙ sym c.before.is-digits2.ensures ∙ not-true _ c.if3.true)
+    (ap is_digits (sym (behind-mark a.us.now s.scan.result)) ∙ sym c.before.is-digits2.ensures ∙ not-true _ c.if3.true)
 
 number-behind-requires-2 : tie.Need-number-behind-requires-2
 number-behind-requires-2 c κs = (omega arith, search rules, digits-each _ (sym c.before.is-digits2.ensures ∙ not-false _ c.if3.false))
@@ -56,7 +56,7 @@ returns-4 c =
     let us = a.us.now in
     let behind = behind-mark us s.scan.result in
     unsigned-read a.negative us _ (scanned 46 us _ s.scan.ensures.0) (sym i.before.is-digits.ensures ∙ not-false _ i.if1.false) _ w.number_behind.ensures _
-    (ap isDigits (sym behind) ∙ sym t.before.is-digits2.ensures ∙ not-false _ t.if3.false) _ (rw behind at c.before.number-behind2.ensures)
+    (ap is_digits (sym behind) ∙ sym t.before.is-digits2.ensures ∙ not-false _ t.if3.false) _ (rw behind at c.before.number-behind2.ensures)
     (coefficient-is a.negative _ _ (omega arith) c.signed2.ensures) _ (ap length behind)
 
 pub unsigned-spec : {M : Type 1} → statement M

@@ -5,7 +5,7 @@ use mathlib.Core.Bool.{Bool, true, false, cond}
 use mir.Val.{bool_byte}
 use Rattle.calendar.specs.Names.{units}
 use Rattle.writing.proofs.Laws.{put-put}
-use Rattle.responding.specs.Respond.{fiveLines}
+use Rattle.responding.specs.Respond.{five_lines}
 use borrow.Author.Rules.{rules}
 use Rattle.responding.proofs.lines.put_lines.Statement.{statement}
 use Rattle.responding.proofs.lines.put_lines.Tie as tie
@@ -15,7 +15,7 @@ as_number true = refl
 as_number false = refl
 
 returns : tie.Need-returns
-unfolding fiveLines units
+unfolding five_lines units
 returns c =
     let t = c.before.before in
     let x = t.before.before.before.before.before in

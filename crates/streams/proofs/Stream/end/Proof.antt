@@ -5,7 +5,7 @@ use native.Mathlib.Omega.{arith}
 use lib.ListN.{length}
 use lib.Seq.{length-take-le}
 use borrow.Author.Tests.{eq-eqb, ne_eqb}
-use Rattle.streams.specs.Streams.{closed, joinedPrepared, joinedTable}
+use Rattle.streams.specs.Streams.{closed, joined_prepared, joined_table}
 use Rattle.streams.proofs.Steps.{end-again, room-again, stands-kept, stands-long, end-as, room_as}
 use borrow.Author.Rules.{rules}
 use Rattle.streams.proofs.Stream.end.Statement.{statement}
@@ -28,7 +28,7 @@ refused-prepared-requires-2 : tie.Need-refused-prepared-requires-2
 refused-prepared-requires-2 c κs = search rules
 
 returns-2 : tie.Need-returns-2
-unfolding closed joinedPrepared joinedTable
+unfolding closed joined_prepared joined_table
 returns-2 c =
     let b = c.before.before.before in
     let s = b.before.before.before.args.self in
@@ -51,7 +51,7 @@ same_length : tie.Need-same-length
 same_length c = search rules
 
 returns-3 : tie.Need-returns-3
-unfolding closed joinedPrepared joinedTable
+unfolding closed joined_prepared joined_table
 returns-3 c =
     let p = c.before.before in
     let l = p.before.before.before.before in

@@ -1,0 +1,5 @@
+pub mod Apart
+pub mod Bools
+pub mod Counts
+pub mod First
+pub mod Tables
