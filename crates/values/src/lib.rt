@@ -32,7 +32,7 @@ impl Day {
     // The day with this number, where it is one.
     pub fn new(n: u32) -> DayMade
         ensures made { result ≡ day_of n }
-        ensures* ends { do ⌜ ((← (⟦Day::LEAST⟧).entry) ≡ day_least) × ((← (⟦Day::GREATEST⟧).entry) ≡ day_greatest) ⌝ }
+        ensures ends { (Day.LEAST ≡ day_least) × (Day.GREATEST ≡ day_greatest) }
         ensures answered { day_answer result ≡ range_answer day_least day_greatest n }
     {
         if n < Self::LEAST {
@@ -53,7 +53,7 @@ impl Millisecond {
     // The millisecond of the day with this number, where it is one.
     pub fn new(n: u32) -> MillisecondMade
         ensures made { result ≡ millisecond_of n }
-        ensures* ends { do ⌜ ((← (⟦Millisecond::LEAST⟧).entry) ≡ millisecond_least) × ((← (⟦Millisecond::GREATEST⟧).entry) ≡ millisecond_greatest) ⌝ }
+        ensures ends { (Millisecond.LEAST ≡ millisecond_least) × (Millisecond.GREATEST ≡ millisecond_greatest) }
         ensures answered { millisecond_answer result ≡ range_answer millisecond_least millisecond_greatest n }
     {
         if n < Self::LEAST {
