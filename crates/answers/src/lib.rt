@@ -1,9 +1,11 @@
 // What a call answers: the answer list, and the results of preparing and of showing.
+#![tactic(auto)]
+
 ghost use Rattle.std.specs.Prelude.{◌≡◌};
 ghost use Rattle.answers.specs.Number.{number_of, done_prepared, done_shown, refused_prepared, refused_shown};
 
 // The answer list, in its order. `number_of` in specs/ gives each its number.
-#[derive(Drop)]
+#[derive(Clone, Copy)]
 pub enum Answer {
     Done,
     CodeLength,

@@ -1,4 +1,6 @@
 // The items of a literal, General or text section: literals, blanks, one fill, and what makes the section.
+#![tactic(auto)]
+
 ghost use Rattle.std.specs.Prelude.{◌≡◌, ◌≤◌};
 ghost use Rattle.tables.specs.Words.{entries_in};
 ghost use Rattle.tables.specs.Encode.{entry, bit};

@@ -1,4 +1,6 @@
 // A board of sixty-four rows, each empty or with the length and colour last shown there, and the width kept beside them.
+#![tactic(auto)]
+
 ghost use Rattle.std.specs.Prelude.{◌≡◌, max, length};
 ghost use Rattle.boards.specs.Boards.{empty_board, length_in, widest_of, put_row, room_put, clear_row};
 

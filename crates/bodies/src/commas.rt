@@ -9,7 +9,7 @@ use marks::forms::{COMMA, POINT, SPACE_PLACE, ZERO_PLACE};
 use values::integers::is_between;
 
 // The commas of a body: whether one is misplaced, whether one asks for grouping, and how many divide by 1,000.
-#[derive(Drop)]
+#[derive(Clone, Copy)]
 pub struct Commas {
     pub misplaced: bool,
     pub grouped: bool,
@@ -17,7 +17,7 @@ pub struct Commas {
 }
 
 // The commas of the tokens passed, with whether the point and a place are among these. The use of those held depends on what follows.
-#[derive(Drop)]
+#[derive(Clone, Copy)]
 struct Scan {
     point: bool,
     place: bool,

@@ -38,7 +38,7 @@ const LATER_PLACES: u64 = 65536;
 // What a body's tokens say of it: whether it is a date, scientific, a fraction or a number, whether it holds no colour and no condition,
 // how many fills it holds, whether it holds a comma, how many places before its first point, E or solidus, and how many behind its first
 // E or solidus.
-#[derive(Drop)]
+#[derive(Clone, Copy)]
 pub struct Facts {
     pub date: bool,
     pub scientific: bool,

@@ -23,7 +23,7 @@ pub fn section_end(tokens: &[u16]) -> usize
 
 // What stands before a section's body: a colour or 0, whether a condition follows, that token's argument and start, and how many
 // tokens these are.
-#[derive(Drop)]
+#[derive(Clone, Copy)]
 pub struct Heading {
     pub colour: u16,
     pub condition: bool,

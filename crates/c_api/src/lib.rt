@@ -1,5 +1,7 @@
 // The calls for C and Rust, as include/numfmt.h declares them. Each is the Rattle call with the answer as its number; a slice
 // is a pointer and a length, and a board or a stream goes in and comes back by value.
+#![tactic(auto)]
+
 ghost use Rattle.std.specs.Prelude.{◌≡◌, length, []};
 ghost use Rattle.formats.specs.Accept.{section_span};
 ghost use Rattle.tables.specs.Rules.{passes};

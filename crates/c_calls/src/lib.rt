@@ -1,4 +1,6 @@
 // Each call for C, called with lent slices, numbers, boards and streams and nothing required: none of them asks anything of its caller.
+#![tactic(auto)]
+
 use boards::Board;
 use c_api::{
     numfmt_board_clear, numfmt_board_empty, numfmt_board_put_instant, numfmt_board_put_number,

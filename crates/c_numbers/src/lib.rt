@@ -1,5 +1,7 @@
 // What the calls for C return, as plain numbers in the structs that include/numfmt.h declares, and what they are asked, from plain
 // numbers. It stands apart from the calls, so that a must-fail edit of a number does not pay for all that they call.
+#![tactic(auto)]
+
 ghost use Rattle.std.specs.Prelude.{◌≡◌, ◌+◌, ◌≤◌};
 ghost use Rattle.grounds.specs.declared.Why.TheVariants as why;
 ghost use Rattle.c_numbers.specs.Numbers.{prepared_numbers, part_numbers, check_number, shown_numbers, why_numbers, put_numbers, cleared_numbers, fed_numbers, finished_numbers, number_ask, instant_ask};
@@ -40,7 +42,7 @@ pub struct ShownNumbers {
 
 // numfmt_reason
 #[repr(C)]
-#[derive(Drop)]
+#[derive(Clone, Copy)]
 pub struct WhyNumbers {
     pub answer: u16,
     pub section: u16,

@@ -1,4 +1,6 @@
 // Writes dates and clocks. The file stdout has what Python's datetime gives, and for days 0 to 60 what document 01 says.
+#![tactic(auto)]
+
 ghost use Rattle.std.specs.Prelude.{◌<◌};
 
 use libc::STDOUT_FILENO;

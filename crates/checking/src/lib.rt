@@ -1,4 +1,6 @@
 // Whether words are a table: every table rule, those for items by a walk for each sort of section.
+#![tactic(auto)]
+
 ghost use Rattle.std.specs.Prelude.{◌≡◌, false, ◌&&◌, ◌+◌, ◌*◌, ◌≤◌, ◌<◌, eqb, length, get_or, drop};
 ghost use Rattle.formats.specs.Minus.{exception_a};
 ghost use Rattle.lists.specs.Lists.{every};

@@ -1,4 +1,6 @@
 // The section of a table that a number, an instant or a text goes to, read off the table's words.
+#![tactic(auto)]
+
 ghost use Rattle.std.specs.Prelude.{◌≡◌, ◌^◌, ◌≤◌, ◌<◌, true, T, get_or};
 ghost use Rattle.choosing.specs.Comparing.{order_of, parts_order, fraction, millionths_size, reversed, signed_order, is_less, is_greater, is_equal, holds_for};
 ghost use Rattle.table_words.specs.Sections.{section_in};
@@ -13,7 +15,7 @@ use figures::power;
 use table_words::{has_condition, head_of, is_text, number, section_count};
 
 // How one number stands to another.
-#[derive(Drop)]
+#[derive(Clone, Copy)]
 enum Order {
     Less,
     Equal,
@@ -21,7 +23,7 @@ enum Order {
 }
 
 // A number or an instant, exactly: above / 10^scale, or above / 86,400,000 of a day. The sign stands apart.
-#[derive(Drop)]
+#[derive(Clone, Copy)]
 pub struct Sought {
     pub negative: bool,
     pub instant: bool,

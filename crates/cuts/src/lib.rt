@@ -1,5 +1,7 @@
 // How many decimals a rounding cuts: those of the exact number, written without trailing zeros, beyond those that are kept. And whether nothing is
 // left of it.
+#![tactic(auto)]
+
 ghost use Rattle.std.specs.Prelude.{◌≡◌, ◌^◌, ◌≤◌, ◌<◌, eqb};
 ghost use Rattle.figures.specs.Rounding.{rounded};
 ghost use Rattle.figures.specs.Powers.{powered};

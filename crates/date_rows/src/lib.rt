@@ -1,4 +1,6 @@
 // The items of a date-time section, in a walk of its own: it keeps little, and ends at the first fault.
+#![tactic(auto)]
+
 mod earlier_runs;
 
 ghost use Rattle.std.specs.Prelude.{◌≡◌};
@@ -22,7 +24,7 @@ pub struct DatedRow {
 }
 
 // What is kept from one item to the next.
-#[derive(Drop)]
+#[derive(Clone, Copy)]
 struct DateWalk {
     // no item was at fault
     fits: bool,

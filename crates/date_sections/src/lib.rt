@@ -1,4 +1,6 @@
 // The text of a date-time section, shown whole in a room or not at all; section_text says of which room.
+#![tactic(auto)]
+
 ghost use Rattle.std.specs.Prelude.{◌≡◌, false, ◌%◌, ◌≤◌, ◌<◌, ◌^◌, min, T, leb, eqb, length, get_or};
 ghost use Rattle.lists.specs.Lists.{any};
 ghost use Rattle.formats.specs.Items.{date_kind, kind_of, integer_places};

@@ -1,4 +1,6 @@
 // Writes what the items of a date section show of an instant. Their texts are defined in formats/specs/Text.antt.
+#![tactic(auto)]
+
 pub mod numbers;
 
 ghost use Rattle.std.specs.Prelude.{◌≡◌, true, false, cond, ◌||◌, ℕ, ◌-◌, ◌/◌, ◌%◌, ◌≤◌, ◌<◌, ◌^◌, min, get_or};

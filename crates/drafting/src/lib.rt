@@ -1,4 +1,6 @@
 // Drafts the sections of a code: what the tests and the heads ask of each, and the words of its items.
+#![tactic(auto)]
+
 mod drafts;
 mod places;
 pub mod sections;
@@ -8,7 +10,7 @@ ghost use Rattle.std.specs.Prelude.{◌≡◌};
 ghost use Rattle.drafting.specs.Draft.{has_condition_by};
 
 // The body of a section: whether it fits its kind and is within the limits; its head's words that its tokens and items tell.
-#[derive(Drop)]
+#[derive(Clone, Copy)]
 pub struct Body {
     pub fits: bool,
     pub within: bool,
@@ -21,7 +23,7 @@ pub struct Body {
 }
 
 // A section: its colour or 0, its condition as its head has it, whether it is within the limits, and its body.
-#[derive(Drop)]
+#[derive(Clone, Copy)]
 pub struct Draft {
     pub colour: u16,
     pub operator: u16,

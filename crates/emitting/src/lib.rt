@@ -1,4 +1,6 @@
 // Writes the words of a section's items into a lent room, token by token.
+#![tactic(auto)]
+
 ghost use Rattle.std.specs.Prelude.{◌≡◌, false, cond, ◌&&◌, [], ◌∷◌, suc, ◌+◌, ◌-◌, ◌≤◌, ◌<◌, ◌^◌, min, length, take, drop, ltb, eqb};
 ghost use Rattle.lists.specs.Lists.{count};
 ghost use Rattle.formats.specs.Items.{date_kind, same_kind, integer_places, places_behind};
@@ -23,7 +25,7 @@ struct Made(u16, u16);
 
 // What the tokens that were passed leave behind: the place of the next word; whether the last one is s, ss or an elapsed s; how
 // many of the next ones belong to a part of a second; the power of the next digit and 15; and how many fills follow.
-#[derive(Drop)]
+#[derive(Clone, Copy)]
 struct Walk {
     at: usize,
     behind: bool,

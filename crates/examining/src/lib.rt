@@ -1,4 +1,6 @@
 // Examines a code: the tests 1 to 6 in their order, each over the whole code before the next, and the drafts of its sections.
+#![tactic(auto)]
+
 mod verdicts;
 
 ghost use Rattle.std.specs.Prelude.{◌≡◌, ◌*◌, ◌≤◌, length, take};

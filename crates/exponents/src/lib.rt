@@ -1,5 +1,7 @@
 // A number in scientific form: its mantissa and its exponent, exactly. The exponent is found from the width of the number and is one multiple
 // further where rounding carries, so that one rounding is enough.
+#![tactic(auto)]
+
 ghost use Rattle.std.specs.Prelude.{◌≡◌, ℕ, ◌+◌, ◌-◌, ◌^◌, ◌≤◌, ◌<◌, leb, ltb};
 ghost use Rattle.figures.specs.Digits.{figures};
 ghost use Rattle.figures.specs.Rounding.{rounded, rounds_exactly};

@@ -1,4 +1,6 @@
 // Writes a number's figures into a lent room, placeholder by placeholder. A store past the room's end is dropped.
+#![tactic(auto)]
+
 ghost use Rattle.std.specs.Prelude.{◌≡◌, cond, not, ◌&&◌, [], ◌∷◌, ℕ, suc, ◌+◌, ◌-◌, ◌/◌, ◌%◌, ◌^◌, ◌≤◌, ◌<◌, eqb, take};
 ghost use Rattle.figures.specs.Digits.{figures, digit_units};
 ghost use Rattle.figures.specs.General.{pointed, general_units};
@@ -19,7 +21,7 @@ const NO_PLACE: usize = 40;
 // How a rounded number's digits, that of 10^-15 first, are shown: how many places are used, the place of the digit that the
 // section's first integer place shows, and whether it groups. The digits are lent beside it: copied, they would be copied at
 // each place.
-#[derive(Drop)]
+#[derive(Clone, Copy)]
 pub struct Figures {
     pub used: usize,
     pub first: usize,

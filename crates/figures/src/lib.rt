@@ -1,4 +1,6 @@
 // The sign at the door, the rounder, the rounded number read place by place, and General.
+#![tactic(auto)]
+
 ghost use Rattle.std.specs.Prelude.{◌≡◌, ℕ, ◌+◌, ◌-◌, ◌*◌, ◌/◌, ◌%◌, ◌^◌, ◌≤◌, ◌<◌, leb, ltb, eqb, nat_abs};
 ghost use Rattle.figures.specs.Digits.{figures, width};
 ghost use Rattle.figures.specs.Rounding.{nearest, rounded, rounds_exactly};
@@ -11,7 +13,7 @@ ghost use Rattle.figures.specs.Places.{digit_sum, places_used, lowest_from, lowe
 use values::Number;
 
 // A number in range, its sign apart.
-#[derive(Drop)]
+#[derive(Clone, Copy)]
 pub struct Signed {
     pub negative: bool,
     pub magnitude: u64,

@@ -1,5 +1,7 @@
 // Rounds numbers and writes, a line each: sign, forty digits, places used, and r for rounding, g for General, w for General too wide.
 // The file stdout has what Python's decimal computes with ROUND_HALF_UP.
+#![tactic(auto)]
+
 ghost use Rattle.std.specs.Prelude.{◌≤◌, ◌<◌};
 
 use figures::Taken;

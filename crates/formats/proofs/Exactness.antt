@@ -2,10 +2,10 @@
 -- the finest span of items, and that they show nothing finer.
 -- Assumes nothing.
 use mathlib.Core.Path.{◌≡◌, refl, sym, ap, ap₂, ◌∙◌}
-use Prim.Native.Nat.{ℕ, zero, suc, ◌-◌, ◌*◌, ◌/◌, ◌%◌, ◌^◌, ◌≤◌, ◌<◌, min}
+use Prim.Native.Nat.{ℕ, zero, suc, ◌+◌, ◌-◌, ◌*◌, ◌/◌, ◌%◌, ◌^◌, ◌≤◌, ◌<◌, min}
 use native.Mathlib.Nat.{div-add-mod', mul_right_comm}
 use native.Mathlib.Omega.{arith}
-use mathlib.Core.Bool.{Bool, true, false, ◌&&◌, true≢false}
+use mathlib.Core.Bool.{Bool, true, false, cond, ◌&&◌, ◌||◌, true≢false}
 use mathlib.Core.List.{List, [], ◌∷◌}
 use borrow.Author.Tests.{eq-eqb, leb-true, leb-false}
 use lib.Dec.{eqb, leb}
@@ -23,7 +23,7 @@ use Rattle.figures.proofs.Exactly.{eqb_same, eqb-scale}
 use Rattle.exponents.specs.Exponent.{mantissa_exactly}
 use Rattle.fractions.specs.Fractions.{mixed_exactly}
 use Rattle.calendar.specs.Clock.{clock_of, since_day_zero, elapsed_hours, elapsed_minutes, elapsed_seconds}
-use Rattle.formats.specs.Tokens.{Elapsed, hours, minutes, seconds, is_digit}
+use Rattle.formats.specs.Tokens.{Elapsed, hours, minutes, seconds, is_digit, digit_of}
 use Rattle.formats.specs.Items.{Item, elapsed, is_half, Section, scientific_kind, fraction_kind, number_kind, literal_kind, kind_of, is_percent, integer_places, decimal_places}
 use Rattle.formats.specs.Choice.{number_exact}
 use Rattle.formats.specs.Text.{hour_shown, place_units, point_units, part_units, elapsed_count, item_units}
@@ -36,7 +36,8 @@ read_pos : (behind : Bool) (v w : ℕ) (us : List ℕ) → 0 < w → 0 < (read_f
 unfolding read_from
 read_pos behind v w [] pos = pos
 read_pos behind v w (u ∷ us) pos =
-    read_pos _ _ _ us (cond_both (λ (n : ℕ). 0 < n) (is_digit u && behind) (omega arith) pos)
+    read_pos (behind || eqb u 46) (cond (is_digit u) (v * 10 + digit_of u) v) (cond (is_digit u && behind) (w * 10) w) us
+    (cond_both (λ (n : ℕ). 0 < n) (is_digit u && behind) (omega arith) pos)
 
 pub read-exactly : (m : Magnitude) (d : ℕ) (us : List ℕ) → Counts (units_read us) (rounded m d) → rounds_exactly m d ≡ same_number (units_read us) m
 unfolding rounds_exactly units_read

@@ -1,7 +1,7 @@
 -- The text of each item of a fraction section (R135): pieces that together are the section's text, and how the denominator's are read.
 -- Assumes nothing.
 use mathlib.Core.Path.{◌≡◌, refl, sym, ap, subst, ◌∙◌}
-use Prim.Native.Nat.{ℕ, zero, suc, ◌-◌, ◌*◌, ◌^◌, ◌≤◌, ◌<◌}
+use Prim.Native.Nat.{ℕ, zero, suc, ◌+◌, ◌-◌, ◌*◌, ◌^◌, ◌≤◌, ◌<◌}
 use native.Mathlib.Omega.{arith}
 use mathlib.Core.Bool.{Bool, true, false, cond, ◌&&◌, ◌||◌, or-false}
 use mathlib.Core.List.{List, [], ◌∷◌, ◌++◌, append_assoc, append-nil, map, flatten}
@@ -14,7 +14,7 @@ use Rattle.lists.proofs.Counts.{any-map, any_same, every_map, every-same, every-
 use Rattle.figures.specs.Digits.{width}
 use Rattle.calendar.specs.Names.{units}
 use Rattle.fractions.specs.declared.Mixed.{Mixed}
-use Rattle.formats.specs.Tokens.{Place, zero_place, hash_place, is_digit}
+use Rattle.formats.specs.Tokens.{Place, zero_place, hash_place, is_digit, digit_of}
 use Rattle.formats.specs.Items.{Item, item_row, blank, place, solidus, fraction_kind, item_allowed, is_place, is_point, is_space, is_solidus, is_fixed, is_cut, from_cut, integer_places, start_places, behind_start, numerator_items, whole_items, main_items}
 use Rattle.formats.specs.Text.{Context, item_units, digit_after, along, first_of, item_pieces, items_units, section_units}
 use Rattle.formats.specs.Reading.{is_parted, whole_context, spare_places, spaceless, denominator_units, below_units, blanked, fraction_units}
@@ -182,7 +182,8 @@ spaces-aside : (behind : Bool) (v w : ℕ) (us : List ℕ) (n : ℕ) → read_fr
 unfolding read_from is_digit
 spaces-aside behind v w [] zero = refl
 spaces-aside behind v w [] (suc n) = ap (λ (b : Bool). read_from b v w (replicate n 32)) (or-false behind) ∙ spaces-aside behind v w [] n
-spaces-aside behind v w (u ∷ us) n = spaces-aside _ _ _ us n
+spaces-aside behind v w (u ∷ us) n =
+    spaces-aside (behind || eqb u 46) (cond (is_digit u) (v * 10 + digit_of u) v) (cond (is_digit u && behind) (w * 10) w) us n
 
 -- what the denominator's places show is read as it, and is digits with spaces behind them
 module _ (d : ℕ) (is : List Item) (places : T (every is_place is)) where

@@ -1,4 +1,6 @@
 // The items of a fraction: those before its numerator, the numerator's, and those behind its solidus.
+#![tactic(auto)]
+
 ghost use Rattle.std.specs.Prelude.{◌≡◌, ◌||◌, ◌∷◌, ◌++◌, ◌*◌, ◌/◌, ◌≤◌, ◌<◌, length, get_or};
 ghost use Rattle.formats.specs.Items.{literal_follows};
 ghost use Rattle.tables.specs.Words.{entries_in};

@@ -1,4 +1,6 @@
 // The text of a fraction section: its whole number, its numerator and its denominator, each shown in the places of its own part.
+#![tactic(auto)]
+
 ghost use Rattle.std.specs.Prelude.{◌≡◌, true, cond, ◌&&◌, ◌++◌, ◌+◌, ◌≤◌, ◌<◌, ◌^◌, T, leb, eqb, length, get_or, replicate};
 ghost use Rattle.lists.specs.Lists.{any, count};
 ghost use Rattle.figures.specs.Digits.{width, numeral};

@@ -1,4 +1,6 @@
 // The nearest fraction of a number, and the nearest numerator over a fixed one, exactly.
+#![tactic(auto)]
+
 ghost use Rattle.std.specs.Prelude.{◌≡◌, ℕ, ◌+◌, ◌*◌, ◌/◌, ◌^◌, ◌≤◌, ◌<◌, min, eqb};
 ghost use Rattle.figures.specs.Rounding.{Magnitude};
 ghost use Rattle.exponents.specs.Exponent.{decimal};
@@ -7,14 +9,14 @@ ghost use Rattle.fractions.specs.Nearest.{NearestFraction};
 ghost use Rattle.fractions.specs.Moves.{told_of, at, Between, moved_to, Movable};
 
 // above / below.
-#[derive(Drop)]
+#[derive(Clone, Copy)]
 pub struct Fraction {
     pub above: u64,
     pub below: u64,
 }
 
 // A whole number and above / below.
-#[derive(Drop)]
+#[derive(Clone, Copy)]
 pub struct Mixed {
     pub whole: u64,
     pub above: u64,
@@ -29,7 +31,7 @@ pub struct Nearest {
 }
 
 // A fraction on one side of a number, and how far it is from it, times both denominators.
-#[derive(Drop)]
+#[derive(Clone, Copy)]
 struct Side {
     above: u64,
     below: u64,

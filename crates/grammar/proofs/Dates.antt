@@ -340,11 +340,11 @@ module _ (abs : Option Elapsed) where
       → Dated abs r (date_items (pieces_from d 0 (t ∷ ts)))
   unfolding every settled_from settled_item run_of run_of_elapsed nearer date_item token_items is_seconds_token
   absolute-dated d r ts e (NFPartAbsHour {n = n} h) f =
-      rw (whole-items abs d (elapsed hours n) ts refl, e, le-leb n 9 h) (rw e at (f hour_run refl))
+      rw (whole-items abs d (elapsed hours n) ts refl, e, le-leb n 9 h) (f hour_run refl)
   absolute-dated d r ts e (NFPartAbsSecond {n = n} h) f =
-      rw (whole-items abs d (elapsed seconds n) ts refl, e, le-leb n 9 h) (rw e at (f second_run refl))
+      rw (whole-items abs d (elapsed seconds n) ts refl, e, le-leb n 9 h) (f second_run refl)
   absolute-dated d r ts e (NFPartAbsMinute {n = n} h) f =
-      rw (whole-items abs d (elapsed minutes n) ts refl, e, le-leb n 9 h) (rw e at (f other_run refl))
+      rw (whole-items abs d (elapsed minutes n) ts refl, e, le-leb n 9 h) (f other_run refl)
 
   -- a run of m that means a month
   month-dated : (r : Run) (n : ℕ) (is : List Item) → (means_minutes r (first_run is) && leb n 2) ≡ false → Dated abs other_run is → Dated abs r (item.month n ∷ is)

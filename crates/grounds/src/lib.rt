@@ -1,4 +1,6 @@
 // Why a value is shown as it is: what is named as the reason, with a number for each case.
+#![tactic(auto)]
+
 ghost use Rattle.std.specs.Prelude.{◌≡◌};
 ghost use Rattle.grounds.specs.Numbers.{choice_number, tried_number, minus_number};
 

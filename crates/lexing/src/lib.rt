@@ -1,4 +1,6 @@
 // Reads a code into tokens: a mark for each, with the place of its first unit.
+#![tactic(auto)]
+
 mod brackets;
 pub mod buffer;
 mod classes;
@@ -18,7 +20,7 @@ use forms::{
 use marks::forms::{BARE, BLANK, FILL, POINT, SECONDS, SEMICOLON, SPACE_PLACE, YEARS, ZERO_PLACE};
 
 // A token as numbers: its form, a row of `mark_rows` in specs/, and the form's argument.
-#[derive(Drop)]
+#[derive(Clone, Copy)]
 struct Mark {
     pub form: u16,
     pub argument: u16,

@@ -8,7 +8,7 @@ const ZERO: u16 = b'0' as u16;
 const NINE: u16 = b'9' as u16;
 
 // The sets that scans go over: a unit alone, every unit but one, the decimal digits.
-#[derive(Drop)]
+#[derive(Clone, Copy)]
 pub enum Set {
     Only(u16),
     But(u16),

@@ -1,1 +1,2 @@
 // Definitions on lists and their laws: specs/ and proofs/.
+#![tactic(auto)]

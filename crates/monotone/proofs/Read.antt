@@ -102,7 +102,8 @@ read_pos : (behind : Bool) (v w : ℕ) (us : List ℕ) → 0 < w → 0 < (read_f
 unfolding read_from
 read_pos behind v w [] h = h
 read_pos behind v w (u ∷ us) h =
-    read_pos _ _ _ us (cond_both (λ (n : ℕ). 0 < n) (is_digit u && behind) {x = w * 10} {y = w} (omega arith) h)
+    read_pos (behind || eqb u 46) (cond (is_digit u) (v * 10 + digit_of u) v) (cond (is_digit u && behind) (w * 10) w) us
+    (cond_both (λ (n : ℕ). 0 < n) (is_digit u && behind) {x = w * 10} {y = w} (omega arith) h)
 
 pub units-pos : (us : List ℕ) → 0 < (units_read us).below
 unfolding units_read

@@ -1,4 +1,6 @@
 // The items of a number section, in a walk of its own: it keeps little, and ends at the first fault.
+#![tactic(auto)]
+
 ghost use Rattle.std.specs.Prelude.{◌≡◌};
 ghost use Rattle.tables.specs.Words.{entries_in};
 ghost use Rattle.number_rows.specs.NumberRows.{NumberTold, no_row, no_number, placed_at, counted_at, place_taken, point_taken, percent_taken, fill_taken, number_after};
@@ -23,7 +25,7 @@ const GREATEST_POWER: u16 = 35;
 const MOST_PERCENTS: u16 = 5;
 
 // What is kept from one item to the next.
-#[derive(Drop)]
+#[derive(Clone, Copy)]
 struct NumberWalk {
     // no item was at fault
     fits: bool,

@@ -1,5 +1,7 @@
 // The powers of a fraction's places, written anew over the words of its items: integer places, numerator and denominator each run
 // down to power 0, where the words have those of one run before the solidus.
+#![tactic(auto)]
+
 ghost use Rattle.std.specs.Prelude.{◌≡◌, true, cond, List, [], suc, ◌+◌, ◌-◌, ◌≤◌, ◌<◌, length, get_or, set};
 ghost use Rattle.values.specs.Ranges.{between};
 ghost use Rattle.lists.specs.Lists.{any};

@@ -1,5 +1,7 @@
 // The plan of what is to be shown of a value through a table: a refusal, the text itself, or the section that takes it, with its figures and its
 // minus. No room is needed to make it.
+#![tactic(auto)]
+
 ghost use Rattle.std.specs.Prelude.{◌≡◌, true, false, List, ◌≤◌, ◌<◌, ◌^◌, ℕ, T, eqb, get_or};
 ghost use Rattle.formats.specs.Items.{number_kind, fraction_kind, same_kind, kind_of, integer_places};
 ghost use Rattle.formats.specs.Choice.{instant_exact, Reason, chosen, choose};

@@ -1,6 +1,8 @@
 // Prepares each line of standard input as a code, and writes for it a line: the answer, the place, how many words, and the words.
 // A line begins with `!` where a word was changed that was to be kept, or where a table room one word too short was not refused.
 // The file stdout has what another implementation of document 01 gives.
+#![tactic(auto)]
+
 mod lines;
 
 ghost use Rattle.std.specs.Prelude.{◌≡◌, ◌≤◌, length};

@@ -1,4 +1,6 @@
 // Prepares a code: tests it, and writes its table.
+#![tactic(auto)]
+
 mod heads;
 
 ghost use Rattle.std.specs.Prelude.{◌≡◌, length};

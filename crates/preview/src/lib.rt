@@ -1,4 +1,6 @@
 // Previews a code: prepares it in a table of its own, and shows a value through that table in the lent room.
+#![tactic(auto)]
+
 ghost use Rattle.std.specs.Prelude.{◌≡◌, length};
 ghost use Rattle.lists.specs.Lists.{overlay};
 ghost use Rattle.preview.specs.Preview.{refused_preview, previewed, preview_text};

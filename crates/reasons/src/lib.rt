@@ -1,5 +1,7 @@
 // Why a value is shown as it is: the section, by what it was chosen, the sections tried earlier, the minus or what held it back, and how many
 // decimals were cut, read off a table's words.
+#![tactic(auto)]
+
 ghost use Rattle.std.specs.Prelude.{◌≡◌, ℕ, ◌≤◌, ◌<◌, ◌^◌, [], T, eqb, get_or};
 ghost use Rattle.values.specs.declared.Number.{Number};
 ghost use Rattle.values.specs.declared.Value.TheVariants as value;

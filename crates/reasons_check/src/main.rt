@@ -2,6 +2,8 @@
 // A request is the three lines of document 01's program and a fourth, `room=` with the room's length in digits: the three are lent to the
 // reader of requests as they stand, so that only the fourth is read here, as a line like them. The code is prepared in 557 words, which take any
 // table, and what is asked is a table always: 7 and 8 are never answered. The file stdout has what another implementation gives.
+#![tactic(auto)]
+
 mod lines;
 
 ghost use Rattle.std.specs.Prelude.{◌≡◌, ◌≤◌, ◌<◌, length};

@@ -1,4 +1,6 @@
 // Reads the program's three lines: a code, the kind of a value, and the value.
+#![tactic(auto)]
+
 pub mod bytes;
 pub mod digits;
 pub mod lines;

@@ -15,7 +15,7 @@ const LONGEST: usize = 2048;
 const LAST_ASCII: u16 = 127;
 
 // A part of the lent units: where it starts, and where the units behind it start.
-#[derive(Drop)]
+#[derive(Clone, Copy)]
 pub struct Part {
     pub start: usize,
     pub end: usize,

@@ -9,7 +9,7 @@ use lexing::scan::{Set, is_word, scan, starts_with};
 use values::{Day, Millisecond, Number, Value};
 
 // The kinds of a value that a line may name.
-#[derive(Drop)]
+#[derive(Clone, Copy)]
 pub enum Sort {
     Number,
     Instant,

@@ -1,4 +1,6 @@
 // Answers the program's input: reads the request, previews it, and writes the five lines.
+#![tactic(auto)]
+
 mod lines;
 
 ghost use Rattle.std.specs.Prelude.{◌≡◌, ◌≤◌, length, take};

@@ -1,4 +1,6 @@
 // Items among a section's item words, by their tags: where one stands, where the items are cut, how many there are.
+#![tactic(auto)]
+
 ghost use Rattle.std.specs.Prelude.{◌≡◌, Bool, ℕ};
 ghost use Rattle.values.specs.Ranges.{between};
 ghost use Rattle.lists.specs.Lists.{count};

@@ -1,4 +1,6 @@
 // The items of a scientific section: those before its E and those behind it, each by the walk over a number section's.
+#![tactic(auto)]
+
 ghost use Rattle.std.specs.Prelude.{◌≡◌, ◌&&◌, ◌∷◌, ◌++◌, ℕ, ◌*◌, ◌/◌, ◌<◌, T, length, get_or};
 ghost use Rattle.values.specs.Ranges.{between};
 ghost use Rattle.tables.specs.Words.{entries_in};

@@ -1,4 +1,6 @@
 // The text of a scientific section, shown whole in a room or not at all: its mantissa, then what stands from its E on.
+#![tactic(auto)]
+
 ghost use Rattle.std.specs.Prelude.{◌≡◌, false, cond, ◌&&◌, [], ◌∷◌, ◌++◌, ℕ, suc, ◌+◌, ◌/◌, ◌%◌, ◌≤◌, ◌<◌, ◌^◌, T, leb, ltb, eqb, length, get_or};
 ghost use Rattle.figures.specs.Digits.{digit_unit};
 ghost use Rattle.formats.specs.Items.{number_kind, scientific_kind, kind_of, integer_places, places_behind};
@@ -23,7 +25,7 @@ use writing::{digit_unit, put_unit, units};
 
 // An exponent below 100, as a scientific section's items from the E on show it: its distance from 0, whether it is below 0, and
 // how many places it has.
-#[derive(Drop)]
+#[derive(Clone, Copy)]
 struct Power {
     size: u32,
     below: bool,

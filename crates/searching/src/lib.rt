@@ -1,4 +1,6 @@
 // Finds the last of 401 rising numbers that is not above a day, without seeing them: it names an entry and is told its number.
+#![tactic(auto)]
+
 ghost use Rattle.std.specs.Prelude.{◌≡◌, ◌≤◌};
 ghost use Rattle.searching.specs.Machine.{later_guess, guessed, first_asked, reading, between, answer, above, not_above, started, told_of};
 

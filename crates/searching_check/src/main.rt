@@ -1,6 +1,8 @@
 // Drives the search over lists that are not the year table. Entry k of a list has the number first + step * k, and `more` added from
 // entry `at` on. For every eighth entry the answers and turns for the days before, on and behind its number are written; the file
 // stdout has what a program in Python gives, which goes through the whole list.
+#![tactic(auto)]
+
 ghost use Rattle.std.specs.Prelude.{◌≤◌};
 
 use libc::STDOUT_FILENO;

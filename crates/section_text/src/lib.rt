@@ -1,5 +1,7 @@
 // The text of a section's items, shown whole in a room or not at all. A room has `size` units, of which those in front are lent: all of
 // them to show a text, none to ask whether it would be shown.
+#![tactic(auto)]
+
 ghost use Rattle.std.specs.Prelude.{◌≡◌, true, false, List, ◌++◌, ℕ, ◌+◌, ◌*◌, ◌≤◌, ◌<◌, ◌^◌, T, length, get_or};
 ghost use Rattle.formats.specs.Items.{kind_of, integer_places};
 ghost use Rattle.formats.specs.Reading.{shown, look_of, within};
@@ -21,7 +23,7 @@ use writing::{put_unit, units};
 // What a section's items are shown from, a date-time section's apart: a number's figures, in a number section those that its
 // places show, in a scientific section those of its mantissa, in others General's; `lent`: General and `@` stand for the text lent
 // beside it.
-#[derive(Drop)]
+#[derive(Clone, Copy)]
 pub struct Subject {
     pub figures: Figures,
     pub lent: bool,

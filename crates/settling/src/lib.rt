@@ -1,4 +1,6 @@
 // Settles the runs of m among a section's item words: each is a month or minutes, by the nearest runs on both sides of it.
+#![tactic(auto)]
+
 ghost use Rattle.std.specs.Prelude.{◌≡◌, cond, ◌||◌, List, [], ◌+◌, ◌<◌, ◌≤◌, length, get_or, T};
 ghost use Rattle.lists.specs.Lists.{every};
 ghost use Rattle.formats.specs.Items.{Item, settled};

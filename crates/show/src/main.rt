@@ -1,4 +1,6 @@
 // Answers the request on standard input: three lines, a code, a kind and a value.
+#![tactic(auto)]
+
 ghost use Rattle.std.specs.Prelude.{◌≡◌, length};
 
 use libc::{STDIN_FILENO, STDOUT_FILENO};

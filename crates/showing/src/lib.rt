@@ -1,5 +1,7 @@
 // Shows a value through a table, as it is planned. What is written goes into a room of `size` units, of which those in front are lent: all of
 // them to show a value, none to ask what would be answered.
+#![tactic(auto)]
+
 ghost use Rattle.std.specs.Prelude.{◌≡◌, true, false, ◌≤◌, ◌<◌, ◌^◌, T, length, get_or};
 ghost use Rattle.lists.specs.Lists.{any};
 ghost use Rattle.formats.specs.Items.{date_kind, scientific_kind, fraction_kind, kind_of, is_place, before_end};

@@ -1,4 +1,6 @@
 // Where the sections of a code stand in it.
+#![tactic(auto)]
+
 ghost use Rattle.std.specs.Prelude.{◌≡◌, ◌+◌, ◌*◌, ◌≤◌, length, take};
 ghost use Rattle.formats.specs.Tokens.{lex};
 ghost use Rattle.formats.specs.Accept.{fine, placed_of, semicolons, span_by, section_span, section_part};

@@ -1,4 +1,6 @@
 // A code that arrives in parts: a stream keeps what has come, and its end prepares the joined code.
+#![tactic(auto)]
+
 ghost use Rattle.std.specs.Prelude.{◌≡◌, length};
 ghost use Rattle.streams.specs.Streams.{started, feeding, ending, ending_room};
 

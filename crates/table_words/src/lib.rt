@@ -1,4 +1,6 @@
 // The words of a table, read: how many sections there are, the words of a head by their names, the part of a section's items.
+#![tactic(auto)]
+
 pub mod runs;
 
 ghost use Rattle.std.specs.Prelude.{◌≡◌, ◌+◌, ◌*◌, ◌≤◌, ◌<◌, T, length, get_or, drop};
@@ -14,7 +16,7 @@ ghost use Rattle.table_words.specs.Sections.{head_from, section_in, head_in, ite
 use tables::{flags, heads, kinds};
 
 // The words of a section's head.
-#[derive(Drop)]
+#[derive(Clone, Copy)]
 pub struct HeadWords {
     pub kind: u16,
     pub colour: u16,

@@ -1,4 +1,6 @@
 // What the rules ask of a section's items, told by counts: one pass over their words, and the rules as tests on the counts.
+#![tactic(auto)]
+
 ghost use Rattle.std.specs.Prelude.{◌≡◌, ◌≤◌, ◌<◌, length};
 ghost use Rattle.tables.specs.Words.{entries_in};
 ghost use Rattle.tables.specs.Encode.{entry};
@@ -9,7 +11,7 @@ use tables::{kinds, tags};
 use values::integers::is_between;
 
 // What the items of a section tell together.
-#[derive(Drop)]
+#[derive(Clone, Copy)]
 pub struct Tally {
     // no elapsed run is too long, and no fixed number
     pub short: bool,
@@ -96,7 +98,7 @@ const ELAPSED_SECONDS: u64 = 281474976710656;
 
 // What is kept from one item to the next. Counts stand in numbers, a digit each: no section has more than 254 items. All
 // fields are of one width, and few, so that the compiler keeps them in registers.
-#[derive(Drop)]
+#[derive(Clone, Copy)]
 struct Walk {
     // places, points, percents and E
     numbers: u64,

@@ -1,4 +1,6 @@
 // Values: a day number, a millisecond of the day, a number, and all that showing is told.
+#![tactic(auto)]
+
 pub mod integers;
 
 ghost use Rattle.std.specs.Prelude.{◌≡◌};
@@ -6,10 +8,10 @@ ghost use Rattle.values.specs.Ranges.{day_least, day_greatest, day_of, day_answe
 
 // "A day number and a millisecond of the day are two units": a type for each, so that no call takes one for the other.
 // The field is open: a value out of range can be asked for, and is answered 9.
-#[derive(Drop)]
+#[derive(Clone, Copy)]
 pub struct Day(pub u32);
 
-#[derive(Drop)]
+#[derive(Clone, Copy)]
 pub struct Millisecond(pub u32);
 
 #[derive(Drop)]
@@ -67,14 +69,14 @@ impl Millisecond {
 }
 
 // coefficient / 10^scale
-#[derive(Drop)]
+#[derive(Clone, Copy)]
 pub struct Number {
     pub coefficient: i64,
     pub scale: u32,
 }
 
 // What is to be shown. A text's units are the slice lent beside it.
-#[derive(Drop)]
+#[derive(Clone, Copy)]
 pub enum Value {
     Number(Number),
     Instant(Day, Millisecond),
@@ -82,7 +84,7 @@ pub enum Value {
 }
 
 // All that showing is told besides what is lent.
-#[derive(Drop)]
+#[derive(Clone, Copy)]
 pub struct Ask {
     pub value: Value,
 }

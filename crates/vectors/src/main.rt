@@ -1,6 +1,8 @@
 // Answers many requests on standard input, three lines each: the examples of document 01 and of the papers that it names, as far
 // as they fall inside its narrowing, and others. Behind the five lines of each stands the section that showed the value. The file
 // stdout has what another implementation of document 01 gives.
+#![tactic(auto)]
+
 ghost use Rattle.std.specs.Prelude.{◌≡◌, ◌≤◌, ◌<◌, length};
 
 use libc::{STDIN_FILENO, STDOUT_FILENO};

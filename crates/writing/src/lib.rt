@@ -1,5 +1,7 @@
 // Writes pieces of a text into a lent room. A store past the room's end is dropped, so that one walker can measure a text,
 // into an empty part of a room, and write it.
+#![tactic(auto)]
+
 pub mod units;
 
 ghost use Rattle.std.specs.Prelude.{◌≡◌, [], ◌∷◌, ◌+◌, ◌<◌, ◌^◌, length};

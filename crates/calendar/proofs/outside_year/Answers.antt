@@ -1,0 +1,17 @@
+-- `calendar::outside_year` meets its contract.
+-- Assumes nothing.
+use mathlib.Core.Path.{sym, ap, ◌∙◌}
+use mathlib.Core.Bool.{true, false}
+use native.Mathlib.Omega.{arith}
+use Rattle.calendar.specs.Made.{made_month_day}
+use Rattle.calendar.proofs.Months.{month-nought, month-behind}
+use Rattle.calendar.proofs.outside_year.Goals as goal
+
+pub returns-then-n-le366 : goal.returns-then-n-le366
+returns-then-n-le366 c = λ k e. ap made_month_day (sym (month-nought k c.args.n (c.requires c.if-n-le366.true)))
+
+pub returns-then-long : goal.returns-then-long
+returns-then-long c = λ k e. ap made_month_day (sym (month-behind k c.args.n true (sym c.if-long.true ∙ e) (omega arith)))
+
+pub returns : goal.returns
+returns c = λ k e. ap made_month_day (sym (month-behind k c.args.n false (sym c.if-long.false ∙ e) (omega arith)))

@@ -1,0 +1,17 @@
+-- `cuts::decimals_cut` meets its contract.
+-- Assumes nothing.
+use native.Mathlib.Omega.{arith}
+use Rattle.cuts.proofs.Counting.{counts_start, counts-here, counts-next, counts_end}
+use Rattle.cuts.proofs.decimals_cut.Goals as goal
+
+pub loop-k-init : goal.loop-k-init
+loop-k-init c = counts_start _ _ _ _ c.requires.1 c.excess-k.ensures
+
+pub returns-then-rest-ne0 : goal.returns-then-rest-ne0
+returns-then-rest-ne0 c = counts-here _ c.loop-k.invariant c.loop-k-test.true (λ z. c.if-rest-ne0.true (omega arith))
+
+pub loop-k-preserved : goal.loop-k-preserved
+loop-k-preserved c = counts-next _ c.loop-k.invariant c.loop-k-test.true (omega (arith, c.if-rest-ne0.false))
+
+pub returns : goal.returns
+returns c = counts_end _ c.loop-k.invariant c.loop-k-test.false
