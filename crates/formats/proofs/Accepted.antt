@@ -5,7 +5,7 @@ use native.Mathlib.Omega.{arith}
 use mathlib.Core.Path.{◌≡◌, refl}
 use mathlib.Core.List.{List, [], ◌∷◌, map}
 use lib.ListN.{length}
-use lib.Dec.{T, leb, le→leb}
+use lib.Dec.{T, le→leb}
 use Rattle.answers.specs.declared.Answer.TheVariants as answer
 use Rattle.lists.specs.Lists.{every, first_failing, is_some}
 use Rattle.lists.proofs.Bools.{and_in, every-head, every-tail, every-cons}

@@ -23,7 +23,7 @@ use Rattle.exponents.specs.Least.{LeastExponent}
 use Rattle.exponents.proofs.Search.{exponent-least, mantissa-digits}
 use Rattle.exponents.proofs.Mantissa.{exponent-nought, mantissa-near, mantissa-small, exponent-most}
 use Rattle.formats.specs.Tokens.{is_digit}
-use Rattle.formats.specs.Items.{Item, exponent, Section, scientific_kind, kind_of, items_kind, item_allowed, items_fit, is_place, is_point, is_exponent, is_solidus, is_cut, main_items, before_cut, from_cut, integer_places, decimal_places, places_behind, exponent_fits}
+use Rattle.formats.specs.Items.{Item, Section, scientific_kind, kind_of, items_kind, item_allowed, items_fit, is_place, is_point, is_exponent, is_solidus, is_cut, main_items, before_cut, from_cut, integer_places, decimal_places, places_behind, exponent_fits}
 use Rattle.formats.specs.Limits.{section_within}
 use Rattle.formats.specs.WellFormed.{section_formed, section_fits}
 use Rattle.formats.specs.Choice.{number_exact}

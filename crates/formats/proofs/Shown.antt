@@ -25,7 +25,7 @@ use Rattle.figures.proofs.Tens.{ten-pos}
 use Rattle.figures.proofs.Rounding.{half-unit, scaled-powered, scaled_small, rounded-small}
 use Rattle.calendar.specs.Names.{units}
 use Rattle.fractions.specs.declared.Mixed.{Mixed}
-use Rattle.formats.specs.Items.{Item, is_unit, at, Section, Kind, shows_places, text_kind, general_kind, date_kind, scientific_kind, fraction_kind, number_kind, same_kind, kind_of, item_allowed, is_point, is_percent, is_exponent, is_solidus, is_cut, items_fit, main_items, before_cut, from_cut, integer_places, decimal_places, places_behind}
+use Rattle.formats.specs.Items.{Item, is_unit, Section, Kind, shows_places, text_kind, general_kind, date_kind, scientific_kind, fraction_kind, number_kind, same_kind, kind_of, item_allowed, is_point, is_percent, is_exponent, is_solidus, is_cut, items_fit, main_items, before_cut, from_cut, integer_places, decimal_places, places_behind}
 use Rattle.formats.specs.Limits.{section_within}
 use Rattle.formats.specs.WellFormed.{section_formed, well_formed, section_fits}
 use Rattle.formats.specs.Choice.{Exact, number_exact, instant_exact, zero_exact, less_than, counted, Reason, Choice, nothing, chosen, choose, TextChoice, itself, text_in, choose_text}

@@ -9,7 +9,7 @@ use mathlib.Core.Option.{Option}
 use borrow.Author.Tests.{not-true}
 use Rattle.lists.specs.Lists.{every, any, count}
 use Rattle.lists.proofs.Bools.{no, and_parts, by_cases}
-use Rattle.formats.specs.Tokens.{Token, fill, run, elapsed, letter_y, letter_m, letter_d, letter_h, letter_s, Elapsed, hours, minutes, seconds}
+use Rattle.formats.specs.Tokens.{Token, run, elapsed, letter_y, letter_m, letter_d, letter_h, letter_s, Elapsed, hours, minutes, seconds}
 use Rattle.formats.specs.Items as item
 use Rattle.formats.specs.Items.{Item, Kind, text_kind, general_kind, date_kind, item_allowed, is_fill, is_elapsed, Run, no_run, run_of, nearer, first_run, settled_item, settled_from, settled}
 use Rattle.formats.specs.Kinds.{no_bracket, token_makes, body_kind, commas_fit, is_seconds_token, run_item, token_items, pieces_from, date_items, body_items, last_fill}

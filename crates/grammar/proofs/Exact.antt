@@ -16,7 +16,7 @@ use Rattle.formats.specs.Tokens.{Token, semicolon, Lexed, good, bad, lex}
 use Rattle.formats.specs.Kinds.{Parts, parts_of, section_of, fits}
 use Rattle.formats.specs.Where.{stands_at}
 use Rattle.formats.specs.Limits.{within_limits}
-use Rattle.formats.specs.Accept.{placed_of, tokens_of, semicolons, split, parts_in, sections_in, fine, length_verdict, token_verdict, count_verdict, section_verdict, kind_verdict, where_verdict, limit_verdict, verdict, sections}
+use Rattle.formats.specs.Accept.{placed_of, tokens_of, semicolons, split, parts_in, sections_in, fine, length_verdict, token_verdict, count_verdict, section_verdict, kind_verdict, where_verdict, limit_verdict, verdict}
 use Rattle.formats.proofs.ItemCount.{split-length, semicolons-length}
 use Rattle.formats.proofs.First.{AllFine, verdict-fine, fine-verdict, length-bounds, count-few, fine-none}
 use Rattle.grammar.specs.Units.{Spelled, done, token}

@@ -11,7 +11,7 @@ use lib.Dec.{T, leb, ltb, eqb}
 use borrow.Author.Tests.{leb-true, le-leb, eqb-true, not-true}
 use Rattle.lists.specs.Lists.{every, is_some}
 use Rattle.lists.proofs.Bools.{no, and_parts, by_cases, and_left, and_right, T_true, true-T}
-use Rattle.formats.specs.Tokens.{Token, at, colour, condition, Written}
+use Rattle.formats.specs.Tokens.{Token, colour, condition, Written}
 use Rattle.formats.specs.Items.{Kind, text_kind, general_kind, date_kind, scientific_kind, fraction_kind, number_kind, literal_kind, same_kind}
 use Rattle.formats.specs.Kinds.{is_colour, is_condition, no_bracket, Parts, colour_in, condition_in, after_colour, parts_of, body_kind, condition_of, section_of, fits}
 use Rattle.formats.specs.Where.{implies, stands_at}

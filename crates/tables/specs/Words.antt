@@ -1,6 +1,6 @@
 -- "The table" (R89, R90, R94, R95): its words, as they stand in it.
 -- Assumes nothing.
-use Rattle.std.specs.Prelude.{ℕ, zero, suc, ◌+◌, ◌*◌, ◌/◌, Bool, ◌&&◌, List, [], ◌∷◌, length, get_or, drop, leb, eqb}
+use Rattle.std.specs.Prelude.{ℕ, zero, suc, ◌+◌, ◌*◌, ◌/◌, Bool, ◌&&◌, List, [], ◌∷◌, length, get_or, drop, eqb}
 use Rattle.values.specs.Ranges.{between}
 
 -- "12 words a section" (R90)

@@ -1,7 +1,7 @@
 -- `fractions::nearest_part` meets its contract. The invariant: low and high are neighbours on either side of the number.
 -- Assumes nothing.
 use mathlib.Core.Path.{◌∙◌}
-use Prim.Native.Nat.{◌-◌, ◌<◌}
+use Prim.Native.Nat.{◌<◌}
 use native.Mathlib.Omega.{arith}
 use Rattle.fractions.proofs.Between.{low-met, high-met}
 use Rattle.fractions.proofs.Moving.{is-nearest, rests-small, low-movable, high-movable, next-between, turn-between, turn-rises}
