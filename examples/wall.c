@@ -7,7 +7,7 @@
  * or else a text. After `--why` each row is followed by the reason for what it
  * shows.
  *
- *   rt staticlib c_api
+ *   tools/archive
  *   cc -std=c99 -Iinclude examples/wall.c target/staticlib/libc_api.a -o target/wall && target/wall
  */
 #include "row.h"

@@ -2,7 +2,7 @@
 //! drawn in their colours, and a value that was rounded or cut is marked behind the widest. A row whose code or value is refused says
 //! so in its place. After `--why` each row is followed by the numbers of its reason.
 //!
-//!     rt staticlib c_api
+//!     tools/archive
 //!     cargo run --manifest-path rust/Cargo.toml --example wall
 
 use numfmt::{Board, Refusal, Shown, Table, Value};

@@ -17,7 +17,7 @@ fn main() {
         println!("cargo::rustc-link-lib=static=c_api");
     } else {
         println!(
-            "cargo::error={} is missing: `rt staticlib c_api` makes it",
+            "cargo::error={} is missing: tools/archive makes it",
             archive.display()
         );
     }

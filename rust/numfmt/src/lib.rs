@@ -1,5 +1,5 @@
 //! Prepares a SpreadsheetML number format code into a table, and shows a value through the table. The work is done by a
-//! library in Rattle whose promises are proved; this crate links its archive `libc_api.a` (`rt staticlib c_api` makes it)
+//! library in Rattle whose promises are proved; this crate links its archive `libc_api.a` (`tools/archive` makes it)
 //! and keeps for its callers the duties that include/numfmt.h lays on them.
 //!
 //! ```

@@ -56,7 +56,7 @@ fn reference(code: &str, kind: &str, value: &str) -> String {
         .stdin(Stdio::piped())
         .stdout(Stdio::piped())
         .spawn()
-        .expect("target/bin/show, which `rt check show` makes");
+        .expect("target/bin/show, which `tools/program show` makes");
     let input = format!("code={code}\nkind={kind}\nvalue={value}\n");
     let mut stdin = show.stdin.take().expect("its input");
     // It reads no more than it has to, so that the rest of a long input may find no reader.
