@@ -9,7 +9,7 @@ use Rattle.figure_text.specs.Shown.{FiguresAre}
 use Rattle.figure_text.proofs.put_extra.Given as goal
 
 abbrev pub invariant-loop-k : goal.invariant-loop-k
-invariant-loop-k l = 
+invariant-loop-k l =
     (l.k ≤ l.f.used)
     × (l.o + 2 * l.k ≤ l.at + 80)
     × (length l.room ≡ length l.initial.room)

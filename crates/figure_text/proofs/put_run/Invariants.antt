@@ -8,7 +8,7 @@ use Rattle.writing.specs.Put.{Rest}
 use Rattle.figure_text.proofs.put_run.Given as goal
 
 abbrev pub invariant-loop-k : goal.invariant-loop-k
-invariant-loop-k l = 
+invariant-loop-k l =
     (l.k ≤ l.high)
     × (l.o + l.k ≤ l.at + l.high)
     × (length l.room ≡ length l.initial.room)

@@ -1,6 +1,5 @@
 -- `table_words::items_start` meets its contract. The invariant, `Starting`: where the words of section k begin.
 -- Assumes nothing.
-use Prim.Native.Nat.{◌-◌}
 use native.Mathlib.Omega.{arith}
 use Rattle.table_words.proofs.Heads.{head-within}
 use Rattle.table_words.proofs.Bodies.{starting-start, starting-within, starting-step}

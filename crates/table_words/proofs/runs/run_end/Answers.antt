@@ -1,7 +1,7 @@
 -- `table_words::runs::run_end` meets its contract. The invariant, `Seeking`: every entry so far is a place.
 -- Assumes nothing.
-use Prim.Native.Nat.{◌-◌}
-use mathlib.Core.Path.{refl}
+use mathlib.Core.Path.{refl, ap}
+use mathlib.Core.Bool.{not}
 use Rattle.tables.proofs.Words.{seeking-start}
 use Rattle.table_words.proofs.Cuts.{part-met, part-passed, part_none}
 use Rattle.table_words.proofs.PlaceRuns.{finds-run}
@@ -11,10 +11,10 @@ pub loop-k-init : goal.loop-k-init
 loop-k-init c = seeking-start _ _ _ refl
 
 pub returns-then-not-tag : goal.returns-then-not-tag
-returns-then-not-tag c = part-met finds-run c.loop-k.invariant c.loop-k-test.true c.if-not-tag.true
+returns-then-not-tag c = part-met finds-run c.loop-k.invariant c.loop-k-test.true (ap not c.if-not-tag.true)
 
 pub loop-k-preserved : goal.loop-k-preserved
-loop-k-preserved c = part-passed finds-run c.loop-k.invariant c.loop-k-test.true c.if-not-tag.false
+loop-k-preserved c = part-passed finds-run c.loop-k.invariant c.loop-k-test.true (ap not c.if-not-tag.false)
 
 pub returns : goal.returns
 returns c = part_none finds-run c.loop-k.invariant c.loop-k-test.false
