@@ -1,5 +1,5 @@
-// The calls for C and Rust, as include/numfmt.h declares them. Each is the Rattle call with the answer as its number; a slice
-// is a pointer and a length, and a board or a stream goes in and comes back by value.
+// The calls for C and Rust, as include/numfmt.h declares them. Each is the Rattle call with the answer as its number, and a board or
+// a stream goes in and comes back by value. The crate c_api_c exports them.
 #![tactic(auto)]
 
 ghost use Rattle.std.specs.Prelude.{◌≡◌, length, []};
@@ -26,8 +26,7 @@ use spans::section_span;
 use streams::Stream;
 use values::{Value, asked};
 
-#[unsafe(no_mangle)]
-pub extern "C" fn numfmt_prepare(code: &[u16], table: &mut [u16]) -> PreparedNumbers
+pub fn numfmt_prepare(code: &[u16], table: &mut [u16]) -> PreparedNumbers
     ensures answer { result ≡ prepared_numbers (prepared code.now (length table.old)) }
     ensures table { table.new ≡ table_after code.now table.old }
 {
@@ -35,24 +34,21 @@ pub extern "C" fn numfmt_prepare(code: &[u16], table: &mut [u16]) -> PreparedNum
 }
 
 // A stream to which nothing has come.
-#[unsafe(no_mangle)]
-pub extern "C" fn numfmt_stream_start() -> Stream
+pub fn numfmt_stream_start() -> Stream
     ensures { result ≡ started }
 {
     Stream::start()
 }
 
 // The stream with a part of a code behind what has come.
-#[unsafe(no_mangle)]
-pub extern "C" fn numfmt_stream_feed(stream: Stream, part: &[u16]) -> FedNumbers
+pub fn numfmt_stream_feed(stream: Stream, part: &[u16]) -> FedNumbers
     ensures { result ≡ fed_numbers (feeding stream part.now) }
 {
     fed_numbers(stream.feed(part))
 }
 
 // The stream when it has ended, and its code prepared.
-#[unsafe(no_mangle)]
-pub extern "C" fn numfmt_stream_end(stream: Stream, table: &mut [u16]) -> FinishedNumbers
+pub fn numfmt_stream_end(stream: Stream, table: &mut [u16]) -> FinishedNumbers
     ensures result { result ≡ finished_numbers (ending stream (length table.old)) }
     ensures table { table.new ≡ ending_room stream table.old }
 {
@@ -60,8 +56,7 @@ pub extern "C" fn numfmt_stream_end(stream: Stream, table: &mut [u16]) -> Finish
 }
 
 // Section n of a code: where it stands in it.
-#[unsafe(no_mangle)]
-pub extern "C" fn numfmt_section(code: &[u16], n: u32) -> PartNumbers
+pub fn numfmt_section(code: &[u16], n: u32) -> PartNumbers
     ensures { result ≡ part_numbers (section_span n code.now) }
 {
     let s = section_span(code, n as usize);
@@ -69,15 +64,13 @@ pub extern "C" fn numfmt_section(code: &[u16], n: u32) -> PartNumbers
 }
 
 // Whether the words are a table: what the calls that show test first.
-#[unsafe(no_mangle)]
-pub extern "C" fn numfmt_check(table: &[u16]) -> u16
+pub fn numfmt_check(table: &[u16]) -> u16
     ensures { result ≡ check_number (passes table.now) }
 {
     check_number(check(table))
 }
 
-#[unsafe(no_mangle)]
-pub extern "C" fn numfmt_show_number(
+pub fn numfmt_show_number(
     table: &[u16],
     coefficient: i64,
     scale: u32,
@@ -89,8 +82,7 @@ pub extern "C" fn numfmt_show_number(
     shown_numbers(show(table, number_ask(coefficient, scale), &table[..0], room))
 }
 
-#[unsafe(no_mangle)]
-pub extern "C" fn numfmt_show_instant(
+pub fn numfmt_show_instant(
     table: &[u16],
     day: u32,
     millisecond: u32,
@@ -102,54 +94,38 @@ pub extern "C" fn numfmt_show_instant(
     shown_numbers(show(table, instant_ask(day, millisecond), &table[..0], room))
 }
 
-#[unsafe(no_mangle)]
-pub extern "C" fn numfmt_show_text(table: &[u16], text: &[u16], room: &mut [u16]) -> ShownNumbers
+pub fn numfmt_show_text(table: &[u16], text: &[u16], room: &mut [u16]) -> ShownNumbers
     ensures result { result ≡ shown_numbers (showing table.now text_ask text.now (length room.old)) }
     ensures room { room.new ≡ room_after table.now text_ask text.now room.old }
 {
     shown_numbers(show(table, asked(Value::Text), text, room))
 }
 
-#[unsafe(no_mangle)]
-pub extern "C" fn numfmt_why_number(
-    table: &[u16],
-    coefficient: i64,
-    scale: u32,
-    size: usize,
-) -> WhyNumbers
+pub fn numfmt_why_number(table: &[u16], coefficient: i64, scale: u32, size: usize) -> WhyNumbers
     ensures { result ≡ why_numbers (table_why table.now (number_ask coefficient scale) [] size) }
 {
     why_numbers(why(table, number_ask(coefficient, scale), &table[..0], size))
 }
 
-#[unsafe(no_mangle)]
-pub extern "C" fn numfmt_why_instant(
-    table: &[u16],
-    day: u32,
-    millisecond: u32,
-    size: usize,
-) -> WhyNumbers
+pub fn numfmt_why_instant(table: &[u16], day: u32, millisecond: u32, size: usize) -> WhyNumbers
     ensures { result ≡ why_numbers (table_why table.now (instant_ask day millisecond) [] size) }
 {
     why_numbers(why(table, instant_ask(day, millisecond), &table[..0], size))
 }
 
-#[unsafe(no_mangle)]
-pub extern "C" fn numfmt_why_text(table: &[u16], text: &[u16], size: usize) -> WhyNumbers
+pub fn numfmt_why_text(table: &[u16], text: &[u16], size: usize) -> WhyNumbers
     ensures { result ≡ why_numbers (table_why table.now text_ask text.now size) }
 {
     why_numbers(why(table, asked(Value::Text), text, size))
 }
 
-#[unsafe(no_mangle)]
-pub extern "C" fn numfmt_board_empty() -> Board
+pub fn numfmt_board_empty() -> Board
     ensures { result ≡ empty_board }
 {
     Board::empty()
 }
 
-#[unsafe(no_mangle)]
-pub extern "C" fn numfmt_board_put_number(
+pub fn numfmt_board_put_number(
     board: Board,
     row: u32,
     table: &[u16],
@@ -164,8 +140,7 @@ pub extern "C" fn numfmt_board_put_number(
     put_numbers(board.put(row, table, ask, &table[..0], room))
 }
 
-#[unsafe(no_mangle)]
-pub extern "C" fn numfmt_board_put_instant(
+pub fn numfmt_board_put_instant(
     board: Board,
     row: u32,
     table: &[u16],
@@ -180,8 +155,7 @@ pub extern "C" fn numfmt_board_put_instant(
     put_numbers(board.put(row, table, ask, &table[..0], room))
 }
 
-#[unsafe(no_mangle)]
-pub extern "C" fn numfmt_board_put_text(
+pub fn numfmt_board_put_text(
     board: Board,
     row: u32,
     table: &[u16],
@@ -194,8 +168,7 @@ pub extern "C" fn numfmt_board_put_text(
     put_numbers(board.put(row, table, asked(Value::Text), text, room))
 }
 
-#[unsafe(no_mangle)]
-pub extern "C" fn numfmt_board_clear(board: Board, row: u32) -> ClearedNumbers
+pub fn numfmt_board_clear(board: Board, row: u32) -> ClearedNumbers
     ensures { result ≡ cleared_numbers (clear_row board row) }
 {
     cleared_numbers(board.clear(row))

@@ -35,6 +35,7 @@ fraction = record { text = refl; general = refl; date = refl; number = refl; pla
 
 or_left : (a b : Bool) → T a → T (a || b)
 or_left true b t = tt
+or_left false b t = elim t [ ]
 
 -- ---- what every part holds
 pub record Piece (fs : List Entry) : Type 0 where

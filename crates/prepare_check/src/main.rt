@@ -8,10 +8,11 @@ mod lines;
 ghost use Rattle.std.specs.Prelude.{◌≡◌, ◌≤◌, length};
 
 use answers::{Prepared, number};
+use input::read_full;
 use lexing::scan::{Set, scan};
-use libc::{STDIN_FILENO, STDOUT_FILENO};
 use lines::put_line;
 use requests::bytes::{narrow, put_bytes};
+use std::io;
 
 // What the table rooms are filled with, to see which words were written.
 const FILLING: u16 = 43690;
@@ -48,14 +49,20 @@ fn input_room() -> [u16; 65536]
     [0; 65536]
 }
 
-fn write_line(sound: bool, answer: u16, place: u32, words: &[u16])
+fn write_line(
+    rt: &impl Print,
+    sound: bool,
+    answer: u16,
+    place: u32,
+    words: &[u16],
+) -> io::Result<()>
     requires { length words.now ≤ 557 }
 {
     let mut line = line_room();
     let n = put_line(&mut line, sound, answer, place, words);
     let mut bytes = line_bytes();
     narrow(&line[..n], &mut bytes);
-    io::write_all(STDOUT_FILENO, &bytes[..n]);
+    rt.write_all(&bytes[..n])
 }
 
 // Whether a table room one word too short is refused, and keeps its words.
@@ -73,40 +80,40 @@ fn refuses_short(code: &[u16], words: usize) -> bool
 }
 
 // Writes what preparing a code returned and left in its table room.
-fn report(code: &[u16], p: Prepared, table: &[u16])
+fn report(rt: &impl Print, code: &[u16], p: Prepared, table: &[u16]) -> io::Result<()>
     requires { (p.words ≤ length table.now) × (length table.now ≡ 557) }
 {
     let answer = p.answer;
     let n = p.words as usize;
     let kept = scan(&table[n..], Set::Only(FILLING)) == table.len() - n;
     let sound = kept & refuses_short(code, n);
-    write_line(sound, number(answer), p.place, &table[..n]);
+    write_line(rt, sound, number(answer), p.place, &table[..n])
 }
 
-fn prepare_line(code: &[u16]) {
+fn prepare_line(rt: &impl Print, code: &[u16]) -> io::Result<()> {
     let mut table = table_room();
     let p = preparing::prepare(code, &mut table);
-    report(code, p, &table);
+    report(rt, code, p, &table)
 }
 
 // Each line of the input, without its line feed; units behind the last line feed are a line too.
-fn prepare_lines(input: &[u16]) {
+fn prepare_lines(rt: &impl Print, input: &[u16]) -> io::Result<()> {
     let mut at = 0;
     while at < input.len() {
         let n = scan(&input[at..], Set::But(10));
-        prepare_line(&input[at..at + n]);
+        prepare_line(rt, &input[at..at + n])?;
         at += n + 1;
     }
+    Ok(())
 }
 
-fn main() {
+fn main(rt: HostRuntime) -> io::Result<()> {
     let mut bytes = input_bytes();
-    let got = io::read_full(STDIN_FILENO, &mut bytes);
+    let got = read_full(&mut rt.stdin(), &mut bytes)?;
     if 65536 < got {
-        io::write_all(STDOUT_FILENO, b"input too long\n");
-        return;
+        return rt.write_all(b"input too long\n");
     }
     let mut input = input_room();
     put_bytes(&mut input, 0, &bytes[..got]);
-    prepare_lines(&input[..got]);
+    prepare_lines(&rt, &input[..got])
 }

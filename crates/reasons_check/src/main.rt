@@ -16,8 +16,8 @@ ghost use Rattle.reasons_check.specs.Asked.{request_why, room_why, block_why};
 use answers::{Answer, number};
 use c_numbers::why_numbers;
 use grounds::Why;
+use input::read_full;
 use lexing::scan::{Set, scan};
-use libc::{STDIN_FILENO, STDOUT_FILENO};
 use lines::put_line;
 use preparing::prepare;
 use reasons::why;
@@ -25,6 +25,7 @@ use requests::bytes::{narrow, put_bytes};
 use requests::digits::{is_digits, number_behind};
 use requests::lines::{Line, line_at};
 use requests::{RequestRead, part_of, read_request};
+use std::io;
 use values::Ask;
 
 const LINE_FEED: u16 = 10;
@@ -110,12 +111,12 @@ fn block_why(request: &[u16], fourth: &[u16]) -> Why
     }
 }
 
-fn write_why(w: Why) {
+fn write_why(rt: &impl Print, w: Why) -> io::Result<()> {
     let mut line = line_room();
     let n = put_line(&mut line, why_numbers(w));
     let mut bytes = line_bytes();
     narrow(&line[..n], &mut bytes);
-    io::write_all(STDOUT_FILENO, &bytes[..n]);
+    rt.write_all(&bytes[..n])
 }
 
 // The place behind the line that starts at `at`, with its line feed where it has one.
@@ -132,26 +133,26 @@ fn line_end(input: &[u16], at: usize) -> usize
 }
 
 // Each four lines are a request.
-fn answer_blocks(input: &[u16]) {
+fn answer_blocks(rt: &impl Print, input: &[u16]) -> io::Result<()> {
     let mut at = 0;
     while at < input.len() {
         let second = line_end(input, at);
         let third = line_end(input, second);
         let fourth = line_end(input, third);
         let end = line_end(input, fourth);
-        write_why(block_why(&input[at..fourth], &input[fourth..end]));
+        write_why(rt, block_why(&input[at..fourth], &input[fourth..end]))?;
         at = end;
     }
+    Ok(())
 }
 
-fn main() {
+fn main(rt: HostRuntime) -> io::Result<()> {
     let mut bytes = input_bytes();
-    let got = io::read_full(STDIN_FILENO, &mut bytes);
+    let got = read_full(&mut rt.stdin(), &mut bytes)?;
     if 65536 < got {
-        io::write_all(STDOUT_FILENO, b"input too long\n");
-        return;
+        return rt.write_all(b"input too long\n");
     }
     let mut input = input_room();
     put_bytes(&mut input, 0, &bytes[..got]);
-    answer_blocks(&input[..got]);
+    answer_blocks(&rt, &input[..got])
 }

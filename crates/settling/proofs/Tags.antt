@@ -4,7 +4,7 @@ use Prim.Native.Nat.{ℕ, suc, ◌+◌, ◌<◌, ◌≤◌}
 use native.Mathlib.Omega.{arith}
 use native.Mathlib.Numerals.{add-one, add-two}
 use mathlib.Core.Path.{◌≡◌, refl, sym, ◌∙◌, ap}
-use mathlib.Core.Bool.{true, false, cond, ◌&&◌, ◌||◌}
+use mathlib.Core.Bool.{Bool, true, false, cond, ◌&&◌, ◌||◌}
 use mathlib.Core.List.{List, [], ◌∷◌}
 use lib.ListN.{length, drop, get_or, length-drop}
 use lib.Seq.{drop-cons}
@@ -16,7 +16,7 @@ use Rattle.formats.proofs.Each.{by-item, by_place, by-elapsed, by-exponent}
 use Rattle.tables.specs.Words.{entries_words}
 use Rattle.tables.specs.Encode.{entry, tag_of, entry_of, entries_from}
 use Rattle.settling.specs.Settle.{is_no_minute, is_run_tag, seconds_in, hours_after}
-use Rattle.formats.specs.Text.{along}
+use Rattle.formats.specs.Text.{along, digit_after}
 
 -- the run of an item, before or behind another one
 abbrev Tells : Item → Type 0
@@ -38,7 +38,8 @@ tag-tells =
 pub seconds-first : (anew q : ℕ) (is : List Item) → seconds_in (entries_words (entries_from anew q is) []) ≡ is_second_run (first_run is)
 unfolding seconds_in entries_words entry_of first_run along
 seconds-first anew q [] = refl
-seconds-first anew q (i ∷ is) = rw (seconds-first anew _ is) (sym (tag-tells i (first_run is)).0)
+seconds-first anew q (i ∷ is) =
+    ap (λ (r : Bool). cond (is_run_tag (tag_of i)) (eqb (tag_of i) 16 || eqb (tag_of i) 20) r) (seconds-first anew (digit_after anew q i) is) ∙ sym (tag-tells i (first_run is)).0
 
 -- the tag of a settled item
 abbrev Settles : ℕ → Run → Run → Item → Type 0

@@ -3,8 +3,9 @@
 
 ghost use Rattle.std.specs.Prelude.{◌≡◌, length};
 
-use libc::{STDIN_FILENO, STDOUT_FILENO};
+use input::read_full;
 use responding::respond_input;
+use std::io;
 
 // 6,148 bytes: three lines of 2,048, their line feeds, and one byte more. So a longer input is seen to be malformed, and what is
 // not read changes no answer.
@@ -20,10 +21,10 @@ fn output_bytes() -> [u8; 4236]
     [0; 4236]
 }
 
-fn main() {
+fn main(rt: HostRuntime) -> io::Result<()> {
     let mut input = input_bytes();
-    let got = io::read_full(STDIN_FILENO, &mut input);
+    let got = read_full(&mut rt.stdin(), &mut input)?;
     let mut output = output_bytes();
     let n = respond_input(&input, got, &mut output);
-    io::write_all(STDOUT_FILENO, &output[..n]);
+    rt.write_all(&output[..n])
 }

@@ -5,8 +5,9 @@
 
 ghost use Rattle.std.specs.Prelude.{◌≡◌, ◌≤◌, ◌<◌, length};
 
-use libc::{STDIN_FILENO, STDOUT_FILENO};
+use input::read_full;
 use responding::respond_bytes;
+use std::io;
 
 // One byte more than is taken, to see that there is no more.
 fn input_bytes() -> [u8; 131073]
@@ -37,43 +38,43 @@ fn line_end(input: &[u8], at: usize) -> usize
     i
 }
 
-fn write_section(section: u16) -> bool {
+fn write_section(rt: &impl Print, section: u16) -> io::Result<()> {
     match section {
-        0 => io::write_all(STDOUT_FILENO, b"section=0\n"),
-        1 => io::write_all(STDOUT_FILENO, b"section=1\n"),
-        2 => io::write_all(STDOUT_FILENO, b"section=2\n"),
-        3 => io::write_all(STDOUT_FILENO, b"section=3\n"),
-        4 => io::write_all(STDOUT_FILENO, b"section=4\n"),
-        _ => io::write_all(STDOUT_FILENO, b"section=?\n"),
+        0 => rt.write_all(b"section=0\n"),
+        1 => rt.write_all(b"section=1\n"),
+        2 => rt.write_all(b"section=2\n"),
+        3 => rt.write_all(b"section=3\n"),
+        4 => rt.write_all(b"section=4\n"),
+        _ => rt.write_all(b"section=?\n"),
     }
 }
 
-fn respond_block(block: &[u8]) {
+fn respond_block(rt: &impl Print, block: &[u8]) -> io::Result<()> {
     let mut output = output_bytes();
     let r = respond_bytes(block, &mut output);
     let n = r.length;
-    io::write_all(STDOUT_FILENO, &output[..n]);
-    write_section(r.section);
+    rt.write_all(&output[..n])?;
+    write_section(rt, r.section)
 }
 
 // Each three lines are a request.
-fn respond_blocks(input: &[u8]) {
+fn respond_blocks(rt: &impl Print, input: &[u8]) -> io::Result<()> {
     let mut at = 0;
     while at < input.len() {
         let second = line_end(input, at);
         let third = line_end(input, second);
         let end = line_end(input, third);
-        respond_block(&input[at..end]);
+        respond_block(rt, &input[at..end])?;
         at = end;
     }
+    Ok(())
 }
 
-fn main() {
+fn main(rt: HostRuntime) -> io::Result<()> {
     let mut input = input_bytes();
-    let got = io::read_full(STDIN_FILENO, &mut input);
+    let got = read_full(&mut rt.stdin(), &mut input)?;
     if 131072 < got {
-        io::write_all(STDOUT_FILENO, b"input too long\n");
-        return;
+        return rt.write_all(b"input too long\n");
     }
-    respond_blocks(&input[..got]);
+    respond_blocks(&rt, &input[..got])
 }

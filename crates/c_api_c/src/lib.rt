@@ -1,0 +1,191 @@
+// The exports for C and Rust, as include/numfmt.h declares them: each is the call of the crate c_api, with its clauses. A slice is a
+// pointer and a length, and a board or a stream goes in and comes back by value.
+#![tactic(auto)]
+
+ghost use Rattle.std.specs.Prelude.{◌≡◌, length, []};
+ghost use Rattle.formats.specs.Accept.{section_span};
+ghost use Rattle.tables.specs.Rules.{passes};
+ghost use Rattle.tables.specs.Calls.{prepared, table_after, showing, room_after};
+ghost use Rattle.reasons.specs.Table.{table_why};
+ghost use Rattle.boards.specs.Boards.{empty_board, put_row, room_put, clear_row};
+ghost use Rattle.streams.specs.Streams.{started, feeding, ending, ending_room};
+ghost use Rattle.c_numbers.specs.Numbers.{prepared_numbers, fed_numbers, finished_numbers, part_numbers, check_number, shown_numbers, why_numbers, put_numbers, cleared_numbers, number_ask, instant_ask, text_ask};
+
+use boards::Board;
+use c_numbers::{
+    ClearedNumbers, FedNumbers, FinishedNumbers, PartNumbers, PreparedNumbers, PutNumbers,
+    ShownNumbers, WhyNumbers,
+};
+use streams::Stream;
+
+#[unsafe(no_mangle)]
+pub extern "C" fn numfmt_prepare(code: &[u16], table: &mut [u16]) -> PreparedNumbers
+    ensures answer { result ≡ prepared_numbers (prepared code.now (length table.old)) }
+    ensures table { table.new ≡ table_after code.now table.old }
+{
+    c_api::numfmt_prepare(code, table)
+}
+
+// A stream to which nothing has come.
+#[unsafe(no_mangle)]
+pub extern "C" fn numfmt_stream_start() -> Stream
+    ensures { result ≡ started }
+{
+    c_api::numfmt_stream_start()
+}
+
+// The stream with a part of a code behind what has come.
+#[unsafe(no_mangle)]
+pub extern "C" fn numfmt_stream_feed(stream: Stream, part: &[u16]) -> FedNumbers
+    ensures { result ≡ fed_numbers (feeding stream part.now) }
+{
+    c_api::numfmt_stream_feed(stream, part)
+}
+
+// The stream when it has ended, and its code prepared.
+#[unsafe(no_mangle)]
+pub extern "C" fn numfmt_stream_end(stream: Stream, table: &mut [u16]) -> FinishedNumbers
+    ensures result { result ≡ finished_numbers (ending stream (length table.old)) }
+    ensures table { table.new ≡ ending_room stream table.old }
+{
+    c_api::numfmt_stream_end(stream, table)
+}
+
+// Section n of a code: where it stands in it.
+#[unsafe(no_mangle)]
+pub extern "C" fn numfmt_section(code: &[u16], n: u32) -> PartNumbers
+    ensures { result ≡ part_numbers (section_span n code.now) }
+{
+    c_api::numfmt_section(code, n)
+}
+
+// Whether the words are a table: what the calls that show test first.
+#[unsafe(no_mangle)]
+pub extern "C" fn numfmt_check(table: &[u16]) -> u16
+    ensures { result ≡ check_number (passes table.now) }
+{
+    c_api::numfmt_check(table)
+}
+
+#[unsafe(no_mangle)]
+pub extern "C" fn numfmt_show_number(
+    table: &[u16],
+    coefficient: i64,
+    scale: u32,
+    room: &mut [u16],
+) -> ShownNumbers
+    ensures result { result ≡ shown_numbers (showing table.now (number_ask coefficient scale) [] (length room.old)) }
+    ensures room { room.new ≡ room_after table.now (number_ask coefficient scale) [] room.old }
+{
+    c_api::numfmt_show_number(table, coefficient, scale, room)
+}
+
+#[unsafe(no_mangle)]
+pub extern "C" fn numfmt_show_instant(
+    table: &[u16],
+    day: u32,
+    millisecond: u32,
+    room: &mut [u16],
+) -> ShownNumbers
+    ensures result { result ≡ shown_numbers (showing table.now (instant_ask day millisecond) [] (length room.old)) }
+    ensures room { room.new ≡ room_after table.now (instant_ask day millisecond) [] room.old }
+{
+    c_api::numfmt_show_instant(table, day, millisecond, room)
+}
+
+#[unsafe(no_mangle)]
+pub extern "C" fn numfmt_show_text(table: &[u16], text: &[u16], room: &mut [u16]) -> ShownNumbers
+    ensures result { result ≡ shown_numbers (showing table.now text_ask text.now (length room.old)) }
+    ensures room { room.new ≡ room_after table.now text_ask text.now room.old }
+{
+    c_api::numfmt_show_text(table, text, room)
+}
+
+#[unsafe(no_mangle)]
+pub extern "C" fn numfmt_why_number(
+    table: &[u16],
+    coefficient: i64,
+    scale: u32,
+    size: usize,
+) -> WhyNumbers
+    ensures { result ≡ why_numbers (table_why table.now (number_ask coefficient scale) [] size) }
+{
+    c_api::numfmt_why_number(table, coefficient, scale, size)
+}
+
+#[unsafe(no_mangle)]
+pub extern "C" fn numfmt_why_instant(
+    table: &[u16],
+    day: u32,
+    millisecond: u32,
+    size: usize,
+) -> WhyNumbers
+    ensures { result ≡ why_numbers (table_why table.now (instant_ask day millisecond) [] size) }
+{
+    c_api::numfmt_why_instant(table, day, millisecond, size)
+}
+
+#[unsafe(no_mangle)]
+pub extern "C" fn numfmt_why_text(table: &[u16], text: &[u16], size: usize) -> WhyNumbers
+    ensures { result ≡ why_numbers (table_why table.now text_ask text.now size) }
+{
+    c_api::numfmt_why_text(table, text, size)
+}
+
+#[unsafe(no_mangle)]
+pub extern "C" fn numfmt_board_empty() -> Board
+    ensures { result ≡ empty_board }
+{
+    c_api::numfmt_board_empty()
+}
+
+#[unsafe(no_mangle)]
+pub extern "C" fn numfmt_board_put_number(
+    board: Board,
+    row: u32,
+    table: &[u16],
+    coefficient: i64,
+    scale: u32,
+    room: &mut [u16],
+) -> PutNumbers
+    ensures result { result ≡ put_numbers (put_row board row table.now (number_ask coefficient scale) [] (length room.old)) }
+    ensures room { room.new ≡ room_put row table.now (number_ask coefficient scale) [] room.old }
+{
+    c_api::numfmt_board_put_number(board, row, table, coefficient, scale, room)
+}
+
+#[unsafe(no_mangle)]
+pub extern "C" fn numfmt_board_put_instant(
+    board: Board,
+    row: u32,
+    table: &[u16],
+    day: u32,
+    millisecond: u32,
+    room: &mut [u16],
+) -> PutNumbers
+    ensures result { result ≡ put_numbers (put_row board row table.now (instant_ask day millisecond) [] (length room.old)) }
+    ensures room { room.new ≡ room_put row table.now (instant_ask day millisecond) [] room.old }
+{
+    c_api::numfmt_board_put_instant(board, row, table, day, millisecond, room)
+}
+
+#[unsafe(no_mangle)]
+pub extern "C" fn numfmt_board_put_text(
+    board: Board,
+    row: u32,
+    table: &[u16],
+    text: &[u16],
+    room: &mut [u16],
+) -> PutNumbers
+    ensures result { result ≡ put_numbers (put_row board row table.now text_ask text.now (length room.old)) }
+    ensures room { room.new ≡ room_put row table.now text_ask text.now room.old }
+{
+    c_api::numfmt_board_put_text(board, row, table, text, room)
+}
+
+#[unsafe(no_mangle)]
+pub extern "C" fn numfmt_board_clear(board: Board, row: u32) -> ClearedNumbers
+    ensures { result ≡ cleared_numbers (clear_row board row) }
+{
+    c_api::numfmt_board_clear(board, row)
+}

@@ -1,0 +1,9 @@
+-- `checking::excepted` meets its contract.
+-- Assumes nothing.
+use mathlib.Core.Path.{refl}
+use Rattle.formats.specs.Minus.{exception_a}
+use Rattle.checking.proofs.excepted.Goals as goal
+
+pub returns : goal.returns
+unfolding exception_a
+returns c = refl

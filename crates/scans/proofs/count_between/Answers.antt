@@ -1,0 +1,15 @@
+-- `scans::count_between` meets its contract. The invariant, `Counting`: those so far and those that are left are all.
+-- Assumes nothing.
+use Prim.Native.Nat.{◌-◌}
+use mathlib.Core.Path.{refl}
+use Rattle.scans.proofs.Cutting.{counting-start, counting-step, counting-end}
+use Rattle.scans.proofs.count_between.Goals as goal
+
+pub loop-k-init : goal.loop-k-init
+loop-k-init c = counting-start _ _ _ _ refl
+
+pub loop-k-preserved : goal.loop-k-preserved
+loop-k-preserved c = counting-step c.loop-k.invariant c.loop-k-test.true
+
+pub returns : goal.returns
+returns c = counting-end c.loop-k.invariant c.loop-k-test.false

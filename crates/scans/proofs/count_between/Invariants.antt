@@ -1,0 +1,11 @@
+-- `scans::count_between` meets its contract. The invariant, `Counting`: those so far and those that are left are all.
+-- Assumes nothing.
+use Prim.Native.Nat.{◌-◌}
+use Rattle.scans.proofs.Cutting.{Counting}
+use Rattle.scans.proofs.count_between.Given as goal
+
+abbrev pub invariant-loop-k : goal.invariant-loop-k
+invariant-loop-k l = Counting l.low l.high l.items l.n l.k l.met
+
+abbrev pub decreases-loop-k : goal.decreases-loop-k
+decreases-loop-k l = l.n - l.k
