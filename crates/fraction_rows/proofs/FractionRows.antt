@@ -29,7 +29,7 @@ use Rattle.scans.specs.Scans.{has_tag}
 use Rattle.fraction_rows.specs.FractionRows.{fraction_items, whole_fits, fixed_fits, run_fits, parts_fit}
 use Rattle.tallies.proofs.Held.{apart, no-solidi, uncut, powers-bare, Holds, holds, holds-back}
 use Rattle.number_rows.proofs.Parts.{none-among, every-joined, count-beside, cut-here, powers-joined, filled_apart}
-use Rattle.fraction_rows.proofs.FractionParts.{fraction, Piece, Whole, whole_in, whole_out, Behind, anew_of, behind-in, behind-out, number_in, number-out}
+use Rattle.fraction_rows.proofs.FractionParts.{Piece, Whole, whole_in, whole_out, Behind, anew_of, behind-in, behind-out, number_in, number-out}
 
 -- ---- the places at the end are places, and there is none where they are none
 end-places : (is : List Item) → every is_place (end_places is) ≡ true

@@ -28,10 +28,10 @@ derive-fraction ts s w h f =
     let items = plain_body ts fraction_kind h refl in
     let vs = plain-views ts fraction_kind h refl refl s f in
     let no-commas : any is_comma ts ≡ false = not-true (any is_comma ts) (rw h at f.commas) in
-    let Has-one = sym (solidus-has vs).0 ∙ kind-has fraction_kind refl ts h in
-    let few-integers : wholes (plain_items ts) ≤ 20 = rw (items, Has-one) at f.integers in
-    let few-numerators : mains (plain_items ts) ≤ 20 = rw (items, Has-one) at f.wholes in
-    let parts = fits-parts (plain_items ts) Has-one (rw items at f.fraction) in
+    let has_one = sym (solidus-has vs).0 ∙ kind-has fraction_kind refl ts h in
+    let few-integers : wholes (plain_items ts) ≤ 20 = rw (items, has_one) at f.integers in
+    let few-numerators : mains (plain_items ts) ≤ 20 = rw (items, has_one) at f.wholes in
+    let parts = fits-parts (plain_items ts) has_one (rw items at f.fraction) in
     record {
       integers = wholes (plain_items ts);
       numerators = mains (plain_items ts);

@@ -192,17 +192,17 @@ digits-good : (ws : List ℕ) → no_leading_zero ws ≡ true → All ASCII-DIGI
 unfolding no_leading_zero number_from digit_of
 digits-good [] z a h = no z
 digits-good (u ∷ []) z a h =
-    let some_IsFirst = eqb-false u 48 (not-true (eqb u 48) z) in
+    let some-first = eqb-false u 48 (not-true (eqb u 48) z) in
     let least = a.0.0 in
     let e : 10 * 0 + (u - 48) ≡ u - 48 = omega arith in
     rw e (one-digit u (omega arith, a.0.1))
 digits-good (u ∷ v ∷ []) z a h =
-    let some_IsFirst = eqb-false u 48 (not-true (eqb u 48) z) in
+    let some-first = eqb-false u 48 (not-true (eqb u 48) z) in
     let least = a.0.0 in
     let e : 10 * (10 * 0 + (u - 48)) + (v - 48) ≡ 10 * (u - 48) + (v - 48) = omega arith in
     rw e (two_good u v (omega arith, a.0.1) a.1.0 (omega arith))
 digits-good (u ∷ v ∷ w ∷ ws) z a h =
-    let some_IsFirst = eqb-false u 48 (not-true (eqb u 48) z) in
+    let some-first = eqb-false u 48 (not-true (eqb u 48) z) in
     let least = a.0.0 in
     absurd (omega (arith, number-grows (10 * (10 * (10 * 0 + (u - 48)) + (v - 48)) + (w - 48)) (map digit_of ws)))
 

@@ -13,6 +13,7 @@ use Rattle.values.specs.Ranges.{between}
 use Rattle.lists.specs.Lists.{every, any}
 use Rattle.lists.proofs.Counts.{any_append}
 use Rattle.lists.proofs.Bools.{by_cases, or-false}
+use Rattle.formats.specs.Tokens.{hours, minutes, seconds, e_plus, e_minus}
 use Rattle.formats.specs.Items.{Item, item_number, elapsed, exponent, is_place, is_point, is_solidus, is_cut, before_cut, from_cut, integer_places, places_behind, end_places, before_end, numerator_items, whole_items, main_items}
 use Rattle.formats.specs.Text.{digit_after, along, first_of}
 use Rattle.formats.proofs.Each.{by-item, by_place, by-elapsed, by-exponent}
@@ -40,8 +41,8 @@ tells =
     (yes refl refl refl) (yes refl refl refl) (yes refl refl refl) (yes refl refl refl)
     (λ n. yes refl refl refl) (λ n. yes refl refl refl) (λ n. yes refl refl refl) (λ n. yes refl refl refl) (λ n. yes refl refl refl)
     (λ n. yes refl refl refl) (λ n. yes refl refl refl)
-    (λ e n. by-elapsed (λ d. Tells (elapsed d n)) (yes refl refl refl) (yes refl refl refl) (yes refl refl refl) e) (λ h. yes refl refl refl)
-    (by-exponent (λ m. Tells (exponent m)) (yes refl refl refl) (yes refl refl refl)) (yes refl refl refl) (λ n. yes refl refl refl)
+    (λ e n. by-elapsed (λ d. Tells (elapsed d n)) (yes {i = elapsed hours n} refl refl refl) (yes {i = elapsed minutes n} refl refl refl) (yes {i = elapsed seconds n} refl refl refl) e) (λ h. yes refl refl refl)
+    (by-exponent (λ m. Tells (exponent m)) (yes {i = exponent e_plus} refl refl refl) (yes {i = exponent e_minus} refl refl refl)) (yes refl refl refl) (λ n. yes refl refl refl)
 
 abbrev words_from : ℕ → ℕ → List Item → List ℕ
 words_from anew q is = entries_words (entries_from anew q is) []

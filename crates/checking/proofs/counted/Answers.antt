@@ -1,6 +1,5 @@
 -- `checking::counted` meets its contract. The invariant, `Counting`: what was counted and what the heads that are left count.
 -- Assumes nothing.
-use Prim.Native.Nat.{◌-◌}
 use native.Mathlib.Omega.{arith}
 use Rattle.checking.proofs.Loops.{counting-start, counting-step, counting-end, one-most}
 use borrow.Author.Rules.{rules}

@@ -1,6 +1,5 @@
 -- `checking::items_said` meets its contract. The invariant, `Summing`: what was added and what the heads that are left say.
 -- Assumes nothing.
-use Prim.Native.Nat.{◌-◌}
 use Rattle.checking.proofs.Loops.{summing_start, summing-step, summing-end}
 use borrow.Author.Rules.{rules}
 use Rattle.checking.proofs.items_said.Goals as goal

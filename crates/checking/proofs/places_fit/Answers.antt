@@ -1,6 +1,5 @@
 -- `checking::places_fit` meets its contract. The invariant, `Placing`: the heads that are left decide.
 -- Assumes nothing.
-use Prim.Native.Nat.{◌-◌}
 use native.Mathlib.Omega.{arith}
 use mathlib.Core.Path.{sym, ◌∙◌}
 use Rattle.checking.proofs.Loops.{placing-start, placing-step, placing-fails, placing-end, placing-alone}

@@ -12,7 +12,7 @@ pub returns-then-kept-down-clause-digits : goal.returns-then-kept-down-clause-di
 returns-then-kept-down-clause-digits c =
     let a = c.args in
     let q = c.divided-q.ensures in c.spread.ensures
-          ∙ ap figures (ap (λ (x : ℕ). x * 10 ^ (15 - a.decimals)) q.nearest ∙ sym (rounded-divided a.m a.up a.down a.decimals (omega arith) (omega arith)))
+    ∙ ap figures (ap (λ (x : ℕ). x * 10 ^ (15 - a.decimals)) q.nearest ∙ sym (rounded-divided a.m a.up a.down a.decimals (omega arith) (omega arith)))
 
 pub returns-then-kept-down-clause-exact : goal.returns-then-kept-down-clause-exact
 returns-then-kept-down-clause-exact c =

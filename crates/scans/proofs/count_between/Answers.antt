@@ -1,6 +1,5 @@
 -- `scans::count_between` meets its contract. The invariant, `Counting`: those so far and those that are left are all.
 -- Assumes nothing.
-use Prim.Native.Nat.{◌-◌}
 use mathlib.Core.Path.{refl}
 use Rattle.scans.proofs.Cutting.{counting-start, counting-step, counting-end}
 use Rattle.scans.proofs.count_between.Goals as goal

@@ -1,6 +1,5 @@
 -- `scans::cut_start` meets its contract. The invariant, `Seeking`: no entry so far is an E or a solidus.
 -- Assumes nothing.
-use Prim.Native.Nat.{◌-◌}
 use mathlib.Core.Path.{refl}
 use Rattle.tables.proofs.Words.{seeking-start}
 use Rattle.table_words.proofs.Cuts.{part-met, part-passed, part_none}

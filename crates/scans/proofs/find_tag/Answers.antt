@@ -1,6 +1,5 @@
 -- `scans::find_tag` meets its contract.
 -- Assumes nothing.
-use Prim.Native.Nat.{◌-◌}
 use mathlib.Core.Path.{refl}
 use Rattle.tables.proofs.Words.{seeking-start, seeking-step}
 use Rattle.scans.proofs.Scanned.{found_here, found-later, found_none}

@@ -14,7 +14,7 @@ use Rattle.settling.proofs.Settling.{Going}
 use Rattle.settling.proofs.settle.Given as goal
 
 abbrev pub invariant-loop-i : goal.invariant-loop-i
-invariant-loop-i l = 
+invariant-loop-i l =
     ((is : List Item) → T (every is_no_minute is) → l.initial.words ≡ entries_words (run_entries is) [] → Going is l.words l.hours l.i) × (length l.words ≡ length l.initial.words) × (l.i ≤ length l.words)
 
 abbrev pub decreases-loop-i : goal.decreases-loop-i

@@ -1,6 +1,5 @@
 -- `tallies::tally_words` meets its contract. The invariant, `Walking`: the whole pass is the pass over the entries that are left.
 -- Assumes nothing.
-use Prim.Native.Nat.{◌-◌}
 use mathlib.Core.Path.{refl}
 use Rattle.tallies.proofs.Fold.{walking_start, walking-step, walking-end}
 use borrow.Author.Rules.{rules}
