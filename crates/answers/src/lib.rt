@@ -27,7 +27,7 @@ pub enum Answer {
 }
 
 // What preparing returns. On a refusal every number but the answer and the place is 0.
-#[derive(Drop)]
+#[derive(Clone, Copy)]
 pub struct Prepared {
     pub answer: Answer,
     pub place: u32,
@@ -36,7 +36,7 @@ pub struct Prepared {
 
 // What showing returns, and whether what is shown is exact. On a refusal every number but the answer is 0, and nothing is exact.
 // (The answer and `exact` stand side by side: so they are twelve bytes.)
-#[derive(Drop)]
+#[derive(Clone, Copy)]
 pub struct Shown {
     pub answer: Answer,
     pub exact: bool,

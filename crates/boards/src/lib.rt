@@ -12,7 +12,7 @@ use values::integers::least;
 // A row is filled where its number in `filled` is not 0, and empty where it is 0; an empty row has length 0 and colour 0. (A number and
 // no bool: C lends boards too, and there a byte may be any.) `widest` is the greatest length of the filled rows, 0 where all are empty.
 #[repr(C)]
-#[derive(Drop)]
+#[derive(Clone, Copy)]
 pub struct Board {
     pub filled: [u8; 64],
     pub length: [u32; 64],
@@ -21,14 +21,14 @@ pub struct Board {
 }
 
 // What putting a row hands back: the whole board, and all that showing returned.
-#[derive(Drop)]
+#[derive(Clone, Copy)]
 pub struct PutRow {
     pub board: Board,
     pub shown: Shown,
 }
 
 // What clearing a row hands back.
-#[derive(Drop)]
+#[derive(Clone, Copy)]
 pub struct ClearedRow {
     pub board: Board,
     pub answer: Answer,

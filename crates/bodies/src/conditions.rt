@@ -20,7 +20,7 @@ const GREATER: u16 = 62;
 
 // A condition as a table has it: its comparison by number and its number in whole units and millionths, with its sign, which is
 // false at zero; all 0 where the digits pass the limits.
-#[derive(Drop)]
+#[derive(Clone, Copy)]
 pub struct Compared {
     pub operator: u16,
     pub negative: bool,

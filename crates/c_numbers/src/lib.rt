@@ -14,7 +14,7 @@ use values::{Ask, Day, Millisecond, Number, Value, asked};
 
 // numfmt_prepared
 #[repr(C)]
-#[derive(Drop)]
+#[derive(Clone, Copy)]
 pub struct PreparedNumbers {
     pub answer: u16,
     pub place: u32,
@@ -23,7 +23,7 @@ pub struct PreparedNumbers {
 
 // numfmt_part
 #[repr(C)]
-#[derive(Drop)]
+#[derive(Clone, Copy)]
 pub struct PartNumbers {
     pub start: u32,
     pub length: u32,
@@ -31,7 +31,7 @@ pub struct PartNumbers {
 
 // numfmt_shown
 #[repr(C)]
-#[derive(Drop)]
+#[derive(Clone, Copy)]
 pub struct ShownNumbers {
     pub answer: u16,
     pub length: u32,
@@ -55,7 +55,7 @@ pub struct WhyNumbers {
 
 // numfmt_put
 #[repr(C)]
-#[derive(Drop)]
+#[derive(Clone, Copy)]
 pub struct PutNumbers {
     pub board: Board,
     pub shown: ShownNumbers,
@@ -63,7 +63,7 @@ pub struct PutNumbers {
 
 // numfmt_cleared
 #[repr(C)]
-#[derive(Drop)]
+#[derive(Clone, Copy)]
 pub struct ClearedNumbers {
     pub board: Board,
     pub answer: u16,
@@ -71,7 +71,7 @@ pub struct ClearedNumbers {
 
 // numfmt_fed
 #[repr(C)]
-#[derive(Drop)]
+#[derive(Clone, Copy)]
 pub struct FedNumbers {
     pub stream: Stream,
     pub answer: u16,
@@ -80,7 +80,7 @@ pub struct FedNumbers {
 
 // numfmt_finished
 #[repr(C)]
-#[derive(Drop)]
+#[derive(Clone, Copy)]
 pub struct FinishedNumbers {
     pub stream: Stream,
     pub prepared: PreparedNumbers,

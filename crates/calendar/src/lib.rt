@@ -46,7 +46,7 @@ struct MonthDay {
 }
 
 // Weekday 1 is Sunday, 0 Saturday.
-#[derive(Drop)]
+#[derive(Clone, Copy)]
 pub struct Date {
     pub year: u32,
     pub month: u32,

@@ -32,14 +32,14 @@ pub struct Sought {
 }
 
 // The place of the section that a number or an instant goes to.
-#[derive(Drop)]
+#[derive(Clone, Copy)]
 pub enum Found {
     At(u16),
     Nothing,
 }
 
 // The place of the section that a text goes to.
-#[derive(Drop)]
+#[derive(Clone, Copy)]
 pub enum TextFound {
     At(u16),
     Itself,

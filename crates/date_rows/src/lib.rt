@@ -17,7 +17,7 @@ use tables::tags;
 use values::integers::is_between;
 
 // Whether the items are those of a date-time section; where they are, whether a half-day mark is among them.
-#[derive(Drop)]
+#[derive(Clone, Copy)]
 pub struct DatedRow {
     pub fits: bool,
     pub halves: bool,

@@ -29,7 +29,7 @@ struct Numeral(u32, u64, u32);
 
 // Where a text ends that was put, and the milliseconds of the finest unit shown so far: of an hour, a minute, a second or a part of one, or
 // of the day where none of these is shown.
-#[derive(Drop)]
+#[derive(Clone, Copy)]
 pub struct Written {
     pub end: usize,
     pub finest: u32,

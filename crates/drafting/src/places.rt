@@ -9,7 +9,7 @@ use bodies::facts::Facts;
 use marks::forms;
 
 // The places before the point and the E or solidus, and those behind the E or solidus.
-#[derive(Drop)]
+#[derive(Clone, Copy)]
 pub struct Places {
     pub integers: u16,
     pub exponents: u16,
@@ -17,7 +17,7 @@ pub struct Places {
 
 // The places among the tokens of a date that were passed, and whether an E or solidus is among these (`cut`): whether the last token is s,
 // ss or an elapsed s, and how many zeros may still belong to a part of a second.
-#[derive(Drop)]
+#[derive(Clone, Copy)]
 pub struct Parting {
     pub behind: bool,
     pub left: u16,

@@ -15,7 +15,7 @@ use Rattle.emitting.specs.declared.Walk.{Walk}
 abbrev pub emitted_words : List Token → List ℕ
 emitted_words ts = entries_words (run_entries (last_fill (body_items ts))) []
 
--- the items of a body, of a date or not, in one walk; behindSeconds: the token just before is s, ss or an elapsed s;
+-- the items of a body, of a date or not, in one walk; behind_seconds: the token just before is s, ss or an elapsed s;
 -- `skip` tokens belong to a part of a second
 unfoldable pub emitted_from : Bool → Bool → ℕ → List Token → List Item
 emitted_from date behind_seconds skip [] = []

@@ -15,7 +15,7 @@ use lexing::buffer::{Filled, fill, semicolon_place};
 use verdicts::{KIND, LIMIT, STANDING, first_failing};
 
 // An answer and its place; where it is `Done`, how many tokens and sections there are, and how many words the items have.
-#[derive(Drop)]
+#[derive(Clone, Copy)]
 pub struct Examined {
     pub answer: Answer,
     pub place: u32,

@@ -13,7 +13,7 @@ ghost use Rattle.exponents.specs.Leading.{MultipleBy, Leading, Next};
 use values::integers::excess;
 
 // The digits of the mantissa, whether it is exact, the exponent's distance from 0 and whether it is below 0.
-#[derive(Drop)]
+#[derive(Clone, Copy)]
 pub struct Scientific {
     pub digits: [u8; 40],
     pub exact: bool,

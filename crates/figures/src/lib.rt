@@ -20,7 +20,7 @@ pub struct Signed {
     pub scale: u32,
 }
 
-#[derive(Drop)]
+#[derive(Clone, Copy)]
 pub enum Taken {
     In(Signed),
     OutOfRange,
@@ -95,7 +95,7 @@ pub fn power(k: u32) -> u64
 }
 
 // A quotient to the nearest whole number, and whether nothing was cut.
-#[derive(Drop)]
+#[derive(Clone, Copy)]
 pub struct Quotient {
     pub nearest: u64,
     pub exact: bool,

@@ -183,7 +183,7 @@ leading_zeros (t ∷ ts) = let r = leading_zeros ts in cond (is_zero t) (suc r) 
 unfoldable pub part_zeros : Bool → Token → List Token → ℕ
 part_zeros behind_seconds t ts = cond (behind_seconds && is_point t) (min 3 (leading_zeros ts)) 0
 
--- the pieces of tokens, of which the first `taken` are the zeros of a part of a second that was met; behindSeconds: the token just
+-- the pieces of tokens, of which the first `taken` are the zeros of a part of a second that was met; behind_seconds: the token just
 -- before them is s, ss or an elapsed s
 unfoldable pub pieces_from : Bool → ℕ → List Token → List Piece
 pieces_from behind_seconds taken [] = []

@@ -23,7 +23,7 @@ one_fill is = leb (count is_fill is) 1
 unfoldable pub is_seconds : Item → Bool
 is_seconds i = is_second i || is_elapsed_of seconds i
 
--- a part of a second stands directly behind seconds (R99); behindSeconds: the item just before is seconds
+-- a part of a second stands directly behind seconds (R99); behind_seconds: the item just before is seconds
 unfoldable pub parts_from : Bool → List Item → Bool
 parts_from behind_seconds [] = true
 parts_from behind_seconds (i ∷ is) = let r = parts_from (is_seconds i) is in implies (is_part i) behind_seconds && r

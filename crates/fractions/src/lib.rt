@@ -24,7 +24,7 @@ pub struct Mixed {
 }
 
 // The nearest of the numbers allowed, and whether it is the number itself.
-#[derive(Drop)]
+#[derive(Clone, Copy)]
 pub struct Nearest {
     pub mixed: Mixed,
     pub exact: bool,

@@ -7,7 +7,7 @@ ghost use Rattle.grounds.specs.Numbers.{choice_number, tried_number, minus_numbe
 use answers::Answer;
 
 // How the section was chosen: by its own condition; by a fallback, where one, two, three or no sections count; or for a text.
-#[derive(Drop)]
+#[derive(Clone, Copy)]
 pub enum ChosenBy {
     OwnCondition,
     AllValues,
@@ -22,7 +22,7 @@ pub enum ChosenBy {
 }
 
 // What is said of a section before the chosen one: not tried, or whether its own condition or its fallback was false.
-#[derive(Drop)]
+#[derive(Clone, Copy)]
 pub enum Tried {
     NotTried,
     OwnFalse,
@@ -30,7 +30,7 @@ pub enum Tried {
 }
 
 // Whether a minus was added, or what held it back.
-#[derive(Drop)]
+#[derive(Clone, Copy)]
 pub enum Minus {
     Added,
     Text,
@@ -41,7 +41,7 @@ pub enum Minus {
 }
 
 // The reason: section and choice, the two sections that can have been tried earlier, the minus, and how many decimals were cut.
-#[derive(Drop)]
+#[derive(Clone, Copy)]
 pub struct Grounds {
     pub section: u16,
     pub choice: ChosenBy,
@@ -52,7 +52,7 @@ pub struct Grounds {
 }
 
 // The answer of the refused show, or the reason.
-#[derive(Drop)]
+#[derive(Clone, Copy)]
 pub enum Why {
     Refused(Answer),
     Because(Grounds),

@@ -7,7 +7,7 @@ use super::{Mark, Step, next};
 use marks::forms::SEMICOLON;
 
 // How many tokens there are and how many of them are semicolons, or the place of the first broken one.
-#[derive(Drop)]
+#[derive(Clone, Copy)]
 pub enum Filled {
     All(usize, usize),
     Bad(usize),

@@ -9,7 +9,7 @@ use tables::tags;
 use values::integers::is_between;
 
 // Whether the items are those of a number section and within its limits; where they are, how many there are of its places and percents.
-#[derive(Drop)]
+#[derive(Clone, Copy)]
 pub struct NumberRow {
     pub fits: bool,
     pub integers: u16,

@@ -14,7 +14,7 @@ use tables::tags;
 use values::integers::{is_between, lowered};
 
 // How many integer places and how many numerator places there are.
-#[derive(Drop)]
+#[derive(Clone, Copy)]
 pub struct Numbered {
     pub wholes: u16,
     pub numerators: u16,

@@ -32,7 +32,7 @@ use values::{Ask, Day, Millisecond, Number, Value};
 
 // What is to be shown of a value: a refusal, a text by itself, an instant in a date-time section, a number in a scientific or a fraction
 // section, or another section, with an added minus or without.
-#[derive(Drop)]
+#[derive(Clone, Copy)]
 pub enum Plan {
     Refused(Answer),
     Itself,
@@ -44,7 +44,7 @@ pub enum Plan {
 
 // A plan, the digits of the segment that a section has, and whether what it shows is exact. (Beside the plan: in a section's subject it
 // would be passed on to every item.)
-#[derive(Drop)]
+#[derive(Clone, Copy)]
 pub struct Planned {
     pub plan: Plan,
     pub digits: [u8; 40],

@@ -11,7 +11,7 @@ use showing::show;
 use values::Ask;
 
 // What previewing returns: what showing does, preparing's refusal with its place.
-#[derive(Drop)]
+#[derive(Clone, Copy)]
 pub struct Previewed {
     pub place: u32,
     pub shown: Shown,

@@ -18,7 +18,7 @@ use values::{Ask, asked};
 use written::{Sort, SortRead, ValueRead, sort_of, value_of};
 
 // A code, what is asked, and the text beside it; or the first malformed line.
-#[derive(Drop)]
+#[derive(Clone, Copy)]
 pub enum RequestRead {
     Request(Part, Ask, Part),
     Malformed(u32),

@@ -22,7 +22,7 @@ pub struct Part {
 }
 
 // What stands behind the name of a line.
-#[derive(Drop)]
+#[derive(Clone, Copy)]
 pub enum Line {
     Content(Part),
     Malformed,

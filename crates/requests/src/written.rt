@@ -17,14 +17,14 @@ pub enum Sort {
 }
 
 // The kind that a line names, if it is one.
-#[derive(Drop)]
+#[derive(Clone, Copy)]
 pub enum SortRead {
     Known(Sort),
     Unknown,
 }
 
 // The value that a line writes, if it is well formed.
-#[derive(Drop)]
+#[derive(Clone, Copy)]
 pub enum ValueRead {
     Known(Value),
     Malformed,

@@ -20,7 +20,7 @@ use values::integers::least;
 
 // What answering returns: the length of the lines where the room takes them, else 13. The section that showed the value is not
 // in the lines.
-#[derive(Drop)]
+#[derive(Clone, Copy)]
 pub struct Responded {
     pub answer: Answer,
     pub length: usize,

@@ -13,7 +13,7 @@ use scans::{find_tag, has_tag};
 use tables::tags;
 
 // Whether the items are those of a scientific section and within its limits; where they are, how many decimal places there are.
-#[derive(Drop)]
+#[derive(Clone, Copy)]
 pub struct ScientificRow {
     pub fits: bool,
     pub decimals: u16,

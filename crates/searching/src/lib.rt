@@ -9,7 +9,7 @@ const BORDER: u32 = 144;
 
 // Entries before `low` are not above the day, those behind `last` are; `asked` is the entry asked for, by the guess where it is the
 // first.
-#[derive(Drop)]
+#[derive(Clone, Copy)]
 pub struct Search {
     day: u32,
     low: u32,
@@ -19,7 +19,7 @@ pub struct Search {
 }
 
 // The entry to be read next, with the search as it then is, or the answer.
-#[derive(Drop)]
+#[derive(Clone, Copy)]
 pub enum Turn {
     Read(u32, Search),
     Found(u32),

@@ -1,14 +1,14 @@
 -- What a part of a section's items holds, cut at the first E or solidus, and the powers of its entries.
 -- Assumes nothing.
-use Prim.Native.Nat.{ℕ}
+use Prim.Native.Nat.{ℕ, ◌-◌}
 use mathlib.Core.Path.{◌≡◌, refl, sym, ap, ◌∙◌}
-use mathlib.Core.Bool.{Bool, true, false, true≢false, not, ◌&&◌, ◌||◌}
+use mathlib.Core.Bool.{Bool, true, false, true≢false, not, cond, ◌&&◌, ◌||◌}
 use mathlib.Core.List.{List, [], ◌∷◌, ◌++◌, head-eq_of_cons-eq}
 use lib.Dec.{T}
 use borrow.Author.Tests.{ne_eqb, eqb-false}
 use Rattle.lists.specs.Lists.{any, every}
 use Rattle.lists.proofs.Bools.{no, by_cases, and_left, and_right, and_in, carry, every-head, every-tail, every-cons}
-use Rattle.formats.specs.Items.{Item, Kind, kind_row, scientific_kind, fraction_kind, number_kind, same_kind, item_allowed, is_fixed, is_cut}
+use Rattle.formats.specs.Items.{Item, Kind, kind_row, scientific_kind, fraction_kind, number_kind, same_kind, item_allowed, is_fixed, is_cut, is_place}
 use Rattle.formats.specs.Text.{digit_after, along}
 use Rattle.formats.proofs.Each.{by-item}
 use Rattle.formats.proofs.Cutting.{cut-case, held-bare}
@@ -48,7 +48,7 @@ unfolding powers_from along all_of items_at any digit_after
 powers-anew a b q [] bare = refl
 powers-anew a b q (e ∷ es) bare =
     by_cases (is_cut (item_at e)) (λ t. absurd (true≢false (rw t at bare)))
-    (λ t. rw t (ap (λ r. power_fits q e && r) (powers-anew a b _ es (rw t at bare))))
+    (λ t. rw t (ap (λ r. power_fits q e && r) (powers-anew a b (cond (is_place (item_at e)) (q - 1) q) es (rw t at bare))))
 
 -- ---- powers of a part of some entries
 pub powers-front : (a q : ℕ) (es fs : List Entry) → T (powers_from a q (es ++ fs)) → T (powers_from a q es)

@@ -13,7 +13,7 @@ use examining::examine;
 use lexing::buffer::semicolon_place;
 
 // A section of a code: the place of its first unit, and how many units it has.
-#[derive(Drop)]
+#[derive(Clone, Copy)]
 pub struct SectionSpan {
     pub start: usize,
     pub size: usize,

@@ -15,7 +15,7 @@ const MOST: usize = 254;
 // What has come of a code: `count` units, of which `units` begins with those that are kept; more than 254 are counted as 255. The stream
 // has ended where `ended` is not 0. (A number and no bool: C lends streams too, and there it may be any.)
 #[repr(C)]
-#[derive(Drop)]
+#[derive(Clone, Copy)]
 pub struct Stream {
     pub units: [u16; 254],
     pub count: u16,
@@ -23,7 +23,7 @@ pub struct Stream {
 }
 
 // What feeding returns.
-#[derive(Drop)]
+#[derive(Clone, Copy)]
 pub struct Fed {
     pub stream: Stream,
     pub answer: Answer,
@@ -31,7 +31,7 @@ pub struct Fed {
 }
 
 // What ending returns.
-#[derive(Drop)]
+#[derive(Clone, Copy)]
 pub struct Finished {
     pub stream: Stream,
     pub prepared: Prepared,

@@ -14,13 +14,13 @@ pub struct Day(pub u32);
 #[derive(Clone, Copy)]
 pub struct Millisecond(pub u32);
 
-#[derive(Drop)]
+#[derive(Clone, Copy)]
 pub enum DayMade {
     Made(Day),
     OutOfRange,
 }
 
-#[derive(Drop)]
+#[derive(Clone, Copy)]
 pub enum MillisecondMade {
     Made(Millisecond),
     OutOfRange,

@@ -1,0 +1,56 @@
+-- `section_text::put_item` meets its contract.
+-- Assumes nothing.
+use native.Mathlib.Omega.{arith}
+use Rattle.lists.proofs.Bools.{true-T}
+use Rattle.calendar.specs.Names.{units}
+use Rattle.formats.specs.Items.{item_allowed}
+use Rattle.formats.specs.Text.{item_units}
+use Rattle.tables.specs.Decode.{item_at}
+use Rattle.tables.proofs.BackEntries.{between-facts}
+use Rattle.writing.proofs.Laws.{put-none}
+use Rattle.section_text.proofs.Items.{place-argument, place-put, point-held, late-other}
+use Rattle.section_text.proofs.put_item.Goals as goal
+
+pub overflow_sub-q : goal.overflow_sub-q
+overflow_sub-q c = (place-argument _ _ (between-facts 4 6 _ (true-T c.if-tag.true)) c.requires.3).0
+
+pub put_place-requires : goal.put_place-requires
+put_place-requires c =
+    let b = c.requires in
+    (omega (arith, b.0), b.1, omega (arith, place-argument _ _ (between-facts 4 6 _ (true-T c.if-tag.true)) b.3))
+
+pub returns-then-tag : goal.returns-then-tag
+returns-then-tag c =
+    λ x k q i f. place-put _ _ (between-facts 4 6 _ (true-T c.if-tag.true)) k q i f c.put_place.ensures.put
+
+pub returns-in-1 : goal.returns-in-1
+unfolding item_units item_at item_allowed units
+returns-in-1 = λ c x k q i f. rw c.in-1.is c.put_unit.ensures
+
+pub returns-in-2 : goal.returns-in-2
+unfolding item_units item_at item_allowed units
+returns-in-2 = λ c x k q i f. rw c.in-2.is c.put_unit-in-2.ensures
+
+pub returns-in-3 : goal.returns-in-3
+unfolding item_units item_at item_allowed units
+returns-in-3 = λ c x k q i f. rw c.in-3.is (put-none _ _)
+
+pub returns-in-7 : goal.returns-in-7
+unfolding item_units item_at item_allowed units
+returns-in-7 = λ c x k q i f. let e = c.in-7.is in rw e (c.put_point.ensures.put x (i.numeric (point-held k (rw e at f.allowed))))
+
+pub returns-in-8 : goal.returns-in-8
+unfolding item_units item_at item_allowed units
+returns-in-8 = λ c x k q i f. rw c.in-8.is c.put_unit-in-8.ensures
+
+pub returns-in-9 : goal.returns-in-9
+unfolding item_units item_at item_allowed units
+returns-in-9 = λ c x k q i f. let e = c.in-9.is in rw e (c.put_standing.ensures x.standing (i.general (rw e at f.allowed)))
+
+pub returns-in-10 : goal.returns-in-10
+unfolding item_units item_at item_allowed units
+returns-in-10 = λ c x k q i f. let e = c.in-10.is in rw e (c.put_standing-in-10.ensures x.standing (i.textual (rw e at f.allowed)))
+
+pub returns-in_default : goal.returns-in_default
+returns-in_default c =
+    λ x k q i f. absurd (late-other k q _ _ c.requires.3 c.if-tag.false c.in_default.in_default-own.rest f i.undated i.unscientific i.unfractional)
