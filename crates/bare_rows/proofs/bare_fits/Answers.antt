@@ -1,6 +1,5 @@
 -- `bare_rows::bare_fits` meets its contract. The invariant, `Baring`: what was met, and the entries that are left.
 -- Assumes nothing.
-use Prim.Native.Nat.{◌-◌}
 use mathlib.Core.Path.{refl, sym, ◌∙◌}
 use Rattle.bare_rows.proofs.BareRows.{baring-start, baring-step, baring-fault, baring-end}
 use Rattle.bare_rows.proofs.bare_fits.Goals as goal

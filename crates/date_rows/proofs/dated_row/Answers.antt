@@ -1,6 +1,5 @@
 -- `date_rows::dated_row` meets its contract. The invariant, `Dating`: what is left to be asked of the entries that are left.
 -- Assumes nothing.
-use Prim.Native.Nat.{◌-◌}
 use mathlib.Core.Path.{refl}
 use borrow.Author.Tests.{not-true, not-false}
 use Rattle.date_rows.proofs.DateRows.{dating-start, dating-step, dating-fault, dating-open, dating-told}

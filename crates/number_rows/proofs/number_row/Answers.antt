@@ -1,6 +1,6 @@
 -- `number_rows::number_row` meets its contract. The invariant, `Counting`: what is left to be asked of the entries that are left.
 -- Assumes nothing.
-use Prim.Native.Nat.{◌+◌, ◌-◌, ◌*◌}
+use Prim.Native.Nat.{◌+◌, ◌*◌}
 use native.Mathlib.Omega.{arith}
 use mathlib.Core.Path.{refl}
 use borrow.Author.Tests.{not-true, not-false}
@@ -13,12 +13,12 @@ loop-k-init c = counting-start _ _ _ refl c.start-s.ensures
 
 pub returns-then-not-s : goal.returns-then-not-s
 returns-then-not-s c =
-    let word = c.shared_slice_known-in-loop-k-2-1.given (2 * c.loop-k.k + 1) in
+    let word = c.type_inv.words (2 * c.loop-k.k + 1) in
     rw c.no_row.ensures (counting-fault _ _ _ _ c.loop-k.invariant _ (search rules) (omega (arith, word)) c.step-s.ensures (not-true _ c.if-not-s.true))
 
 pub loop-k-preserved : goal.loop-k-preserved
 loop-k-preserved c =
-    let word = c.shared_slice_known-in-loop-k-2-1.given (2 * c.loop-k.k + 1) in
+    let word = c.type_inv.words (2 * c.loop-k.k + 1) in
     counting-step _ _ _ _ c.loop-k.invariant _ (search rules) (omega (arith, word)) c.step-s.ensures (not-false _ c.if-not-s.false)
 
 pub returns-then-s : goal.returns-then-s

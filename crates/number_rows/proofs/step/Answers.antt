@@ -1,5 +1,6 @@
 -- `number_rows::step` meets its contract.
 -- Assumes nothing.
+use native.Mathlib.Omega.{arith}
 use mathlib.Core.Path.{sym, ◌∙◌}
 use borrow.Author.Tests.{ne_eqb}
 use Rattle.number_rows.specs.NumberRows.{number_after}
@@ -33,6 +34,5 @@ pub returns-in_default : goal.returns-in_default
 unfolding number_after
 returns-in_default c =
     let t = c.args.tag in
-    let r = c.in_default.in_default-own.rest in
     let n = sym c.is_between.ensures ∙ c.if-is_between.false in
-    rw (c.refused.ensures, n, ne_eqb t 1 r.0.0.0.0.1, ne_eqb t 2 r.0.0.0.1, ne_eqb t 3 r.0.0.1, ne_eqb t 7 r.0.1, ne_eqb t 8 r.1)
+    rw (c.refused.ensures, n, ne_eqb t 1 (omega arith), ne_eqb t 2 (omega arith), ne_eqb t 3 (omega arith), ne_eqb t 7 (omega arith), ne_eqb t 8 (omega arith))

@@ -15,10 +15,10 @@ returns-then-is_roomy c =
     shows-within _ _ _ _ _ (sign-short _ _ _ (omega (arith, e.1, subject-short 82 words (omega arith) (λ l. no (sym e.0 ∙ l)) x k q i f)))
     (c.write_items.ensures x k q i f)
 
-pub returns-then-size : goal.returns-then-size
-returns-then-size c =
-    λ x k q i f. rw c.refused_shown.ensures (shows-none _ _ _ _ _ _ (omega (arith, c.length_of.ensures x k q i f, c.if-size.true)))
+pub returns-then-size-length_of : goal.returns-then-size-length_of
+returns-then-size-length_of c =
+    λ x k q i f. rw c.refused_shown.ensures (shows-none _ _ _ _ _ _ (omega (arith, c.length_of.ensures x k q i f, c.if-size-length_of.true)))
 
 pub returns : goal.returns
 returns c =
-    λ x k q i f. shows-within _ _ _ _ _ (omega (arith, c.length_of.ensures x k q i f, c.if-size.false)) (c.write_items-2.ensures x k q i f)
+    λ x k q i f. shows-within _ _ _ _ _ (omega (arith, c.length_of.ensures x k q i f, c.if-size-length_of.false)) (c.write_items-2.ensures x k q i f)

@@ -17,4 +17,4 @@ unfolding head_of
 returns c =
     let e = c.items_of-items.ensures in
     λ x is places.
-    items-shows e _ _ _ _ x (ap (λ (h : Head). h.colour) c.head_of-h.ensures.0) places (c.show_items.ensures x _ _ is (items-fit e x (subject-uncut is)))
+    items-shows e _ _ _ _ x (ap (λ (h : Head). h.colour) c.head_of-h.ensures.words) places (c.show_items.ensures x _ _ is (items-fit e x (subject-uncut is)))

@@ -1,7 +1,6 @@
 -- `bodies::commas::scan_body` meets its contract.
 -- Assumes nothing.
 use borrow.Author.Rules.{rules}
-use Prim.Native.Nat.{◌-◌}
 use Rattle.bodies.proofs.Uses.{scanning-step, scanning-end}
 use Rattle.bodies.proofs.commas.scan_body.Goals as goal
 

@@ -1,7 +1,6 @@
 -- `bodies::conditions::digits` meets its contract.
 -- Assumes nothing.
 use borrow.Author.Rules.{rules}
-use Prim.Native.Nat.{◌-◌}
 use Rattle.bodies.proofs.Numbers.{leading_step, leading-found, leading_end}
 use Rattle.bodies.proofs.conditions.digits.Goals as goal
 

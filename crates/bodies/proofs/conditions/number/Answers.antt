@@ -2,7 +2,6 @@
 -- Assumes nothing.
 use borrow.Author.Rules.{rules}
 use native.Mathlib.Omega.{arith}
-use Prim.Native.Nat.{◌-◌}
 use Rattle.bodies.proofs.Numbers.{numbering_start, numbering-room, numbering-step, numbering-end}
 use Rattle.bodies.proofs.conditions.number.Goals as goal
 

@@ -1,7 +1,6 @@
 -- `bodies::facts::facts_of` meets its contract.
 -- Assumes nothing.
 use borrow.Author.Rules.{rules}
-use Prim.Native.Nat.{◌-◌}
 use Rattle.bodies.proofs.Bodies.{seeing-step, seeing-end}
 use Rattle.bodies.proofs.facts.facts_of.Goals as goal
 

@@ -1,7 +1,6 @@
 -- `bodies::fraction::fraction_fits` meets its contract.
 -- Assumes nothing.
 use borrow.Author.Rules.{rules}
-use Prim.Native.Nat.{◌-◌}
 use Rattle.bodies.proofs.Fractions.{walked_step, walked_end}
 use Rattle.bodies.proofs.fraction.fraction_fits.Goals as goal
 

@@ -1,6 +1,5 @@
 -- `bodies::sections::section_end` meets its contract. The invariant, `Ending`: the tokens passed, and those before the first semicolon of the rest.
 -- Assumes nothing.
-use Prim.Native.Nat.{◌-◌}
 use borrow.Author.Rules.{rules}
 use Rattle.bodies.proofs.Endings.{ending-step, ending-found, ending-end}
 use Rattle.bodies.proofs.sections.section_end.Goals as goal

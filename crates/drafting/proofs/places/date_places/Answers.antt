@@ -1,6 +1,5 @@
 -- `drafting::places::date_places` meets its contract.
 -- Assumes nothing.
-use Prim.Native.Nat.{◌-◌}
 use Rattle.drafting.proofs.Integers.{passing_step, passing-end}
 use borrow.Author.Rules.{rules}
 use Rattle.drafting.proofs.places.date_places.Goals as goal

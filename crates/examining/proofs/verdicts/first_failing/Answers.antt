@@ -1,6 +1,5 @@
 -- `examining::verdicts::first_failing` meets its contract.
 -- Assumes nothing.
-use Prim.Native.Nat.{◌-◌}
 use mathlib.Core.Path.{sym, ◌∙◌}
 use Rattle.examining.proofs.Testing.{seeking-fail, seeking-step, seeking-end}
 use Rattle.examining.proofs.verdicts.first_failing.Goals as goal

@@ -1,6 +1,5 @@
 -- `lexing::brackets::named_colour` meets its contract. The invariant: the name is looked for among those from `k` on.
 -- Assumes nothing.
-use Prim.Native.Nat.{◌-◌}
 use mathlib.Core.Path.{sym, ◌∙◌}
 use Rattle.lexing.proofs.Bracketing.{named-hit, named-miss, named_none}
 use Rattle.lexing.proofs.brackets.named_colour.Goals as goal

@@ -1,6 +1,5 @@
 -- `lexing::buffer::fill` meets its contract. The invariant, `Filling`: the lexing of the whole is the tokens that are put, their semicolons counted, and then that of what is left.
 -- Assumes nothing.
-use Prim.Native.Nat.{◌-◌}
 use mathlib.Core.Path.{refl}
 use native.Mathlib.Omega.{arith}
 use borrow.Author.Rules.{rules}

@@ -1,6 +1,5 @@
 -- `lexing::buffer::semicolon_place` meets its contract. The invariant, `Seeking`: the semicolon is `left` semicolons ahead.
 -- Assumes nothing.
-use Prim.Native.Nat.{◌-◌}
 use Rattle.lexing.proofs.Semicolons.{seeking-found, seeking-hit, seeking-miss, seeking-end}
 use Rattle.lexing.proofs.buffer.semicolon_place.Goals as goal
 

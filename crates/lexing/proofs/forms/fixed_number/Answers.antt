@@ -1,6 +1,5 @@
 -- `lexing::forms::fixed_number` meets its contract.
 -- Assumes nothing.
-use Prim.Native.Nat.{◌-◌}
 use borrow.Author.Rules.{rules}
 use Rattle.formats.specs.Tokens.{is_digit}
 use Rattle.lexing.proofs.Placing.{digits-start, digits_step, digits-found, digits-end}

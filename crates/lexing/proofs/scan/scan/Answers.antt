@@ -1,10 +1,8 @@
 -- `lexing::scan::scan` meets its contract. The invariant: what leads is what was passed and what leads from `i` on.
 -- Assumes nothing.
-use Prim.Native.Nat.{◌-◌}
 use mathlib.Core.Path.{sym, ◌∙◌}
 use native.Mathlib.Omega.{arith}
 use borrow.Author.Rules.{rules}
-use Rattle.formats.specs.Tokens.{leading}
 use Rattle.lexing.specs.Scan.{member}
 use Rattle.lexing.proofs.Scanning.{leading-more, leading-none, leading-past}
 use Rattle.lexing.proofs.scan.scan.Goals as goal

@@ -1,6 +1,5 @@
 -- `lexing::scan::starts_with` meets its contract. The invariant: the whole test is the test of what is left of both.
 -- Assumes nothing.
-use Prim.Native.Nat.{◌-◌}
 use mathlib.Core.Path.{sym, ◌∙◌}
 use borrow.Author.Rules.{rules}
 use Rattle.lexing.proofs.Scanning.{starts_more, starts-differ, starts-short, starts-done}

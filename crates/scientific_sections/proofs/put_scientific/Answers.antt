@@ -1,0 +1,9 @@
+-- `scientific_sections::put_scientific` meets its contract.
+-- Assumes nothing.
+use mathlib.Core.List.{append_assoc}
+use Rattle.writing.proofs.Laws.{put-put}
+use Rattle.scientific_sections.proofs.put_scientific.Goals as goal
+
+pub returns-clause-put : goal.returns-clause-put
+returns-clause-put c =
+    λ m k q i f e j r l g. rw (← append_assoc) (put-put (c.put_text-at.ensures.put m k q i f) (c.put_exponent_items.ensures.put e j r l g))

@@ -1,0 +1,15 @@
+-- `streams::Stream::feed` meets its contract.
+-- Assumes nothing.
+use native.Mathlib.Omega.{arith}
+use borrow.Author.Tests.{eq-eqb, ne_eqb}
+use Rattle.streams.proofs.Steps.{fed-open, fed-again}
+use Rattle.streams.proofs.Stream.feed.Goals as goal
+
+pub returns-then-self-ne0 : goal.returns-then-self-ne0
+returns-then-self-ne0 c = fed-again c.args.self (ne_eqb _ _ c.if-self-ne0.true) _
+
+pub returns : goal.returns
+returns c =
+    let p = c in
+    let b = p in
+    fed-open b.args.self _ (eq-eqb _ _ b.if-self-ne0.false) p.put_units-next.ensures (omega arith) c.least.ensures
