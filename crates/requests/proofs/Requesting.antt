@@ -15,7 +15,6 @@ use Rattle.requests.specs.declared.written.ValueRead.{ValueRead}
 use Rattle.requests.specs.declared.written.ValueRead.TheVariants as read
 use Rattle.requests.specs.declared.written.Sort.{Sort}
 use Rattle.requests.specs.declared.written.Sort.TheVariants as sort
-use Rattle.requests.specs.declared.written.SortRead.TheVariants.{Known}
 use Rattle.requests.specs.declared.RequestRead.{RequestRead}
 use Rattle.requests.specs.declared.RequestRead.TheVariants as told
 use Rattle.requests.specs.Written.{value_of, text_of}

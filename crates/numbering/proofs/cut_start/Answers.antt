@@ -1,6 +1,5 @@
 -- `numbering::cut_start` meets its contract.
 -- Assumes nothing.
-use Prim.Native.Nat.{◌-◌}
 use mathlib.Core.Path.{sym, ◌∙◌}
 use native.Mathlib.Omega.{arith}
 use Rattle.numbering.proofs.Scanning.{cut-here, cut-past, cut-end}

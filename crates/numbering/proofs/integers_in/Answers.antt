@@ -1,6 +1,5 @@
 -- `numbering::integers_in` meets its contract.
 -- Assumes nothing.
-use Prim.Native.Nat.{◌-◌}
 use native.Mathlib.Omega.{arith}
 use borrow.Author.Tests.{ne_eqb}
 use Rattle.numbering.proofs.Scanning.{integers-here, integers-past, integers-end, more-places}

@@ -1,6 +1,5 @@
 -- `numbering::number_run` meets its contract.
 -- Assumes nothing.
-use Prim.Native.Nat.{◌-◌}
 use Rattle.numbering.proofs.Scanning.{going_step, going_end}
 use borrow.Author.Rules.{rules}
 use Rattle.numbering.proofs.number_run.Goals as goal

@@ -7,7 +7,7 @@ use Rattle.requests.proofs.read_request.Goals as goal
 
 pub returns-in-Content : goal.returns-in-Content
 unfolding units request_of from_first
-returns-in-Content c = rw (line-told _ _ _ _ c.line_at.ensures _ c.in-Content.is).found c.from_Second.ensures
+returns-in-Content c = rw (line-told _ _ _ _ c.line_at.ensures _ c.in-Content.is).found c.from_second.ensures
 
 pub returns-in-Malformed : goal.returns-in-Malformed
 unfolding units request_of from_first

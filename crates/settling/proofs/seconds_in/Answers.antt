@@ -1,6 +1,5 @@
 -- `settling::seconds_in` meets its contract.
 -- Assumes nothing.
-use Prim.Native.Nat.{◌-◌}
 use mathlib.Core.Path.{sym, ◌∙◌}
 use native.Mathlib.Omega.{arith}
 use Rattle.settling.proofs.Tags.{seconds-here, seconds-past, seconds-none}

@@ -1,6 +1,5 @@
 -- `settling::settle` meets its contract.
 -- Assumes nothing.
-use Prim.Native.Nat.{◌-◌}
 use mathlib.Core.Path.{refl}
 use native.Mathlib.Omega.{arith}
 use Rattle.settling.proofs.Settling.{going_start, going_step, going_end}

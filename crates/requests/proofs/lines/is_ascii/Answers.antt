@@ -2,7 +2,6 @@
 -- Assumes nothing.
 use mathlib.Core.Path.{sym, ◌∙◌}
 use borrow.Author.Rules.{rules}
-use Rattle.lists.specs.Lists.{every}
 use Rattle.requests.specs.Lines.{is_ascii}
 use Rattle.requests.proofs.Lining.{every_more, every-not, every-past, ascii-is, ascii-not}
 use Rattle.requests.proofs.lines.is_ascii.Goals as goal

@@ -12,6 +12,9 @@ use Rattle.requests.proofs.written.number.Goals as goal
 pub slice_bounds-unsigned-count : goal.slice_bounds-unsigned-count
 slice_bounds-unsigned-count c = omega (arith, word-most (45 ∷ []) c.args.us.now (sym c.starts_with.ensures ∙ c.if-starts_with.true))
 
+pub slice_bounds-unsigned-start : goal.slice_bounds-unsigned-start
+slice_bounds-unsigned-start c = omega (arith, word-most (45 ∷ []) c.args.us.now (sym c.starts_with.ensures ∙ c.if-starts_with.true))
+
 pub returns-then-starts_with : goal.returns-then-starts_with
 unfolding units
 returns-then-starts_with c =
