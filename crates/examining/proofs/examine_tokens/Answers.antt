@@ -7,25 +7,18 @@ use Rattle.examining.proofs.examine_tokens.Goals as goal
 
 pub overflow_cast-place : goal.overflow_cast-place
 overflow_cast-place c =
-    let s = c in
-    let b = s.requires.buffered in
-    omega (arith, b.small, count-inside s.args.code.now c.semicolon_place-place.result (verdict-count s.args.code.now s.args.tokens.now s.args.count b s.args.semicolons s.requires.semicolons_value c.semicolon_place-place.result c.semicolon_place-place.ensures c.if-semicolons-gt3.true))
+    let b = c.requires.buffered in
+    omega (arith, b.small, count-inside c.args.code.now c.semicolon_place-place.result (verdict-count c.args.code.now c.args.tokens.now c.args.count b c.args.semicolons c.requires.semicolons_value c.semicolon_place-place.result c.semicolon_place-place.ensures c.if-semicolons-gt3.true))
 
 pub returns-then-semicolons-gt3 : goal.returns-then-semicolons-gt3
 returns-then-semicolons-gt3 c =
-    let p = c in
-    let s = p in
     examined-refused _ _ _ _ _ _ _ c.refused.ensures refl
-    (verdict-count s.args.code.now s.args.tokens.now s.args.count s.requires.buffered _ s.requires.semicolons_value _ p.semicolon_place-place.ensures p.if-semicolons-gt3.true)
+    (verdict-count c.args.code.now c.args.tokens.now c.args.count c.requires.buffered _ c.requires.semicolons_value _ c.semicolon_place-place.ensures c.if-semicolons-gt3.true)
 
 pub examine_sections-requires-clause-lexes : goal.examine_sections-requires-clause-lexes
 examine_sections-requires-clause-lexes c =
-    let i = c in
-    let s = i in
-    let b = s.requires.buffered in lexes-all s.args.code.now s.args.tokens.now s.args.count b _ s.requires.semicolons_value
+    let b = c.requires.buffered in lexes-all c.args.code.now c.args.tokens.now c.args.count b _ c.requires.semicolons_value
 
 pub examine_sections-requires-clause-code_value : goal.examine_sections-requires-clause-code_value
 examine_sections-requires-clause-code_value c =
-    let i = c in
-    let s = i in
-    let b = s.requires.buffered in verdict-sections s.args.code.now s.args.tokens.now s.args.count b _ s.requires.semicolons_value i.if-semicolons-gt3.false
+    let b = c.requires.buffered in verdict-sections c.args.code.now c.args.tokens.now c.args.count b _ c.requires.semicolons_value c.if-semicolons-gt3.false

@@ -15,9 +15,8 @@ returns-then-n-gt9 c = search (rules, beyond-whole)
 
 pub returns-then-decimals-gt6 : goal.returns-then-decimals-gt6
 returns-then-decimals-gt6 c =
-    let d = c in
-    let a = d.args in
-    beyond-decimals a.us.now _ _ d.digits-n.ensures d.least-behind.ensures a.operator a.negative (search rules) (search rules) _ c.outside-then-decimals-gt6.ensures (search rules) c.if-decimals-gt6.true
+    let a = c.args in
+    beyond-decimals a.us.now _ _ c.digits-n.ensures c.least-behind.ensures a.operator a.negative (search rules) (search rules) _ c.outside-then-decimals-gt6.ensures (search rules) c.if-decimals-gt6.true
 
 pub slice_bounds-number-end : goal.slice_bounds-number-end
 slice_bounds-number-end c = search (rules, whole_length)
@@ -27,12 +26,10 @@ number-whole-requires c = search (rules, whole-digits)
 
 pub number-millionths-requires : goal.number-millionths-requires
 number-millionths-requires c =
-    let d = c in
-    let a = d.args in
-    (omega arith, rw (decimals-part a.us.now _ _ d.digits-n.ensures d.least-behind.ensures) (search rules))
+    let a = c.args in
+    (omega arith, rw (decimals-part a.us.now _ _ c.digits-n.ensures c.least-behind.ensures) (search rules))
 
 pub returns : goal.returns
 returns c =
-    let d = c in
-    let a = d.args in
-    compared a.us.now _ _ d.digits-n.ensures d.least-behind.ensures a.operator a.negative (search rules) (search rules) (search rules) c.if-decimals-gt6.false _ _ c.number-whole.ensures.0 c.number-whole.ensures.1 c.number-millionths.ensures.0 c.number-millionths.ensures.1
+    let a = c.args in
+    compared a.us.now _ _ c.digits-n.ensures c.least-behind.ensures a.operator a.negative (search rules) (search rules) (search rules) c.if-decimals-gt6.false _ _ c.number-whole.ensures.0 c.number-whole.ensures.1 c.number-millionths.ensures.0 c.number-millionths.ensures.1

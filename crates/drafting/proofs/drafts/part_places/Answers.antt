@@ -12,6 +12,5 @@ returns-then-t-eq0 c ts e w = subst (Parted ts _) (sym w) (bare-parted ts e (ome
 
 pub returns : goal.returns
 returns c ts e w =
-    let n = c in
-    let r = n.number_fraction.ensures (items ts) (solidus-there ts e n.if-t-eq0.false) w in
+    let r = c.number_fraction.ensures (items ts) (solidus-there ts e c.if-t-eq0.false) w in
     record { wholes = r.1; numerators = r.2; words = r.0 }

@@ -5,12 +5,10 @@ use Rattle.drafting.proofs.places.places_of.Goals as goal
 
 pub returns-then-f : goal.returns-then-f
 returns-then-f c =
-    let s = c in
     let d = c.date_places.ensures in
-    (places-dated s.args.f s.args.body.now s.requires.1 _ d.0 c.if-f.true, d.1, d.2)
+    (places-dated c.args.f c.args.body.now c.requires.1 _ d.0 c.if-f.true, d.1, d.2)
 
 pub returns : goal.returns
 returns c =
-    let s = c in
-    let b = places-bound s.args.f s.args.body.now s.requires.1 s.requires.0 in
-    (places-other s.args.f s.args.body.now s.requires.1 c.if-f.false, b.0, b.1)
+    let b = places-bound c.args.f c.args.body.now c.requires.1 c.requires.0 in
+    (places-other c.args.f c.args.body.now c.requires.1 c.if-f.false, b.0, b.1)

@@ -1,6 +1,5 @@
 -- `preparing::heads::counted_of` meets its contract.
 -- Assumes nothing.
-use Prim.Native.Nat.{◌-◌}
 use Rattle.preparing.proofs.Counting.{counting-step, counting-end}
 use Rattle.preparing.proofs.heads.counted_of.Goals as goal
 

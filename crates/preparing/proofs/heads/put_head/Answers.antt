@@ -7,7 +7,4 @@ use Rattle.preparing.proofs.heads.put_head.Goals as goal
 pub returns : goal.returns
 unfolding head_words head_by
 returns c =
-    let u = c in
-    let f = u in
-    let m = f in
-    rw (f.flags_word.ensures, m.no_minus-minus.ensures, m.has_condition.ensures, f.bit_of.ensures.0) at u.put_units.ensures
+    rw (c.flags_word.ensures, c.no_minus-minus.ensures, c.has_condition.ensures, c.bit_of.ensures.0) at c.put_units.ensures

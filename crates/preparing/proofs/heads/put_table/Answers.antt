@@ -6,23 +6,15 @@ use Rattle.preparing.proofs.heads.put_table.Goals as goal
 
 pub put_units-requires : goal.put_units-requires
 put_units-requires c =
-    let h = c in
-    let u = h in
-    let m = u in
-    let s = m in
     omega (
       arith,
-      h.put_heads-p.ensures.next,
-      heads-size m.counted_of-counted.result m.has_condition-first.result s.args.n 0 s.args.drafts.now,
-      u.put_unit-o.ensures.next,
-      s.requires.0,
-      s.requires.2,
+      c.put_heads-p.ensures.next,
+      heads-size c.counted_of-counted.result c.has_condition-first.result c.args.n 0 c.args.drafts.now,
+      c.put_unit-o.ensures.next,
+      c.requires.0,
+      c.requires.2,
     )
 
 pub returns : goal.returns
 returns c =
-    let w = c in
-    let h = w in
-    let u = h in
-    let n = u in
-    table-put _ _ _ _ _ _ n.counted_of-counted.ensures n.has_condition-first.ensures n.draft_at.ensures u.put_unit-o.ensures h.put_heads-p.ensures w.put_units.ensures
+    table-put _ _ _ _ _ _ c.counted_of-counted.ensures c.has_condition-first.ensures c.draft_at.ensures c.put_unit-o.ensures c.put_heads-p.ensures c.put_units.ensures

@@ -10,6 +10,4 @@ returns-then-self-ne0 c = fed-again c.args.self (ne_eqb _ _ c.if-self-ne0.true) 
 
 pub returns : goal.returns
 returns c =
-    let p = c in
-    let b = p in
-    fed-open b.args.self _ (eq-eqb _ _ b.if-self-ne0.false) p.put_units-next.ensures (omega arith) c.least.ensures
+    fed-open c.args.self _ (eq-eqb _ _ c.if-self-ne0.false) c.put_units-next.ensures (omega arith) c.least.ensures
