@@ -8,7 +8,6 @@ use mathlib.Core.Bool.{Bool, true, false, cond, not, ◌&&◌, ◌||◌}
 use mathlib.Core.List.{List, [], ◌∷◌}
 use lib.Dec.{T, eqb}
 use lib.ListN.{length, get_or}
-use lib.IntN.{pos}
 use borrow.Author.Tests.{eq-eqb, ne_eqb}
 use Rattle.values.specs.declared.Number.{Number}
 use Rattle.lists.specs.Lists.{is_empty}
