@@ -1,0 +1,10 @@
+-- `calendar_check::write_units` is safe and ends.
+-- Assumes nothing.
+use Prim.Native.Nat.{◌-◌, ◌≤◌}
+use Rattle.calendar_check.proofs.write_units.Given as goal
+
+abbrev pub invariant-loop-i : goal.invariant-loop-i
+invariant-loop-i g l = l.i ≤ 12
+
+abbrev pub decreases-loop-i : goal.decreases-loop-i
+decreases-loop-i g l = 12 - l.i
