@@ -7,7 +7,7 @@ use Rattle.boards.specs.Boards.{widest_from, widest_of}
 use Rattle.boards.proofs.widest_of.Given as goal
 
 abbrev pub invariant-loop-k : goal.invariant-loop-k
-invariant-loop-k l = 
+invariant-loop-k l =
     (l.rows ≡ min (length l.filled) (length l.lengths)) × (l.k ≤ l.rows) × (widest_from l.w (drop l.k l.filled) (drop l.k l.lengths) ≡ widest_of l.filled l.lengths)
 
 abbrev pub decreases-loop-k : goal.decreases-loop-k

@@ -1,6 +1,5 @@
 -- `date_text::shows_date` meets its contract. The invariant, `Seeking`: no entry so far shows the date.
 -- Assumes nothing.
-use Prim.Native.Nat.{◌-◌}
 use mathlib.Core.Path.{refl, sym, ◌∙◌}
 use Rattle.lists.specs.Lists.{any}
 use Rattle.tables.proofs.Words.{seeking-start, seeking-front, seeking-step, seeking-end}

@@ -5,7 +5,6 @@ use Rattle.tables.specs.Words.{Head}
 use Rattle.tables.specs.Encode.{head_of}
 use Rattle.table_words.proofs.Bodies.{section-limits}
 use Rattle.fraction_sections.proofs.Parts.{section-rules, fraction-ready, fraction-shows}
-use borrow.Author.Rules.{rules}
 use Rattle.fraction_sections.proofs.show_fraction_section.Goals as goal
 
 pub show_mixed-requires : goal.show_mixed-requires

@@ -8,7 +8,6 @@ returns-in-Number c = rw (value-reading _ _ _ _ c.in-Number.is) (c.number_plan.e
 
 pub returns-in-Instant : goal.returns-in-Instant
 returns-in-Instant c =
-    
     rw (value-reading _ _ _ _ c.in-Instant.is, c.without_digits.ensures.0, c.without_digits.ensures.1) (c.instant_plan.ensures _ _)
 
 pub returns-in-Text : goal.returns-in-Text

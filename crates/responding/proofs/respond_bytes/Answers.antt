@@ -9,14 +9,14 @@ pub returns-then-out-k : goal.returns-then-out-k
 returns-then-out-k c =
     let a = c.args in
     let r =
-        left_out a.input.now _ _ _ refl c.input_room-wide.ensures c.least-n.ensures c.put_bytes.ensures c.output_room-lines.ensures
-        c.respond-told.ensures a.out.now (omega arith)
+    left_out a.input.now _ _ _ refl c.input_room-wide.ensures c.least-n.ensures c.put_bytes.ensures c.output_room-lines.ensures
+    c.respond-told.ensures a.out.now (omega arith)
     in record { result = r.0; out = r.1.0; short = r.1.1 }
 
 pub returns : goal.returns
 returns c =
     let a = c.args in
     let r =
-        put_whole a.input.now _ _ _ refl c.input_room-wide.ensures c.least-n.ensures c.put_bytes.ensures c.output_room-lines.ensures
-        c.respond-told.ensures a.out.now (omega arith) c.narrow.ensures
+    put_whole a.input.now _ _ _ refl c.input_room-wide.ensures c.least-n.ensures c.put_bytes.ensures c.output_room-lines.ensures
+    c.respond-told.ensures a.out.now (omega arith) c.narrow.ensures
     in record { result = r.0; out = r.1.0; short = r.1.1 }

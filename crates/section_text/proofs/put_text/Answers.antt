@@ -1,6 +1,5 @@
 -- `section_text::put_text` meets its contract.
 -- Assumes nothing.
-use native.Mathlib.Omega.{arith}
 use Rattle.writing.proofs.Laws.{put-put}
 use Rattle.section_text.proofs.put_text.Goals as goal
 

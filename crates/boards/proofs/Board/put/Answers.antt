@@ -28,7 +28,7 @@ returns-clause-result c =
     let a = c.args in
     let shows = c.show-shown.ensures in
     let m = c.number.ensures in show-done a.self a.row _ _ _ (omega arith) a.room.now shows.result m (omega arith)
-          (with-width a.self a.row (shown_row c.show-shown.result) c.widest_of-widest.ensures)
+    (with-width a.self a.row (shown_row c.show-shown.result) c.widest_of-widest.ensures)
 
 pub returns-clause-room : goal.returns-clause-room
 returns-clause-room c =
