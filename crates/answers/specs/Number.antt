@@ -1,13 +1,13 @@
--- "The answer list" (R7, R10): the number of each answer, and what a call that is done and a refusal return.
+-- "The answer list" (R7, R10): the number of a call that is done and of each refusal.
 -- Assumes nothing.
-use Rattle.std.specs.Prelude.{ℕ, Bool, false}
-use Rattle.answers.specs.declared.Answer.{Answer}
-use Rattle.answers.specs.declared.Answer.TheVariants as answer
-use Rattle.answers.specs.declared.Prepared.{Prepared}
-use Rattle.answers.specs.declared.Shown.{Shown}
+use Rattle.std.specs.Prelude.{ℕ, Result, Ok, Err}
+use Rattle.answers.specs.declared.Refusal.{Refusal}
+use Rattle.answers.specs.declared.Refusal.TheVariants as answer
 
-abbrev pub number_of : Answer → ℕ
-number_of answer.Done = 0
+abbrev pub done_number : ℕ
+done_number = 0
+
+abbrev pub number_of : Refusal → ℕ
 number_of answer.CodeLength = 1
 number_of answer.Token = 2
 number_of answer.SectionCount = 3
@@ -25,19 +25,7 @@ number_of answer.Line = 14
 number_of answer.Ended = 15
 number_of answer.Row = 16
 
--- a table of so many words
-abbrev pub done_prepared : ℕ → Prepared
-done_prepared words = record { answer = answer.Done; place = 0; words = words }
-
--- a text of this length, its colour and section, and whether it is exact
-abbrev pub done_shown : ℕ → ℕ → ℕ → Bool → Shown
-done_shown length colour section exact =
-    record { answer = answer.Done; exact = exact; length = length; colour = colour; section = section }
-
--- "On a refusal every returned number but the answer and the place is 0." (R7)
-abbrev pub refused_prepared : Answer → ℕ → Prepared
-refused_prepared a at = record { answer = a; place = at; words = 0 }
-
--- and nothing is exact: "on a refusal it is 0" (R7)
-abbrev pub refused_shown : Answer → Shown
-refused_shown a = record { answer = a; exact = false; length = 0; colour = 0; section = 0 }
+-- of a call's result
+abbrev pub answer_number : {A : Type 0} → Result A Refusal → ℕ
+answer_number (Ok x) = done_number
+answer_number (Err a) = number_of a

@@ -1,13 +1,12 @@
-// What a call answers: the answer list, and the results of preparing and of showing.
+// What a call answers: the refusals of the answer list with their numbers, and the results of preparing and of showing.
 #![tactic(auto)]
 
 ghost use Rattle.std.specs.Prelude.{◌≡◌};
-ghost use Rattle.answers.specs.Number.{number_of, done_prepared, done_shown, refused_prepared, refused_shown};
+ghost use Rattle.answers.specs.Number.{number_of, done_number};
 
-// The answer list, in its order. `number_of` in specs/ gives each its number.
-#[derive(Clone, Copy)]
-pub enum Answer {
-    Done,
+// The answer list behind 0, in its order. `number_of` in specs/ gives each its number.
+#[derive(Clone, Copy, Debug, PartialEq, Eq)]
+pub enum Refusal {
     CodeLength,
     Token,
     SectionCount,
@@ -26,94 +25,51 @@ pub enum Answer {
     Row,
 }
 
-// What preparing returns. On a refusal every number but the answer and the place is 0.
-#[derive(Clone, Copy)]
-pub struct Prepared {
-    pub answer: Answer,
+// What preparing returns where it refuses: why, and the place in the code.
+#[derive(Clone, Copy, Debug, PartialEq, Eq)]
+pub struct Refused {
+    pub refusal: Refusal,
     pub place: u32,
-    pub words: u32,
 }
 
-// What showing returns, and whether what is shown is exact. On a refusal every number but the answer is 0, and nothing is exact.
-// (The answer and `exact` stand side by side: so they are twelve bytes.)
-#[derive(Clone, Copy)]
+// What showing returns where a text of this length is shown, and whether what is shown is exact.
+#[derive(Clone, Copy, Debug, PartialEq, Eq)]
 pub struct Shown {
-    pub answer: Answer,
-    pub exact: bool,
     pub length: u32,
     pub colour: u16,
     pub section: u16,
+    pub exact: bool,
 }
 
-// What preparing returns where it has made a table of so many words.
-pub fn done_prepared(words: u32) -> Prepared
-    ensures { result ≡ done_prepared words }
+// The number of a call that is done.
+pub const DONE: u16 = 0;
+
+pub fn done() -> u16
+    ensures { result ≡ done_number }
 {
-    Prepared {
-        answer: Answer::Done,
-        place: 0,
-        words,
-    }
+    DONE
 }
 
-// What preparing returns where it refuses.
-pub fn refused_prepared(answer: Answer, place: u32) -> Prepared
-    ensures { result ≡ refused_prepared answer place }
+// The number of a refusal in the answer list.
+pub fn number(refusal: Refusal) -> u16
+    ensures { result ≡ number_of refusal }
 {
-    Prepared {
-        answer,
-        place,
-        words: 0,
-    }
-}
-
-// What showing returns where a text of this length is shown.
-pub fn done_shown(length: u32, colour: u16, section: u16, exact: bool) -> Shown
-    ensures { result ≡ done_shown length colour section exact }
-{
-    Shown {
-        answer: Answer::Done,
-        exact,
-        length,
-        colour,
-        section,
-    }
-}
-
-// What showing returns where it refuses.
-pub fn refused_shown(answer: Answer) -> Shown
-    ensures { result ≡ refused_shown answer }
-{
-    Shown {
-        answer,
-        exact: false,
-        length: 0,
-        colour: 0,
-        section: 0,
-    }
-}
-
-// The number of an answer in the answer list.
-pub fn number(a: Answer) -> u16
-    ensures { result ≡ number_of a }
-{
-    match a {
-        Answer::Done => 0,
-        Answer::CodeLength => 1,
-        Answer::Token => 2,
-        Answer::SectionCount => 3,
-        Answer::Kind => 4,
-        Answer::Standing => 5,
-        Answer::Limit => 6,
-        Answer::TableRoom => 7,
-        Answer::Table => 8,
-        Answer::Range => 9,
-        Answer::NoSection => 10,
-        Answer::Sort => 11,
-        Answer::General => 12,
-        Answer::TextRoom => 13,
-        Answer::Line => 14,
-        Answer::Ended => 15,
-        Answer::Row => 16,
+    match refusal {
+        Refusal::CodeLength => 1,
+        Refusal::Token => 2,
+        Refusal::SectionCount => 3,
+        Refusal::Kind => 4,
+        Refusal::Standing => 5,
+        Refusal::Limit => 6,
+        Refusal::TableRoom => 7,
+        Refusal::Table => 8,
+        Refusal::Range => 9,
+        Refusal::NoSection => 10,
+        Refusal::Sort => 11,
+        Refusal::General => 12,
+        Refusal::TextRoom => 13,
+        Refusal::Line => 14,
+        Refusal::Ended => 15,
+        Refusal::Row => 16,
     }
 }

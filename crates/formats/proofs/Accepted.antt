@@ -6,7 +6,7 @@ use mathlib.Core.Path.{◌≡◌, refl}
 use mathlib.Core.List.{List, [], ◌∷◌, map}
 use lib.ListN.{length}
 use lib.Dec.{T, le→leb}
-use Rattle.answers.specs.declared.Answer.TheVariants as answer
+use Rattle.answers.specs.declared.Refusal.TheVariants as answer
 use Rattle.lists.specs.Lists.{every, first_failing, is_some}
 use Rattle.lists.proofs.Bools.{and_in, every-head, every-tail, every-cons}
 use Rattle.lists.proofs.First.{none-every}

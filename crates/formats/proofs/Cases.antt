@@ -8,8 +8,8 @@ use mathlib.Core.List.{List, [], ◌∷◌, map}
 use mathlib.Core.Path.{◌≡◌, refl}
 use lib.IntN.{ℤ, pos, negsuc}
 use lib.ListN.{length, replicate}
-use Rattle.answers.specs.declared.Answer.{Answer}
-use Rattle.answers.specs.declared.Answer.TheVariants as answer
+use Rattle.answers.specs.declared.Refusal.{Refusal}
+use Rattle.answers.specs.declared.Refusal.TheVariants as answer
 use Rattle.values.specs.declared.Ask.{Ask}
 use Rattle.values.specs.declared.Value.TheVariants as value
 use Rattle.values.specs.Ranges.{asked}
@@ -60,7 +60,7 @@ about code ask text section = gives code ask (seen text 0 section false)
 abbrev pub colours : String → Ask → String → ℕ → ℕ → Case
 colours code ask text colour section = gives code ask (seen text colour section true)
 
-abbrev pub denies : String → Ask → Answer → Case
+abbrev pub denies : String → Ask → Refusal → Case
 denies code ask a = gives code ask (refused a)
 
 -- a text, and what is shown of it
@@ -308,7 +308,7 @@ pub record Judged : Type 0 where
   pub code : List ℕ
   pub says : Verdict
 
-abbrev pub refuses : String → Answer → ℕ → Judged
+abbrev pub refuses : String → Refusal → ℕ → Judged
 unfolding units
 refuses code a place = record { code = units code; says = accept.refused a place }
 

@@ -12,8 +12,8 @@ use mathlib.Core.Option.{Option, none, some}
 use lib.ListN.{length, drop, get_or}
 use lib.Dec.{ltb, eqb}
 use borrow.Author.Tests.{ltb-true, ltb-false, eqb-true, eqb-false, lt-ltb, le-ltb, eq-eqb, ne_eqb}
-use Rattle.answers.specs.declared.Answer.{Answer}
-use Rattle.answers.specs.declared.Answer.TheVariants as answer
+use Rattle.answers.specs.declared.Refusal.{Refusal}
+use Rattle.answers.specs.declared.Refusal.TheVariants as answer
 use Rattle.answers.specs.Number.{number_of}
 use Rattle.lists.specs.Lists.{any, All, first_failing}
 use Rattle.lists.proofs.Bools.{no, by_cases}
@@ -29,7 +29,7 @@ use Rattle.formats.proofs.Lexing.{LexesTo, ends, breaks, reads, lexes, lexes-at,
 use Rattle.formats.proofs.Each.{by_token}
 
 -- what cannot be
-not-refused : {P : Type 0} {a : Answer} {k : ℕ} → fine ≡ refused a k → P
+not-refused : {P : Type 0} {a : Refusal} {k : ℕ} → fine ≡ refused a k → P
 not-refused e = let z : ◌≡◌ {A = ℕ} 0 1 = cc in absurd (omega arith)
 
 not-bad : {P : Type 0} {ps : List Placed} {k : ℕ} → good ps ≡ bad k → P
@@ -50,13 +50,13 @@ first_of : List Verdict → Verdict
 first_of [] = fine
 first_of (v ∷ vs) = or_else v (first_of vs)
 
-record FirstOf (vs : List Verdict) (n : ℕ) (a : Answer) (k : ℕ) : Type 0 where
+record FirstOf (vs : List Verdict) (n : ℕ) (a : Refusal) (k : ℕ) : Type 0 where
   index : ℕ
   number : number_of a ≡ n + index
   refuses : get_or vs index fine ≡ refused a k
   before : (i : ℕ) → i < index → get_or vs i fine ≡ fine
 
-first-of : (vs : List Verdict) (n : ℕ) → SayFrom n vs → (a : Answer) (k : ℕ) → first_of vs ≡ refused a k → FirstOf vs n a k
+first-of : (vs : List Verdict) (n : ℕ) → SayFrom n vs → (a : Refusal) (k : ℕ) → first_of vs ≡ refused a k → FirstOf vs n a k
 unfolding first_of or_else
 first-of [] n s a k e = not-refused e
 first-of (fine ∷ vs) n s a k e =
@@ -71,7 +71,7 @@ first-of (refused b j ∷ vs) n s a k e =
     record { index = 0; number = rw (← same) (omega (arith, s.0)); refuses = e; before = λ i h. absurd (omega arith) }
 
 -- a test that refuses by an answer or not at all
-says_if : (b : Bool) (a : Answer) (k : ℕ) → Says (number_of a) (cond b (refused a k) fine)
+says_if : (b : Bool) (a : Refusal) (k : ℕ) → Says (number_of a) (cond b (refused a k) fine)
 says_if true a k = refl
 says_if false a k = tt
 
@@ -88,7 +88,7 @@ count-says : (places : List ℕ) → Says 3 (count_verdict places)
 unfolding count_verdict
 count-says places = says_if (ltb _ (length places)) answer.SectionCount _
 
-section-says : (a : Answer) (o : Option ℕ) → Says (number_of a) (section_verdict a o)
+section-says : (a : Refusal) (o : Option ℕ) → Says (number_of a) (section_verdict a o)
 unfolding section_verdict
 section-says a none = tt
 section-says a (some k) = refl
@@ -118,23 +118,23 @@ verdict-first : (code : List ℕ) → verdict code ≡ first_of (tests code)
 unfolding verdict first_of or_else
 verdict-first code = rw (or-fine (limit_verdict (parts_in code)))
 
-pub refused-by : (code : List ℕ) (a : Answer) (k : ℕ) → verdict code ≡ refused a k → RefusedBy code a k
+pub refused-by : (code : List ℕ) (a : Refusal) (k : ℕ) → verdict code ≡ refused a k → RefusedBy code a k
 refused-by code a k e =
     let r = first-of (tests code) 0 (tests-say code) a k (sym (verdict-first code) ∙ e) in
     let same : number_of a ≡ r.index = omega arith in
     record { refuses = rw same r.refuses; before = rw same r.before }
 
-of-first : (vs : List Verdict) (n : ℕ) (a : Answer) (k : ℕ) → get_or vs n fine ≡ refused a k
+of-first : (vs : List Verdict) (n : ℕ) (a : Refusal) (k : ℕ) → get_or vs n fine ≡ refused a k
     → ((i : ℕ) → i < n → get_or vs i fine ≡ fine) → first_of vs ≡ refused a k
 unfolding first_of or_else
 of-first [] n a k e b = not-refused e
 of-first (v ∷ vs) zero a k e b = rw e
 of-first (v ∷ vs) (suc n) a k e b = rw (b 0 (omega arith)) (of-first vs n a k e (λ i h. b (suc i) (omega arith)))
 
-by-refused : (code : List ℕ) (a : Answer) (k : ℕ) → RefusedBy code a k → verdict code ≡ refused a k
+by-refused : (code : List ℕ) (a : Refusal) (k : ℕ) → RefusedBy code a k → verdict code ≡ refused a k
 by-refused code a k r = verdict-first code ∙ of-first (tests code) (number_of a) a k r.refuses r.before
 
-pub refused-exactly : (code : List ℕ) (a : Answer) (k : ℕ) → (verdict code ≡ refused a k) ↔ RefusedBy code a k
+pub refused-exactly : (code : List ℕ) (a : Refusal) (k : ℕ) → (verdict code ≡ refused a k) ↔ RefusedBy code a k
 refused-exactly code a k = (refused-by code a k, by-refused code a k)
 
 -- every test finds nothing
@@ -250,7 +250,7 @@ module _ (code : List ℕ) where
   reads-or-breaks j l k (breaks i s) b h = let same : k ≡ i = cc in absurd (omega arith)
   reads-or-breaks j l k (reads i t more m s r) b h = record { token = t; more = more; step = s }
 
-token-bad : (l : Lexed) (a : Answer) (k : ℕ) → token_verdict l ≡ refused a k → l ≡ bad k
+token-bad : (l : Lexed) (a : Refusal) (k : ℕ) → token_verdict l ≡ refused a k → l ≡ bad k
 unfolding token_verdict
 token-bad (good ps) a k e = not-refused e
 token-bad (bad j) a k e = let same : j ≡ k = cc in ap bad same
@@ -295,18 +295,18 @@ token-exactly code k = (token-refused code k, λ b. by-refused code answer.Token
 
 -- ---- 4, 5 and 6: the sections
 
-pub fine-none : (a : Answer) (o : Option ℕ) → section_verdict a o ≡ fine → o ≡ none
+pub fine-none : (a : Refusal) (o : Option ℕ) → section_verdict a o ≡ fine → o ≡ none
 unfolding section_verdict
 fine-none a none e = refl
 fine-none a (some j) e = not-refused (sym e)
 
-section-some : (a b : Answer) (o : Option ℕ) (k : ℕ) → section_verdict a o ≡ refused b k → o ≡ some k
+section-some : (a b : Refusal) (o : Option ℕ) (k : ℕ) → section_verdict a o ≡ refused b k → o ≡ some k
 unfolding section_verdict
 section-some a b none k e = not-refused e
 section-some a b (some j) k e = let same : j ≡ k = cc in ap some same
 
 -- a test over sections refuses by the answer a at place k exactly when section k is the first that fails
-module _ {A : Type 0} (f : ℕ → A → Bool) (xs : List A) (a : Answer) (code : List ℕ) (k : ℕ) where
+module _ {A : Type 0} (f : ℕ → A → Bool) (xs : List A) (a : Refusal) (code : List ℕ) (k : ℕ) where
   section-exactly : (get_or (tests code) (number_of a) fine ≡ section_verdict a (first_failing f 0 xs))
       → (verdict code ≡ refused a k) ↔ FirstSection code (number_of a) f xs k
   unfolding section_verdict
@@ -469,7 +469,7 @@ module _ (code : List ℕ) (ps qs : List ℕ) (p : SemicolonPlaces code ps) (q :
       let n = not-before i h in
       (omega (arith, s.within), omega (arith, s.same, not-above qs q.ascend i s.index n s.within))
 
-count-many : (places : List ℕ) (a : Answer) (k : ℕ) → count_verdict places ≡ refused a k → (3 < length places) × (get_or places 3 0 ≡ k)
+count-many : (places : List ℕ) (a : Refusal) (k : ℕ) → count_verdict places ≡ refused a k → (3 < length places) × (get_or places 3 0 ≡ k)
 unfolding count_verdict
 count-many places a k e = by_cases (ltb 3 (length places))
     (λ t. let q : refused answer.SectionCount (get_or places 3 0) ≡ refused a k = rw t at e in (ltb-true 3 (length places) t, cc))

@@ -2,8 +2,8 @@
 -- Assumes nothing.
 use Rattle.std.specs.Prelude.{ℕ, zero, suc, ◌-◌, cond, ◌||◌, List, [], ◌∷◌, map, length, take, drop, get_or, ltb, eqb}
 use Rattle.std.proofs.Math.Option.{Option, none, some}
-use Rattle.answers.specs.declared.Answer.{Answer}
-use Rattle.answers.specs.declared.Answer.TheVariants as answer
+use Rattle.answers.specs.declared.Refusal.{Refusal}
+use Rattle.answers.specs.declared.Refusal.TheVariants as answer
 use Rattle.lists.specs.Lists.{first_failing}
 use Rattle.formats.specs.Tokens.{Token, Placed, Lexed, good, bad, lex}
 use Rattle.formats.specs.Items.{Section}
@@ -43,7 +43,7 @@ sections_in code = map section_of (parts_in code)
 -- what a test says of a code: nothing, or an answer and its place
 pub data Verdict : Type 0 where
   fine : Verdict
-  refused : Answer → ℕ → Verdict
+  refused : Refusal → ℕ → Verdict
 
 -- the first of two tests that refuses
 unfoldable pub or_else : Verdict → Verdict → Verdict
@@ -64,7 +64,7 @@ unfoldable pub count_verdict : List ℕ → Verdict
 count_verdict places = cond (ltb 3 (length places)) (refused answer.SectionCount (get_or places 3 0)) fine
 
 -- 4, 5 and 6 name the "first such section"
-unfoldable pub section_verdict : Answer → Option ℕ → Verdict
+unfoldable pub section_verdict : Refusal → Option ℕ → Verdict
 section_verdict a none = fine
 section_verdict a (some k) = refused a k
 
@@ -92,7 +92,7 @@ verdict code =
 -- "A code is accepted when none of 1 to 6 is given." (R13)
 pub data Accepted : Type 0 where
   sections : List Section → Accepted
-  refusal : Answer → ℕ → Accepted
+  refusal : Refusal → ℕ → Accepted
 
 unfoldable pub accepted_by : Verdict → List Section → Accepted
 accepted_by fine ss = sections ss

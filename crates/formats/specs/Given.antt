@@ -1,7 +1,7 @@
 -- "given exactly when" (R10 to R12): what each of the answers 1 to 6 says of a code, with its place.
 -- Assumes nothing.
 use Rattle.std.specs.Prelude.{ℕ, ◌≤◌, ◌<◌, ◌≡◌, Bool, true, false, ◌⊎◌, List, [], ◌∷◌, length, get_or}
-use Rattle.answers.specs.declared.Answer.{Answer}
+use Rattle.answers.specs.declared.Refusal.{Refusal}
 use Rattle.answers.specs.Number.{number_of}
 use Rattle.formats.specs.Tokens.{broken, lex}
 use Rattle.formats.specs.Starts.{StepIs, TokenStart, ReadsAt, SemicolonAt}
@@ -18,7 +18,7 @@ abbrev pub FineBelow : List ℕ → ℕ → Type 0
 FineBelow code n = (i : ℕ) → i < n → get_or (tests code) i fine ≡ fine
 
 -- the test of that answer refuses the code at that place, and no earlier test refuses it
-pub record RefusedBy (code : List ℕ) (a : Answer) (k : ℕ) : Type 0 where
+pub record RefusedBy (code : List ℕ) (a : Refusal) (k : ℕ) : Type 0 where
   pub refuses : get_or (tests code) (number_of a) fine ≡ refused a k
   pub before : FineBelow code (number_of a)
 

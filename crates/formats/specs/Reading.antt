@@ -5,8 +5,8 @@
 -- Assumes nothing.
 use Rattle.std.specs.Prelude.{ℕ, ◌-◌, ◌*◌, ◌%◌, ◌^◌, min, Bool, true, false, cond, not, ◌&&◌, ◌||◌, length, take, drop, replicate, leb, eqb, nat_abs}
 use mathlib.Core.List.{List, [], ◌∷◌, ◌++◌, map, flatten}
-use Rattle.answers.specs.declared.Answer.{Answer}
-use Rattle.answers.specs.declared.Answer.TheVariants as answer
+use Rattle.answers.specs.declared.Refusal.{Refusal}
+use Rattle.answers.specs.declared.Refusal.TheVariants as answer
 use Rattle.values.specs.declared.Number.{Number}
 use Rattle.values.specs.declared.Day.{Day}
 use Rattle.values.specs.declared.Millisecond.{Millisecond}
@@ -39,7 +39,7 @@ pub record Look : Type 0 where
   pub exact : Bool
 
 pub data Reading : Type 0 where
-  refused : Answer → Reading
+  refused : Refusal → Reading
   shown : Look → Reading
 
 abbrev pub look_of : List ℕ → ℕ → ℕ → Bool → Look

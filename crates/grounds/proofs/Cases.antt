@@ -5,8 +5,8 @@ use Prim.Native.String.{String}
 use mathlib.Core.List.{List, [], ◌∷◌}
 use mathlib.Core.Path.{◌≡◌, refl}
 use lib.IntN.{pos, negsuc}
-use Rattle.answers.specs.declared.Answer.{Answer}
-use Rattle.answers.specs.declared.Answer.TheVariants as answer
+use Rattle.answers.specs.declared.Refusal.{Refusal}
+use Rattle.answers.specs.declared.Refusal.TheVariants as answer
 use Rattle.values.specs.declared.Ask.{Ask}
 use Rattle.calendar.specs.Names.{units}
 use Rattle.lists.specs.Lists.{All}
@@ -48,7 +48,7 @@ behind_one code ask choice first held cut = gives code ask (because 1 choice fir
 abbrev pub behind_two : String → Ask → ChosenBy → Tried → Tried → Minus → ℕ → Case
 behind_two code ask choice first second held cut = gives code ask (because 2 choice first second held cut)
 
-abbrev pub denies : String → Ask → Answer → Case
+abbrev pub denies : String → Ask → Refusal → Case
 denies code ask a = gives code ask (why.Refused a)
 
 -- a text of one unit

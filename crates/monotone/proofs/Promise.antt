@@ -11,7 +11,7 @@ use mathlib.Core.List.{List}
 use lib.Dec.{T, leb}
 use lib.IntN.{nat_abs}
 use lib.ListN.{length}
-use Rattle.answers.specs.declared.Answer.TheVariants as answer
+use Rattle.answers.specs.declared.Refusal.TheVariants as answer
 use Rattle.values.specs.declared.Number.{Number}
 use Rattle.values.specs.declared.Value.TheVariants as value
 use Rattle.values.specs.declared.Ask.{Ask}

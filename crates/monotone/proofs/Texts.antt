@@ -9,7 +9,7 @@ use mathlib.Core.Option.{some}
 use borrow.Author.Tests.{ltb-true, le-ltb, ne_eqb}
 use lib.Dec.{T, ltb, eqb}
 use lib.IntN.{nat_abs}
-use Rattle.answers.specs.declared.Answer.TheVariants as answer
+use Rattle.answers.specs.declared.Refusal.TheVariants as answer
 use Rattle.values.specs.declared.Number.{Number}
 use Rattle.values.specs.declared.Value.TheVariants as value
 use Rattle.values.specs.declared.Ask.{Ask}
