@@ -1,10 +1,10 @@
--- Tokens as numbers: a form, an argument and the place of the first unit, read against the code.
+-- Tokens as marks: a form, an argument and the place of the first unit, read against the code.
 -- Assumes nothing.
-use Rattle.std.specs.Prelude.{ℕ, suc, false, List, [], ◌∷◌, take, drop, get_or}
+use Rattle.std.specs.Prelude.{ℕ, suc, false, List, [], ◌∷◌, map, take, drop, get_or}
 use Rattle.std.proofs.Math.Option.{Option, none, some}
 use Rattle.formats.specs.Tokens.{zero_place, hash_place, space_place, letter_y, letter_m, letter_d, letter_h, letter_s, hours, minutes, seconds, short, long, e_plus, e_minus, equal, Written, Token, literal, bare, blank, fill, place, point, comma, percent, at, semicolon, general, half, run, elapsed, colour, condition, exponent, over, over_fixed, condition_inside, Placed}
 use Rattle.formats.specs.Kinds.{condition_in}
-use Rattle.formats.specs.Accept.{tokens_of}
+use Rattle.marks.specs.declared.Mark.{Mark}
 
 -- a condition that compares with nothing, where there is none
 unfoldable pub written_or : Option Written → Written
@@ -38,12 +38,16 @@ mark_token form a us = get_or (mark_rows a us) form (literal [])
 unfoldable pub token_at : List ℕ → ℕ → ℕ → ℕ → Token
 token_at code form argument start = mark_token form argument (drop (suc start) code)
 
--- the tokens of a buffer with their places, three words a token
-unfoldable pub placed_in : List ℕ → List ℕ → List Placed
-placed_in code [] = []
-placed_in code (f ∷ []) = []
-placed_in code (f ∷ a ∷ []) = []
-placed_in code (f ∷ a ∷ s ∷ ws) = record { token = token_at code f a s; start = s } ∷ placed_in code ws
+-- the token that a mark stands for, and the same with its place
+unfoldable pub marked : List ℕ → Mark → Token
+marked code m = token_at code m.form m.argument m.start
 
-unfoldable pub tokens_in : List ℕ → List ℕ → List Token
-tokens_in code words = tokens_of (placed_in code words)
+unfoldable pub placed : List ℕ → Mark → Placed
+placed code m = record { token = marked code m; start = m.start }
+
+-- the tokens of a buffer with their places, and alone
+unfoldable pub placed_in : List ℕ → List Mark → List Placed
+placed_in code ms = map (placed code) ms
+
+unfoldable pub tokens_in : List ℕ → List Mark → List Token
+tokens_in code ms = map (marked code) ms

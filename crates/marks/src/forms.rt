@@ -1,4 +1,4 @@
-// The first of a token's three words: its form. The second is its argument, the third the place of its first unit.
+// The forms of tokens, by their names.
 pub const LITERAL: u16 = 0;
 
 pub const BARE: u16 = 1;
