@@ -5,6 +5,7 @@ use Prim.Native.String.{String}
 use mathlib.Core.List.{List, [], ◌∷◌}
 use mathlib.Core.Path.{◌≡◌, refl}
 use lib.IntN.{pos, negsuc}
+use Rattle.std.specs.Prelude.{Result, Ok, Err}
 use Rattle.answers.specs.declared.Refusal.{Refusal}
 use Rattle.answers.specs.declared.Refusal.TheVariants as answer
 use Rattle.values.specs.declared.Ask.{Ask}
@@ -17,8 +18,7 @@ use Rattle.grounds.specs.declared.Tried.{Tried}
 use Rattle.grounds.specs.declared.Tried.TheVariants as tried
 use Rattle.grounds.specs.declared.Minus.{Minus}
 use Rattle.grounds.specs.declared.Minus.TheVariants as minus
-use Rattle.grounds.specs.declared.Why.{Why}
-use Rattle.grounds.specs.declared.Why.TheVariants as why
+use Rattle.grounds.specs.declared.Grounds.{Grounds}
 use Rattle.grounds.specs.Why.{code_why}
 use Rattle.grounds.proofs.Evaluate.{reasoned}
 
@@ -28,14 +28,14 @@ pub record Case : Type 0 where
   pub ask : Ask
   pub text : List ℕ
   pub room : ℕ
-  pub answer : Why
+  pub answer : Result Grounds Refusal
 
-abbrev pub because : ℕ → ChosenBy → Tried → Tried → Minus → ℕ → Why
+abbrev pub because : ℕ → ChosenBy → Tried → Tried → Minus → ℕ → Result Grounds Refusal
 because section choice first second held cut =
-    why.Because (record { section = section; choice = choice; first = first; second = second; minus = held; cut = cut })
+    Ok (record { section = section; choice = choice; first = first; second = second; minus = held; cut = cut })
 
 -- without a text, in a room of 4,096 units
-abbrev pub gives : String → Ask → Why → Case
+abbrev pub gives : String → Ask → Result Grounds Refusal → Case
 gives code ask answer = record { code = code; ask = ask; text = []; room = 4096; answer = answer }
 
 -- of the first section, without a fallback that failed, or behind one or two of them
@@ -49,14 +49,14 @@ abbrev pub behind_two : String → Ask → ChosenBy → Tried → Tried → Minu
 behind_two code ask choice first second held cut = gives code ask (because 2 choice first second held cut)
 
 abbrev pub denies : String → Ask → Refusal → Case
-denies code ask a = gives code ask (why.Refused a)
+denies code ask a = gives code ask (Err a)
 
 -- a text of one unit
 abbrev pub of_text : String → ℕ → ChosenBy → Case
 of_text code section choice =
     record { code = code; ask = a_text; text = 120 ∷ []; room = 1; answer = because section choice tried.NotTried tried.NotTried minus.Text 0 }
 
-abbrev pub told : Case → Why
+abbrev pub told : Case → Result Grounds Refusal
 told c = code_why (units c.code) c.ask c.text c.room
 
 unfoldable pub cases : List Case
@@ -107,7 +107,7 @@ cases =
     ∷ denies "[>=10]0;[<0]0" (number (pos 5) 0) answer.NoSection
     ∷ denies "h" (number (pos 5) 0) answer.Sort
     ∷ denies "General" (number (pos 100000000000) 0) answer.General
-    ∷ record { code = "0.00"; ask = number (negsuc 0) 0; text = []; room = 4; answer = why.Refused answer.TextRoom }
+    ∷ record { code = "0.00"; ask = number (negsuc 0) 0; text = []; room = 4; answer = Err answer.TextRoom }
     ∷ []
 
 pub cases-right : All (λ (c : Case). told c ≡ c.answer) cases

@@ -1,8 +1,9 @@
 -- What is promised of a reason (R140 to R144): "The facts named hold, and showing the value through the named section, with the minus as named, gives the
 -- text on the wall."
 -- Assumes nothing.
-use Rattle.std.specs.Prelude.{◌≡◌, ℕ, zero, suc, ◌-◌, ◌≤◌, ◌<◌, Bool, true, false, not, List, [], ◌∷◌, ◌++◌, eqb, take, get_or, nat_abs}
+use Rattle.std.specs.Prelude.{◌≡◌, ℕ, zero, suc, ◌-◌, ◌≤◌, ◌<◌, Bool, true, false, not, List, [], ◌∷◌, ◌++◌, eqb, take, get_or, nat_abs, Result, Ok, Err}
 use Rattle.std.proofs.Math.Option.{Option, none, some}
+use Rattle.answers.specs.declared.Refusal.{Refusal}
 use Rattle.values.specs.declared.Number.{Number}
 use Rattle.values.specs.declared.Day.{Day}
 use Rattle.values.specs.declared.Millisecond.{Millisecond}
@@ -26,8 +27,6 @@ use Rattle.grounds.specs.declared.Tried.TheVariants as tried
 use Rattle.grounds.specs.declared.Minus.{Minus}
 use Rattle.grounds.specs.declared.Minus.TheVariants as held
 use Rattle.grounds.specs.declared.Grounds.{Grounds}
-use Rattle.grounds.specs.declared.Why.{Why}
-use Rattle.grounds.specs.declared.Why.TheVariants as why
 use Rattle.grounds.specs.Numbers.{choice_number, minus_number}
 
 -- the section at a place, where there is one
@@ -167,6 +166,6 @@ pub record ShownBecause (ss : List Section) (v : Value) (lent : List ℕ) (r : R
   pub because : Because ss v lent look g
 
 -- "A refused show gives the same refusal and no reason.": what is answered why of a reading holds
-abbrev pub WhyHolds : List Section → Value → List ℕ → Reading → Why → Type 0
-WhyHolds ss v lent r (why.Refused a) = r ≡ refused a
-WhyHolds ss v lent r (why.Because g) = ShownBecause ss v lent r g
+abbrev pub WhyHolds : List Section → Value → List ℕ → Reading → Result Grounds Refusal → Type 0
+WhyHolds ss v lent r (Err a) = r ≡ refused a
+WhyHolds ss v lent r (Ok g) = ShownBecause ss v lent r g

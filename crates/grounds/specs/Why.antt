@@ -1,6 +1,7 @@
--- "Why does it say that?" (R140 to R143): the reason for what is shown, or the answer of the refused show.
+-- "Why does it say that?" (R140 to R143): the reason for what is shown, or the refusal of the show.
 -- Assumes nothing.
-use Rattle.std.specs.Prelude.{ℕ, cond, List, map, eqb, take, get_or, nat_abs}
+use Rattle.std.specs.Prelude.{ℕ, cond, List, map, eqb, take, get_or, nat_abs, Result, Ok, Err}
+use Rattle.answers.specs.declared.Refusal.{Refusal}
 use Rattle.values.specs.declared.Number.{Number}
 use Rattle.values.specs.declared.Value.{Value}
 use Rattle.values.specs.declared.Value.TheVariants as value
@@ -21,8 +22,6 @@ use Rattle.grounds.specs.declared.Tried.TheVariants as tried
 use Rattle.grounds.specs.declared.Minus.{Minus}
 use Rattle.grounds.specs.declared.Minus.TheVariants as held
 use Rattle.grounds.specs.declared.Grounds.{Grounds}
-use Rattle.grounds.specs.declared.Why.{Why}
-use Rattle.grounds.specs.declared.Why.TheVariants as why
 
 -- "the section chosen, whether by its own condition or which fallback" (R140), where n sections count
 unfoldable pub choice_of : ℕ → Reason → ChosenBy
@@ -101,18 +100,18 @@ grounds_of ss (value.Instant d m) = instant_grounds ss (choose ss (instant_exact
 grounds_of ss value.Text = text_grounds (choose_text ss)
 
 -- "A refused show gives the same refusal and no reason." (R140)
-unfoldable pub why_read : Reading → Grounds → Why
-why_read (refused a) g = why.Refused a
-why_read (shown look) g = why.Because g
+unfoldable pub why_read : Reading → Grounds → Result Grounds Refusal
+why_read (refused a) g = Err a
+why_read (shown look) g = Ok g
 
 -- "For a [..] value and the text room's length, give the reason" (R140)
-unfoldable pub why_of : List Section → Ask → List ℕ → ℕ → Why
+unfoldable pub why_of : List Section → Ask → List ℕ → ℕ → Result Grounds Refusal
 why_of ss ask text room = why_read (reading ss ask text room) (grounds_of ss ask.value)
 
 -- of a code: a refused code gives its refusal
-unfoldable pub why_accepted : Accepted → Ask → List ℕ → ℕ → Why
-why_accepted (refusal a k) ask text room = why.Refused a
+unfoldable pub why_accepted : Accepted → Ask → List ℕ → ℕ → Result Grounds Refusal
+why_accepted (refusal a k) ask text room = Err a
 why_accepted (sections ss) ask text room = why_of ss ask text room
 
-unfoldable pub code_why : List ℕ → Ask → List ℕ → ℕ → Why
+unfoldable pub code_why : List ℕ → Ask → List ℕ → ℕ → Result Grounds Refusal
 code_why code ask text room = why_accepted (accept code) ask text room

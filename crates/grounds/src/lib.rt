@@ -4,10 +4,8 @@
 ghost use Rattle.std.specs.Prelude.{◌≡◌};
 ghost use Rattle.grounds.specs.Numbers.{choice_number, tried_number, minus_number};
 
-use answers::Answer;
-
 // How the section was chosen: by its own condition; by a fallback, where one, two, three or no sections count; or for a text.
-#[derive(Clone, Copy)]
+#[derive(Clone, Copy, Debug, PartialEq, Eq)]
 pub enum ChosenBy {
     OwnCondition,
     AllValues,
@@ -22,7 +20,7 @@ pub enum ChosenBy {
 }
 
 // What is said of a section before the chosen one: not tried, or whether its own condition or its fallback was false.
-#[derive(Clone, Copy)]
+#[derive(Clone, Copy, Debug, PartialEq, Eq)]
 pub enum Tried {
     NotTried,
     OwnFalse,
@@ -30,7 +28,7 @@ pub enum Tried {
 }
 
 // Whether a minus was added, or what held it back.
-#[derive(Clone, Copy)]
+#[derive(Clone, Copy, Debug, PartialEq, Eq)]
 pub enum Minus {
     Added,
     Text,
@@ -41,7 +39,7 @@ pub enum Minus {
 }
 
 // The reason: section and choice, the two sections that can have been tried earlier, the minus, and how many decimals were cut.
-#[derive(Clone, Copy)]
+#[derive(Clone, Copy, Debug, PartialEq, Eq)]
 pub struct Grounds {
     pub section: u16,
     pub choice: ChosenBy,
@@ -49,13 +47,6 @@ pub struct Grounds {
     pub second: Tried,
     pub minus: Minus,
     pub cut: u16,
-}
-
-// The answer of the refused show, or the reason.
-#[derive(Clone, Copy)]
-pub enum Why {
-    Refused(Answer),
-    Because(Grounds),
 }
 
 // The number of a choice.
