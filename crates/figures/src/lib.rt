@@ -20,49 +20,20 @@ pub struct Signed {
     pub scale: u32,
 }
 
-#[derive(Clone, Copy)]
-pub enum Taken {
-    In(Signed),
-    OutOfRange,
-}
-
-// Whether a coefficient has at most fifteen digits.
-fn is_coefficient(c: i64) -> bool
-    ensures { result ≡ ltb (nat_abs c) (10 ^ 15) }
-{
-    if c < 0 {
-        -1000000000000000 < c
-    } else {
-        c < 1000000000000000
-    }
-}
-
-// The distance from 0. The negation of fifteen digits is in range.
-fn magnitude(c: i64) -> u64
-    requires { nat_abs c < 10 ^ 15 }
-    ensures { result ≡ nat_abs c }
-{
-    if c < 0 { (-c) as u64 } else { c as u64 }
-}
-
 // The number without its sign, where it is in range; behind this door nothing is signed.
-pub fn take_number(x: Number) -> Taken
+// No negation: that of the least coefficient would be out of range.
+pub fn take_number(x: Number) -> Option<Signed>
     ensures { result ≡ taken_of x }
 {
-    let c = x.coefficient;
-    let scale = x.scale;
-    if is_coefficient(c) {
-        if scale <= 15 {
-            let negative = c < 0;
-            let magnitude = magnitude(c);
-            return Taken::In(Signed {
-                negative,
-                magnitude,
-                scale,
-            });
-        }
+    let magnitude = x.coefficient.unsigned_abs();
+    if (magnitude < 1000000000000000) & (x.scale <= 15) {
+        return Some(Signed {
+            negative: x.coefficient < 0,
+            magnitude,
+            scale: x.scale,
+        });
     }
-    Taken::OutOfRange
+    None
 }
 
 // 10 to the k. (No table: a constant array would be built anew at each reading.)
