@@ -1,12 +1,9 @@
 -- "Values and memory" (R2 to R5): the ranges of day numbers, milliseconds of the day, numbers and texts.
 -- Assumes nothing.
-use Rattle.std.specs.Prelude.{ℕ, ◌^◌, Bool, cond, ◌&&◌, List, leb, ltb, nat_abs, length}
+use Rattle.std.specs.Prelude.{◌≡◌, ℕ, ◌^◌, Bool, cond, ◌&&◌, List, leb, ltb, nat_abs, length, Result, Ok, Err}
 use Rattle.values.specs.declared.Day.{Day}
 use Rattle.values.specs.declared.Millisecond.{Millisecond}
-use Rattle.values.specs.declared.DayMade.{DayMade}
-use Rattle.values.specs.declared.DayMade.TheVariants as day
-use Rattle.values.specs.declared.MillisecondMade.{MillisecondMade}
-use Rattle.values.specs.declared.MillisecondMade.TheVariants as millisecond
+use Rattle.values.specs.declared.OutOfRange.{OutOfRange}
 use Rattle.values.specs.declared.Number.{Number}
 use Rattle.values.specs.declared.Value.{Value}
 use Rattle.values.specs.declared.Value.TheVariants as value
@@ -28,22 +25,27 @@ millisecond_greatest = 86399999
 abbrev pub between : ℕ → ℕ → ℕ → Bool
 between least greatest n = leb least n && leb n greatest
 
--- what the makers answer (R4)
-abbrev pub day_of : ℕ → DayMade
-day_of n = cond (between day_least day_greatest n) (day.Made (record { 0 = n })) day.OutOfRange
+-- what the makers answer (R4): the unit with this number, where it is in the range
+abbrev pub within : ℕ → ℕ → ℕ → Result ℕ OutOfRange
+within least greatest n = cond (between least greatest n) (Ok n) (Err (record {}))
 
-abbrev pub millisecond_of : ℕ → MillisecondMade
-millisecond_of n =
-    cond (between millisecond_least millisecond_greatest n) (millisecond.Made (record { 0 = n })) millisecond.OutOfRange
+abbrev pub day_of : ℕ → Result Day OutOfRange
+day_of n = cond (between day_least day_greatest n) (Ok (record { 0 = n })) (Err (record {}))
+
+abbrev pub millisecond_of : ℕ → Result Millisecond OutOfRange
+millisecond_of n = cond (between millisecond_least millisecond_greatest n) (Ok (record { 0 = n })) (Err (record {}))
+
+-- the conversions from a number answer as the makers do
+abbrev pub IsDayOf : ℕ → Result Day OutOfRange → Type 0
+IsDayOf n r = r ≡ day_of n
+
+abbrev pub IsMillisecondOf : ℕ → Result Millisecond OutOfRange → Type 0
+IsMillisecondOf n r = r ≡ millisecond_of n
 
 -- the answer list's number of what a maker answers: 0 done, 9 out of range
-abbrev pub day_answer : DayMade → ℕ
-day_answer (day.Made d) = 0
-day_answer day.OutOfRange = 9
-
-abbrev pub millisecond_answer : MillisecondMade → ℕ
-millisecond_answer (millisecond.Made m) = 0
-millisecond_answer millisecond.OutOfRange = 9
+abbrev pub made_answer : {A : Type 0} → Result A OutOfRange → ℕ
+made_answer (Ok x) = 0
+made_answer (Err e) = 9
 
 abbrev pub range_answer : ℕ → ℕ → ℕ → ℕ
 range_answer least greatest n = cond (between least greatest n) 0 9
