@@ -1,4 +1,5 @@
 pub mod Heads
 pub mod Bodies
 pub mod Cuts
+pub mod KindWords
 pub mod PlaceRuns

@@ -7,11 +7,12 @@ ghost use Rattle.std.specs.Prelude.{◌≡◌, ◌+◌, ◌*◌, ◌≤◌, ◌<
 ghost use Rattle.formats.specs.Where.{has_condition, is_text};
 ghost use Rattle.formats.specs.Choice.{counted};
 ghost use Rattle.formats.specs.Minus.{first_has_condition, exception_a};
+ghost use Rattle.formats.specs.Items.{kind_of};
 ghost use Rattle.tables.specs.Words.{head_at};
 ghost use Rattle.tables.specs.Encode.{has_half};
-ghost use Rattle.tables.specs.Decode.{two_words, decode};
+ghost use Rattle.tables.specs.Decode.{two_words};
 ghost use Rattle.tables.specs.Rules.{head_in_range, passes};
-ghost use Rattle.table_words.specs.Sections.{head_from, section_in, head_in, items_start, ItemsOf};
+ghost use Rattle.table_words.specs.Sections.{head_from, head_in, items_start, ItemsOf};
 
 use tables::{flags, heads, kinds};
 
@@ -32,33 +33,60 @@ pub struct HeadWords {
     pub items: u16,
 }
 
+// The kinds of sections.
+#[derive(Clone, Copy, PartialEq, Eq)]
+pub enum Kind {
+    Literal,
+    General,
+    Number,
+    Text,
+    DateTime,
+    Scientific,
+    Fraction,
+}
+
+// The words of a table: words that keep the table rules.
+#[derive(Clone, Copy)]
+pub struct Table<'a> {
+    pub words: &'a [u16],
+    pub ghost passes: { T (passes words.now) },
+}
+
+// A section of a table, by its place.
+#[derive(Clone, Copy)]
+pub struct TableSection<'a> {
+    pub table: Table<'a>,
+    pub place: u16,
+    pub ghost there: { place < get_or table.words.now 0 0 },
+}
+
 // How many sections there are.
-pub fn section_count(table: &[u16]) -> usize
-    requires { 1 ≤ length table.now }
-    ensures { result ≡ get_or table.now 0 0 }
+pub fn section_count(words: &[u16]) -> usize
+    requires { 1 ≤ length words.now }
+    ensures { result ≡ get_or words.now 0 0 }
 {
-    table[0] as usize
+    words[0] as usize
 }
 
 // The words of the head of section i, of words that need not be a table.
-pub fn head_at(table: &[u16], i: usize) -> HeadWords
-    requires { (i ≤ 3) × (13 + 12 * i ≤ length table.now) }
-    ensures { head_from result ≡ head_at (drop (1 + 12 * i) table.now) }
+pub fn head_at(words: &[u16], i: usize) -> HeadWords
+    requires { (i ≤ 3) × (13 + 12 * i ≤ length words.now) }
+    ensures { head_from result ≡ head_at (drop (1 + 12 * i) words.now) }
 {
     let a = 1 + heads::WORDS * i;
     HeadWords {
-        kind: table[a],
-        colour: table[a + heads::COLOUR],
-        operator: table[a + heads::OPERATOR],
-        negative: table[a + heads::NEGATIVE],
-        whole_low: table[a + heads::WHOLE_LOW],
-        whole_high: table[a + heads::WHOLE_HIGH],
-        millionths_low: table[a + heads::MILLIONTHS_LOW],
-        millionths_high: table[a + heads::MILLIONTHS_HIGH],
-        shift: table[a + heads::SHIFT],
-        flags: table[a + heads::FLAGS],
-        decimals: table[a + heads::DECIMALS],
-        items: table[a + heads::ITEMS],
+        kind: words[a],
+        colour: words[a + heads::COLOUR],
+        operator: words[a + heads::OPERATOR],
+        negative: words[a + heads::NEGATIVE],
+        whole_low: words[a + heads::WHOLE_LOW],
+        whole_high: words[a + heads::WHOLE_HIGH],
+        millionths_low: words[a + heads::MILLIONTHS_LOW],
+        millionths_high: words[a + heads::MILLIONTHS_HIGH],
+        shift: words[a + heads::SHIFT],
+        flags: words[a + heads::FLAGS],
+        decimals: words[a + heads::DECIMALS],
+        items: words[a + heads::ITEMS],
     }
 }
 
@@ -69,83 +97,106 @@ pub fn number(low: u16, high: u16) -> u32
     low as u32 + 65536 * high as u32
 }
 
-// The words of the head of section i: those that the section has.
-pub fn head_of(table: &[u16], i: usize) -> HeadWords
-    requires { T (passes table.now) × (i < get_or table.now 0 0) }
-    ensures words { head_from result ≡ head_in table.now i }
-    ensures range { T (head_in_range (head_from result)) }
-{
-    head_at(table, i)
-}
-
-// Whether section i is a text section.
-pub fn is_text(table: &[u16], i: usize) -> bool
-    requires { T (passes table.now) × (i < get_or table.now 0 0) }
-    ensures { result ≡ is_text (section_in table.now i) }
-{
-    let h = head_of(table, i);
-    h.kind == kinds::TEXT
-}
-
-// Whether section i has a condition.
-pub fn has_condition(table: &[u16], i: usize) -> bool
-    requires { T (passes table.now) × (i < get_or table.now 0 0) }
-    ensures { result ≡ has_condition (section_in table.now i) }
-{
-    let h = head_of(table, i);
-    h.operator != 0
-}
-
-// Whether section i groups digits.
-pub fn is_grouped(table: &[u16], i: usize) -> bool
-    requires { T (passes table.now) × (i < get_or table.now 0 0) }
-    ensures { result ≡ (section_in table.now i).grouped }
-{
-    let h = head_of(table, i);
-    h.flags % 2 == flags::GROUPING
-}
-
-// Whether section i has a 12-hour clock.
-pub fn is_twelve_hour(table: &[u16], i: usize) -> bool
-    requires { T (passes table.now) × (i < get_or table.now 0 0) }
-    ensures { result ≡ has_half (section_in table.now i).items }
-{
-    let h = head_of(table, i);
-    flags::TWELVE_HOUR <= h.flags
-}
-
-// Exception (a) of the added minus: a table that passes has its flag right.
-pub fn no_minus(table: &[u16], i: usize) -> bool
-    requires { T (passes table.now) × (i < get_or table.now 0 0) }
-    ensures { result ≡ exception_a (counted (decode table.now)) i (has_condition (section_in table.now i))
-        (first_has_condition (decode table.now)) }
-{
-    let h = head_of(table, i);
-    h.flags / flags::NO_MINUS % 2 == 1
-}
-
-// Where the item words of section i begin.
-fn items_start(table: &[u16], i: usize) -> usize
-    requires { T (passes table.now) × (i < get_or table.now 0 0) }
-    ensures { result ≡ items_start table.now i }
-{
-    let mut start = 1 + heads::WORDS * section_count(table);
-    let mut k: usize = 0;
-    while k < i {
-        let h = head_at(table, k);
-        start += 2 * h.items as usize;
-        k += 1;
+impl<'a> Table<'a> {
+    // How many sections there are: one to four.
+    pub fn section_count(self) -> u16
+        ensures count { result ≡ get_or self.entry.words.now 0 0 }
+        ensures least { 1 ≤ result }
+        ensures most { result ≤ 4 }
+    {
+        self.words[0]
     }
-    start
+
+    // The section at a place.
+    pub fn section(self, place: u16) -> TableSection<'a>
+        requires { place < get_or self.words.now 0 0 }
+        ensures table { result.table ≡ self.entry }
+        ensures place { result.place ≡ place }
+    {
+        TableSection { table: self, place }
+    }
 }
 
-// The words of section i's items.
-pub fn items_of(table: &[u16], i: usize) -> &[u16]
-    requires { T (passes table.now) × (i < get_or table.now 0 0) }
-    ensures { ItemsOf (section_in table.now i) result.now }
-{
-    let start = items_start(table, i);
-    let h = head_at(table, i);
-    let end = start + 2 * h.items as usize;
-    &table[start..end]
+impl<'a> TableSection<'a> {
+    ghost use Rattle.table_words.specs.Tabled.{sections_of, section_of, kind_named};
+
+    // The words of its head.
+    pub fn head(self) -> HeadWords
+        ensures words { head_from result ≡ head_in self.entry.table.words.now self.entry.place }
+        ensures range { T (head_in_range (head_from result)) }
+    {
+        head_at(self.table.words, self.place as usize)
+    }
+
+    pub fn kind(self) -> Kind
+        ensures { kind_named result ≡ kind_of (section_of self.entry) }
+    {
+        match self.head().kind {
+            kinds::LITERAL => Kind::Literal,
+            kinds::GENERAL => Kind::General,
+            kinds::NUMBER => Kind::Number,
+            kinds::TEXT => Kind::Text,
+            kinds::DATE_TIME => Kind::DateTime,
+            kinds::SCIENTIFIC => Kind::Scientific,
+            _ => Kind::Fraction,
+        }
+    }
+
+    pub fn is_text(self) -> bool
+        ensures { result ≡ is_text (section_of self.entry) }
+    {
+        self.head().kind == kinds::TEXT
+    }
+
+    pub fn has_condition(self) -> bool
+        ensures { result ≡ has_condition (section_of self.entry) }
+    {
+        self.head().operator != 0
+    }
+
+    // Whether it groups digits.
+    pub fn is_grouped(self) -> bool
+        ensures { result ≡ (section_of self.entry).grouped }
+    {
+        self.head().flags % 2 == flags::GROUPING
+    }
+
+    // Whether it has a 12-hour clock.
+    pub fn is_twelve_hour(self) -> bool
+        ensures { result ≡ has_half (section_of self.entry).items }
+    {
+        flags::TWELVE_HOUR <= self.head().flags
+    }
+
+    // Exception (a) of the added minus: a table that passes has its flag right.
+    pub fn no_minus(self) -> bool
+        ensures { result ≡ exception_a (counted (sections_of self.entry.table)) self.entry.place (has_condition (section_of self.entry))
+            (first_has_condition (sections_of self.entry.table)) }
+    {
+        self.head().flags / flags::NO_MINUS % 2 == 1
+    }
+
+    // Where its item words begin.
+    fn items_start(self) -> usize
+        ensures { result ≡ items_start self.entry.table.words.now self.entry.place }
+    {
+        let words = self.table.words;
+        let mut start = 1 + heads::WORDS * self.table.section_count() as usize;
+        for k in 0..self.place as usize {
+            let h = head_at(words, k);
+            start += 2 * h.items as usize;
+        }
+        start
+    }
+
+    // The words of its items.
+    pub fn items(self) -> &'a [u16]
+        ensures { ItemsOf (section_of self.entry) result.now }
+    {
+        let words = self.table.words;
+        let start = self.items_start();
+        let h = head_at(words, self.place as usize);
+        let end = start + 2 * h.items as usize;
+        &words[start..end]
+    }
 }

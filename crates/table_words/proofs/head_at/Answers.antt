@@ -5,4 +5,4 @@ use Rattle.table_words.proofs.Heads.{head_read}
 use Rattle.table_words.proofs.head_at.Goals as goal
 
 pub returns : goal.returns
-returns c = let a = c.args in head_read a.table.now (1 + 12 * a.i)
+returns c = let a = c.args in head_read a.words.now (1 + 12 * a.i)

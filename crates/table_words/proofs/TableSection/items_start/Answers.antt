@@ -1,16 +1,16 @@
--- `table_words::items_start` meets its contract. The invariant, `Starting`: where the words of section k begin.
+-- `table_words::TableSection::items_start` meets its contract. The invariant, `Starting`: where the words of section k begin.
 -- Assumes nothing.
 use native.Mathlib.Omega.{arith}
 use Rattle.table_words.proofs.Heads.{head-within}
 use Rattle.table_words.proofs.Bodies.{starting-start, starting-within, starting-step}
-use Rattle.table_words.proofs.items_start.Goals as goal
+use Rattle.table_words.proofs.TableSection.items_start.Goals as goal
 
 pub loop-k-init : goal.loop-k-init
 loop-k-init c =
-    starting-start _ _ _ c.requires.0 c.requires.1 c.section_count.ensures
+    starting-start _ _ _ c.args.self.table.passes c.args.self.there c.section_count.ensures.count
 
 pub head_at-h-requires : goal.head_at-h-requires
-head_at-h-requires c = let s = c.loop-k.invariant in head-within _ _ s.good (omega (arith, s.last, c.loop-k-test.true))
+head_at-h-requires c = let s = c.loop-k.invariant in head-within _ _ s.good (omega (arith, s.last))
 
 pub overflow_add-start-in-loop-k : goal.overflow_add-start-in-loop-k
 overflow_add-start-in-loop-k c =
