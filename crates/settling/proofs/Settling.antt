@@ -106,10 +106,10 @@ step-cons is e done j js q m w =
       whole = w ∙ rw d (sym (append_assoc done (x.tag ∷ x.argument ∷ []) _));
     }
 
-pub going_step : {is : List Item} {room : List ℕ} {hours : Bool} {i : ℕ} (out : List ℕ) (r : Bool) → Going is room hours i → i + 1 < length room
-    → r ≡ hours_after (get_or room i 0) hours → out ≡ settled_at room i hours → Going is out r (i + 2)
+pub going_step : {is : List Item} {room : List ℕ} {hours : Bool} {i : ℕ} (out : List ℕ) (r : Bool) {j : ℕ} → j ≡ i + 2 → Going is room hours i → i + 1 < length room
+    → r ≡ hours_after (get_or room i 0) hours → out ≡ settled_at room i hours → Going is out r j
 unfolding entries_words along
-going_step {is} {room} {hours} {i} out r g h a b = from g.left g.months g.rest g.whole
+going_step {is} {room} {hours} {i} out r {j} next g h a b = rw next (from g.left g.months g.rest g.whole)
   where
     from : (js : List Item) → T (every is_no_minute js) → room ≡ g.done ++ words_from (anew_in is) g.digit js
         → entries_words (run_entries (settled is)) [] ≡ g.done ++ words_from (anew_in is) g.digit (settled_from g.earlier js) → Going is out r (i + 2)

@@ -5,7 +5,7 @@ use native.Mathlib.Omega.{arith}
 use native.Mathlib.Numerals.{add-one, add-two}
 use mathlib.Core.Path.{◌≡◌, refl, sym, ◌∙◌, ap}
 use mathlib.Core.Bool.{Bool, true, false, cond, ◌&&◌, ◌||◌}
-use mathlib.Core.List.{List, [], ◌∷◌}
+use mathlib.Core.List.{List, [], ◌∷◌, ◌++◌}
 use lib.ListN.{length, drop, get_or, length-drop}
 use lib.Seq.{drop-cons}
 use lib.Dec.{T, leb, eqb}
@@ -58,24 +58,17 @@ tag-settled q e l =
     (λ x n. by-elapsed (λ (d : Elapsed). Settles q e l (elapsed d n)) (λ t. refl) (λ t. refl) (λ t. refl) x) (λ h t. refl)
     (by-exponent (λ m. Settles q e l (exponent m)) (λ t. refl) (λ t. refl)) (λ t. refl) (λ n t. refl)
 
--- the nearest run among item words: at the first of them, where it is a run or not, and past the last
-module _ (ws : List ℕ) (i : ℕ) where
-  both : i + 1 < length ws → drop i ws ≡ get_or ws i 0 ∷ get_or ws (i + 1) 0 ∷ drop (i + 2) ws
-  both h = drop-cons ws i 0 (omega arith) ∙ ap (λ (us : List ℕ). get_or ws i 0 ∷ us) (rw (add-one i, add-two i) (drop-cons ws (suc i) 0 (omega arith)))
+-- the nearest run among item words: of the first of them and those behind it, and of none
+pub seconds-pair : (item later ws : List ℕ) → ws ≡ item ++ later → length item ≡ 2
+    → seconds_in ws ≡ cond (is_run_tag (get_or item 0 0)) (eqb (get_or item 0 0) 16 || eqb (get_or item 0 0) 20) (seconds_in later)
+unfolding seconds_in
+seconds-pair [] later ws e n = absurd (omega arith)
+seconds-pair (t ∷ []) later ws e n = absurd (omega arith)
+seconds-pair (t ∷ a ∷ []) later ws e n = ap seconds_in e
+seconds-pair (t ∷ a ∷ b ∷ us) later ws e n = absurd (omega arith)
 
-  pub seconds-here : i + 1 < length ws → is_run_tag (get_or ws i 0) ≡ true → (eqb (get_or ws i 0) 16 || eqb (get_or ws i 0) 20) ≡ seconds_in (drop i ws)
-  unfolding seconds_in
-  seconds-here h e = rw (both h, e)
-
-  pub seconds-past : i + 1 < length ws → is_run_tag (get_or ws i 0) ≡ false → seconds_in (drop (i + 2) ws) ≡ seconds_in (drop i ws)
-  unfolding seconds_in
-  seconds-past h e = rw (both h, e)
-
-  pub seconds-none : length ws ≤ i + 1 → false ≡ seconds_in (drop i ws)
-  unfolding seconds_in
-  seconds-none h = short (drop i ws) (omega (arith, length-drop i ws))
-    where
-      short : (us : List ℕ) → length us ≤ 1 → false ≡ seconds_in us
-      short [] h = refl
-      short (u ∷ []) h = refl
-      short (u ∷ v ∷ us) h = absurd (omega arith)
+pub seconds-none : (ws : List ℕ) → length ws < 2 → seconds_in ws ≡ false
+unfolding seconds_in
+seconds-none [] h = refl
+seconds-none (t ∷ []) h = refl
+seconds-none (t ∷ a ∷ ws) h = absurd (omega arith)

@@ -9,27 +9,23 @@ ghost use Rattle.tables.specs.Encode.{run_entries};
 ghost use Rattle.settling.specs.Settle.{is_no_minute, is_run_tag, seconds_in, hours_after, settled_at};
 
 use tables::tags;
-use values::integers::is_between;
 
 // A date or time run, or an elapsed item.
 fn is_run(tag: u16) -> bool
     ensures { result ≡ is_run_tag tag }
 {
-    is_between(tags::YEAR, tags::ELAPSED_SECONDS, tag) & (tag != tags::PART)
+    (tags::YEAR..=tags::ELAPSED_SECONDS).contains(&tag) & (tag != tags::PART)
 }
 
 // Whether the nearest run among these item words is seconds.
 fn seconds_in(words: &[u16]) -> bool
-    requires { length words.now ≤ 508 }
     ensures { result ≡ seconds_in words.now }
 {
-    let mut i: usize = 0;
-    while i + 1 < words.len() {
-        let tag = words[i];
+    for item in words.chunks_exact(2) {
+        let tag = item[0];
         if is_run(tag) {
             return (tag == tags::SECOND) | (tag == tags::ELAPSED_SECONDS);
         }
-        i += 2;
     }
     false
 }
@@ -46,7 +42,6 @@ fn hours_after(tag: u16, hours: bool) -> bool
 
 // m means minutes behind hours, or before seconds: the nearest run among the later item words.
 fn means_minutes(hours: bool, later: &[u16]) -> bool
-    requires { length later.now ≤ 508 }
     ensures { result ≡ (hours || seconds_in later.now) }
 {
     if hours {
@@ -86,9 +81,7 @@ pub fn settle(words: &mut [u16])
         → words.new ≡ entries_words (run_entries (settled is)) [] }
 {
     let mut hours = false;
-    let mut i: usize = 0;
-    while i + 1 < words.len() {
-        hours = settle_item(words, i, hours);
-        i += 2;
+    for k in 0..words.len() / 2 {
+        hours = settle_item(words, 2 * k, hours);
     }
 }

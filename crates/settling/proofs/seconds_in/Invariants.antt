@@ -1,13 +1,14 @@
 -- `settling::seconds_in` meets its contract.
 -- Assumes nothing.
-use Prim.Native.Nat.{◌-◌, ◌≤◌}
-use mathlib.Core.Path.{◌≡◌}
-use lib.ListN.{length, drop}
+use Rattle.std.proofs.Common.{◌≡◌}
+use Rattle.std.specs.Slice.Iter.{chunks_exact_rest, chunks_exact_size}
 use Rattle.settling.specs.Settle.{seconds_in}
 use Rattle.settling.proofs.seconds_in.Given as goal
 
-abbrev pub invariant-loop-i : goal.invariant-loop-i
-invariant-loop-i l = (seconds_in (drop l.i l.words) ≡ seconds_in l.words) × (l.i ≤ length l.words)
-
-abbrev pub decreases-loop-i : goal.decreases-loop-i
-decreases-loop-i l = length l.words - l.i
+abbrev pub invariant-loop-item : goal.invariant-loop-item
+invariant-loop-item l = record {
+  can_next : (goal.iterator-loop-item).can_next l.item-iterator;
+  is_finite : (goal.iterator-loop-item).is_finite l.item-iterator;
+  pairs : chunks_exact_size l.item-iterator ≡ 2;
+  nearest : seconds_in l.words ≡ seconds_in (chunks_exact_rest l.item-iterator);
+}
