@@ -6,7 +6,7 @@ use mathlib.Core.Path.{◌≡◌, refl, sym, ◌∙◌, ap}
 use mathlib.Core.Bool.{true, false, cond, true≢false}
 use mathlib.Core.List.{List, [], ◌∷◌, ◌++◌, append_assoc}
 use lib.ListN.{length, take, drop, length-append}
-use lib.Seq.{take-append_seam, drop-append_seam}
+use lib.Seq.{take-append_seam, drop-append_seam, length-take-le}
 use lib.Dec.{eqb}
 use borrow.Author.Tests.{eqb-true}
 use Rattle.values.specs.Ranges.{between}
@@ -18,11 +18,14 @@ use Rattle.formats.specs.Items.{Item, item_number, elapsed, exponent, is_place, 
 use Rattle.formats.specs.Text.{digit_after, along, first_of}
 use Rattle.formats.proofs.Each.{by-item, by_place, by-elapsed, by-exponent}
 use Rattle.formats.proofs.Cutting.{cut-case, before-bare, whole-bare, main-exponents, cut-joins, end-joins}
-use Rattle.tables.specs.Words.{Entry, entries_words}
+use Rattle.tables.specs.Words.{Entry, entries_words, entries_in}
 use Rattle.tables.specs.Encode.{tag_of, entry_of, entries_from, run_entries, entries_of}
-use Rattle.tables.proofs.Words.{length-entries}
-use Rattle.tables.proofs.MadeItems.{entries-length}
-use Rattle.numbering.specs.Number.{cut_in, run_from, integers_in, numbered_from, FrontNumbered}
+use Rattle.tables.specs.Decode.{items_at}
+use Rattle.tables.proofs.Words.{length-entries, entries-in-words, entries_at-length}
+use Rattle.tables.proofs.MadeItems.{items_back, entries-length}
+use Rattle.tables.proofs.BackEntries.{items-length}
+use Rattle.table_words.specs.Runs.{items_in, CutAt}
+use Rattle.numbering.specs.Number.{integers_in, numbered_from, FrontNumbered}
 use Rattle.numbering.specs.declared.Numbered.{Numbered}
 
 -- what an item's tag tells of it
@@ -51,31 +54,16 @@ words-length : (anew q : ℕ) (is : List Item) → length (words_from anew q is)
 words-length anew q is = omega (arith, length-entries (entries_from anew q is) [], entries-length anew q is)
 
 -- ---- what the code finds among the words of items
-cut-found : (anew q : ℕ) (is : List Item) → cut_in (words_from anew q is) ≡ 2 * length (before_cut is)
-unfolding cut_in before_cut entries_words entry_of along
-cut-found anew q [] = refl
-cut-found anew q (i ∷ is) =
-    rw (tells i).cut (by_cases (is_cut i) (λ e. rw e) (λ e. rw e (omega (arith, cut-found anew (digit_after anew q i) is))))
+read-back : (anew q : ℕ) (is : List Item) → items_in (words_from anew q is) ≡ is
+read-back anew q is = ap items_at (entries-in-words (entries_from anew q is)) ∙ items_back anew q is
 
-run-found : (anew q i start : ℕ) (is : List Item)
-    → run_from i start (words_from anew q is) ≡ cond (every is_place is) start (i + 2 * length (before_end is))
-unfolding run_from before_end every entries_words entry_of along
-run-found anew q i start [] = refl
-run-found anew q i start (j ∷ is) =
-    run-found anew (digit_after anew q j) (i + 2) (cond (between 4 6 (tag_of j)) start (i + 2)) is
-    ∙ rw (tells j).place
-    (by_cases (is_place j)
-    (λ p. rw p (by_cases (every is_place is) (λ e. rw e) (λ e. rw e (omega arith))))
-    (λ p. rw p (by_cases (every is_place is) (λ e. rw (e, all_end is e) (omega arith)) (λ e. rw e (omega arith)))))
-  where
-    all_end : (is : List Item) → every is_place is ≡ true → length (before_end is) ≡ 0
-    all_end [] e = refl
-    all_end (j ∷ js) e = rw e
-
-start-found : (anew q : ℕ) (is : List Item) → run_from 0 0 (words_from anew q is) ≡ 2 * length (before_end is)
-unfolding before_end every
-start-found anew q [] = run-found anew q 0 0 []
-start-found anew q (i ∷ is) = run-found anew q 0 0 (i ∷ is) ∙ by_cases (every is_place (i ∷ is)) (λ e. rw e) (λ e. rw e (omega arith))
+-- how many words a cut has before it
+cut-size : {ws : List ℕ} {start : ℕ} {front back : List Item} → CutAt ws start front back → start ≡ 2 * length front
+unfolding entries_in
+cut-size {ws} {start} {front} c =
+    let n : length front ≡ length (take start ws) / 2 =
+    ap length (sym c.before) ∙ items-length (entries_in (take start ws)) ∙ entries_at-length (length (take start ws) / 2) (take start ws) in
+    omega (arith, n, length-take-le start ws c.inside, c.even)
 
 integers-found : (anew q : ℕ) (is : List Item) → any is_cut is ≡ false → integers_in (words_from anew q is) ≡ integer_places is
 unfolding integers_in integer_places entries_words entry_of any along
@@ -191,35 +179,26 @@ module _ (is : List Item) (some : any is_solidus is ≡ true) where
   words-front : words_from a q front ≡ words_from a q whole ++ words_from a (behind a q whole) run
   words-front = ap (words_from a q) (sym (end-joins front)) ∙ words-join a q whole run
 
-  cut-is : cut_in ws ≡ 2 * length front
-  cut-is = ap cut_in words_are ∙ cut-found a q is
+  before-cut : (cut : ℕ) → cut ≡ 2 * length front → take cut ws ≡ words_from a q front
+  before-cut cut e =
+      rw (e ∙ sym (words-length a q front)) (ap (take (length (words_from a q front))) words-cut ∙ take-append_seam (words_from a q front) later)
 
-  before-cut : take (cut_in ws) ws ≡ words_from a q front
-  before-cut =
-      rw (cut-is ∙ sym (words-length a q front)) (ap (take (length (words_from a q front))) words-cut ∙ take-append_seam (words_from a q front) later)
+  behind-cut : (cut : ℕ) → cut ≡ 2 * length front → drop cut ws ≡ later
+  behind-cut cut e =
+      rw (e ∙ sym (words-length a q front)) (ap (drop (length (words_from a q front))) words-cut ∙ drop-append_seam (words_from a q front) later)
 
-  behind-cut : drop (cut_in ws) ws ≡ later
-  behind-cut =
-      rw (cut-is ∙ sym (words-length a q front)) (ap (drop (length (words_from a q front))) words-cut ∙ drop-append_seam (words_from a q front) later)
-
-  abbrev start : ℕ
-  start = run_from 0 0 (words_from a q front)
-
-  start_is : start ≡ 2 * length whole
-  start_is = start-found a q front
-
-  whole_words : take start (words_from a q front) ≡ words_from a q whole
-  whole_words =
-      rw (start_is ∙ sym (words-length a q whole))
+  whole_words : (start : ℕ) → start ≡ 2 * length whole → take start (words_from a q front) ≡ words_from a q whole
+  whole_words start e =
+      rw (e ∙ sym (words-length a q whole))
       (ap (take (length (words_from a q whole))) words-front ∙ take-append_seam (words_from a q whole) (words_from a (behind a q whole) run))
 
-  run-words : drop start (words_from a q front) ≡ words_from a (behind a q whole) run
-  run-words =
-      rw (start_is ∙ sym (words-length a q whole))
+  run-words : (start : ℕ) → start ≡ 2 * length whole → drop start (words_from a q front) ≡ words_from a (behind a q whole) run
+  run-words start e =
+      rw (e ∙ sym (words-length a q whole))
       (ap (drop (length (words_from a q whole))) words-front ∙ drop-append_seam (words_from a q whole) (words_from a (behind a q whole) run))
 
-  wholes-are : integers_in (take start (words_from a q front)) ≡ integer_places (whole_items is)
-  wholes-are = ap integers_in whole_words ∙ integers-found a q whole (rw whole_is at (whole-bare is)) ∙ ap integer_places (sym whole_is)
+  wholes-are : integers_in (words_from a q whole) ≡ integer_places (whole_items is)
+  wholes-are = integers-found a q whole (rw whole_is at (whole-bare is)) ∙ ap integer_places (sym whole_is)
 
   numerators-are : integer_places (main_items is) ≡ length run
   numerators-are = ap integer_places main-is ∙ omega (arith, places-all run (from_cut is) (end-places front), none_from is)
@@ -228,8 +207,8 @@ module _ (is : List Item) (some : any is_solidus is ≡ true) where
   front-size = sym (ap length (end-joins front)) ∙ length-append whole run
 
   -- so many words are the numerator's
-  run-size : (length (words_from a q front) - start) / 2 ≡ length run
-  run-size = omega (arith, words-length a q front, start_is, front-size)
+  run-size : (start : ℕ) → start ≡ 2 * length whole → (length (words_from a q front) - start) / 2 ≡ length run
+  run-size start e = omega (arith, words-length a q front, front-size)
 
   run-bare : any is_cut run ≡ false
   run-bare = (or-false (any is_cut whole) (any is_cut run) (sym (any_append is_cut whole run) ∙ ap (any is_cut) (end-joins front) ∙ before-bare is)).1
@@ -258,13 +237,19 @@ module _ (is : List Item) (some : any is_solidus is ≡ true) where
       rw (whole_is, numbered a q (14 + integer_places whole) whole (rw whole_is at (whole-bare is)), numbered a (behind a q whole) (14 + length run) run run-bare)
       (append_assoc (words_from a (14 + integer_places whole) whole) (words_from a (14 + length run) run) later ∙ sym words-made)
 
-  pub fraction-numbered : (old : List ℕ) (cut : ℕ) (r : Numbered) (out : List ℕ) → old ≡ ws → cut ≡ cut_in old → FrontNumbered (take cut old) r out
+  pub fraction-numbered : (old : List ℕ) (cut : ℕ) (r : Numbered) (out : List ℕ) → old ≡ ws
+      → CutAt old cut (before_cut (items_in old)) (from_cut (items_in old)) → FrontNumbered (take cut old) r out
       → (out ++ drop cut old ≡ entries_words (entries_of is) []) × (r.wholes ≡ integer_places (whole_items is)) × (r.numerators ≡ integer_places (main_items is))
-  fraction-numbered old cut r out e h f = from (rw (h, e, before-cut) at f)
+  fraction-numbered old cut r out h x f =
+      let e : cut ≡ 2 * length front =
+      cut-size x ∙ ap (λ (us : List ℕ). 2 * length (before_cut (items_in us))) (h ∙ words_are)
+      ∙ ap (λ (js : List Item). 2 * length (before_cut js)) (read-back a q is) in
+      rw h (from e (rw (h, before-cut cut e) at f))
     where
-      from : FrontNumbered (words_from a q front) r out
-          → (out ++ drop cut old ≡ entries_words (entries_of is) []) × (r.wholes ≡ integer_places (whole_items is)) × (r.numerators ≡ integer_places (main_items is))
-      from g =
-          let w : r.wholes ≡ integer_places (whole_items is) = g.wholes ∙ wholes-are in
-          let n : r.numerators ≡ length run = g.numerators ∙ run-size in
-          (rw (h, e, behind-cut, g.words, w, n, whole_words, run-words) numbered-parts, w, n ∙ sym numerators-are)
+      from : cut ≡ 2 * length front → FrontNumbered (words_from a q front) r out
+          → (out ++ drop cut ws ≡ entries_words (entries_of is) []) × (r.wholes ≡ integer_places (whole_items is)) × (r.numerators ≡ integer_places (main_items is))
+      from e g =
+          let s : g.start ≡ 2 * length whole = cut-size g.cut ∙ ap (λ (js : List Item). 2 * length (before_end js)) (read-back a q front) in
+          let w : r.wholes ≡ integer_places (whole_items is) = g.wholes ∙ ap integers_in (whole_words g.start s) ∙ wholes-are in
+          let n : r.numerators ≡ length run = g.numerators ∙ run-size g.start s in
+          (rw (behind-cut cut e, g.words, w, n, whole_words g.start s, run-words g.start s) numbered-parts, w, n ∙ sym numerators-are)

@@ -8,10 +8,11 @@ ghost use Rattle.lists.specs.Lists.{any};
 ghost use Rattle.formats.specs.Items.{Item, is_solidus, integer_places, whole_items, main_items};
 ghost use Rattle.tables.specs.Words.{entries_words};
 ghost use Rattle.tables.specs.Encode.{run_entries, entries_of};
-ghost use Rattle.numbering.specs.Number.{cut_in, run_from, integers_in, numbered_from, FrontNumbered};
+ghost use Rattle.numbering.specs.Number.{integers_in, numbered_from, FrontNumbered};
 
+use scans::cut_start;
+use table_words::runs::run_start;
 use tables::tags;
-use values::integers::{is_between, lowered};
 
 // How many integer places and how many numerator places there are.
 #[derive(Clone, Copy)]
@@ -20,54 +21,10 @@ pub struct Numbered {
     pub numerators: u16,
 }
 
-// Where the words of the first E or solidus begin; behind all items where there is none.
-fn cut_start(words: &[u16]) -> usize
-    requires { length words.now ≤ 508 }
-    ensures { (result ≡ cut_in words.now) × (result ≤ length words.now) }
+fn is_place(tag: u16) -> bool
+    ensures { result ≡ between 4 6 tag }
 {
-    let mut i: usize = 0;
-    while i + 1 < words.len() {
-        if is_between(tags::EXPONENT_PLUS, tags::SOLIDUS, words[i]) {
-            return i;
-        }
-        i += 2;
-    }
-    i
-}
-
-// Where the run of places begins behind an item whose words end at `end`.
-fn start_behind(start: usize, end: usize, tag: u16) -> usize
-    ensures { result ≡ cond (between 4 6 tag) start end }
-{
-    if is_between(tags::ZERO_PLACE, tags::SPACE_PLACE, tag) {
-        return start;
-    }
-    end
-}
-
-// Where the run of places at the end of item words begins.
-fn run_start(words: &[u16]) -> usize
-    requires { length words.now ≤ 508 }
-    ensures { (result ≡ run_from 0 0 words.now) × (result ≤ length words.now) }
-{
-    let mut start: usize = 0;
-    let mut i: usize = 0;
-    while i + 1 < words.len() {
-        start = start_behind(start, i + 2, words[i]);
-        i += 2;
-    }
-    start
-}
-
-// The places with one item more.
-fn places_with(places: u16, tag: u16) -> u16
-    requires { places ≤ 508 }
-    ensures { result ≡ cond (between 4 6 tag) (places + 1) places }
-{
-    if is_between(tags::ZERO_PLACE, tags::SPACE_PLACE, tag) {
-        return places + 1;
-    }
-    places
+    (tags::ZERO_PLACE..=tags::SPACE_PLACE).contains(&tag)
 }
 
 // How many places stand before the first point among item words.
@@ -76,14 +33,12 @@ fn integers_in(words: &[u16]) -> u16
     ensures { (result ≡ integers_in words.now) × (result ≤ 254) }
 {
     let mut places: u16 = 0;
-    let mut i: usize = 0;
-    while i + 1 < words.len() {
-        let tag = words[i];
+    for item in words.chunks_exact(2) {
+        let tag = item[0];
         if tag == tags::POINT {
             return places;
         }
-        places = places_with(places, tag);
-        i += 2;
+        places += u16::from(is_place(tag));
     }
     places
 }
@@ -94,9 +49,9 @@ fn number_item(words: &mut [u16], i: usize, digit: u16) -> u16
     ensures after { (result ≡ cond (between 4 6 (get_or words.old i 0)) (digit - 1) digit) × (result ≤ 268) }
     ensures word { words.new ≡ cond (between 4 6 (get_or words.old i 0)) (set words.old (i + 1) (suc digit)) words.old }
 {
-    if is_between(tags::ZERO_PLACE, tags::SPACE_PLACE, words[i]) {
+    if is_place(words[i]) {
         words[i + 1] = digit + 1;
-        return lowered(digit);
+        return digit.saturating_sub(1);
     }
     digit
 }
@@ -107,10 +62,8 @@ fn number_run(words: &mut [u16], first: u16)
     ensures { words.new ≡ numbered_from first words.old }
 {
     let mut digit = first;
-    let mut i: usize = 0;
-    while i + 1 < words.len() {
-        digit = number_item(words, i, digit);
-        i += 2;
+    for k in 0..words.len() / 2 {
+        digit = number_item(words, 2 * k, digit);
     }
 }
 
