@@ -11,6 +11,8 @@ use lib.Arith.{mod-mul}
 use lib.Dec.{leb}
 use lib.ListN.{get_or, length}
 use lib.Seq.{ext_get_or}
+use Rattle.std.proofs.Common.{replicate}
+use Rattle.std.proofs.lemmas.List.{get_or-replicate}
 use Rattle.lists.proofs.Bools.{cond-case}
 use Rattle.figures.specs.Digits.{digit, figures, digit_units, width_up_to, width}
 use Rattle.lists.specs.Tables.{values}
@@ -60,6 +62,10 @@ figures-length n = values_length (digit n) 40 0
 pub figures-ext : (l : List ℕ) (n : ℕ) → length l ≡ 40 → ((j : ℕ) → j < 40 → get_or l j 0 ≡ digit n j) → l ≡ figures n
 figures-ext l n e p =
     ext_get_or 0 l (figures n) (e ∙ sym (figures-length n)) (λ j h. p j (omega arith) ∙ sym (figures-at n j (omega arith)))
+
+-- forty zeros
+pub zeros : replicate 40 0 ≡ figures 0
+zeros = figures-ext (replicate 40 0) 0 refl (λ j h. get_or-replicate 40 j 0 0 h ∙ sym (digit-zero j))
 
 pub digit_units-length : (m n : ℕ) → length (digit_units m n) ≡ m
 unfolding digit_units

@@ -9,14 +9,6 @@ use lib.ListN.{get_or}
 use Rattle.figures.specs.Places.{digit_sum, places_used, lowest_from}
 use Rattle.figures.proofs.Places.{used-below, lowest-further}
 
--- four digits as one word
-pub word-zero : (l : List ℕ) (k : ℕ) {a b c d : ℕ} → a ≡ get_or l k 0 → b ≡ get_or l (k + 1) 0 → c ≡ get_or l (k + 2) 0 → d ≡ get_or l (k + 3) 0
-    → a + 256 * b + 65536 * c + 16777216 * d ≡ 0 → digit_sum l k 4 ≡ 0
-unfolding digit_sum
-word-zero l k ea eb ec ed z =
-    let e : get_or l (k + 0) 0 ≡ get_or l k 0 = ap (λ (x : ℕ). get_or l x 0) (add-zero k) in
-    omega (arith, e, ea, eb, ec, ed, z)
-
 -- n zeros from place k on, passed from above and from below
 pub used-passed : (l : List ℕ) (k n : ℕ) → digit_sum l k n ≡ 0 → places_used k l ≡ places_used (k + n) l
 unfolding digit_sum
@@ -38,8 +30,12 @@ lowest-passed l k (suc n) h e =
     ∙ lowest-further (k + n) l (omega arith) (omega (arith, e))
     ∙ lowest-passed l k n (omega arith) (omega (arith, e))
 
--- the loop from above passes four zeros
-pub used-word : (l : List ℕ) (k : ℕ) → 4 < k → digit_sum l (k - 4) 4 ≡ 0 → places_used (k - 4) l ≡ places_used k l
-used-word l k h z =
-    let i : k - 4 + 4 ≡ k = omega arith in
-    used-passed l (k - 4) 4 z ∙ ap (λ (x : ℕ). places_used x l) i
+-- a search four places at a time passes a word of zeros, from above and from below
+pub used-word : (l : List ℕ) (w : ℕ) → digit_sum l (4 * w) 4 ≡ 0 → places_used (4 * w) l ≡ places_used (4 * (w + 1)) l
+used-word l w z = let i : 4 * w + 4 ≡ 4 * (w + 1) = omega arith in used-passed l (4 * w) 4 z ∙ ap (λ (x : ℕ). places_used x l) i
+
+pub lowest-word : (l : List ℕ) (w : ℕ) → w < 10 → digit_sum l (4 * w) 4 ≡ 0
+    → lowest_from (40 - 4 * (w + 1)) (4 * (w + 1)) l ≡ lowest_from (40 - 4 * w) (4 * w) l
+lowest-word l w h z =
+    let i : 4 * w + 4 ≡ 4 * (w + 1) = omega arith in
+    ap (λ (x : ℕ). lowest_from (40 - x) x l) (sym i) ∙ lowest-passed l (4 * w) 4 (omega arith) z

@@ -98,19 +98,6 @@ pub fn divided(m: u64, k: u32) -> Quotient
     }
 }
 
-// Forty zeros, whatever the digits were.
-fn cleared(digits: [u8; 40]) -> [u8; 40]
-    ensures { result ≡ figures 0 }
-{
-    let mut zeros = digits;
-    let mut k: usize = 0;
-    while k < 40 {
-        zeros[k] = 0;
-        k += 1;
-    }
-    zeros
-}
-
 // The digits of m times 10^z, put into forty zeros, two a turn.
 fn spread(zeros: [u8; 40], m: u64, z: u32) -> [u8; 40]
     requires { (zeros ≡ figures 0) × (m * 10 ^ z < 10 ^ 40) }
@@ -123,7 +110,7 @@ fn spread(zeros: [u8; 40], m: u64, z: u32) -> [u8; 40]
         let two = rest % 100;
         digits[k] = (two % 10) as u8;
         digits[k + 1] = (two / 10) as u8;
-        rest = rest / 100;
+        rest /= 100;
         k += 2;
     }
     if rest == 0 {
@@ -148,7 +135,8 @@ pub fn round(
     ensures digits { result ≡ figures (rounded (powered m up down) decimals) }
     ensures exact { exact.new ≡ rounds_exactly (powered m up down) decimals }
 {
-    let zeros = cleared(digits);
+    let mut zeros = digits;
+    zeros.fill(0);
     let kept = up + decimals;
     if kept < down {
         let q = divided(m, down - kept);
@@ -159,51 +147,36 @@ pub fn round(
     spread(zeros, m, up + 15 - down)
 }
 
-// A digit as a wider number.
-fn wide(d: u8) -> u32
-    ensures { (result ≡ d) × (result < 256) }
-{
-    d as u32
-}
-
 // The four digits from k on as one word, so that one test tells four zeros.
 fn word_at(digits: [u8; 40], k: usize) -> u32
     requires { k ≤ 36 }
     ensures { result ≡ 0 → digit_sum digits k 4 ≡ 0 }
 {
-    let d0 = wide(digits[k]);
-    let d1 = wide(digits[k + 1]);
-    let d2 = wide(digits[k + 2]);
-    let d3 = wide(digits[k + 3]);
-    d0 + 256 * d1 + 65536 * d2 + 16777216 * d3
+    u32::from_le_bytes([digits[k], digits[k + 1], digits[k + 2], digits[k + 3]])
 }
 
 // A place from which on all digits are 0, found four digits at a time: most numbers have few.
 fn top_of(digits: [u8; 40]) -> usize
     ensures { (result ≤ 40) × (places_used result digits ≡ places_used 40 digits) }
 {
-    let mut k = 40;
-    while 4 < k {
-        if word_at(digits, k - 4) != 0 {
-            return k;
+    for word in (1..10).rev() {
+        if word_at(digits, 4 * word) != 0 {
+            return 4 * word + 4;
         }
-        k -= 4;
     }
-    k
+    4
 }
 
 // A place below which all digits are 0.
 fn bottom_of(digits: [u8; 40]) -> usize
     ensures { (result ≤ 40) × (lowest_from (40 - result) result digits ≡ lowest_place digits) }
 {
-    let mut k = 0;
-    while k < 36 {
-        if word_at(digits, k) != 0 {
-            return k;
+    for word in 0..9 {
+        if word_at(digits, 4 * word) != 0 {
+            return 4 * word;
         }
-        k += 4;
     }
-    k
+    36
 }
 
 // How many places there are up to the highest digit that is not 0; 0 where all are 0.
@@ -212,12 +185,10 @@ pub fn places_used(digits: [u8; 40]) -> usize
     ensures list { result ≡ places_used 40 digits }
     ensures number { (n : ℕ) → n < 10 ^ 40 → digits ≡ figures n → (q : ℕ) → leb result q ≡ eqb (n / 10 ^ q) 0 }
 {
-    let mut k = top_of(digits);
-    while 0 < k {
-        if digits[k - 1] != 0 {
-            return k;
+    for k in (0..top_of(digits)).rev() {
+        if digits[k] != 0 {
+            return k + 1;
         }
-        k -= 1;
     }
     0
 }
@@ -228,12 +199,10 @@ pub fn lowest_place(digits: [u8; 40]) -> usize
     ensures list { result ≡ lowest_place digits }
     ensures number { (n : ℕ) → digits ≡ figures n → (q : ℕ) → q < 40 → ltb q result ≡ eqb (n % 10 ^ (q + 1)) 0 }
 {
-    let mut k = bottom_of(digits);
-    while k < 40 {
+    for k in bottom_of(digits)..40 {
         if digits[k] != 0 {
             return k;
         }
-        k += 1;
     }
     40
 }
@@ -271,8 +240,7 @@ fn general_decimals(m: u64, scale: u32) -> u32
     if (m < 10000000000) & (scale <= 9) {
         return scale;
     }
-    let n = width_of(whole(m, scale));
-    if n < 10 { 10 - n } else { 0 }
+    10u32.saturating_sub(width_of(whole(m, scale)))
 }
 
 // Whether m / 10^scale, rounded to a whole number, reaches 10^11.

@@ -4,15 +4,13 @@ use mathlib.Core.Path.{refl, ◌∙◌}
 use Prim.Native.Nat.{◌-◌}
 use native.Mathlib.Omega.{arith}
 use Rattle.figures.specs.Places.{lowest_place}
-use Rattle.figures.proofs.Passed.{lowest-passed}
+use Rattle.figures.proofs.Passed.{lowest-word}
 use Rattle.figures.proofs.bottom_of.Goals as goal
 
-pub loop-k-init : goal.loop-k-init
+pub loop-word-init : goal.loop-word-init
 unfolding lowest_place
-loop-k-init c = (omega arith, refl)
+loop-word-init c = refl
 
-pub loop-k-preserved : goal.loop-k-preserved
-loop-k-preserved c =
-    let t = c in
-    let l = t.loop-k in
-    (omega arith, lowest-passed t.args.digits l.k 4 (omega arith) (c.word_at.ensures c.if-word_at-ne0.false) ∙ l.invariant.1)
+pub loop-word-preserved : goal.loop-word-preserved
+loop-word-preserved c =
+    lowest-word c.args.digits c.loop-word.word (omega arith) (c.word_at.ensures c.if-word_at-ne0.false) ∙ c.loop-word.invariant

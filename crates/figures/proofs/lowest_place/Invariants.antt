@@ -9,6 +9,3 @@ use Rattle.figures.proofs.lowest_place.Given as goal
 -- Assumes nothing.
 abbrev pub invariant-loop-k : goal.invariant-loop-k
 invariant-loop-k l = (l.k ≤ 40) × (lowest_from (40 - l.k) l.k l.digits ≡ lowest_place l.digits)
-
-abbrev pub decreases-loop-k : goal.decreases-loop-k
-decreases-loop-k l = 40 - l.k

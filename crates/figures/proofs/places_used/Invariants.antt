@@ -9,6 +9,3 @@ use Rattle.figures.proofs.places_used.Given as goal
 -- Assumes nothing.
 abbrev pub invariant-loop-k : goal.invariant-loop-k
 invariant-loop-k l = (l.k ≤ 40) × (places_used l.k l.digits ≡ places_used 40 l.digits)
-
-abbrev pub decreases-loop-k : goal.decreases-loop-k
-decreases-loop-k l = l.k

@@ -1,12 +1,20 @@
 -- `figures::round` meets its contract: a quotient where digits go, a product where none goes.
 -- Assumes nothing.
-use mathlib.Core.Path.{sym, ap, ◌∙◌}
+use mathlib.Core.Path.{◌≡◌, sym, ap, ◌∙◌}
 use Prim.Native.Nat.{ℕ, ◌-◌, ◌*◌, ◌^◌}
 use native.Mathlib.Omega.{arith}
+use Rattle.std.proofs.Common.{rules, replicate}
 use Rattle.figures.specs.Digits.{figures}
+use Rattle.figures.proofs.Digits.{zeros}
 use Rattle.figures.proofs.Rounding.{rounded-divided, rounded-exact, rounded-within}
 use Rattle.figures.proofs.Exactly.{exactly-divided, exactly-kept}
 use Rattle.figures.proofs.round.Goals as goal
+
+pub spread-requires : goal.spread-requires
+spread-requires c =
+    let e : c.fill.new.self ≡ replicate 40 0 = search rules in
+    let a = c.args in
+    (e ∙ zeros, rw (c.divided-q.ensures.nearest, ← rounded-divided a.m a.up a.down a.decimals (omega arith) (omega arith)) (rounded-within a.down c.requires))
 
 pub returns-then-kept-down-clause-digits : goal.returns-then-kept-down-clause-digits
 returns-then-kept-down-clause-digits c =
@@ -23,7 +31,8 @@ pub spread-requires-2 : goal.spread-requires-2
 spread-requires-2 c =
     let b = c in
     let a = b.args in
-    (c.cleared-zeros.ensures, rw (← rounded-exact a.m a.up a.down a.decimals (omega arith) (omega arith)) (rounded-within a.down b.requires))
+    let e : c.fill.new.self ≡ replicate 40 0 = search rules in
+    (e ∙ zeros, rw (← rounded-exact a.m a.up a.down a.decimals (omega arith) (omega arith)) (rounded-within a.down b.requires))
 
 pub returns-clause-digits : goal.returns-clause-digits
 returns-clause-digits c =

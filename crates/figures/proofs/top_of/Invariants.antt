@@ -1,14 +1,11 @@
 -- `figures::top_of` meets its contract.
 -- Assumes nothing.
 use mathlib.Core.Path.{◌≡◌}
-use Prim.Native.Nat.{◌≤◌}
+use Prim.Native.Nat.{◌*◌, ◌≤◌}
 use Rattle.figures.specs.Places.{places_used}
 use Rattle.figures.proofs.top_of.Given as goal
 
 -- `figures::top_of` meets its contract.
 -- Assumes nothing.
-abbrev pub invariant-loop-k : goal.invariant-loop-k
-invariant-loop-k l = (l.k ≤ 40) × (places_used l.k l.digits ≡ places_used 40 l.digits)
-
-abbrev pub decreases-loop-k : goal.decreases-loop-k
-decreases-loop-k l = l.k
+abbrev pub invariant-loop-word : goal.invariant-loop-word
+invariant-loop-word l = (1 ≤ l.word) × (places_used (4 * l.word) l.digits ≡ places_used 40 l.digits)
