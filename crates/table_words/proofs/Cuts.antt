@@ -1,6 +1,6 @@
 -- Item words cut in two between items.
 -- Assumes nothing.
-use Prim.Native.Nat.{ℕ, zero, suc, ◌+◌, ◌-◌, ◌*◌, ◌/◌, ◌≤◌, ◌<◌}
+use Prim.Native.Nat.{ℕ, zero, suc, ◌+◌, ◌-◌, ◌*◌, ◌/◌, ◌≤◌}
 use native.Mathlib.Nat.{sub-zero}
 use native.Mathlib.Omega.{arith}
 use mathlib.Core.Path.{◌≡◌, refl, sym, ap, ◌∙◌}
@@ -12,8 +12,23 @@ use Rattle.formats.specs.Items.{Item}
 use Rattle.tables.specs.Words.{Entry, entries_at, entries_in}
 use Rattle.tables.specs.Encode.{entry}
 use Rattle.tables.specs.Decode.{item_at, items_at}
-use Rattle.tables.proofs.Words.{entries_left, entries-front, entries-part, Seeking, seeking-front, seeking-step, seeking-end}
-use Rattle.table_words.specs.Runs.{CutAt}
+use Rattle.tables.proofs.Words.{entries_left, entries-part, entries_at-length}
+use Rattle.std.specs.List.{prefix_len}
+use Rattle.std.proofs.lemmas.List.Sums.{prefix_len-le-length}
+use Rattle.std.proofs.lemmas.List.Folds.{length-prefix_len}
+use Rattle.std.proofs.lemmas.Iterator.Consumers.{count_from_yields_List}
+use Rattle.std.proofs.lemmas.Iterator.Search.{YieldsList-from_take_while}
+use Rattle.std.specs.Borrow.{Bor}
+use Rattle.std.specs.Fn.{CalledAt}
+use denote.Param.Members.{Mut}
+use Rattle.std.specs.Iterator.{Drains}
+use Rattle.std.specs.Iterator.Adapters.{take_while_source, take_while_done, take_while_callee, take_while_steps}
+use Rattle.std.specs.Slice.Iter.{chunks_exact_rest, chunks_exact_size, chunks_exact_steps}
+use Rattle.std.specs.declared.iter.TakeWhile.{TakeWhile}
+use Rattle.std.specs.declared.slice.ChunksExact.{ChunksExact}
+use Rattle.table_words.proofs.Pairs.{YieldsList-from_entries}
+use Rattle.lists.proofs.Bools.{by_cases}
+use Rattle.table_words.specs.Runs.{items_in, CutAt}
 
 -- ---- the entries of a part of the words
 pub entries-joined : (n k : ℕ) (words : List ℕ) → k ≤ n → entries_at n words ≡ entries_at k words ++ entries_at (n - k) (drop (2 * k) words)
@@ -55,32 +70,53 @@ cut_at words n k front back e h parts f =
           ∙ sym (items-append (entries_in (take (2 * k) words)) (entries_in (drop (2 * k) words))) ∙ ap items_at (sym joins) ∙ sym parts);
     }
 
--- ---- the loops over item words
--- items are cut before the first whose tag passes
-pub record Finds (t : ℕ → Bool) (front back : List Item → List Item) : Type 0 where
+-- ---- item words that are cut where a test of tags no longer passes
+-- items are cut before the first whose tag fails
+pub record Finds (passes : ℕ → Bool) (front back : List Item → List Item) : Type 0 where
   pub joins : (is : List Item) → front is ++ back is ≡ is
   pub none : back [] ≡ []
-  pub met : (e : Entry) (is : List Item) → t e.tag ≡ true → back (item_at e ∷ is) ≡ item_at e ∷ is
-  pub passed : (e : Entry) (is : List Item) → t e.tag ≡ false → back (item_at e ∷ is) ≡ back is
+  pub met : (e : Entry) (is : List Item) → passes e.tag ≡ false → back (item_at e ∷ is) ≡ item_at e ∷ is
+  pub passed : (e : Entry) (is : List Item) → passes e.tag ≡ true → back (item_at e ∷ is) ≡ back is
 
-module _ {t : ℕ → Bool} {front back : List Item → List Item} (d : Finds t front back) where
-  -- the part behind, of some entries
-  abbrev pub part_of : List Entry → List Item
-  part_of es = back (items_at es)
+-- how many entries there are before the first whose tag fails
+abbrev pub passing_len : (ℕ → Bool) → List Entry → ℕ
+passing_len passes es = prefix_len (λ (e : Entry). passes e.tag) es
 
-  module _ {words : List ℕ} {n k : ℕ} (s : Seeking part_of words n k) where
-    pub part-met : k < n → t (get_or words (2 * k) 0) ≡ true → CutAt words (2 * k) (front (items_at (entries_in words))) (back (items_at (entries_in words)))
-    unfolding items_at
-    part-met h e =
-        cut_at words n k _ _ s.items s.inside (d.joins (items_at (entries_in words)))
-        (seeking-front s h ∙ d.met _ _ e ∙ sym (ap items_at (entries-front words n k h)))
+drop-entries : (k n : ℕ) (ws : List ℕ) → k ≤ n → drop k (entries_at n ws) ≡ entries_left ws n k
+unfolding entries_at
+drop-entries zero n ws h = rw (sub-zero n)
+drop-entries (suc k) zero ws h = absurd (omega arith)
+drop-entries (suc k) (suc n) ws h =
+    let two : 2 * suc k ≡ 2 + 2 * k = omega arith in
+    let less : suc n - suc k ≡ n - k = omega arith in
+    rw (two, less, ← drop-drop (2 * k) 2 ws) (drop-entries k n (drop 2 ws) (omega arith))
 
-    pub part-passed : k < n → t (get_or words (2 * k) 0) ≡ false → Seeking part_of words n (k + 1)
-    unfolding items_at
-    part-passed h e = seeking-step s h (seeking-front s h ∙ d.passed _ _ e)
+-- as the code counts them
+pub passing-counted : {F : Type 0} (g : Mut F (Bor (Bor (List ℕ)) × Unit {0}) Bool) (passes : ℕ → Bool) (words : List ℕ) (s : TakeWhile (ChunksExact ℕ) F) {f : F} {r : ℕ}
+    → ((xs : List (Bor (List ℕ))) × Drains (take_while_steps (chunks_exact_steps {A = ℕ}) g) s xs × (r ≡ length xs))
+    → chunks_exact_rest (take_while_source s) ≡ words → chunks_exact_size (take_while_source s) ≡ 2 → take_while_callee s ≡ f → take_while_done s ≡ false
+    → ((x : Bor (List ℕ)) (b : Bool) (q : F) → CalledAt g f x b q → (q ≡ f) × (b ≡ passes (get_or x.now 0 0))) → r ≡ passing_len passes (entries_in words)
+passing-counted g passes words s ran rest size callee done told =
+    let es = entries_in words in
+    count_from_yields_List s _ ran (YieldsList-from_take_while g (λ (e : Entry). passes e.tag) (YieldsList-from_entries words rest size) callee done told)
+    ∙ length-prefix_len (λ (e : Entry). passes e.tag) es
 
-    pub part_none : n ≤ k → CutAt words (2 * n) (front (items_at (entries_in words))) (back (items_at (entries_in words)))
-    unfolding items_at entries_at
-    part_none h =
-        let none : n - n ≡ 0 = omega arith in
-        cut_at words n n _ _ s.items (omega arith) (d.joins (items_at (entries_in words))) (seeking-end s h ∙ d.none ∙ rw none)
+module _ {passes : ℕ → Bool} {front back : List Item → List Item} (d : Finds passes front back) where
+  back-left : (es : List Entry) → back (items_at es) ≡ items_at (drop (passing_len passes es) es)
+  unfolding items_at
+  back-left [] = d.none
+  back-left (e ∷ es) =
+      let more : 1 + passing_len passes es ≡ suc (passing_len passes es) = omega arith in
+      by_cases (passes e.tag)
+      (λ t. rw (t, more) (d.passed e (items_at es) t ∙ back-left es))
+      (λ t. rw t (d.met e (items_at es) t))
+
+  -- how many entries pass is where the words are cut
+  pub cut-passing : (words : List ℕ) (k : ℕ) → k ≡ passing_len passes (entries_in words) → CutAt words (2 * k) (front (items_in words)) (back (items_in words))
+  unfolding entries_in
+  cut-passing words k e =
+      let n = length words / 2 in
+      let es : List Entry = entries_at n words in
+      let most : k ≤ n = omega (arith, e, prefix_len-le-length (λ (x : Entry). passes x.tag) es, entries_at-length n words) in
+      cut_at words n k _ _ refl most (d.joins (items_in words))
+      (back-left es ∙ ap (λ (j : ℕ). items_at (drop j es)) (sym e) ∙ ap items_at (drop-entries k n words most))

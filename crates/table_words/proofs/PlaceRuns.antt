@@ -3,13 +3,13 @@
 use Prim.Native.Nat.{ℕ, ◌+◌, ◌-◌, ◌*◌, ◌/◌, ◌≤◌, ◌<◌}
 use native.Mathlib.Omega.{arith}
 use mathlib.Core.Path.{◌≡◌, refl, ap, ◌∙◌}
-use mathlib.Core.Bool.{true, false, not}
+use mathlib.Core.Bool.{true, false}
 use mathlib.Core.List.{List, [], ◌∷◌, ◌++◌}
 use lib.Dec.{T}
 use lib.ListN.{length, get_or}
 use Rattle.values.specs.Ranges.{between}
 use Rattle.lists.specs.Lists.{every}
-use Rattle.lists.proofs.Bools.{by_cases, not_so, not-false, true-T, T_true, every-cons}
+use Rattle.lists.proofs.Bools.{by_cases, true-T, T_true, every-cons}
 use Rattle.formats.specs.Items.{Item, is_place, start_places, behind_start, end_places, before_end}
 use Rattle.formats.proofs.Cutting.{end-joins}
 use Rattle.tables.specs.Words.{entries_at, entries_in}
@@ -31,13 +31,13 @@ unfolding start_places every
 start-run [] = tt
 start-run (i ∷ is) = by_cases (is_place i) (λ e. rw (e, e) (start-run is)) (λ e. rw e tt)
 
-pub finds-run : Finds (λ (t : ℕ). not (between 4 6 t)) start_places behind_start
+pub finds-run : Finds (between 4 6) start_places behind_start
 unfolding behind_start
 finds-run = record {
   joins = start-joins;
   none = refl;
-  met = λ e is t. rw (place-tag e.tag e.argument, not_so (between 4 6 e.tag) (true-T t));
-  passed = λ e is t. rw (place-tag e.tag e.argument, not-false (between 4 6 e.tag) t);
+  met = λ e is t. rw (place-tag e.tag e.argument, t);
+  passed = λ e is t. rw (place-tag e.tag e.argument, t);
 }
 
 -- ---- at the end
@@ -85,18 +85,18 @@ unfolding entries_at items_at every
 backing-start words = let none : length words / 2 - length words / 2 ≡ 0 = omega arith in record { inside = omega arith; run = rw none tt }
 
 module _ {words : List ℕ} {k : ℕ} (s : Backing words k) where
-  pub backing-step : 0 < k → not (between 4 6 (get_or words (2 * (k - 1)) 0)) ≡ false → Backing words (k - 1)
+  pub backing-step : 0 < k → between 4 6 (get_or words (2 * (k - 1)) 0) ≡ true → Backing words (k - 1)
   backing-step h t = record {
     inside = omega (arith, s.inside);
-    run = rw (last-left words k h s.inside) (every-cons is_place _ _ (true-T (place-tag _ _ ∙ not-false _ t)) s.run);
+    run = rw (last-left words k h s.inside) (every-cons is_place _ _ (true-T (place-tag _ _ ∙ t)) s.run);
   }
 
-  pub backing-met : 0 < k → not (between 4 6 (get_or words (2 * (k - 1)) 0)) ≡ true → CutAt words (2 * k) (before_end (items_in words)) (end_places (items_in words))
+  pub backing-met : 0 < k → between 4 6 (get_or words (2 * (k - 1)) 0) ≡ false → CutAt words (2 * k) (before_end (items_in words)) (end_places (items_in words))
   unfolding entries_in
   backing-met h t =
       cut_at words (length words / 2) k _ _ refl s.inside (end-joins (items_in words))
       (ap end_places (last-parts words k h s.inside)
-      ∙ end-run (items_at (entries_at (k - 1) words)) (last_item words k h s.inside) _ (place-tag _ _ ∙ not_so (between 4 6 (get_or words (2 * (k - 1)) 0)) (true-T t)) s.run)
+      ∙ end-run (items_at (entries_at (k - 1) words)) (last_item words k h s.inside) _ (place-tag _ _ ∙ t) s.run)
 
   pub backing-end : k ≤ 0 → CutAt words 0 (before_end (items_in words)) (end_places (items_in words))
   unfolding entries_in

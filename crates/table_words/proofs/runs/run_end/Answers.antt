@@ -1,20 +1,13 @@
--- `table_words::runs::run_end` meets its contract. The invariant, `Seeking`: every entry so far is a place.
+-- `table_words::runs::run_end` meets its contract.
 -- Assumes nothing.
-use mathlib.Core.Path.{refl, ap}
-use mathlib.Core.Bool.{not}
-use Rattle.tables.proofs.Words.{seeking-start}
-use Rattle.table_words.proofs.Cuts.{part-met, part-passed, part_none}
+use Rattle.std.proofs.Common.{rules, tests}
+use Rattle.values.specs.Ranges.{between}
+use Rattle.table_words.proofs.Cuts.{passing-counted, cut-passing}
 use Rattle.table_words.proofs.PlaceRuns.{finds-run}
 use Rattle.table_words.proofs.runs.run_end.Goals as goal
 
-pub loop-k-init : goal.loop-k-init
-loop-k-init c = seeking-start _ _ _ refl
-
-pub returns-then-not-tag : goal.returns-then-not-tag
-returns-then-not-tag c = part-met finds-run c.loop-k.invariant c.loop-k-test.true (ap not c.if-not-tag.true)
-
-pub loop-k-preserved : goal.loop-k-preserved
-loop-k-preserved c = part-passed finds-run c.loop-k.invariant c.loop-k-test.true (ap not c.if-not-tag.false)
-
 pub returns : goal.returns
-returns c = part_none finds-run c.loop-k.invariant c.loop-k-test.false
+returns c =
+    let run = c.take_while-run in
+    cut-passing finds-run _ _
+    (passing-counted _ (between 4 6) c.args.items.now run.result c.count.ensures.ran (cc) (cc) run.ensures.closure run.ensures.done (λ x b q k. search (rules, tests)))
