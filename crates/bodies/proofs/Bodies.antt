@@ -1,15 +1,16 @@
 -- What a body's tokens say of it: one pass gives the facts.
 -- Assumes nothing.
 use Prim.Native.Nat.{ℕ, suc, ◌+◌, ◌-◌, ◌*◌, ◌/◌, ◌%◌, ◌≤◌, ◌<◌}
-use native.Mathlib.Nat.{suc-mul, mul-le-mul_left, mul-le-mul_right}
-use mathlib.Core.Path.{◌≡◌, refl, sym, ap, ◌∙◌}
+use native.Mathlib.Nat.{add-zero, suc-mul, mul-le-mul_left, mul-le-mul_right}
+use mathlib.Core.Path.{◌≡◌, refl, ap, ◌∙◌}
 use mathlib.Core.Bool.{Bool, true, false, cond, not, ◌&&◌, ◌||◌}
 use mathlib.Core.List.{List, [], ◌∷◌}
 use mathlib.Core.Option.{Option, none, some}
 use native.Mathlib.Omega.{arith}
 use lib.Dec.{leb, ltb, eqb}
 use borrow.Author.Tests.{le-leb, lt-leb, lt-ltb, le-ltb, ne_eqb, eqb-true, ltb-true, ltb-false}
-use lib.ListN.{length, get_or}
+use lib.ListN.{length, take, length-take}
+use Rattle.std.specs.List.{fold}
 use Rattle.lists.specs.Lists.{every, any, count}
 use Rattle.lists.proofs.Bools.{by_cases, cond_both}
 use Rattle.lists.proofs.Counts.{count-least, positive-count}
@@ -17,14 +18,15 @@ use Rattle.formats.specs.Tokens.{Token}
 use Rattle.formats.specs.Items.{Kind, text_kind, general_kind, date_kind, scientific_kind, fraction_kind, number_kind, literal_kind, same_kind, is_kind, kind_from}
 use Rattle.formats.specs.Kinds.{form_of, is_place, is_point, is_comma, is_exponent, is_over, is_fill_token, integer_place_tokens, no_bracket, token_row, token_makes, body_kind}
 use Rattle.formats.proofs.Each.{by_kind}
+use Rattle.marks.specs.declared.Mark.{Mark}
 use Rattle.marks.specs.Marks.{mark_rows, mark_token, condition_of, tokens_in}
 use Rattle.bodies.specs.declared.facts.Facts.{Facts}
 use Rattle.bodies.specs.declared.facts.Seen.{Seen}
 use Rattle.bodies.specs.Forms.{one, date_forms}
 use Rattle.bodies.specs.Bodies.{has_place, exponent_place_tokens, facts_of, seen, see_form, Roomy}
 use Rattle.marks.proofs.ByForm.{by_form}
-use Rattle.marks.proofs.Words.{passed, Passed, passed_start, passed-end, passed-step, tokens-length}
-use Rattle.bodies.proofs.Tests.{Grown, see-grown}
+use Rattle.marks.proofs.Buffer.{tokens-length, fold-end}
+use Rattle.bodies.proofs.Tests.{see-grown}
 
 -- the weight of a kind, by which it comes before others: no 254 tokens of lighter kinds weigh as much
 abbrev weight_kind : Kind → ℕ
@@ -186,8 +188,8 @@ count-cons f t ts = by_cases (f t) (λ e. rw e (omega arith)) (λ e. rw e (omega
 abbrev sum_of : List Token → ℕ
 sum_of ts = kinds_sum ts + above (count is_bracket ts) (count is_fill_token ts) (count is_comma ts)
 
-sum-seen : (s : Seen) (ts : List Token) → (passed see s ts).sum ≡ s.sum + sum_of ts
-unfolding passed kinds_sum
+sum-seen : (s : Seen) (ts : List Token) → (fold see s ts).sum ≡ s.sum + sum_of ts
+unfolding kinds_sum
 sum-seen s [] = unfold count in omega arith
 sum-seen s (t ∷ ts) = omega (arith, sum-seen (see s t) ts, count-cons is_bracket t ts, count-cons is_fill_token t ts, count-cons is_comma t ts)
 
@@ -261,8 +263,7 @@ places-turn whole n t ts = by-sort _ t (λ e. rw e (omega arith)) (λ e. rw e (o
 places-turn decimal n t ts = by-sort _ t (λ e. rw e (omega arith)) (λ e. rw e (omega arith)) (λ e. rw e (omega arith)) (λ e. rw e (omega arith)) (λ e. rw e (omega arith)) (λ a b c d. rw (a, b, c, d))
 places-turn behind_e n t ts = by-sort _ t (λ e. rw e (omega arith)) (λ e. rw e (omega arith)) (λ e. rw e (omega arith)) (λ e. rw e (omega arith)) (λ e. rw e (omega arith)) (λ a b c d. rw (a, b, c, d))
 
-places-seen : (p : Phase) (s : Seen) (ts : List Token) → s.unit ≡ unit_of p → (passed see s ts).places ≡ s.places + places_told p ts
-unfolding passed
+places-seen : (p : Phase) (s : Seen) (ts : List Token) → s.unit ≡ unit_of p → (fold see s ts).places ≡ s.places + places_told p ts
 places-seen whole s [] e = unfold integer_place_tokens exponent_place_tokens in omega arith
 places-seen decimal s [] e = unfold exponent_place_tokens in omega arith
 places-seen behind_e s [] e = unfold count in omega arith
@@ -282,7 +283,7 @@ integers-few (t ∷ ts) =
     most b h k = cond_both (λ (n : ℕ). n ≤ suc (length ts)) b h k
 
 -- one pass gives the facts
-pub facts-seen : (ts : List Token) → length ts ≤ 254 → seen_facts (passed see nothing_seen ts) ≡ facts_of ts
+pub facts-seen : (ts : List Token) → length ts ≤ 254 → seen_facts (fold see nothing_seen ts) ≡ facts_of ts
 unfolding facts_of
 facts-seen ts h =
     let kind = body_kind ts in
@@ -291,8 +292,8 @@ facts-seen ts h =
     let b : count is_bracket ts < 256 = omega (arith, count-least is_bracket ts) in
     let f : count is_fill_token ts < 256 = omega (arith, count-least is_fill_token ts) in
     let told = kinds-told (kinds_sum ts) kind (kinds-least ts) most in
-    let sum : (passed see nothing_seen ts).sum ≡ sum_of ts = sum-seen nothing_seen ts ∙ omega arith in
-    let places : (passed see nothing_seen ts).places ≡ places_told whole ts = places-seen whole nothing_seen ts refl ∙ omega arith in
+    let sum : (fold see nothing_seen ts).sum ≡ sum_of ts = sum-seen nothing_seen ts ∙ omega arith in
+    let places : (fold see nothing_seen ts).places ≡ places_told whole ts = places-seen whole nothing_seen ts refl ∙ omega arith in
     let integers : places_told whole ts % 65536 ≡ integer_place_tokens ts = omega (arith, integers-few ts) in
     let exponents : places_told whole ts / 65536 ≡ exponent_place_tokens ts = omega (arith, integers-few ts) in
     rw (
@@ -313,40 +314,39 @@ facts-seen ts h =
     )
 
 -- ---- the pass
--- what the loop of `facts_of` keeps
-pub record Seeing (ws : List ℕ) (i : ℕ) (s : Seen) : Type 0 where
-  pub all : Passed see nothing_seen ws i s
-  pub sum : 3 * s.sum ≤ i * 72057594037927936
-  pub unit : s.unit ≤ 65536
-  pub places : s.places ≤ i * 65536
+abbrev pub see_marks : Seen → List Mark → Seen
+see_marks s ms = fold (λ t m. see_form t m.form) s ms
 
-pub seeing-start : (ws : List ℕ) → length ws ≤ 762 → Seeing ws 0 nothing_seen
-seeing-start ws h =
-    record { all = passed_start see nothing_seen ws h; sum = omega arith; unit = omega arith; places = omega arith }
+-- what k tokens add at most
+record Few (k : ℕ) (s : Seen) : Type 0 where
+  sum : s.sum ≤ k * 72057594037927936
+  unit : s.unit ≤ 65536
+  places : s.places ≤ k * 65536
 
-module _ (ws : List ℕ) (i : ℕ) (s : Seen) (inv : Seeing ws i s) where
-  pub seeing-end : length ws ≤ i + 2 → (code : List ℕ) → seen_facts s ≡ facts_of (tokens_in code ws)
-  seeing-end h code =
-      ap seen_facts (sym (passed-end see nothing_seen ws i s inv.all h code))
-      ∙ facts-seen (tokens_in code ws) (omega (arith, tokens-length code ws, inv.all.small))
+marks-few : (k : ℕ) (s : Seen) (ms : List Mark) → Few k s → Few (k + length ms) (see_marks s ms)
+marks-few k s [] f = rw (add-zero k) f
+marks-few k s (m ∷ ms) f =
+    let g = see-grown s m.form f.unit in
+    let step : Few (k + 1) (see_form s m.form) = record { sum = omega (arith, g, f); unit = g.1; places = omega (arith, g, f) } in
+    let e : k + suc (length ms) ≡ k + 1 + length ms = omega arith in
+    rw e (marks-few (k + 1) (see_form s m.form) ms step)
 
-  pub seeing-roomy : i + 2 < length ws → Roomy s
-  seeing-roomy h =
-      record {
-        sum = omega (arith, inv.sum, inv.all.small);
-        unit = inv.unit;
-        places = omega (arith, inv.places, inv.all.small);
-      }
+-- what the loop of `facts_of` needs, and what it gives
+seen-few : (ms : List Mark) (k : ℕ) (s : Seen) → s ≡ see_marks nothing_seen (take k ms) → Few (0 + length (take k ms)) s
+seen-few ms k s e = rw e (marks-few 0 nothing_seen (take k ms) (record { sum = omega arith; unit = omega arith; places = omega arith }))
 
-  pub seeing-step : i + 2 < length ws → (s' : Seen) → s' ≡ see_form s (get_or ws i 0) → Seeing ws (i + 3) s'
-  seeing-step h s' e =
-      let f = get_or ws i 0 in
-      let g : Grown s s' = rw e (see-grown s f inv.unit) in
-      let k = inv.sum in
-      let l = inv.places in
-      record {
-        all = passed-step see nothing_seen ws i s inv.all h s' (λ us. see-form s f (get_or ws (i + 1) 0) us ∙ sym e);
-        sum = omega (arith, g);
-        unit = g.1;
-        places = omega (arith, g);
-      }
+module _ (ms : List Mark) (h : length ms ≤ 254) (s : Seen) where
+  pub see-room : (k : ℕ) → k < length ms → s ≡ see_marks nothing_seen (take k ms) → Roomy s
+  see-room k l e =
+      let f = seen-few ms k s e in
+      let t = length-take k ms in
+      record { sum = omega (arith, f); unit = f.unit; places = omega (arith, f) }
+
+  module _ (e : s ≡ see_marks nothing_seen (take (length ms) ms)) where
+    pub see-small : s.places / 65536 < 65536
+    see-small = let f = seen-few ms (length ms) s e in let t = length-take (length ms) ms in omega (arith, f)
+
+    pub see-end : (code : List ℕ) → seen_facts s ≡ facts_of (tokens_in code ms)
+    see-end code =
+        ap seen_facts (e ∙ fold-end code see see_form see-form nothing_seen ms)
+        ∙ facts-seen (tokens_in code ms) (rw (tokens-length code ms) h)

@@ -2,7 +2,7 @@
 -- Assumes nothing.
 use Prim.Native.Nat.{ℕ, ◌+◌, ◌-◌, ◌*◌, ◌^◌, ◌≤◌, ◌<◌, min}
 use mathlib.Core.Path.{◌≡◌, refl, sym, ap, ◌∙◌}
-use mathlib.Core.Bool.{Bool, true, false, not, ◌&&◌, true≢false}
+use mathlib.Core.Bool.{Bool, true, false, not, ◌&&◌}
 use mathlib.Core.List.{List, map}
 use mathlib.Core.Option.{some}
 use native.Mathlib.Omega.{arith}
@@ -19,12 +19,14 @@ use Rattle.formats.specs.Limits.{written_within}
 use Rattle.tables.specs.Encode.{comparison_word}
 use Rattle.tables.specs.Decode.{comparison_at}
 use Rattle.tables.proofs.BackEntries.{span-at}
-use Rattle.bodies.specs.declared.conditions.Compared.{Compared}
-use Rattle.bodies.specs.Conditions.{whole_units, decimal_units, written_of, padded_number, beyond_limits, ComparedBy}
+use Rattle.std.proofs.Common.{Some, None}
+use Rattle.std.specs.List.{prefix_len}
+use Rattle.std.proofs.lemmas.Option.{none-some, same_Some}
+use Rattle.bodies.specs.Conditions.{whole_units, decimal_units, written_of, padded_number, Measures, AmountOf}
 use Rattle.formats.proofs.Lexing.{leading-most}
-use Rattle.bodies.proofs.Numbers.{leading-digits, padded-number}
+use Rattle.bodies.proofs.Numbers.{leading-prefix, leading-digits, padded-number}
 
-word_back : (n : ℕ) → n ≤ 6 → eqb n 0 ≡ false → n ≡ comparison_word (comparison_at n)
+pub word_back : (n : ℕ) → n ≤ 6 → eqb n 0 ≡ false → n ≡ comparison_word (comparison_at n)
 unfolding comparison_word comparison_at
 word_back n h e =
     let some = eqb-false n 0 e in
@@ -36,9 +38,15 @@ sign_of n w m e = by_cases (ltb 0 (w + m))
     (λ t. let p = ltb-true 0 (w + m) t in rw (t, ne_eqb n 0 (λ z. omega arith)))
     (λ t. let p = ltb-false 0 (w + m) t in rw (t, eq-eqb n 0 (omega arith)))
 
-module _ (us : List ℕ) (n b : ℕ) (e : n ≡ leading is_digit us) (f : b ≡ min (n + 1) (length us)) where
+pub digits-room : (us : List ℕ) (n : ℕ) → n ≡ prefix_len (λ (u : ℕ). leb 48 u && leb u 57) us → n ≤ length us
+digits-room us n g = let d : n ≡ leading is_digit us = g ∙ leading-prefix us in omega (arith, leading-most is_digit us)
+
+module _ (us : List ℕ) (n b : ℕ) (g : n ≡ prefix_len (λ (u : ℕ). leb 48 u && leb u 57) us) (f : b ≡ min (length us) (n + 1)) where
+  e : n ≡ leading is_digit us
+  e = g ∙ leading-prefix us
+
   pub whole_length : n ≡ length (take n us)
-  whole_length = let m = leading-most is_digit us in sym (length-take-le n us (omega arith))
+  whole_length = let d = e in let m = leading-most is_digit us in sym (length-take-le n us (omega arith))
 
   whole_part_lem : take n us ≡ whole_units us
   unfolding whole_units
@@ -55,38 +63,25 @@ module _ (us : List ℕ) (n b : ℕ) (e : n ≡ leading is_digit us) (f : b ≡ 
       (λ t. let h = ltb-true n (length us) t in let z : b ≡ n + 1 = omega arith in rw z)
       (λ t. let h = ltb-false n (length us) t in drop_of_length-le us {i = b} (omega arith) ∙ sym (drop_of_length-le us {i = n + 1} (omega arith))))
 
-  module _ (operator : ℕ) (negative : Bool) (most : operator ≤ 6) (compares : eqb operator 0 ≡ false) where
+  module _ (negative : Bool) (operator : ℕ) where
     within-limits : written_within (some (written_of operator negative us)) ≡ (leb n 9 && leb (length (take (length us - b) (drop b us))) 6)
     unfolding written_within written_of
     within-limits =
         rw (length-map (whole_units us) digit_of, length-map (decimal_units us) digit_of, ← whole_part_lem, ← whole_length, decimals-part)
 
-    beyond : (r : Compared) → r ≡ beyond_limits operator → (leb n 9 && leb (length (take (length us - b) (drop b us))) 6) ≡ false → ComparedBy (written_of operator negative us) r
-    unfolding written_of
-    beyond r s t =
-        rw s (record {
-          operator = word_back operator most compares;
-          within = sym (within-limits ∙ t);
-          number = λ z. absurd (true≢false (sym z));
-          negative = λ z. absurd (true≢false (sym z));
-          whole = omega arith;
-          millionths = omega arith;
-          outside = λ z. (refl, refl, refl);
-        })
+    beyond : (leb n 9 && leb (length (take (length us - b) (drop b us))) 6) ≡ false → AmountOf (written_of operator negative us) None
+    beyond t = record { within = sym (within-limits ∙ t); measures = λ a z. absurd (none-some a z) }
 
-    pub beyond-whole : (r : Compared) → r ≡ beyond_limits operator → 9 < n → ComparedBy (written_of operator negative us) r
-    beyond-whole r s h = beyond r s (rw (lt-leb n 9 h))
+    pub beyond-whole : 9 < n → AmountOf (written_of operator negative us) None
+    beyond-whole h = beyond (rw (lt-leb n 9 h))
 
-    pub beyond-decimals : (r : Compared) → r ≡ beyond_limits operator → n ≤ 9 → 6 < length (take (length us - b) (drop b us)) → ComparedBy (written_of operator negative us) r
-    beyond-decimals r s h k = beyond r s (rw (le-leb n 9 h, lt-leb (length (take (length us - b) (drop b us))) 6 k))
+    pub beyond-decimals : n ≤ 9 → 6 < length (take (length us - b) (drop b us)) → AmountOf (written_of operator negative us) None
+    beyond-decimals h k = beyond (rw (le-leb n 9 h, lt-leb (length (take (length us - b) (drop b us))) 6 k))
 
     module _ (h : n ≤ 9) (k : length (take (length us - b) (drop b us)) ≤ 6) (w m : ℕ) (p : w ≡ padded_number n (take n us)) (q : w < 10 ^ n)
         (s : m ≡ padded_number 6 (take (length us - b) (drop b us))) (t : m < 10 ^ 6) where
       whole-small : w < 10 ^ 9
       whole-small = let z : 10 ^ n ≤ 10 ^ 9 = pow-le-pow_right {n = 10} (omega arith) {i = n} {j = 9} h in omega arith
-
-      pub whole_room : w + m < 4294967296
-      whole_room = let z = whole-small in omega arith
 
       written-number : millionths_of (written_of operator negative us) ≡ w * 10 ^ 6 + m
       unfolding millionths_of written_of
@@ -99,15 +94,19 @@ module _ (us : List ℕ) (n b : ℕ) (e : n ≡ leading is_digit us) (f : b ≡ 
           = s ∙ ap (padded_number 6) decimals-part ∙ padded-number 6 (decimal_units us) (omega arith) in
           rw (length-map (decimal_units us) digit_of, ← whole_part_lem, ← whole, ← decimals)
 
-      pub compared : ComparedBy (written_of operator negative us) (record { operator = operator; negative = negative && ltb 0 (w + m); whole = w; millionths = m; within = true })
+      measured : Measures (written_of operator negative us) (record { negative = negative && ltb 0 (w + m); whole = w; millionths = m })
       unfolding written_of
-      compared =
+      measured =
           record {
-            operator = word_back operator most compares;
-            within = sym (within-limits ∙ rw (le-leb n 9 h, le-leb (length (take (length us - b) (drop b us))) 6 k));
-            number = λ z. written-number;
-            negative = λ z. ap (λ (c : Bool). negative && c) (sign_of (millionths_of (written_of operator negative us)) w m written-number);
+            number = written-number;
+            negative = ap (λ (c : Bool). negative && c) (sign_of (millionths_of (written_of operator negative us)) w m written-number);
             whole = whole-small;
             millionths = t;
-            outside = λ z. absurd (true≢false z);
+          }
+
+      pub amount-within : AmountOf (written_of operator negative us) (Some (record { negative = negative && ltb 0 (w + m); whole = w; millionths = m }))
+      amount-within =
+          record {
+            within = sym (within-limits ∙ rw (le-leb n 9 h, le-leb (length (take (length us - b) (drop b us))) 6 k));
+            measures = λ a z. rw (← (same_Some _ _ z)) measured;
           }

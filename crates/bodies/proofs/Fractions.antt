@@ -1,6 +1,6 @@
 -- The rules for a solidus from a pass over tokens: what is left to hold of the items that follow those passed.
 -- Assumes nothing.
-use Prim.Native.Nat.{ℕ, suc, ◌+◌, ◌≤◌, ◌<◌}
+use Prim.Native.Nat.{ℕ, suc}
 use mathlib.Core.Path.{◌≡◌, refl, sym, ap, ◌∙◌}
 use mathlib.Core.Bool.{Bool, true, false, cond, not, ◌&&◌, ◌||◌, and-true, and-false, or-true, true≢false}
 use mathlib.Core.Bool as bool
@@ -8,7 +8,8 @@ use mathlib.Core.List.{List, [], ◌∷◌, ◌++◌, map}
 use native.Mathlib.Omega.{arith}
 use lib.Dec.{T, leb, eqb, eqb-suc-suc}
 use borrow.Author.Tests.{le-leb, lt-leb, ne_eqb}
-use lib.ListN.{length, drop, get_or}
+use lib.ListN.{length, take, drop}
+use Rattle.std.specs.List.{fold}
 use Rattle.lists.specs.Lists.{every, any, count, is_empty}
 use Rattle.lists.proofs.Bools.{no, or-false, or-cond, by_cases, cond-case, every-head, every-tail}
 use Rattle.lists.proofs.Counts.{none-count, any_same}
@@ -19,9 +20,10 @@ use Rattle.formats.specs.Items.{Item, literal, blank, fill, place, point, percen
 use Rattle.formats.specs.Kinds as kinds
 use Rattle.formats.specs.Kinds.{form_of, is_exponent, is_over, token_makes, body_kind, run_item, token_items, plain_items, body_items}
 use Rattle.formats.proofs.Each.{by_token, by_kind}
+use Rattle.marks.specs.declared.Mark.{Mark}
 use Rattle.marks.specs.Marks.{mark_rows, mark_token, condition_of, tokens_in}
 use Rattle.marks.proofs.ByForm.{by_form}
-use Rattle.marks.proofs.Words.{passed, Passed, passed_start, passed-end, passed-step}
+use Rattle.marks.proofs.Buffer.{fold-end}
 use Rattle.bodies.specs.declared.fraction.Walk.{Walk}
 use Rattle.bodies.specs.Fraction.{has_units, FractionTold, silent_form, at_place, at_item, at_over, walk_form}
 
@@ -205,8 +207,8 @@ token-left =
     (λ p h e w is. over-left w.over w.run w.begun w.literal w.fits p is)
     (λ p n h e w is. over-left w.over w.run w.begun w.literal w.fits p (fixed n ∷ is))
 
-walk-left : (w : Walk) (ts : List Token) → T (every has_units ts) → any is_exponent ts ≡ false → left_of w (plain_items ts) ≡ left_of (passed walk w ts) []
-unfolding plain_items passed any
+walk-left : (w : Walk) (ts : List Token) → T (every has_units ts) → any is_exponent ts ≡ false → left_of w (plain_items ts) ≡ left_of (fold walk w ts) []
+unfolding plain_items any
 walk-left w [] u e = refl
 walk-left w (t ∷ ts) u e =
     let p = or-false (is_exponent t) (any is_exponent ts) (or-cond (is_exponent t) (any is_exponent ts) ∙ e) in
@@ -267,16 +269,16 @@ no-date =
     by_kind (λ (k : Kind). same_kind k fraction_kind ≡ true → same_kind k date_kind ≡ false)
     (λ h. no h) (λ h. no h) (λ h. no h) (λ h. no h) (λ h. no h) (λ h. no h) (λ h. refl)
 
-abbrev nothing_walked : Walk
+abbrev pub nothing_walked : Walk
 nothing_walked = record { over = false; run = false; begun = false; literal = false; fits = true }
 
 abbrev walked_fits : Walk → Bool
 walked_fits w = w.fits && (not w.over || w.begun)
 
-fraction-told : (ts : List Token) → FractionTold ts (walked_fits (passed walk nothing_walked ts))
+fraction-told : (ts : List Token) → FractionTold ts (walked_fits (fold walk nothing_walked ts))
 unfolding body_items body_kind
 fraction-told ts u k =
-    let w = passed walk nothing_walked ts in
+    let w = fold walk nothing_walked ts in
     let bare = any_same is_exponent (token_makes scientific_kind) exponent-makes ts ∙ no-exponent (λ (x : Kind). any (token_makes x) ts) k in
     sym (left-none w.over w.run w.begun w.literal w.fits) ∙ sym (walk-left nothing_walked ts u bare)
     ∙ sym (left-all (plain_items ts)) ∙ rw (no-date (body_kind ts) k)
@@ -288,17 +290,9 @@ walk-form w f a us =
     by_form (walk w) (walk_form w) a us refl
     (λ n h. rw (lt-leb n 6 (omega arith), le-leb 4 n (omega arith), lt-leb n 32 (omega arith), le-leb 27 n (omega arith), ne_eqb n 8 (omega arith), ne_eqb n 11 (omega arith), ne_eqb n 23 (omega arith), ne_eqb n 24 (omega arith), le-leb 2 n (omega arith), lt-leb n 26 (omega arith))) f
 
--- what the loop of `fraction_fits` keeps
-abbrev pub Walked : List ℕ → ℕ → Walk → Type 0
-Walked ws i w = Passed walk nothing_walked ws i w
+abbrev pub walk_marks : Walk → List Mark → Walk
+walk_marks w ms = fold (λ v m. walk_form v m.form) w ms
 
-pub walked_start : (ws : List ℕ) → length ws ≤ 762 → Walked ws 0 nothing_walked
-walked_start ws h = passed_start walk nothing_walked ws h
-
-module _ (ws : List ℕ) (i : ℕ) (w : Walk) (inv : Walked ws i w) where
-  pub walked_step : i + 2 < length ws → (w' : Walk) → w' ≡ walk_form w (get_or ws i 0) → Walked ws (i + 3) w'
-  walked_step h w' e = passed-step walk nothing_walked ws i w inv h w' (λ us. walk-form w (get_or ws i 0) (get_or ws (i + 1) 0) us ∙ sym e)
-
-  pub walked_end : length ws ≤ i + 2 → (code : List ℕ) → FractionTold (tokens_in code ws) (walked_fits w)
-  walked_end h code u k =
-      ap walked_fits (sym (passed-end walk nothing_walked ws i w inv h code)) ∙ fraction-told (tokens_in code ws) u k
+-- what the loop of `fraction_fits` gives
+pub walk_end : (ms : List Mark) (w : Walk) → w ≡ walk_marks nothing_walked (take (length ms) ms) → (code : List ℕ) → FractionTold (tokens_in code ms) (walked_fits w)
+walk_end ms w e code u k = ap walked_fits (e ∙ fold-end code walk walk_form walk-form nothing_walked ms) ∙ fraction-told (tokens_in code ms) u k

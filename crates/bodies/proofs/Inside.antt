@@ -1,26 +1,31 @@
 -- The condition that units inside a bracket write, part by part.
 -- Assumes nothing.
-use Prim.Native.Nat.{ℕ, suc, ◌+◌, ◌-◌, ◌≤◌, ◌<◌}
+use Prim.Native.Nat.{ℕ, zero, suc, ◌+◌, ◌-◌, ◌≤◌, min}
 use mathlib.Core.Path.{◌≡◌, refl, sym, ◌∙◌}
 use mathlib.Core.Bool.{Bool, true, false, cond, not, ◌&&◌, true≢false}
 use mathlib.Core.List.{List, [], ◌∷◌, map}
 use mathlib.Core.Option.{Option, none, some}
 use native.Mathlib.Omega.{arith}
 use native.Mathlib.Numerals.{add-one}
-use native.Mathlib.Nat.{add-sub_cancel_left}
+use native.Mathlib.Nat.{min_comm}
 use lib.Dec.{leb, ltb, eqb}
-use borrow.Author.Tests.{ltb-true, ltb-false, le-leb, lt-leb, ne_eqb, eq-eqb}
-use lib.ListN.{length, take, drop, get_or, length-take, length-drop, get_or-eq_default}
+use borrow.Author.Tests.{ltb-true, ltb-false, ne_eqb, eq-eqb, eqb-true, eqb-false}
+use lib.ListN.{length, take, drop, get_or, length-drop, drop_of_length-le}
+use Rattle.std.proofs.lemmas.List.{take_min}
 use lib.Seq.{drop-drop, get_or-drop, take_all}
 use Rattle.calendar.specs.Names.{units}
 use Rattle.lists.specs.Lists.{every, is_empty, is_some}
 use Rattle.lists.proofs.Bools.{by_cases, cond_both}
 use Rattle.formats.specs.Tokens.{Token, condition, Comparison, equal, less, greater, at_most, at_least, unequal, starts_with, leading, is_digit, digit_of, decimals_of, whole_of, signed_of, condition_inside}
 use Rattle.formats.specs.Kinds.{condition_in}
+use Rattle.std.specs.Prelude as std
+use Rattle.tables.specs.Encode.{comparison_word}
 use Rattle.tables.specs.Decode.{comparison_at}
 use Rattle.marks.specs.Marks.{mark_rows, written_or, written_in, condition_of, mark_token, token_at}
 use Rattle.bodies.specs.Forms.{one}
-use Rattle.bodies.specs.Conditions.{written_inside, operator_by, operator_width, operator_in, signed_in, negative_in, number_in, whole_units, decimal_units, written_of}
+use Rattle.bodies.specs.Conditions.{written_inside, operator_by, operator_width, operator_in, signed_in, negative_in, number_in, whole_units, decimal_units, written_of, AmountOf, ComparedBy}
+use Rattle.bodies.specs.declared.conditions.Amount.{Amount}
+use Rattle.bodies.proofs.Comparing.{word_back}
 
 -- a word of one or two units, none of which is 0
 starts-one : (a : ℕ) (us : List ℕ) → eqb a 0 ≡ false → starts_with (a ∷ []) us ≡ eqb a (get_or us 0 0)
@@ -102,29 +107,6 @@ read-inside us e = by_cases (eqb (operator_in us) 0)
     let d = whole-found (operator_in us) (negative_in us) (number_in us) (rw found at e) in
     record { compares = t; same = rw (found, d.0); decimals = d.1 })
 
--- ---- the comparison by its first two units
-module _ (u v : ℕ) where
-  pub operator-equal : u ≡ 61 → 1 ≡ operator_by u v
-  operator-equal e = rw e
-
-  pub operator-at-most : u ≡ 60 → v ≡ 61 → 4 ≡ operator_by u v
-  operator-at-most e f = rw (e, f)
-
-  pub operator-unequal : u ≡ 60 → v ≡ 62 → 6 ≡ operator_by u v
-  operator-unequal e f = rw (e, f)
-
-  pub operator-at-least : u ≡ 62 → v ≡ 61 → 5 ≡ operator_by u v
-  operator-at-least e f = rw (e, f)
-
-  pub operator-less : u ≡ 60 → (v ≡ 61 → ⊥) → (v ≡ 62 → ⊥) → 2 ≡ operator_by u v
-  operator-less e f g = rw (e, ne_eqb 61 v (λ h. f (sym h)), ne_eqb 62 v (λ h. g (sym h)))
-
-  pub operator-greater : u ≡ 62 → (v ≡ 61 → ⊥) → 3 ≡ operator_by u v
-  operator-greater e f = rw (e, ne_eqb 61 v (λ h. f (sym h)))
-
-  pub operator-none : (u ≡ 61 → ⊥) → (u ≡ 60 → ⊥) → (u ≡ 62 → ⊥) → 0 ≡ operator_by u v
-  operator-none e f g = rw (ne_eqb 61 u (λ h. e (sym h)), ne_eqb 60 u (λ h. f (sym h)), ne_eqb 62 u (λ h. g (sym h)))
-
 -- ---- the parts
 operator-most : (u v : ℕ) → operator_by u v ≤ 6
 operator-most u v =
@@ -136,12 +118,6 @@ operator-most u v =
 
 width-most : (n : ℕ) → operator_width n ≤ 2
 width-most n = by_cases (leb n 3) (λ e. rw e (omega arith)) (λ e. rw e (omega arith))
-
-pub width_one : (n : ℕ) → n ≤ 3 → 1 ≡ operator_width n
-width_one n h = rw (le-leb n 3 h)
-
-pub width_two : (n : ℕ) → 3 < n → 2 ≡ operator_width n
-width_two n h = rw (lt-leb n 3 h)
 
 and_none : (b : Bool) → (b && false) ≡ false
 and_none true = refl
@@ -160,71 +136,79 @@ operator-room [] e = absurd (true≢false e)
 operator-room (u ∷ []) e = rw (and_none (eqb 60 u), and_none (eqb 62 u)) (one_unit (eqb 61 u) (eqb 60 u) (eqb 62 u))
 operator-room (u ∷ v ∷ us) e = let w = width-most (operator_by u v) in omega arith
 
--- the units of a condition in their parts
-pub record Parted (us : List ℕ) (operator : ℕ) (negative : Bool) (number : List ℕ) : Type 0 where
-  pub most : operator ≤ 6
-  pub compares : eqb operator 0 ≡ false
-  pub small : length number ≤ 254
-  pub decimals : every is_digit (decimal_units number) ≡ true
-  pub same : written_inside us ≡ written_of operator negative number
+-- the units of a condition in their parts: its comparison, whether a minus stands behind that, and the place of its number
+pub record Parted (us : List ℕ) (operator : ℕ) (negative : Bool) (from : ℕ) : Type 0 where
+  pub compares : operator ≡ operator_in us
+  pub minus : negative ≡ negative_in us
+  pub behind : from ≡ operator_width operator + one negative
 
--- the units of a condition, with its first two, its comparison, and the unit behind that
-pub record Operated (us : List ℕ) (u v operator width unit : ℕ) : Type 0 where
-  pub small : length us ≤ 254
-  pub found : is_some (condition_inside us) ≡ true
-  pub first : u ≡ get_or us 0 0
-  pub second : v ≡ get_or us 1 0
-  pub compares : operator ≡ operator_by u v
-  pub wide : width ≡ operator_width operator
-  pub behind : unit ≡ get_or us width 0
+flip : (a b : ℕ) → eqb a b ≡ eqb b a
+flip a b = by_cases (eqb a b) (λ e. e ∙ sym (eq-eqb b a (sym (eqb-true a b e)))) (λ e. e ∙ sym (ne_eqb b a (λ h. eqb-false a b e (sym h))))
 
-module _ (us : List ℕ) (u v operator width unit : ℕ) (o : Operated us u v operator width unit) where
-  operator-same : operator ≡ operator_in us
-  unfolding operator_in
-  operator-same = o.compares ∙ rw (o.first, o.second)
+pub parted : (us : List ℕ) (u v operator width unit k : ℕ)
+    → u ≡ get_or us 0 0 → v ≡ get_or us 1 0 → operator ≡ operator_by u v → width ≡ operator_width operator → unit ≡ get_or us width 0
+    → k ≡ one (eqb unit 45) → Parted us operator (eqb unit 45) (width + k)
+unfolding operator_in negative_in signed_in
+parted us u v operator width unit k first second compares wide behind minus =
+    let o : operator ≡ operator_by (get_or us 0 0) (get_or us 1 0) = compares ∙ rw (first, second) in
+    let z : width + 0 ≡ width = omega arith in
+    record {
+      compares = o;
+      minus = rw (← o, ← wide, get_or-drop width us 0 0, z, ← behind) (flip unit 45);
+      behind = rw (wide, minus);
+    }
 
-  pub width_room : width ≤ length us
-  width_room = rw (o.wide, operator-same) (operator-room us (read-inside us o.found).compares)
+-- a minus stands among the units
+minus-room : (us : List ℕ) (w : ℕ) → w ≤ length us → w + one (eqb 45 (get_or (drop w us) 0 0)) ≤ length us
+minus-room us w h = by_cases (ltb w (length us))
+    (λ t. let l = ltb-true w (length us) t in let m = one-most (eqb 45 (get_or (drop w us) 0 0)) in omega arith)
+    (λ t. rw (drop_of_length-le us {i = w} (ltb-false w (length us) t)) (omega arith))
+  where
+    one-most : (b : Bool) → one b ≤ 1
+    one-most true = omega arith
+    one-most false = omega arith
 
-  pub minus-room : unit ≡ 45 → width + 1 ≤ length us
-  minus-room m = let g = o.behind in by_cases (ltb width (length us))
-      (λ t. let h = ltb-true width (length us) t in omega arith)
-      (λ t. let z = get_or-eq_default us 0 {n = width} (ltb-false width (length us) t) in absurd (omega arith))
-
-  negative-same : negative_in us ≡ eqb 45 unit
+module _ (us : List ℕ) (found : is_some (condition_inside us) ≡ true) (operator : ℕ) (negative : Bool) (from : ℕ) (p : Parted us operator negative from) where
+  pub from-inside : from ≤ length us
   unfolding negative_in signed_in
-  negative-same = let z : width + 0 ≡ width = omega arith in rw (← operator-same, ← o.wide, get_or-drop width us 0 0, z, ← o.behind)
+  from-inside =
+      rw (p.behind, p.compares, p.minus) (minus-room us (operator_width (operator_in us)) (operator-room us (read-inside us found).compares))
 
-  number_same : (negative : Bool) (from : ℕ) → eqb 45 unit ≡ negative → from ≡ width + one negative → number_in us ≡ take (length us - from) (drop from us)
+  number_same : number_in us ≡ take (length us - from) (drop from us)
   unfolding number_in signed_in
-  number_same negative from n m =
-      rw (negative-same, n, ← operator-same, ← o.wide, drop-drop (one negative) width us, ← m)
+  number_same =
+      rw (← p.compares, ← p.minus, drop-drop (one negative) (operator_width operator) us, ← p.behind)
       (sym (take_all (length us - from) (drop from us) (rw (length-drop from us) (omega arith))))
 
-  parted : (negative : Bool) (from : ℕ) → eqb 45 unit ≡ negative → from ≡ width + one negative → Parted us operator negative (take (length us - from) (drop from us))
-  parted negative from n m =
-      let r = read-inside us o.found in
-      let number = number_same negative from n m in
-      record {
-        most = rw o.compares (operator-most u v);
-        compares = rw operator-same r.compares;
-        small = rw (length-take (length us - from) (drop from us)) (let h = o.small in omega arith);
-        decimals = rw (← number) r.decimals;
-        same = r.same ∙ rw (← operator-same, negative-same, n, number);
-      }
+  pub number-digits : every is_digit (decimal_units (take (length us - from) (drop from us))) ≡ true
+  number-digits = rw (← number_same) (read-inside us found).decimals
 
-  pub parted-minus : unit ≡ 45 → Parted us operator true (take (length us - (width + 1)) (drop (width + 1) us))
-  parted-minus m = parted true (width + 1) (eq-eqb 45 unit (sym m)) refl
+  pub compared-inside : (r : std.Option Amount) → ((o : ℕ) → AmountOf (written_of o negative (take (length us - from) (drop from us))) r)
+      → ComparedBy (written_inside us) (record { operator = operator; amount = r })
+  unfolding operator_in written_of
+  compared-inside r a =
+      let i = read-inside us found in
+      let most : operator_in us ≤ 6 = operator-most (get_or us 0 0) (get_or us 1 0) in
+      let o : operator ≡ comparison_word (comparison_at (operator_in us)) = p.compares ∙ word_back (operator_in us) most i.compares in
+      rw (i.same, ← p.minus, number_same) (record { operator = o; amount = a (operator_in us) })
 
-  pub parted-plain : (unit ≡ 45 → ⊥) → Parted us operator false (take (length us - width) (drop width us))
-  parted-plain m = parted false width (ne_eqb 45 unit (λ z. m (sym z))) (omega arith)
+-- the bracket has units behind its first one
+inside-none : (n : ℕ) → is_some (condition_inside (take n [])) ≡ false
+unfolding condition_inside is_some units starts_with
+inside-none zero = refl
+inside-none (suc n) = refl
 
--- the units inside the bracket at a place of the code
-pub inside-part : (code : List ℕ) (start size : ℕ) → take (start + 1 + size - (start + 1)) (drop (start + 1) code) ≡ take size (drop (suc start) code)
-inside-part code start size = rw (add-one start, add-sub_cancel_left (suc start) size)
+pub start-inside : (code : List ℕ) (start size : ℕ) → is_some (condition_inside (take size (drop (suc start) code))) ≡ true → suc start ≤ length code
+start-inside code start size e = by_cases (ltb start (length code)) (λ t. let h = ltb-true start (length code) t in omega arith)
+    (λ t. let h = ltb-false start (length code) t in absurd (true≢false (sym e ∙ rw (drop_of_length-le code {i = suc start} (omega arith)) (inside-none size))))
 
-pub inside-small : (code : List ℕ) (start size : ℕ) → length code ≤ 254 → length (take size (drop (suc start) code)) ≤ 254
-inside-small code start size h = rw (length-take size (drop (suc start) code), length-drop (suc start) code) (omega arith)
+-- the units in the bracket, which end with the code
+pub inside-units : (code : List ℕ) (start size from n : ℕ) → from ≡ start → n ≡ min (length (take (length code - (from + 1)) (drop (from + 1) code))) size
+    → take n (take (length code - (from + 1)) (drop (from + 1) code)) ≡ take size (drop (suc start) code)
+inside-units code start size from n e m =
+    let us : List ℕ = drop (suc start) code in
+    let all : take (length code - suc start) us ≡ us = take_all (length code - suc start) us (rw (length-drop (suc start) code) (omega arith)) in
+    rw (m, e, add-one start, all, min_comm (length us) size) (take_min size us)
 
 -- the token of a condition has the condition that its units write
 pub condition-at : (code : List ℕ) (size start : ℕ) → condition_in (token_at code 24 size start) ≡ some (written_inside (take size (drop (suc start) code)))

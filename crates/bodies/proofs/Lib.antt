@@ -1,10 +1,10 @@
 pub mod Tests
+pub mod Bodies
+pub mod Uses
+pub mod Fractions
 pub mod Endings
 pub mod Headings
-pub mod Comparing
 pub mod Numbers
+pub mod Comparing
 pub mod Inside
-pub mod Uses
-pub mod Bodies
-pub mod Fractions
 pub mod Callers

@@ -2,19 +2,20 @@
 -- Assumes nothing.
 use Prim.Native.Nat.{ℕ, zero, suc, ◌+◌, ◌-◌, ◌*◌, ◌^◌, ◌≤◌, ◌<◌}
 use mathlib.Core.Path.{◌≡◌, refl, sym, ap, ◌∙◌}
-use mathlib.Core.Bool.{Bool, true, false, ◌&&◌, true≢false}
+use mathlib.Core.Bool.{true, ◌&&◌, true≢false}
 use mathlib.Core.List.{List, [], ◌∷◌, map}
 use native.Mathlib.Omega.{arith}
 use native.Mathlib.Numerals.{add-one}
 use native.Mathlib.Nat.{le_of_suc-le-suc, pow-suc, pow-le-pow_right, sub-zero}
 use lib.Dec.{leb, ltb}
-use borrow.Author.Tests.{leb-true, ltb-true, ltb-false, lt-ltb, le-ltb}
-use lib.ListN.{length, take, drop, get_or, drop_of_length-le}
+use borrow.Author.Tests.{leb-true, ltb-true, ltb-false}
+use lib.ListN.{length, take, drop, get_or, get_or-eq_default, drop_of_length-le}
 use lib.Seq.{drop-cons}
+use Rattle.std.specs.List.{prefix_len}
 use Rattle.lists.specs.Lists.{every}
 use Rattle.lists.proofs.Bools.{by_cases}
 use Rattle.formats.specs.Tokens.{leading, is_digit, digit_of, number_from}
-use Rattle.bodies.specs.Conditions.{padded, digit_at, padded_number}
+use Rattle.bodies.specs.Conditions.{padded, padded_number}
 
 -- ---- how many digits lead
 pub leading-digits : (us : List ℕ) → every is_digit (take (leading is_digit us) us) ≡ true
@@ -22,55 +23,32 @@ unfolding leading every
 leading-digits [] = refl
 leading-digits (u ∷ us) = by_cases (is_digit u) (λ e. rw (e, e) (leading-digits us)) (λ e. rw e)
 
--- what the loop of `digits` keeps
-pub record Leading (us : List ℕ) (i : ℕ) : Type 0 where
-  pub inside : i ≤ length us
-  pub same : leading is_digit us ≡ i + leading is_digit (drop i us)
-
-pub leading-start : (us : List ℕ) → Leading us 0
-leading-start us = record { inside = omega arith; same = omega arith }
-
-module _ (us : List ℕ) (i : ℕ) (inv : Leading us i) where
-  pub leading_end : length us ≤ i → i ≡ leading is_digit us
-  unfolding leading
-  leading_end h = let s = rw (drop_of_length-le us {i = i} h) at inv.same in omega arith
-
-  module _ (h : i < length us) (d : Bool) (e : d ≡ (leb 48 (get_or us i 0) && leb (get_or us i 0) 57)) where
-    pub leading-found : d ≡ false → i ≡ leading is_digit us
-    unfolding leading is_digit
-    leading-found t = let s = rw (drop-cons us i 0 h, sym e ∙ t) at inv.same in omega arith
-
-    pub leading_step : d ≡ true → Leading us (i + 1)
-    unfolding leading is_digit
-    leading_step t =
-        let s = rw (drop-cons us i 0 h, sym e ∙ t) at inv.same in
-        record { inside = omega arith; same = rw (add-one i) (omega arith) }
+-- as the code counts them
+pub leading-prefix : (us : List ℕ) → prefix_len (λ (u : ℕ). leb 48 u && leb u 57) us ≡ leading is_digit us
+unfolding leading is_digit
+leading-prefix [] = refl
+leading-prefix (u ∷ us) = by_cases (leb 48 u && leb u 57) (λ e. rw e (omega (arith, leading-prefix us))) (λ e. rw e)
 
 -- ---- digits in places
-pub digit-range : (us : List ℕ) (i : ℕ) → every is_digit us ≡ true → i < length us → (48 ≤ get_or us i 0) × (get_or us i 0 ≤ 57)
+digit-at : (us : List ℕ) (i : ℕ) → every is_digit us ≡ true → is_digit (get_or us i 48) ≡ true
 unfolding every is_digit
-digit-range [] i e h = absurd (omega arith)
-digit-range (u ∷ us) zero e h = by_cases (leb 48 u)
-    (λ a. by_cases (leb u 57) (λ b. (leb-true 48 u a, leb-true u 57 b)) (λ b. absurd (true≢false (sym (rw (a, b) at e)))))
-    (λ a. absurd (true≢false (sym (rw a at e))))
-digit-range (u ∷ us) (suc i) e h = by_cases (is_digit u)
-    (λ a. digit-range us i (rw a at e) (le_of_suc-le-suc h))
-    (λ a. absurd (true≢false (sym (rw a at e))))
+digit-at [] i e = refl
+digit-at (u ∷ us) zero e = by_cases (is_digit u) (λ a. a) (λ a. absurd (true≢false (sym (rw a at e))))
+digit-at (u ∷ us) (suc i) e = by_cases (is_digit u) (λ a. digit-at us i (rw a at e)) (λ a. absurd (true≢false (sym (rw a at e))))
 
-module _ (us : List ℕ) (i : ℕ) where
-  pub digit-there : every is_digit us ≡ true → i < length us → (get_or us i 0 - 48 ≡ digit_at us i) × (get_or us i 0 - 48 ≤ 9)
-  unfolding digit_at digit_of
-  digit-there e h = let r = digit-range us i e h in (rw (lt-ltb i (length us) h), omega arith)
+pub digit-range : (us : List ℕ) (i : ℕ) → every is_digit us ≡ true → (48 ≤ get_or us i 48) × (get_or us i 48 ≤ 57)
+unfolding is_digit
+digit-range us i e =
+    let t = digit-at us i e in
+    by_cases (leb 48 (get_or us i 48))
+    (λ a. by_cases (leb (get_or us i 48) 57) (λ b. (leb-true 48 _ a, leb-true _ 57 b)) (λ b. absurd (true≢false (sym (rw (a, b) at t)))))
+    (λ a. absurd (true≢false (sym (rw a at t))))
 
-  pub digit-past : length us ≤ i → (0 ≡ digit_at us i) × (0 ≤ 9)
-  unfolding digit_at
-  digit-past h = (rw (le-ltb i (length us) h), omega arith)
-
-  padded-step : (k : ℕ) → padded (suc k) (drop i us) ≡ digit_at us i ∷ padded k (drop (i + 1) us)
-  unfolding padded digit_at
-  padded-step k = by_cases (ltb i (length us))
-      (λ e. rw (e, add-one i, drop-cons us i 0 (ltb-true i (length us) e)))
-      (λ e. let h = ltb-false i (length us) e in rw (e, drop_of_length-le us {i = i} h, drop_of_length-le us {i = i + 1} (omega arith)))
+padded-step : (us : List ℕ) (i k : ℕ) → padded (suc k) (drop i us) ≡ digit_of (get_or us i 48) ∷ padded k (drop (i + 1) us)
+unfolding padded digit_of
+padded-step us i k = by_cases (ltb i (length us))
+    (λ e. rw (add-one i, drop-cons us i 48 (ltb-true i (length us) e)))
+    (λ e. let h = ltb-false i (length us) e in rw (drop_of_length-le us {i = i} h, drop_of_length-le us {i = i + 1} (omega arith), get_or-eq_default us 48 {n = i} h))
 
 -- what the loop of `number` keeps
 pub record Numbering (us : List ℕ) (places v i : ℕ) : Type 0 where
@@ -95,16 +73,17 @@ module _ (us : List ℕ) (places v i : ℕ) (inv : Numbering us places v i) wher
       let z : places - i ≡ 0 = omega arith in
       (sym (rw z at inv.same), rw (← e) inv.small)
 
-  pub numbering-step : i < places → (d : ℕ) → d ≡ digit_at us i → d ≤ 9 → Numbering us places (10 * v + d) (i + 1)
-  unfolding number_from
-  numbering-step h d e l =
+  pub numbering-step : i < places → (u d : ℕ) → u ≡ get_or us i 48 → d ≡ u - 48 → Numbering us places (10 * v + d) (i + 1)
+  unfolding number_from digit_of
+  numbering-step h u d g e =
+      let l = digit-range us i inv.digits in
       let z : places - i ≡ suc (places - (i + 1)) = omega arith in
       record {
         digits = inv.digits;
         most = inv.most;
         inside = omega arith;
         small = rw (add-one i, pow-suc 10 i) (let k = inv.small in omega arith);
-        same = inv.same ∙ rw (z, padded-step us i (places - (i + 1)), ← e);
+        same = inv.same ∙ rw (z, padded-step us i (places - (i + 1)), ← g, ← e);
       }
 
 -- ---- a padded number

@@ -1,25 +1,27 @@
 -- The uses of a body's commas: one pass counts them.
 -- Assumes nothing.
-use Prim.Native.Nat.{ℕ, ◌+◌, ◌≤◌, ◌<◌}
+use Prim.Native.Nat.{ℕ, ◌+◌, ◌≤◌}
 use mathlib.Core.Path.{◌≡◌, refl, sym, ap, ◌∙◌}
 use mathlib.Core.Bool.{Bool, true, false, cond, ◌&&◌, ◌||◌, true≢false}
 use mathlib.Core.List.{List, [], ◌∷◌, ◌++◌}
 use native.Mathlib.Omega.{arith}
 use lib.Dec.{leb, ltb, eqb}
 use borrow.Author.Tests.{eqb-true, le-leb, lt-leb, ne_eqb}
-use lib.ListN.{length, get_or}
+use lib.ListN.{length, take, length-take}
+use Rattle.std.specs.List.{fold}
 use Rattle.lists.specs.Lists.{any, count}
 use Rattle.lists.proofs.Bools.{by_cases}
 use Rattle.lists.proofs.Counts.{positive-count}
 use Rattle.formats.specs.Tokens.{Token}
 use Rattle.formats.specs.Kinds.{form_of, is_place, is_point, is_comma, CommaUse, groups, divides, misplaced, is_grouping, is_dividing, is_misplaced, integer_place_in, uses_from, comma_uses}
 use Rattle.formats.proofs.CommaUses.{comma_use, comma_uses_from, comma-uses}
+use Rattle.marks.specs.declared.Mark.{Mark}
 use Rattle.marks.specs.Marks.{mark_rows, mark_token, condition_of, tokens_in}
 use Rattle.bodies.specs.declared.commas.Commas.{Commas}
 use Rattle.bodies.specs.declared.commas.Scan.{Scan}
-use Rattle.bodies.specs.Uses.{commas_of, met, at_comma, at_point, at_place, scanned, scan_form}
+use Rattle.bodies.specs.Uses.{commas_of, met, scanned, scan_form}
 use Rattle.marks.proofs.ByForm.{by_form}
-use Rattle.marks.proofs.Words.{passed, Passed, passed_start, passed-end, passed-step}
+use Rattle.marks.proofs.Buffer.{fold-end}
 
 -- one token more
 abbrev scan_token : Scan → Token → Scan
@@ -106,8 +108,7 @@ module _ (f : CommaUse → Bool) where
         (λ a. by_cases (is_point t) (λ b. total-point (eqb-true (form_of t) 7 b))
         (λ b. by_cases (is_place t) (λ c. total-place (eqb-true (form_of t) 4 c)) (λ c. total-other a b c)))
 
-  total-all : (s : Scan) (ts : List Token) → total s ts ≡ total (passed scan_token s ts) []
-  unfolding passed
+  total-all : (s : Scan) (ts : List Token) → total s ts ≡ total (fold scan_token s ts) []
   total-all s [] = refl
   total-all s (t ∷ ts) = total-step s t ts ∙ total-all (scan_token s t) ts
 
@@ -121,8 +122,8 @@ module _ (f : CommaUse → Bool) where
   -- the commas of one use are those that the pass counted
   pub uses-counted : (ts : List Token)
       → count f (comma_uses ts)
-      ≡ cond (f misplaced) (passed scan_token nothing_scanned ts).misplaced 0 + cond (f groups) (passed scan_token nothing_scanned ts).grouping 0
-      + cond (f divides) ((passed scan_token nothing_scanned ts).dividing + (passed scan_token nothing_scanned ts).held) 0
+      ≡ cond (f misplaced) (fold scan_token nothing_scanned ts).misplaced 0 + cond (f groups) (fold scan_token nothing_scanned ts).grouping 0
+      + cond (f divides) ((fold scan_token nothing_scanned ts).dividing + (fold scan_token nothing_scanned ts).held) 0
   unfolding total weigh
   uses-counted ts =
       let s = nothing_scanned in
@@ -131,13 +132,13 @@ module _ (f : CommaUse → Bool) where
       let d = weigh-none divides in
       let e = weigh-none (comma_use false true ts) in
       let start : total s ts ≡ count f (comma_uses_from false false ts) = omega arith in
-      ap (count f) (comma-uses ts) ∙ sym start ∙ total-all s ts ∙ total-end (passed scan_token s ts)
+      ap (count f) (comma-uses ts) ∙ sym start ∙ total-all s ts ∙ total-end (fold scan_token s ts)
 
 -- one pass gives the commas
-pub commas-scanned : (ts : List Token) → scan_commas (passed scan_token nothing_scanned ts) ≡ commas_of ts
+pub commas-scanned : (ts : List Token) → scan_commas (fold scan_token nothing_scanned ts) ≡ commas_of ts
 unfolding commas_of
 commas-scanned ts =
-    let s = passed scan_token nothing_scanned ts in
+    let s = fold scan_token nothing_scanned ts in
     let a : count is_misplaced (comma_uses ts) ≡ s.misplaced = uses-counted is_misplaced ts ∙ omega arith in
     let b : count is_grouping (comma_uses ts) ≡ s.grouping = uses-counted is_grouping ts ∙ omega arith in
     let d : count is_dividing (comma_uses ts) ≡ s.dividing + s.held = uses-counted is_dividing ts ∙ omega arith in
@@ -155,20 +156,6 @@ unfolding commas_of comma_uses any count
 commas-none ts e = rw (uses-none [] ts e)
 
 -- ---- the pass
-module _ (s r : Scan) (f : ℕ) where
-  pub scan-comma : f ≡ 8 → r ≡ at_comma s → r ≡ scan_form s f
-  scan-comma e h = h ∙ rw e
-
-  pub scan-point : f ≡ 7 → r ≡ at_point s → r ≡ scan_form s f
-  scan-point e h = h ∙ rw e
-
-  module _ (a : f ≡ 8 → ⊥) (b : f ≡ 7 → ⊥) (p : Bool) (q : p ≡ (leb 4 f && leb f 6)) where
-    pub scan-place : p ≡ true → r ≡ at_place s → r ≡ scan_form s f
-    scan-place u h = h ∙ rw (ne_eqb f 8 a, ne_eqb f 7 b, sym q ∙ u)
-
-    pub scan-other : p ≡ false → s ≡ scan_form s f
-    scan-other u = rw (ne_eqb f 8 a, ne_eqb f 7 b, sym q ∙ u)
-
 -- a token is one comma at most
 met-most : (s : Scan) (f : ℕ) → met (scan_form s f) ≤ met s + 1
 met-most s f = by_cases (eqb f 8)
@@ -179,22 +166,19 @@ met-most s f = by_cases (eqb f 8)
     (λ c. by_cases s.point (λ p. rw (a, b, c, p) (omega arith)) (λ p. rw (a, b, c, p) (omega arith)))
     (λ c. rw (a, b, c) (omega arith))))
 
--- what the loop of `commas_of` keeps
-pub record Scanning (ws : List ℕ) (i : ℕ) (s : Scan) : Type 0 where
-  pub all : Passed scan_token nothing_scanned ws i s
-  pub few : met s ≤ i
+-- the commas of marks
+abbrev pub scan_marks : Scan → List Mark → Scan
+scan_marks s ms = fold (λ t m. scan_form t m.form) s ms
 
-pub scanning-start : (ws : List ℕ) → length ws ≤ 762 → Scanning ws 0 nothing_scanned
-scanning-start ws h = record { all = passed_start scan_token nothing_scanned ws h; few = omega arith }
+met-few : (s : Scan) (ms : List Mark) → met (scan_marks s ms) ≤ met s + length ms
+met-few s [] = omega arith
+met-few s (m ∷ ms) = omega (arith, met-few (scan_form s m.form) ms, met-most s m.form)
 
-module _ (ws : List ℕ) (i : ℕ) (s : Scan) (inv : Scanning ws i s) where
-  pub scanning-end : length ws ≤ i + 2 → (code : List ℕ) → scan_commas s ≡ commas_of (tokens_in code ws)
-  scanning-end h code = ap scan_commas (sym (passed-end scan_token nothing_scanned ws i s inv.all h code)) ∙ commas-scanned (tokens_in code ws)
+-- what the loop of `scan_body` needs, and what it gives
+module _ (ms : List Mark) (k : ℕ) (s : Scan) (e : s ≡ scan_marks nothing_scanned (take k ms)) where
+  pub scan-room : met s ≤ k
+  scan-room = rw e (omega (arith, met-few nothing_scanned (take k ms), length-take k ms))
 
-  pub scanning-step : i + 2 < length ws → (s' : Scan) → s' ≡ scan_form s (get_or ws i 0) → Scanning ws (i + 3) s'
-  scanning-step h s' e =
-      let f = get_or ws i 0 in
-      record {
-        all = passed-step scan_token nothing_scanned ws i s inv.all h s' (λ us. scan-form s f (get_or ws (i + 1) 0) us ∙ sym e);
-        few = rw e (let k = met-most s f in let l = inv.few in omega arith);
-      }
+pub scan_end : (ms : List Mark) (s : Scan) → s ≡ scan_marks nothing_scanned (take (length ms) ms) → (code : List ℕ) → scan_commas s ≡ commas_of (tokens_in code ms)
+scan_end ms s e code =
+    ap scan_commas (e ∙ fold-end code scan_token scan_form scan-form nothing_scanned ms) ∙ commas-scanned (tokens_in code ms)

@@ -53,4 +53,4 @@ see_form s f = cond (place_form f) (seen s 1 s.unit true) (cond (cut_form f) (se
 pub record Roomy (s : Seen) : Type 0 where
   pub sum : s.sum ≤ 253 * 72057594037927936
   pub unit : s.unit ≤ 65536
-  pub places : s.places ≤ 762 * 65536
+  pub places : s.places ≤ 254 * 65536

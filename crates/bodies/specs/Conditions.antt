@@ -1,6 +1,7 @@
 -- The condition that units inside a bracket write, part by part.
 -- Assumes nothing.
 use Rattle.std.specs.Prelude.{ℕ, zero, suc, ◌+◌, ◌*◌, ◌^◌, ◌<◌, ◌≡◌, Bool, true, false, cond, not, ◌&&◌, List, [], ◌∷◌, map, leb, ltb, eqb, length, take, drop, get_or}
+use Rattle.std.specs.Prelude as std
 use Rattle.std.proofs.Math.Option.{some}
 use Rattle.formats.specs.Tokens.{Written, leading, is_digit, digit_of, number_from, condition_inside}
 use Rattle.formats.specs.Kinds.{millionths_of}
@@ -8,6 +9,7 @@ use Rattle.formats.specs.Limits.{written_within}
 use Rattle.tables.specs.Encode.{comparison_word}
 use Rattle.tables.specs.Decode.{comparison_at}
 use Rattle.marks.specs.Marks.{written_or, written_in}
+use Rattle.bodies.specs.declared.conditions.Amount.{Amount}
 use Rattle.bodies.specs.declared.conditions.Compared.{Compared}
 use Rattle.bodies.specs.Forms.{one}
 
@@ -64,23 +66,22 @@ padded zero us = []
 padded (suc k) [] = 0 ∷ padded k []
 padded (suc k) (u ∷ us) = digit_of u ∷ padded k us
 
--- the digit at a place, 0 where the units end
-unfoldable pub digit_at : List ℕ → ℕ → ℕ
-digit_at us i = cond (ltb i (length us)) (digit_of (get_or us i 0)) 0
-
 unfoldable pub padded_number : ℕ → List ℕ → ℕ
 padded_number places us = number_from 0 (padded places us)
 
--- a condition whose digits pass the limits
-abbrev pub beyond_limits : ℕ → Compared
-beyond_limits operator = record { operator = operator; negative = false; whole = 0; millionths = 0; within = false }
+-- a is the number that the condition w compares with, as a table has it
+pub record Measures (w : Written) (a : Amount) : Type 0 where
+  pub number : millionths_of w ≡ a.whole * 10 ^ 6 + a.millionths
+  pub negative : a.negative ≡ (w.negative && not (eqb (millionths_of w) 0))
+  pub whole : a.whole < 10 ^ 9
+  pub millionths : a.millionths < 10 ^ 6
 
--- r is the condition w as a table has it; where w passes the limits its number is 0
+-- the same, if its digits are within the limits
+pub record AmountOf (w : Written) (r : std.Option Amount) : Type 0 where
+  pub within : std.is_some r ≡ written_within (some w)
+  pub measures : (a : Amount) → r ≡ std.Some a → Measures w a
+
+-- r is the condition w as a table has it
 pub record ComparedBy (w : Written) (r : Compared) : Type 0 where
   pub operator : r.operator ≡ comparison_word w.comparison
-  pub within : r.within ≡ written_within (some w)
-  pub number : r.within ≡ true → millionths_of w ≡ r.whole * 10 ^ 6 + r.millionths
-  pub negative : r.within ≡ true → r.negative ≡ (w.negative && not (eqb (millionths_of w) 0))
-  pub whole : r.whole < 10 ^ 9
-  pub millionths : r.millionths < 10 ^ 6
-  pub outside : r.within ≡ false → (r.negative ≡ false) × (r.whole ≡ 0) × (r.millionths ≡ 0)
+  pub amount : AmountOf w r.amount

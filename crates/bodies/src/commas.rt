@@ -5,8 +5,8 @@ ghost use Rattle.formats.specs.Kinds.{is_comma};
 ghost use Rattle.marks.specs.Marks.{tokens_in};
 ghost use Rattle.bodies.specs.Uses.{met, at_comma, at_point, at_place, scan_form, commas_of};
 
+use marks::Mark;
 use marks::forms::{COMMA, POINT, SPACE_PLACE, ZERO_PLACE};
-use values::integers::is_between;
 
 // The commas of a body: whether one is misplaced, whether one asks for grouping, and how many divide by 1,000.
 #[derive(Clone, Copy)]
@@ -29,7 +29,7 @@ struct Scan {
 
 // A comma is misplaced before the first place; behind it its use depends on what follows.
 fn at_comma(s: Scan) -> Scan
-    requires { met s ≤ 762 }
+    requires { met s ≤ 254 }
     ensures { result ≡ at_comma s }
 {
     let mut t = s;
@@ -43,7 +43,7 @@ fn at_comma(s: Scan) -> Scan
 
 // The commas held before the first point divide.
 fn at_point(s: Scan) -> Scan
-    requires { met s ≤ 762 }
+    requires { met s ≤ 254 }
     ensures { result ≡ at_point s }
 {
     if s.point {
@@ -58,7 +58,7 @@ fn at_point(s: Scan) -> Scan
 
 // The commas held before a place are misplaced behind the point, and ask for grouping before it.
 fn at_place(s: Scan) -> Scan
-    requires { met s ≤ 762 }
+    requires { met s ≤ 254 }
     ensures { result ≡ at_place s }
 {
     let mut t = s;
@@ -74,24 +74,20 @@ fn at_place(s: Scan) -> Scan
 
 // The commas with one token more.
 fn scan_token(s: Scan, form: u16) -> Scan
-    requires { met s ≤ 762 }
+    requires { met s ≤ 254 }
     ensures { result ≡ scan_form s form }
 {
-    if form == COMMA {
-        return at_comma(s);
+    match form {
+        COMMA => at_comma(s),
+        POINT => at_point(s),
+        ZERO_PLACE..=SPACE_PLACE => at_place(s),
+        _ => s,
     }
-    if form == POINT {
-        return at_point(s);
-    }
-    if is_between(ZERO_PLACE, SPACE_PLACE, form) {
-        return at_place(s);
-    }
-    s
 }
 
 // The commas of a body: at its end those held divide.
-fn scan_body(body: &[u16]) -> Commas
-    requires { length body.now ≤ 762 }
+fn scan_body(body: &[Mark]) -> Commas
+    requires { length body.now ≤ 254 }
     ensures { (code : List ℕ) → result ≡ commas_of (tokens_in code body.now) }
 {
     let mut s = Scan {
@@ -102,10 +98,8 @@ fn scan_body(body: &[u16]) -> Commas
         grouping: 0,
         dividing: 0,
     };
-    let mut i: usize = 0;
-    while i + 2 < body.len() {
-        s = scan_token(s, body[i]);
-        i += 3;
+    for mark in body {
+        s = scan_token(s, mark.form);
     }
     Commas {
         misplaced: 0 < s.misplaced,
@@ -115,8 +109,8 @@ fn scan_body(body: &[u16]) -> Commas
 }
 
 // The commas of a body; `some` says whether there is one at all, and without one nothing is looked at.
-pub fn commas_of(body: &[u16], some: bool) -> Commas
-    requires { (length body.now ≤ 762) × ((code : List ℕ) → some ≡ any is_comma (tokens_in code body.now)) }
+pub fn commas_of(body: &[Mark], some: bool) -> Commas
+    requires { (length body.now ≤ 254) × ((code : List ℕ) → some ≡ any is_comma (tokens_in code body.now)) }
     ensures { (code : List ℕ) → result ≡ commas_of (tokens_in code body.now) }
 {
     if some {

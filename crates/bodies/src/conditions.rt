@@ -1,10 +1,11 @@
 // The condition that the units inside a bracket write.
-ghost use Rattle.std.specs.Prelude.{◌≡◌, true, false, suc, ◌+◌, ◌-◌, ◌^◌, ◌≤◌, ◌<◌, eqb, length, take, drop, get_or};
+ghost use Rattle.std.specs.Prelude.{◌≡◌, true, false, ℕ, suc, ◌+◌, ◌-◌, ◌^◌, ◌≤◌, ◌<◌, leb, eqb, ◌&&◌, length, take, drop, get_or};
+ghost use Rattle.std.specs.List.{prefix_len};
 ghost use Rattle.lists.specs.Lists.{every, is_some};
 ghost use Rattle.formats.specs.Tokens.{leading, is_digit, condition_inside};
-ghost use Rattle.bodies.specs.Conditions.{operator_by, operator_width, digit_at, padded_number, decimal_units, written_inside, written_of, beyond_limits, ComparedBy};
+ghost use Rattle.bodies.specs.Conditions.{operator_by, operator_width, padded_number, decimal_units, written_inside, written_of, AmountOf, ComparedBy};
 
-use values::integers::{is_between, least};
+use marks::Mark;
 
 const MINUS: u16 = 45;
 
@@ -18,70 +19,41 @@ const EQUAL: u16 = 61;
 
 const GREATER: u16 = 62;
 
-// A condition as a table has it: its comparison by number and its number in whole units and millionths, with its sign, which is
-// false at zero; all 0 where the digits pass the limits.
+// A number in whole units and millionths, with its sign, which is false at zero.
 #[derive(Clone, Copy)]
-pub struct Compared {
-    pub operator: u16,
+pub struct Amount {
     pub negative: bool,
     pub whole: u32,
     pub millionths: u32,
-    pub within: bool,
 }
 
-// The unit at a place, 0 where the units end.
-fn unit_at(us: &[u16], i: usize) -> u16
-    ensures { result ≡ get_or us.now i 0 }
-{
-    if i < us.len() {
-        return us[i];
-    }
-    0
+// A condition as a table has it: its comparison by number, and what it compares with, none where the digits pass the limits.
+#[derive(Clone, Copy)]
+pub struct Compared {
+    pub operator: u16,
+    pub amount: Option<Amount>,
 }
 
 // The number of the comparison that the units u and v start, in the order `= < > <= >= <>`.
 fn operator_by(u: u16, v: u16) -> u16
     ensures { result ≡ operator_by u v }
 {
-    match u {
-        EQUAL => 1,
-        LESS => match v {
-            EQUAL => 4,
-            GREATER => 6,
-            _ => 2,
-        },
-        GREATER => match v {
-            EQUAL => 5,
-            _ => 3,
-        },
+    match (u, v) {
+        (LESS, EQUAL) => 4,
+        (GREATER, EQUAL) => 5,
+        (LESS, GREATER) => 6,
+        (EQUAL, _) => 1,
+        (LESS, _) => 2,
+        (GREATER, _) => 3,
         _ => 0,
     }
 }
 
 // How many digits stand at the start.
 fn digits(us: &[u16]) -> usize
-    ensures { result ≡ leading is_digit us.now }
+    ensures { result ≡ prefix_len (λ u. leb 48 u && leb u 57) us.now }
 {
-    let mut i: usize = 0;
-    while i < us.len() {
-        if is_between(ZERO, NINE, us[i]) {
-            i += 1;
-        } else {
-            return i;
-        }
-    }
-    i
-}
-
-// The digit at a place, 0 where the units end.
-fn digit_at(us: &[u16], i: usize) -> u32
-    requires { every is_digit us.now ≡ true }
-    ensures { (result ≡ digit_at us.now i) × (result ≤ 9) }
-{
-    if i < us.len() {
-        return (us[i] - ZERO) as u32;
-    }
-    0
+    us.iter().take_while(|u| (ZERO..=NINE).contains(*u)).count()
 }
 
 // The digits as a number of so many places, with zeros where they end.
@@ -90,50 +62,34 @@ fn number(us: &[u16], places: usize) -> u32
     ensures { (result ≡ padded_number places us.now) × (result < 10 ^ places) }
 {
     let mut v: u32 = 0;
-    let mut i: usize = 0;
-    while i < places {
-        v = 10 * v + digit_at(us, i);
-        i += 1;
+    for i in 0..places {
+        let digit = us.get(i).copied().unwrap_or(ZERO) - ZERO;
+        v = 10 * v + u32::from(digit);
     }
     v
 }
 
-// A condition whose digits pass the limits.
-fn outside(operator: u16) -> Compared
-    ensures { result ≡ beyond_limits operator }
-{
-    Compared {
-        operator,
-        negative: false,
-        whole: 0,
-        millionths: 0,
-        within: false,
-    }
-}
-
-// The condition of a comparison, a sign and a number.
-fn compared_number(operator: u16, negative: bool, us: &[u16]) -> Compared
-    requires { (operator ≤ 6) × (eqb operator 0 ≡ false) × (length us.now ≤ 254) × (every is_digit (decimal_units us.now) ≡ true) }
-    ensures { ComparedBy (written_of operator negative us.now) result }
+// What the digits of a condition compare with.
+fn amount_of(negative: bool, us: &[u16]) -> Option<Amount>
+    requires { (length us.now ≤ 254) × (every is_digit (decimal_units us.now) ≡ true) }
+    ensures { (operator : ℕ) → AmountOf (written_of operator negative us.now) result }
 {
     let n = digits(us);
-    let behind = least(n + 1, us.len());
+    let behind = us.len().min(n + 1);
     let decimals = &us[behind..];
     if 9 < n {
-        return outside(operator);
+        return None;
     }
     if 6 < decimals.len() {
-        return outside(operator);
+        return None;
     }
     let whole = number(&us[..n], n);
     let millionths = number(decimals, 6);
-    Compared {
-        operator,
+    Some(Amount {
         negative: negative & (0 < whole + millionths),
         whole,
         millionths,
-        within: true,
-    }
+    })
 }
 
 // How many units a comparison takes.
@@ -143,26 +99,35 @@ fn operator_width(operator: u16) -> usize
     if operator <= 3 { 1 } else { 2 }
 }
 
+// The unit at a place, 0 where the units end.
+fn unit_at(us: &[u16], i: usize) -> u16
+    ensures { result ≡ get_or us.now i 0 }
+{
+    us.get(i).copied().unwrap_or(0)
+}
+
 // The condition that the units inside a bracket write.
 fn written(us: &[u16]) -> Compared
     requires { (length us.now ≤ 254) × (is_some (condition_inside us.now) ≡ true) }
     ensures { ComparedBy (written_inside us.now) result }
 {
     let operator = operator_by(unit_at(us, 0), unit_at(us, 1));
-    let at = operator_width(operator);
-    if unit_at(us, at) == MINUS {
-        let from = at + 1;
-        return compared_number(operator, true, &us[from..]);
+    let width = operator_width(operator);
+    let negative = unit_at(us, width) == MINUS;
+    let from = width + usize::from(negative);
+    Compared {
+        operator,
+        amount: amount_of(negative, &us[from..]),
     }
-    compared_number(operator, false, &us[at..])
 }
 
-// The condition in the bracket at a place of the code, of so many units.
-pub fn condition_of(code: &[u16], start: u16, size: u16) -> Compared
-    requires { (length code.now ≤ 254) × (size + start + 1 ≤ length code.now) × (is_some (condition_inside (take size (drop (suc start) code.now))) ≡ true) }
-    ensures { ComparedBy (written_inside (take size (drop (suc start) code.now))) result }
+// The condition that a token of the code stands for.
+pub fn condition_of(code: &[u16], mark: Mark) -> Compared
+    requires { (length code.now ≤ 254) × (is_some (condition_inside (take mark.argument (drop (suc mark.start) code.now))) ≡ true) }
+    ensures { ComparedBy (written_inside (take mark.argument (drop (suc mark.start) code.now))) result }
 {
-    let from = start as usize + 1;
-    let end = from + size as usize;
-    written(&code[from..end])
+    let from = usize::from(mark.start) + 1;
+    let inside = &code[from..];
+    let size = inside.len().min(usize::from(mark.argument));
+    written(&inside[..size])
 }

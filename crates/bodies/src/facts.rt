@@ -4,12 +4,12 @@ ghost use Rattle.marks.specs.Marks.{tokens_in};
 ghost use Rattle.bodies.specs.Forms.{weight_form};
 ghost use Rattle.bodies.specs.Bodies.{seen, see_cut, see_other, see_form, Roomy, facts_of};
 
+use marks::Mark;
 use marks::forms::{
     AT, COLOUR, COMMA, CONDITION, DAYS, ELAPSED_HOURS, ELAPSED_MINUTES, ELAPSED_SECONDS,
     EXPONENT_MINUS, EXPONENT_PLUS, FILL, GENERAL, HOURS, MONTHS, POINT, SECONDS, SPACE_OVER_FIXED,
     SPACE_PLACE, YEARS, ZERO_PLACE,
 };
-use values::integers::is_between;
 
 // What a token adds to the sum of a body's, digits of base 256, as a body has 254 tokens at most: one to those that make it a number, a
 // fraction, a scientific section, a date, General or a text, to its brackets, its fills or its commas.
@@ -59,6 +59,8 @@ struct Seen {
     places: u64,
 }
 
+// (An arm for each form, which makes it one load.)
+#[tactic(auto, unfolding(crate::specs::Forms::date_forms, lists::specs::Lists::any))]
 fn weight_of(form: u16) -> u64
     ensures { result ≡ weight_form form }
 {
@@ -139,18 +141,16 @@ fn see(s: Seen, form: u16) -> Seen
     requires { Roomy s }
     ensures { result ≡ see_form s form }
 {
-    if is_between(ZERO_PLACE, SPACE_PLACE, form) {
-        return see_place(s);
+    match form {
+        ZERO_PLACE..=SPACE_PLACE => see_place(s),
+        EXPONENT_PLUS..=SPACE_OVER_FIXED => see_cut(s, form),
+        _ => see_other(s, form),
     }
-    if is_between(EXPONENT_PLUS, SPACE_OVER_FIXED, form) {
-        return see_cut(s, form);
-    }
-    see_other(s, form)
 }
 
 // The facts of a body.
-pub fn facts_of(body: &[u16]) -> Facts
-    requires { length body.now ≤ 762 }
+pub fn facts_of(body: &[Mark]) -> Facts
+    requires { length body.now ≤ 254 }
     ensures { (code : List ℕ) → result ≡ facts_of (tokens_in code body.now) }
 {
     let mut s = Seen {
@@ -158,10 +158,8 @@ pub fn facts_of(body: &[u16]) -> Facts
         unit: INTEGER_PLACES,
         places: 0,
     };
-    let mut i: usize = 0;
-    while i + 2 < body.len() {
-        s = see(s, body[i]);
-        i += 3;
+    for mark in body {
+        s = see(s, mark.form);
     }
     let kinds = s.sum % BRACKETS;
     Facts {

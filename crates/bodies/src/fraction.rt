@@ -1,13 +1,13 @@
 // The rules for the solidus of a fraction, in one pass over the tokens of its body.
-ghost use Rattle.std.specs.Prelude.{◌≡◌, List, ℕ, ◌≤◌, length};
+ghost use Rattle.std.specs.Prelude.{◌≡◌, List, ℕ};
 ghost use Rattle.marks.specs.Marks.{tokens_in};
 ghost use Rattle.bodies.specs.Fraction.{silent_form, at_place, at_item, at_over, walk_form, FractionTold};
 
+use marks::Mark;
 use marks::forms::{
     BLANK, COLOUR, COMMA, CONDITION, EXPONENT_MINUS, SEMICOLON, SPACE_OVER_FIXED, SPACE_PLACE,
     ZERO_OVER, ZERO_OVER_FIXED, ZERO_PLACE,
 };
-use values::integers::is_between;
 
 // What the tokens passed have said. Before the solidus: the last of them is a place (`run`), integer places stand before its run (`begun`),
 // and a literal behind these (`literal`). Behind the solidus (`over`): a place may follow (`run`), the denominator has begun (`begun`).
@@ -19,13 +19,6 @@ struct Walk {
     begun: bool,
     literal: bool,
     fits: bool,
-}
-
-// A token of this form makes no item.
-fn is_silent(form: u16) -> bool
-    ensures { result ≡ silent_form form }
-{
-    (form == COMMA) | (form == SEMICOLON) | (form == COLOUR) | (form == CONDITION)
 }
 
 // With a place more: behind the solidus one of its denominator's run.
@@ -71,21 +64,16 @@ fn at_over(w: Walk, fixed: bool) -> Walk
 fn walk_token(w: Walk, form: u16) -> Walk
     ensures { result ≡ walk_form w form }
 {
-    if is_between(ZERO_PLACE, SPACE_PLACE, form) {
-        return at_place(w);
+    match form {
+        ZERO_PLACE..=SPACE_PLACE => at_place(w),
+        ZERO_OVER..=SPACE_OVER_FIXED => at_over(w, ZERO_OVER_FIXED <= form),
+        COMMA | SEMICOLON | COLOUR | CONDITION => w,
+        _ => at_item(w, !(BLANK..=EXPONENT_MINUS).contains(&form)),
     }
-    if is_between(ZERO_OVER, SPACE_OVER_FIXED, form) {
-        return at_over(w, ZERO_OVER_FIXED <= form);
-    }
-    if is_silent(form) {
-        return w;
-    }
-    at_item(w, !is_between(BLANK, EXPONENT_MINUS, form))
 }
 
 // The body of a fraction keeps the rules for its solidus.
-pub fn fraction_fits(body: &[u16]) -> bool
-    requires { length body.now ≤ 762 }
+pub fn fraction_fits(body: &[Mark]) -> bool
     ensures { (code : List ℕ) → FractionTold (tokens_in code body.now) result }
 {
     let mut w = Walk {
@@ -95,10 +83,8 @@ pub fn fraction_fits(body: &[u16]) -> bool
         literal: false,
         fits: true,
     };
-    let mut i: usize = 0;
-    while i + 2 < body.len() {
-        w = walk_token(w, body[i]);
-        i += 3;
+    for mark in body {
+        w = walk_token(w, mark.form);
     }
     w.fits & (!w.over | w.begun)
 }

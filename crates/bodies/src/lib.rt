@@ -1,6 +1,5 @@
 // What the tokens of a section say, read from a part of the token buffer: where the section ends, its heading, the facts of its body,
-// its commas, the rules for its solidus; and what the units of a condition say. A token is three words: its form, its argument and the
-// place of its first unit.
+// its commas, the rules for its solidus; and what the units of a condition say.
 #![tactic(auto)]
 
 pub mod commas;

@@ -3,8 +3,9 @@
 use Prim.Native.Nat.{ℕ, suc, ◌<◌}
 use mathlib.Core.Path.{◌≡◌, refl, sym, ap, ◌∙◌}
 use mathlib.Core.List.{List, [], ◌∷◌}
+use native.Mathlib.Omega.{arith}
 use lib.ListN.{length, take, drop, get_or}
-use lib.Seq.{drop-cons}
+use lib.Seq.{drop-cons, take_all}
 use Rattle.std.proofs.lemmas.List.{take-map, drop-map, length-map}
 use Rattle.std.specs.List.{fold}
 use Rattle.formats.specs.Tokens.{Token}
@@ -45,3 +46,8 @@ module _ (code : List ℕ) where
     fold-forms same s (m ∷ ms) =
         ap (λ (x : S). fold step x (tokens_in code ms)) (same s m.form m.argument (drop (suc m.start) code))
         ∙ fold-forms same (form_step s m.form) ms
+
+    -- the same of a loop that has gone over all marks
+    pub fold-end : ((s : S) (f a : ℕ) (us : List ℕ) → step s (mark_token f a us) ≡ form_step s f)
+        → (s : S) (ms : List Mark) → fold (λ x m. form_step x m.form) s (take (length ms) ms) ≡ fold step s (tokens_in code ms)
+    fold-end same s ms = ap (λ (l : List Mark). fold (λ x m. form_step x m.form) s l) (take_all (length ms) ms (omega arith)) ∙ sym (fold-forms same s ms)

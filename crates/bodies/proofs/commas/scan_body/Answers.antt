@@ -1,11 +1,12 @@
--- `bodies::commas::scan_body` meets its contract.
--- Assumes nothing.
-use borrow.Author.Rules.{rules}
-use Rattle.bodies.proofs.Uses.{scanning-step, scanning-end}
+use Rattle.std.proofs.Common.{rules, arith}
+use Rattle.bodies.proofs.Uses.{scan-room, scan_end}
 use Rattle.bodies.proofs.commas.scan_body.Goals as goal
 
-pub loop-i-preserved : goal.loop-i-preserved
-loop-i-preserved c = search (rules, scanning-step)
+pub scan_token-s-requires : goal.scan_token-s-requires
+scan_token-s-requires c = omega (arith, scan-room c.args.body.now c.loop-mark.mark-index c.loop-mark.s c.loop-mark.invariant)
+
+pub overflow_add-result : goal.overflow_add-result
+overflow_add-result c = omega (arith, scan-room c.args.body.now c.loop-mark.mark-index c.loop-mark.s c.loop-mark.invariant)
 
 pub returns : goal.returns
-returns c = search (rules, scanning-end)
+returns c = search (rules, scan_end)

@@ -1,11 +1,5 @@
--- `bodies::conditions::number` meets its contract.
--- Assumes nothing.
-use Prim.Native.Nat.{◌-◌}
 use Rattle.bodies.proofs.Numbers.{Numbering}
 use Rattle.bodies.proofs.conditions.number.Given as goal
 
 abbrev pub invariant-loop-i : goal.invariant-loop-i
 invariant-loop-i l = Numbering l.us l.places l.v l.i
-
-abbrev pub decreases-loop-i : goal.decreases-loop-i
-decreases-loop-i l = l.places - l.i

@@ -1,12 +1,6 @@
--- `bodies::fraction::fraction_fits` meets its contract.
--- Assumes nothing.
-use Prim.Native.Nat.{◌-◌}
-use lib.ListN.{length}
-use Rattle.bodies.proofs.Fractions.{Walked}
+use Rattle.std.proofs.Common.{◌≡◌, take}
+use Rattle.bodies.proofs.Fractions.{nothing_walked, walk_marks}
 use Rattle.bodies.proofs.fraction.fraction_fits.Given as goal
 
-abbrev pub invariant-loop-i : goal.invariant-loop-i
-invariant-loop-i l = Walked l.body l.i l.w
-
-abbrev pub decreases-loop-i : goal.decreases-loop-i
-decreases-loop-i l = length l.body - l.i
+abbrev pub invariant-loop-mark : goal.invariant-loop-mark
+invariant-loop-mark l = l.w ≡ walk_marks nothing_walked (take l.mark-index l.body)
