@@ -17,52 +17,34 @@ use tables::tags;
 pub fn find_tag(words: &[u16], tag: u16) -> usize
     ensures { FoundAt words.now tag result }
 {
-    let n = words.len() / 2;
-    let mut k: usize = 0;
-    while k < n {
-        if words[2 * k] == tag {
-            return k;
-        }
-        k += 1;
-    }
-    n
+    words
+        .chunks_exact(2)
+        .take_while(|entry| entry[0] != tag)
+        .count()
 }
 
 pub fn has_tag(words: &[u16], tag: u16) -> bool
     ensures { result ≡ has_tag (entries_in words.now) tag }
 {
-    find_tag(words, tag) < words.len() / 2
+    words.chunks_exact(2).any(|entry| entry[0] == tag)
 }
 
 // Where the words of the first E or solidus begin among item words; behind all items where there is none.
 pub fn cut_start(items: &[u16]) -> usize
     ensures { CutAt items.now result (before_cut (items_in items.now)) (from_cut (items_in items.now)) }
 {
-    let n = items.len() / 2;
-    let mut k: usize = 0;
-    while k < n {
-        let i = 2 * k;
-        let tag = items[i];
-        if (tags::EXPONENT_PLUS <= tag) & (tag <= tags::SOLIDUS) {
-            return i;
-        }
-        k += 1;
-    }
-    2 * n
+    let before = items.chunks_exact(2).take_while(
+        |entry| !(tags::EXPONENT_PLUS..=tags::SOLIDUS).contains(&entry[0]),
+    );
+    2 * before.count()
 }
 
 // How many items there are among item words with a tag from `low` to `high`.
 pub fn count_between(items: &[u16], low: u16, high: u16) -> usize
     ensures { (f : Item → Bool) → ((t a : ℕ) → f (item_at (entry t a)) ≡ between low high t) → result ≡ count f (items_in items.now) }
 {
-    let n = items.len() / 2;
-    let mut k: usize = 0;
-    let mut met: usize = 0;
-    while k < n {
-        let tag = items[2 * k];
-        let is_met = (low <= tag) & (tag <= high);
-        met += is_met as usize;
-        k += 1;
-    }
-    met
+    items
+        .chunks_exact(2)
+        .filter(|entry| (low..=high).contains(&entry[0]))
+        .count()
 }
