@@ -8,8 +8,6 @@ ghost use Rattle.std.specs.Prelude.{◌≡◌, [], ◌∷◌, ◌+◌, ◌<◌, 
 ghost use Rattle.figures.specs.Digits.{digit_unit, digit_units, numeral};
 ghost use Rattle.writing.specs.Put.{Put};
 
-use values::integers;
-
 // Puts one unit at `at`.
 pub fn put_unit(room: &mut [u16], at: usize, u: u16) -> usize
     requires { at < 2 ^ 63 }
@@ -28,14 +26,11 @@ pub fn put_units(room: &mut [u16], at: usize, text: &[u16]) -> usize
     ensures { Put room.old at text.now result room.new }
 {
     let end = at + text.len();
-    let stop = integers::least(end, room.len());
-    let mut o = at;
-    let mut j = 0;
-    while o < stop {
-        room[o] = text[j];
-        o += 1;
-        j += 1;
+    if room.len() <= at {
+        return end;
     }
+    let stop = end.min(room.len());
+    room[at..stop].copy_from_slice(&text[..stop - at]);
     end
 }
 
@@ -43,7 +38,7 @@ pub fn put_units(room: &mut [u16], at: usize, text: &[u16]) -> usize
 pub fn digit_unit(d: u8) -> u16
     ensures { result ≡ digit_unit d }
 {
-    units::ZERO + d as u16
+    units::ZERO + u16::from(d)
 }
 
 // Puts the `count` lowest digits of n at `at`. They are found the last one first, by one division each; where the room ends
@@ -57,9 +52,7 @@ pub fn put_digits(room: &mut [u16], at: usize, count: u32, n: u64) -> usize
         return end;
     }
     let mut rest = n;
-    let mut o = end;
-    while at < o {
-        o -= 1;
+    for o in (at..end).rev() {
         put_unit(room, o, digit_unit((rest % 10) as u8));
         rest /= 10;
     }

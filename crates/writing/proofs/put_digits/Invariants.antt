@@ -5,6 +5,3 @@ use Rattle.writing.proofs.put_digits.Given as goal
 
 abbrev pub invariant-loop-o : goal.invariant-loop-o
 invariant-loop-o l = Peeled l.initial.room l.at l.count l.n l.room l.o l.rest
-
-abbrev pub decreases-loop-o : goal.decreases-loop-o
-decreases-loop-o l = l.o
