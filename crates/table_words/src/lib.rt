@@ -12,7 +12,7 @@ ghost use Rattle.tables.specs.Words.{head_at};
 ghost use Rattle.tables.specs.Encode.{has_half};
 ghost use Rattle.tables.specs.Decode.{two_words};
 ghost use Rattle.tables.specs.Rules.{head_in_range, passes};
-ghost use Rattle.table_words.specs.Sections.{head_from, head_in, items_start, ItemsOf};
+ghost use Rattle.table_words.specs.Sections.{section_in, head_from, head_in, items_start, ItemsOf};
 
 use tables::{flags, heads, kinds};
 
@@ -98,6 +98,8 @@ pub fn number(low: u16, high: u16) -> u32
 }
 
 impl<'a> Table<'a> {
+    ghost use Rattle.table_words.specs.Tabled.{section_of};
+
     // How many sections there are: one to four.
     pub fn section_count(self) -> u16
         ensures count { result ≡ get_or self.entry.words.now 0 0 }
@@ -112,6 +114,7 @@ impl<'a> Table<'a> {
         requires { place < get_or self.words.now 0 0 }
         ensures table { result.table ≡ self.entry }
         ensures place { result.place ≡ place }
+        ensures section { section_of result ≡ section_in self.entry.words.now place }
     {
         TableSection { table: self, place }
     }
