@@ -62,7 +62,7 @@ behind date anew q a us = by_form (λ (t : Token). digits_after anew q (token_it
     (λ n h. rw (lt-leb n 6 (omega arith), le-leb 4 n (omega arith), lt-leb n 32 (omega arith), le-leb 25 n (omega arith)))
 
 -- the words of a token by its form: those of a quoted literal are its units'
-abbrev words_form : Bool → ℕ → ℕ → List ℕ → ℕ → List ℕ
+abbrev pub words_form : Bool → ℕ → ℕ → List ℕ → ℕ → List ℕ
 words_form date q a us f = cond (eqb f 0) (literal_words (take a us)) (cond (leb 27 f) (over_words q a f) (form_words date q a f))
 
 rows_words : (date : Bool) (anew q a : ℕ) (us : List ℕ)

@@ -1,14 +1,14 @@
 -- The words of a section's items, token by token: what a token leaves behind for those that follow it, and what is left to write.
 -- Assumes nothing.
-use Rattle.std.specs.Prelude.{ℕ, zero, suc, ◌+◌, ◌-◌, ◌≤◌, ◌≡◌, Bool, false, cond, ◌&&◌, ◌||◌, List, [], ◌∷◌, ◌++◌, leb, ltb, eqb}
+use Rattle.std.specs.Prelude.{ℕ, zero, suc, ◌+◌, ◌-◌, ◌≤◌, ◌≡◌, Bool, false, cond, ◌&&◌, ◌||◌, List, [], ◌∷◌, ◌++◌, leb, ltb, eqb, Option, Some, None}
 use Rattle.lists.specs.Lists.{count}
 use Rattle.formats.specs.Tokens.{Token}
-use Rattle.formats.specs.Items.{Item, part, is_fill}
-use Rattle.formats.specs.Kinds.{is_fill_token, part_zeros, is_seconds_token, token_items, body_items, last_fill}
+use Rattle.formats.specs.Items.{Item, part, is_fill, date_kind, same_kind, integer_places, places_behind}
+use Rattle.formats.specs.Kinds.{is_fill_token, part_zeros, is_seconds_token, token_items, body_kind, body_items, last_fill}
 use Rattle.tables.specs.Words.{entries_words}
 use Rattle.tables.specs.Encode.{entries_from, run_entries}
 use Rattle.writing.specs.Put.{Put}
-use Rattle.emitting.specs.declared.Made.{Made}
+use Rattle.emitting.specs.declared.Told.{Told}
 use Rattle.emitting.specs.declared.Walk.{Walk}
 
 -- the words of a body's items as they stand in it, every m being a month
@@ -37,9 +37,10 @@ unfoldable pub literal_words : List ℕ → List ℕ
 literal_words [] = []
 literal_words (u ∷ us) = 1 ∷ u ∷ literal_words us
 
--- the words of an item's tag and argument; the tag 0 stands for no item
-abbrev pub made_words : Made → List ℕ
-made_words m = cond (eqb m.0 0) [] (m.0 ∷ m.1 ∷ [])
+-- the words of an item, its tag and its argument, where there is one
+abbrev pub made_words : Option (ℕ × ℕ) → List ℕ
+made_words None = []
+made_words (Some m) = m.0 ∷ m.1 ∷ []
 
 -- the words of a token that is no quoted literal and no place with a solidus, by its form f and its argument a
 abbrev pub form_words : Bool → ℕ → ℕ → ℕ → List ℕ
@@ -113,11 +114,20 @@ left date anew w ts = items_words anew w.digit (last_fill (emitted_from date w.b
 unfoldable pub fills_left : Bool → Walk → List Token → ℕ
 fills_left date w ts = count is_fill (emitted_from date w.behind w.skip ts)
 
--- a walk w goes over the first of the tokens ts to the walk r over the later ones, and writes its words
-pub record Emitted (date : Bool) (anew : ℕ) (ts later : List Token) (old : List ℕ) (w r : Walk) (out : List ℕ) : Type 0 where
+-- a walk w goes over a token t before others to the walk r, and writes its words
+pub record Emitted (date : Bool) (anew : ℕ) (t : Token) (later : List Token) (old : List ℕ) (w r : Walk) (out : List ℕ) : Type 0 where
   pub piece : List ℕ
-  pub words : left date anew w ts ≡ piece ++ left date anew r later
+  pub words : left date anew w (t ∷ later) ≡ piece ++ left date anew r later
   pub put : Put old w.at piece r.at out
   pub fills : r.fills ≡ fills_left date r later
   pub digit : r.digit ≤ 268
   pub near : r.at ≤ w.at + 510
+
+-- what is told of a body's tokens; it has at most 254 places of a sort
+pub record ToldOf (ts : List Token) (t : Told) : Type 0 where
+  pub date : t.date ≡ same_kind (body_kind ts) date_kind
+  pub fills : t.fills ≡ count is_fill_token ts
+  pub integers : t.integers ≡ integer_places (body_items ts)
+  pub exponents : t.exponents ≡ places_behind (body_items ts)
+  pub few : t.integers ≤ 254
+  pub later : t.exponents ≤ 254

@@ -1,27 +1,22 @@
 // Writes the words of a section's items into a lent room, token by token.
 #![tactic(auto)]
 
-ghost use Rattle.std.specs.Prelude.{◌≡◌, false, cond, ◌&&◌, [], ◌∷◌, suc, ◌+◌, ◌-◌, ◌≤◌, ◌<◌, ◌^◌, min, length, take, drop, ltb, eqb};
-ghost use Rattle.lists.specs.Lists.{count};
-ghost use Rattle.formats.specs.Items.{date_kind, same_kind, integer_places, places_behind};
-ghost use Rattle.formats.specs.Kinds.{is_fill_token, body_kind, body_items, leading_zeros};
-ghost use Rattle.marks.specs.Marks.{token_at, tokens_in};
+ghost use Rattle.std.specs.Prelude.{◌≡◌, cond, ◌==◌, ◌&&◌, List, [], ◌∷◌, ℕ, suc, ◌+◌, ◌≤◌, ◌<◌, ◌^◌, min, length, take, drop, ltb, eqb};
+ghost use Rattle.std.specs.List.{prefix_len};
+ghost use Rattle.formats.specs.Kinds.{leading_zeros};
+ghost use Rattle.marks.specs.declared.Mark.{Mark};
+ghost use Rattle.marks.specs.Marks.{marked, tokens_in};
 ghost use Rattle.writing.specs.Put.{Put};
-ghost use Rattle.emitting.specs.Emit.{emitted_words, form_words, literal_words, made_words, over_words, form_seconds, form_digit, form_fills, piece_of, walk_after, walk_past, fills_left, Emitted};
+ghost use Rattle.emitting.specs.Emit.{emitted_words, form_words, literal_words, made_words, over_words, form_seconds, form_digit, form_fills, piece_of, walk_after, walk_past, fills_left, Emitted, ToldOf};
 
-use marks::forms;
+use marks::{Mark, forms};
 use tables::tags;
-use values::integers::lowered;
 use writing::put_unit;
 
 // The units of a point and a comma, which are literals of a date.
 const POINT_UNIT: u16 = 46;
 
 const COMMA_UNIT: u16 = 44;
-
-// An item's tag and its argument. The tag 0 stands for no item.
-#[derive(Drop)]
-struct Made(u16, u16);
 
 // What the tokens that were passed leave behind: the place of the next word; whether the last one is s, ss or an elapsed s; how
 // many of the next ones belong to a part of a second; the power of the next digit and 15; and how many fills follow.
@@ -43,77 +38,69 @@ fn put_entry(room: &mut [u16], at: usize, tag: u16, argument: u16) -> usize
     put_unit(room, a, argument)
 }
 
-// Puts the words of an item, where there is one.
-fn put_made(room: &mut [u16], at: usize, m: Made) -> usize
+// Puts the words of an item, its tag and its argument, where there is one.
+fn put_made(room: &mut [u16], at: usize, made: Option<(u16, u16)>) -> usize
     requires { at < 2 ^ 62 }
-    ensures { Put room.old at (made_words m) result room.new }
+    ensures { Put room.old at (made_words made) result room.new }
 {
-    if m.0 == 0 {
-        return at;
+    match made {
+        Some((tag, argument)) => put_entry(room, at, tag, argument),
+        None => at,
     }
-    put_entry(room, at, m.0, m.1)
 }
 
-// Puts the literals of `count` units from the place `from` of the code on, or of as many as there are.
-fn put_literals(room: &mut [u16], at: usize, code: &[u16], from: usize, count: u16) -> usize
-    requires { (at < 2 ^ 61) × (length code.now ≤ 254) }
-    ensures { Put room.old at (literal_words (take count (drop from code.now))) result room.new }
+// Puts the literals of units.
+fn put_literals(room: &mut [u16], at: usize, units: &[u16]) -> usize
+    requires { (at < 2 ^ 61) × (length units.now ≤ 254) }
+    ensures { Put room.old at (literal_words units.now) result room.new }
 {
     let mut o = at;
-    let mut i = from;
-    let mut more = count;
-    while 0 < more {
-        if code.len() <= i {
-            return o;
-        }
-        o = put_entry(room, o, tags::LITERAL, code[i]);
-        i += 1;
-        more -= 1;
+    for unit in units {
+        o = put_entry(room, o, tags::LITERAL, *unit);
     }
     o
 }
 
-// One of two items.
-fn made_if(b: bool, first: Made, second: Made) -> Made
-    ensures { made_words result ≡ cond b (made_words first) (made_words second) }
+// The `count` units of a code from a place on, or as many as there are.
+fn units_from(code: &[u16], from: usize, count: u16) -> &[u16]
+    ensures { result.now ≡ take count (drop from code.now) }
 {
-    if b {
-        return first;
-    }
-    second
+    let rest = &code[from.min(code.len())..];
+    &rest[..rest.len().min(usize::from(count))]
 }
 
 // The item of a token that is no quoted literal, no part of a second and no place with a solidus. Of a date a point and a comma are literals, elsewhere a
 // comma makes no item; every run of m is put as a month, and settled where all items stand.
-fn item_of(form: u16, argument: u16, date: bool, digit: u16) -> Made
+fn item_of(form: u16, argument: u16, date: bool, digit: u16) -> Option<(u16, u16)>
     requires { digit < 2 ^ 15 }
     ensures { made_words result ≡ form_words date digit argument form }
 {
     match form {
-        forms::BARE => Made(tags::LITERAL, argument),
-        forms::BLANK => Made(tags::BLANK, argument),
-        forms::FILL => Made(tags::FILL, argument),
-        forms::ZERO_PLACE => Made(tags::ZERO_PLACE, digit + 1),
-        forms::HASH_PLACE => Made(tags::HASH_PLACE, digit + 1),
-        forms::SPACE_PLACE => Made(tags::SPACE_PLACE, digit + 1),
-        forms::POINT => made_if(date, Made(tags::LITERAL, POINT_UNIT), Made(tags::POINT, 0)),
-        forms::COMMA => made_if(date, Made(tags::LITERAL, COMMA_UNIT), Made(0, 0)),
-        forms::PERCENT => Made(tags::PERCENT, 0),
-        forms::AT => Made(tags::AT, 0),
-        forms::GENERAL => Made(tags::GENERAL, 0),
-        forms::SHORT_HALF => Made(tags::HALF_DAY, 1),
-        forms::LONG_HALF => Made(tags::HALF_DAY, 2),
-        forms::YEARS => Made(tags::YEAR, argument),
-        forms::MONTHS => Made(tags::MONTH, argument),
-        forms::DAYS => Made(tags::DAY, argument),
-        forms::HOURS => Made(tags::HOUR, argument),
-        forms::SECONDS => Made(tags::SECOND, argument),
-        forms::ELAPSED_HOURS => Made(tags::ELAPSED_HOURS, argument),
-        forms::ELAPSED_MINUTES => Made(tags::ELAPSED_MINUTES, argument),
-        forms::ELAPSED_SECONDS => Made(tags::ELAPSED_SECONDS, argument),
-        forms::EXPONENT_PLUS => Made(tags::EXPONENT_PLUS, 0),
-        forms::EXPONENT_MINUS => Made(tags::EXPONENT_MINUS, 0),
-        _ => Made(0, 0),
+        forms::BARE => Some((tags::LITERAL, argument)),
+        forms::BLANK => Some((tags::BLANK, argument)),
+        forms::FILL => Some((tags::FILL, argument)),
+        forms::ZERO_PLACE => Some((tags::ZERO_PLACE, digit + 1)),
+        forms::HASH_PLACE => Some((tags::HASH_PLACE, digit + 1)),
+        forms::SPACE_PLACE => Some((tags::SPACE_PLACE, digit + 1)),
+        forms::POINT if date => Some((tags::LITERAL, POINT_UNIT)),
+        forms::POINT => Some((tags::POINT, 0)),
+        forms::COMMA if date => Some((tags::LITERAL, COMMA_UNIT)),
+        forms::PERCENT => Some((tags::PERCENT, 0)),
+        forms::AT => Some((tags::AT, 0)),
+        forms::GENERAL => Some((tags::GENERAL, 0)),
+        forms::SHORT_HALF => Some((tags::HALF_DAY, 1)),
+        forms::LONG_HALF => Some((tags::HALF_DAY, 2)),
+        forms::YEARS => Some((tags::YEAR, argument)),
+        forms::MONTHS => Some((tags::MONTH, argument)),
+        forms::DAYS => Some((tags::DAY, argument)),
+        forms::HOURS => Some((tags::HOUR, argument)),
+        forms::SECONDS => Some((tags::SECOND, argument)),
+        forms::ELAPSED_HOURS => Some((tags::ELAPSED_HOURS, argument)),
+        forms::ELAPSED_MINUTES => Some((tags::ELAPSED_MINUTES, argument)),
+        forms::ELAPSED_SECONDS => Some((tags::ELAPSED_SECONDS, argument)),
+        forms::EXPONENT_PLUS => Some((tags::EXPONENT_PLUS, 0)),
+        forms::EXPONENT_MINUS => Some((tags::EXPONENT_MINUS, 0)),
+        _ => None,
     }
 }
 
@@ -147,6 +134,7 @@ fn put_over(room: &mut [u16], at: usize, form: u16, argument: u16, digit: u16) -
 }
 
 // Whether a token is s, ss or an elapsed s.
+#[tactic(auto, unfolding(crate::specs::Emit::form_seconds))]
 fn seconds_at(form: u16) -> bool
     ensures { result ≡ form_seconds form }
 {
@@ -154,14 +142,15 @@ fn seconds_at(form: u16) -> bool
 }
 
 // The power of the next digit behind a token, and 15: behind an E or solidus the digits begin anew. Behind the fifteenth decimal place it stays at
-// 0, as the table's definition has it; such a section is refused elsewhere. (A `match`, which is one jump for all forms.)
+// 0, as the table's definition has it; such a section is refused elsewhere. (A `match` with an arm for each form, which is one jump for all.)
+#[tactic(auto, unfolding(crate::specs::Emit::form_digit))]
 fn digit_after(form: u16, digit: u16, anew: u16) -> u16
     ensures { result ≡ form_digit anew form digit }
 {
     match form {
-        forms::ZERO_PLACE => lowered(digit),
-        forms::HASH_PLACE => lowered(digit),
-        forms::SPACE_PLACE => lowered(digit),
+        forms::ZERO_PLACE => digit.saturating_sub(1),
+        forms::HASH_PLACE => digit.saturating_sub(1),
+        forms::SPACE_PLACE => digit.saturating_sub(1),
         forms::EXPONENT_PLUS => anew,
         forms::EXPONENT_MINUS => anew,
         forms::ZERO_OVER => anew,
@@ -175,14 +164,12 @@ fn digit_after(form: u16, digit: u16, anew: u16) -> u16
 }
 
 // How many fills follow behind a token.
+#[tactic(auto, unfolding(crate::specs::Emit::form_fills))]
 fn fills_after(form: u16, fills: u16) -> u16
     ensures { result ≡ form_fills form fills }
 {
     if form == forms::FILL {
-        if fills == 0 {
-            return 0;
-        }
-        return fills - 1;
+        return fills.saturating_sub(1);
     }
     fills
 }
@@ -194,58 +181,44 @@ fn fill_goes(form: u16, fills: u16) -> bool
     (form == forms::FILL) & (1 < fills)
 }
 
-// How many zeros follow from the place i of the body on, up to three.
-fn zeros_from(body: &[u16], i: usize) -> u16
-    requires { (length body.now ≤ 762) × (i ≤ 800) }
-    ensures { result ≡ min 3 (leading_zeros (tokens_in [] (drop i body.now))) }
+// How many zeros follow, up to three.
+fn zeros_in(rest: &[Mark]) -> usize
+    ensures { result ≡ prefix_len (λ m. m.form == 4) (take 3 rest.now) }
 {
-    let mut n = 0;
-    let mut j = i;
-    while n < 3 {
-        if body.len() <= j + 2 {
-            return n;
-        }
-        if body[j] != forms::ZERO_PLACE {
-            return n;
-        }
-        n += 1;
-        j += 3;
-    }
-    n
+    rest.iter()
+        .take(3)
+        .take_while(|mark| mark.form == forms::ZERO_PLACE)
+        .count()
 }
 
-// The zeros of the part of a second that a token starts, 0 where it starts none: a point of a date behind s, ss or an elapsed s,
-// and the tokens from the place i of the body on.
-fn part_zeros(body: &[u16], i: usize, form: u16, date: bool, behind: bool) -> u16
-    requires { (length body.now ≤ 762) × (i ≤ 800) }
-    ensures { result ≡ cond (date && behind && eqb form 7) (min 3 (leading_zeros (tokens_in [] (drop i body.now)))) 0 }
+// The zeros of the part of a second that a token starts, 0 where it starts none: a point of a date behind s, ss or an elapsed s, and the
+// tokens that follow it.
+fn part_zeros(form: u16, rest: &[Mark], date: bool, behind: bool) -> u16
+    ensures { (code : List ℕ) → result ≡ cond (date && behind && eqb form 7) (min 3 (leading_zeros (tokens_in code rest.now))) 0 }
 {
     if date & behind & (form == forms::POINT) {
-        return zeros_from(body, i);
+        return zeros_in(rest) as u16;
     }
     0
 }
 
 // Puts the words of a token; where n is not 0, those of the part of a second with n zeros that it starts.
-fn put_form(
-    room: &mut [u16],
-    w: Walk,
-    code: &[u16],
-    form: u16,
-    argument: u16,
-    start: u16,
-    date: bool,
-    n: u16,
-) -> usize
+fn put_form(room: &mut [u16], w: Walk, code: &[u16], mark: Mark, date: bool, n: u16) -> usize
     requires { (w.at < 2 ^ 60) × (w.digit < 2 ^ 15) × (length code.now ≤ 254) }
-    ensures put { Put room.old w.at (piece_of date w.digit w.fills n (token_at code.now form argument start)) result room.new }
+    ensures put { Put room.old w.at (piece_of date w.digit w.fills n (marked code.now mark)) result room.new }
     ensures near { result ≤ w.at + 510 }
 {
+    let form = mark.form;
+    let argument = mark.argument;
     if 0 < n {
         return put_entry(room, w.at, tags::PART, n);
     }
     if form == forms::LITERAL {
-        return put_literals(room, w.at, code, start as usize + 1, argument);
+        return put_literals(
+            room,
+            w.at,
+            units_from(code, usize::from(mark.start) + 1, argument),
+        );
     }
     if fill_goes(form, w.fills) {
         return w.at;
@@ -262,7 +235,7 @@ fn walked(w: Walk, form: u16, n: u16, at: usize, anew: u16) -> Walk
     ensures { result ≡ walk_after anew w form n at }
 {
     Walk {
-        at: at,
+        at,
         behind: seconds_at(form),
         skip: n,
         digit: digit_after(form, w.digit, anew),
@@ -284,61 +257,57 @@ fn passed(w: Walk) -> Walk
     }
 }
 
-// Goes over the token at the place i of the body, and puts its words.
+// What a body's tokens say before the words of its items are put: whether it is a date's, how many fills it has, how many integer places,
+// and how many exponent or denominator places.
+#[derive(Clone, Copy)]
+pub struct Told {
+    pub date: bool,
+    pub fills: u16,
+    pub integers: u16,
+    pub exponents: u16,
+}
+
+// Goes over a token before the others, and puts its words.
 fn put_token(
     room: &mut [u16],
     w: Walk,
     code: &[u16],
-    body: &[u16],
-    i: usize,
+    mark: Mark,
+    rest: &[Mark],
     date: bool,
     anew: u16,
 ) -> Walk
-    requires at_bound { (w.at < 2 ^ 60) × (w.digit ≤ 268) × (length code.now ≤ 254) × (length body.now ≤ 762) × (i + 2 < length body.now) × (anew ≤ 268) }
-    requires fills_value { w.fills ≡ fills_left date w (tokens_in code.now (drop i body.now)) }
-    ensures { Emitted date anew (tokens_in code.now (drop i body.now)) (tokens_in code.now (drop (i + 3) body.now)) room.old w result room.new }
+    requires at_bound { (w.at < 2 ^ 60) × (w.digit ≤ 268) × (length code.now ≤ 254) × (anew ≤ 268) }
+    requires fills_value { w.fills ≡ fills_left date w (marked code.now mark ∷ tokens_in code.now rest.now) }
+    ensures { Emitted date anew (marked code.now mark) (tokens_in code.now rest.now) room.old w result room.new }
 {
     if 0 < w.skip {
         return passed(w);
     }
-    let form = body[i];
-    let n = part_zeros(body, i + 3, form, date, w.behind);
-    let at = put_form(room, w, code, form, body[i + 1], body[i + 2], date, n);
-    walked(w, form, n, at, anew)
+    let n = part_zeros(mark.form, rest, date, w.behind);
+    let at = put_form(room, w, code, mark, date, n);
+    walked(w, mark.form, n, at, anew)
 }
 
-// Puts the words of the items of a section's body at `at`, every m as a month. The body's tokens stand three words each; `date` says whether it is a
-// date's, `fills` how many fills it has, `integers` how many integer places, and `exponents` how many exponent or denominator places. Words past the room's end
-// are counted, not put.
-pub fn put_items(
-    code: &[u16],
-    body: &[u16],
-    date: bool,
-    fills: u16,
-    integers: u16,
-    exponents: u16,
-    room: &mut [u16],
-    at: usize,
-) -> usize
-    requires at_bound { (at < 2 ^ 59) × (length code.now ≤ 254) × (length body.now ≤ 762) × (integers ≤ 254) × (exponents ≤ 254) }
-    requires date_value { date ≡ same_kind (body_kind (tokens_in code.now body.now)) date_kind }
-    requires fills_value { fills ≡ count is_fill_token (tokens_in code.now body.now) }
-    requires integers_value { integers ≡ integer_places (body_items (tokens_in code.now body.now)) }
-    requires exponents_value { exponents ≡ places_behind (body_items (tokens_in code.now body.now)) }
+// Puts the words of the items of a section's body at `at`, every m as a month, of a body of which this is told. Words past the room's end are
+// counted, not put.
+pub fn put_items(code: &[u16], body: &[Mark], told: Told, room: &mut [u16], at: usize) -> usize
+    requires at_bound { (at < 2 ^ 59) × (length code.now ≤ 254) × (length body.now ≤ 254) }
+    requires told { ToldOf (tokens_in code.now body.now) told }
     ensures { Put room.old at (emitted_words (tokens_in code.now body.now)) result room.new }
 {
-    let anew = 14 + exponents;
+    let anew = 14 + told.exponents;
     let mut w = Walk {
-        at: at,
+        at,
         behind: false,
         skip: 0,
-        digit: 14 + integers,
-        fills: fills,
+        digit: 14 + told.integers,
+        fills: told.fills,
     };
-    let mut i = 0;
-    while i + 2 < body.len() {
-        w = put_token(room, w, code, body, i, date, anew);
-        i += 3;
+    let mut rest = body;
+    while let Some((mark, behind)) = rest.split_first() {
+        w = put_token(room, w, code, *mark, behind, told.date, anew);
+        rest = behind;
     }
     w.at
 }

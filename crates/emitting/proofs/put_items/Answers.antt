@@ -1,17 +1,25 @@
--- `emitting::put_items` meets its contract.
--- Assumes nothing.
-use Rattle.emitting.proofs.Going.{going_start, going_step, going_end}
+use Rattle.std.proofs.Common.{rules, arith, ◌≡◌, ◌∷◌}
+use Rattle.emitting.proofs.Going.{going_start, going-room, going-next, going-last, going_step, going_end}
 use Rattle.emitting.proofs.put_items.Goals as goal
 
-pub loop-i-init : goal.loop-i-init
-loop-i-init c =
-    let a = c.args in
-    going_start a.date a.code.now a.body.now _ _ a.fills a.integers a.exponents c.requires.at_bound.3
-    c.requires.date_value c.requires.fills_value c.requires.integers_value c.requires.exponents_value
+pub loop-mark-init : goal.loop-mark-init
+loop-mark-init c = going_start _ _ c.requires.told _ _
 
-pub loop-i-preserved : goal.loop-i-preserved
-loop-i-preserved c =
-    going_step _ _ _ _ _ _ _ _ _ _ _ c.loop-i-test.true c.loop-i.invariant c.put_token-w.ensures
+pub put_token-w-requires-clause-at_bound : goal.put_token-w-requires-clause-at_bound
+put_token-w-requires-clause-at_bound c =
+    let l = c.loop-mark in
+    let r = going-room c.args.code.now c.args.body.now c.args.told c.requires.at_bound.2 l.invariant in
+    (omega arith, l.invariant.digit, c.requires.at_bound.1, omega (arith, c.requires.told.later))
+
+pub put_token-w-requires-clause-fills_value : goal.put_token-w-requires-clause-fills_value
+put_token-w-requires-clause-fills_value c =
+    let e : c.loop-mark.rest.now ≡ c.in-Some.mark.now ∷ c.in-Some.behind.now = search rules in
+    (going-next c.args.code.now _ _ _ e c.loop-mark.invariant).fills
+
+pub loop-mark-preserved : goal.loop-mark-preserved
+loop-mark-preserved c =
+    let e : c.loop-mark.rest.now ≡ c.in-Some.mark.now ∷ c.in-Some.behind.now = search rules in
+    going_step _ _ _ _ _ _ _ _ _ _ (going-next c.args.code.now _ _ _ e c.loop-mark.invariant) c.put_token-w.ensures
 
 pub returns : goal.returns
-returns c = going_end _ _ _ _ _ _ _ _ _ c.loop-i-test.false c.loop-i.invariant
+returns c = going_end _ _ _ _ _ _ (going-last c.args.code.now c.loop-mark.rest.now c.in_default.ensures.cases c.loop-mark.invariant)

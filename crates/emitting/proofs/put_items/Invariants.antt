@@ -1,12 +1,10 @@
--- `emitting::put_items` meets its contract.
--- Assumes nothing.
-use Prim.Native.Nat.{◌-◌}
-use lib.ListN.{length}
+use Rattle.std.proofs.Common.{length}
+use Rattle.marks.specs.Marks.{tokens_in}
 use Rattle.emitting.proofs.Going.{Going}
 use Rattle.emitting.proofs.put_items.Given as goal
 
-abbrev pub invariant-loop-i : goal.invariant-loop-i
-invariant-loop-i l = Going l.date l.anew l.code l.body l.initial.room l.at l.room l.w l.i
+abbrev pub invariant-loop-mark : goal.invariant-loop-mark
+invariant-loop-mark l = Going l.told (tokens_in l.code l.body) l.initial.room l.at (tokens_in l.code l.rest) l.room l.w
 
-abbrev pub decreases-loop-i : goal.decreases-loop-i
-decreases-loop-i l = length l.body - l.i
+abbrev pub decreases-loop-mark : goal.decreases-loop-mark
+decreases-loop-mark l = length l.rest

@@ -1,24 +1,14 @@
--- `emitting::put_literals` meets its contract.
--- Assumes nothing.
-use native.Mathlib.Omega.{arith}
+use Rattle.std.proofs.Common.{rules, arith, drop_of_length-le}
 use Rattle.writing.proofs.Laws.{rest_put, rest-done}
-use Rattle.emitting.proofs.Buffer.{literals-first, literals-none, literals_end}
+use Rattle.emitting.specs.Emit.{literal_words}
+use Rattle.emitting.proofs.Buffer.{literals-first}
 use Rattle.emitting.proofs.put_literals.Goals as goal
 
-pub returns-then-code-i : goal.returns-then-code-i
-returns-then-code-i c =
-    let l = c.loop-more in
-    let a = c.args in
-    rest-done (rw (literals_end a.code.now l.i l.more c.if-code-i.true) at l.invariant.0)
-
-pub loop-more-preserved : goal.loop-more-preserved
-loop-more-preserved c =
-    let l = c.loop-more in
-    let a = c.args in
-    (rest_put (rw (literals-first a.code.now l.i l.more c.loop-more-test.true c.if-code-i.false) at l.invariant.0) c.put_entry-o.ensures, omega arith)
+pub loop-unit-preserved : goal.loop-unit-preserved
+loop-unit-preserved c =
+    let l = c.loop-unit in
+    (rest_put (rw (literals-first c.args.units.now l.unit-index (search rules)) at l.invariant.0) c.put_entry-o.ensures, omega arith)
 
 pub returns : goal.returns
-returns c =
-    let l = c.loop-more in
-    let a = c.args in
-    rest-done (rw (literals-none a.code.now l.i l.more c.loop-more-test.false) at l.invariant.0)
+unfolding literal_words
+returns c = rest-done (rw (drop_of_length-le c.args.units.now {i = c.loop-unit.unit-index} (omega arith)) at c.loop-unit.invariant.0)
