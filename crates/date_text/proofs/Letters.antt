@@ -74,13 +74,13 @@ unfolding weekday_name weekday_names units every
 weekday-spelt w letters e = rw e (spells (weekday_name w) (each-passes (λ (s : String). is_name (units s)) weekday_names w "" tt tt))
 
 -- no month from 13 on and no weekday from 7 on has a name
-pub no-month : (m : ℕ) → 13 ≤ m → 0 ≡ packed (month_name m)
+pub no_month : (m : ℕ) → 13 ≤ m → 0 ≡ packed (month_name m)
 unfolding packed month_name month_names units
-no-month m h = rw (get_or-eq_default month_names "" {n = pred m} (omega arith))
+no_month m h = rw (get_or-eq_default month_names "" {n = pred m} (omega arith))
 
-pub no-weekday : (w : ℕ) → 7 ≤ w → 0 ≡ packed (weekday_name w)
+pub no_weekday : (w : ℕ) → 7 ≤ w → 0 ≡ packed (weekday_name w)
 unfolding packed weekday_name weekday_names units
-no-weekday w h = rw (get_or-eq_default weekday_names "" {n = w} h)
+no_weekday w h = rw (get_or-eq_default weekday_names "" {n = w} h)
 
 -- the texts of a month or a day by the length of its run
 pub named-digits : (n number : ℕ) (name : List ℕ) → n ≤ 2 → named_units n number name ≡ numeral n number

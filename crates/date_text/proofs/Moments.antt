@@ -5,14 +5,16 @@ use native.Mathlib.Omega.{arith}
 use native.Mathlib.Nat.{sub-zero}
 use mathlib.Core.Path.{◌≡◌, refl, ap, ◌∙◌}
 use mathlib.Core.Bool.{Bool, true, false, cond}
-use mathlib.Core.List.{List, ◌∷◌}
+use mathlib.Core.List.{List, [], ◌∷◌}
 use lib.Dec.{eqb, ltb}
 use lib.ListN.{length, get_or}
 use borrow.Author.Tests.{eqb-true, ne_eqb, ltb-true}
 use Rattle.values.specs.declared.Day.{Day}
 use Rattle.values.specs.declared.Millisecond.{Millisecond}
 use Rattle.lists.specs.Lists.{any}
-use Rattle.lists.proofs.Bools.{and_parts, cond_both}
+use Rattle.lists.proofs.Bools.{and_parts, cond_both, by_cases}
+use Rattle.std.specs.List.{list_any}
+use Rattle.date_text.specs.declared.Moment.{Moment}
 use Rattle.calendar.specs.Date.{date_of}
 use Rattle.calendar.specs.Names.{month_name, weekday_name}
 use Rattle.formats.specs.Items.{Section, is_half}
@@ -26,20 +28,21 @@ use Rattle.date_text.specs.Letters.{packed, letters_up_to, most_letters}
 use Rattle.date_text.specs.Moment.{dated_entry, moment_of, is_named, DateIs, ClockIs}
 use Rattle.date_text.proofs.Letters.{month-spelt, weekday-spelt, named-letters}
 
--- what is 1 for true and else 0
-flag-back : (b : Bool) → eqb (cond b 1 0) 1 ≡ b
-flag-back true = refl
-flag-back false = refl
-
-module _ (twelve dated : Bool) (s : Section) (d : Day) (m : Millisecond) (r : List ℕ) (e : r ≡ moment_of twelve dated d m) where
+module _ (twelve dated : Bool) (s : Section) (d : Day) (m : Millisecond) (r : Moment) (e : r ≡ moment_of twelve dated d m) where
   -- whatever tells that the clock is a 12-hour one
-  pub clock-instant : m.0 < 4294967296 → twelve ≡ any is_half s.items → ClockIs r (instant_context s d m)
+  pub clock-instant : twelve ≡ any is_half s.items → ClockIs r (instant_context s d m)
   unfolding instant_context
-  clock-instant h f = rw (e, f) (record { small = h; clock = refl; elapsed = refl; twelve = flag-back _ })
+  clock-instant f = rw (e, f) (record { clock = refl; elapsed = refl; twelve = refl })
 
   pub date-instant : dated ≡ true → DateIs r (instant_context s d m)
   unfolding instant_context date_of
   date-instant f = rw (e, f) (record { year = refl; month = refl; day_of_month = refl; weekday = refl })
+
+-- a search for an entry that shows the date
+pub dated-listed : (es : List Entry) → list_any dated_entry es ≡ any dated_entry es
+unfolding any
+dated-listed [] = refl
+dated-listed (e ∷ es) = by_cases (dated_entry e) (λ t. rw t) (λ t. rw t (dated-listed es))
 
 -- an entry in front that shows the date, and one that does not
 pub dated-here : (e : Entry) (es : List Entry) → dated_entry e ≡ true → any dated_entry (e ∷ es) ≡ true
@@ -68,15 +71,15 @@ dated-at words n k e h t =
     let r = all_left words n k (omega arith) (ap (any dated_entry) (entries-front words n k h) ∙ dated-here _ _ t) in
     rw (sub-zero n, e) at r
 
-module _ (m : List ℕ) (c : Context) (q tag n : ℕ) (d : dated_entry (entry tag n) ≡ true → DateIs m c) where
+module _ (m : Moment) (c : Context) (q tag n : ℕ) (d : dated_entry (entry tag n) ≡ true → DateIs m c) where
   -- the letters of a month's name, and of a day's
-  pub month-item : (letters : ℕ) → is_named tag n ≡ true → tag ≡ 12 → letters ≡ packed (month_name (get_or m 1 0))
+  pub month-item : (letters : ℕ) → is_named tag n ≡ true → tag ≡ 12 → letters ≡ packed (month_name m.month)
       → item_units c q (item_at (entry tag n)) ≡ letters_up_to (most_letters n) letters
   unfolding item_units item_at
   month-item letters b k f =
       rw k (named-letters n _ (month-spelt _ letters (f ∙ ap (λ (x : ℕ). packed (month_name x)) (d (rw k)).month)) (ltb-true 2 n (rw k at b)))
 
-  pub day-item : (letters : ℕ) → is_named tag n ≡ true → ¬ (tag ≡ 12) → letters ≡ packed (weekday_name (get_or m 3 0 % 7))
+  pub day-item : (letters : ℕ) → is_named tag n ≡ true → ¬ (tag ≡ 12) → letters ≡ packed (weekday_name (m.day_number % 7))
       → item_units c q (item_at (entry tag n)) ≡ letters_up_to (most_letters n) letters
   unfolding item_units item_at
   day-item letters b h f =

@@ -1,9 +1,7 @@
 // Writes what the items of a date section show of an instant. Their texts are defined in formats/specs/Text.antt.
 #![tactic(auto)]
 
-pub mod numbers;
-
-ghost use Rattle.std.specs.Prelude.{◌≡◌, true, false, cond, ◌||◌, ℕ, ◌-◌, ◌/◌, ◌%◌, ◌≤◌, ◌<◌, ◌^◌, min, get_or};
+ghost use Rattle.std.specs.Prelude.{◌≡◌, true, false, cond, ◌||◌, ℕ, ◌-◌, ◌/◌, ◌%◌, ◌≤◌, ◌<◌, ◌^◌, min};
 ghost use Rattle.figures.specs.Digits.{numeral};
 ghost use Rattle.formats.specs.Text.{Context, year_units, hour_shown, part_units, half_units, item_units};
 ghost use Rattle.formats.specs.Reading.{day_span, item_span};
@@ -23,9 +21,41 @@ use tables::tags;
 use values::{Day, Millisecond};
 use writing::{put_unit, units};
 
+// What items show of a day and a millisecond of it, or find what they show by.
+#[derive(Clone, Copy)]
+pub struct Moment {
+    pub year: u32,
+    pub month: u32,
+    pub day: u32,
+    // Its remainder by 7 is the weekday.
+    pub day_number: u32,
+    // Of the day. Hours, minutes and seconds are found by the item that shows them.
+    pub millisecond: u32,
+    // The milliseconds since day 0.
+    pub elapsed: u64,
+    // Hours are shown on a 12-hour clock.
+    pub twelve: bool,
+}
+
 // At least how many digits an item shows, the number that they show, and the finest unit shown with it.
-#[derive(Drop)]
-struct Numeral(u32, u64, u32);
+#[derive(Clone, Copy)]
+struct Numeral {
+    least: u32,
+    number: u64,
+    finest: u32,
+}
+
+impl Numeral {
+    fn new(least: u32, number: u64, finest: u32) -> Numeral
+        ensures { result ≡ record { least = least; number = number; finest = finest } }
+    {
+        Numeral {
+            least,
+            number,
+            finest,
+        }
+    }
+}
 
 // Where a text ends that was put, and the milliseconds of the finest unit shown so far: of an hour, a minute, a second or a part of one, or
 // of the day where none of these is shown.
@@ -35,36 +65,22 @@ pub struct Written {
     pub finest: u32,
 }
 
-const LETTER_A: u16 = 65;
+const LETTER_A: u16 = b'A' as u16;
 
-const LETTER_M: u16 = 77;
+const LETTER_M: u16 = b'M' as u16;
 
-const LETTER_P: u16 = 80;
+const LETTER_P: u16 = b'P' as u16;
 
 // Whether an item among these words shows the date: a year, a month or a day.
 pub fn shows_date(items: &[u16]) -> bool
     ensures { result ≡ any dated_entry (entries_in items.now) }
 {
-    let n = items.len() / 2;
-    let mut k: usize = 0;
-    while k < n {
-        let tag = items[2 * k];
-        if (tags::YEAR <= tag) & (tag <= tags::DAY) {
-            return true;
-        }
-        k += 1;
-    }
-    false
+    items
+        .chunks_exact(2)
+        .any(|entry| (tags::YEAR..=tags::DAY).contains(&entry[0]))
 }
 
-// The finer of two units.
-fn finer(a: u32, b: u32) -> u32
-    ensures { result ≡ min a b }
-{
-    if a < b { a } else { b }
-}
-
-// The milliseconds of a part of a second of n digits.
+// The milliseconds of a part of a second of n digits. (By a match, as in `cut_part`: `pow` multiplies in a loop.)
 fn part_span(n: u32) -> u32
     ensures { result ≡ 10 ^ (3 - n) }
 {
@@ -91,27 +107,26 @@ fn date_shown(dated: bool, d: Day) -> Date
     }
 }
 
-// What items show of a day and a millisecond of it, at the places that `numbers` names. The date is found here, where `dated` says
-// that one is shown; hours, minutes and counts are found by the item that shows them.
-pub fn moment_of(twelve: bool, dated: bool, d: Day, m: Millisecond) -> [u64; 7]
-    ensures moment { result ≡ moment_of twelve dated d m }
-    ensures small { m.0 < 4294967296 }
+// The moment of a day and a millisecond of it. The date is found here, where `dated` says that one is shown.
+pub fn moment_of(twelve: bool, dated: bool, d: Day, m: Millisecond) -> Moment
+    ensures { result ≡ moment_of twelve dated d m }
 {
     let date = date_shown(dated, d);
-    [
-        date.year as u64,
-        date.month as u64,
-        date.day as u64,
-        d.0 as u64,
-        m.0 as u64,
-        calendar::since_day_zero(d, m),
-        twelve as u64,
-    ]
+    Moment {
+        year: date.year,
+        month: date.month,
+        day: date.day,
+        day_number: d.0,
+        millisecond: m.0,
+        elapsed: calendar::since_day_zero(d, m),
+        twelve,
+    }
 }
 
 // The letters of a month's name in one number; none from month 13 on, and month 0 is named as month 1.
 // (No table: a constant array would be built anew at each reading.)
-fn month_letters(month: u64) -> u64
+#[tactic(auto, using(crate::proofs::Letters::no_month), unfolding(crate::specs::Letters::packed, calendar::specs::Names::month_name, calendar::specs::Names::month_names, calendar::specs::Names::units))]
+fn month_letters(month: u32) -> u64
     ensures { result ≡ packed (month_name month) }
 {
     match month {
@@ -133,7 +148,8 @@ fn month_letters(month: u64) -> u64
 }
 
 // The letters of a weekday's name in one number, Saturday being 0; none from weekday 7 on.
-fn weekday_letters(weekday: u64) -> u64
+#[tactic(auto, unfolding(crate::specs::Letters::packed, calendar::specs::Names::weekday_name, calendar::specs::Names::weekday_names, calendar::specs::Names::units))]
+fn weekday_letters(weekday: u32) -> u64
     ensures { result ≡ packed (weekday_name weekday) }
 {
     match weekday {
@@ -153,16 +169,14 @@ fn put_letters(room: &mut [u16], at: usize, most: u32, letters: u64) -> usize
     requires { at < 2 ^ 62 }
     ensures { Put room.old at (letters_up_to most letters) result room.new }
 {
-    let mut left = most;
     let mut rest = letters;
     let mut o = at;
-    while 0 < left {
+    for _ in 0..most {
         if rest == 0 {
             return o;
         }
         o = put_unit(room, o, (rest % 128) as u16);
         rest /= 128;
-        left -= 1;
     }
     o
 }
@@ -196,16 +210,16 @@ fn is_named(tag: u16, n: u32) -> bool
 
 // Puts the name of a moment's month, or of its day. (Two calls of `put_letters`: one
 // behind a choice of the name takes some ten instructions more.)
-fn put_name(room: &mut [u16], at: usize, tag: u16, n: u32, m: &[u64; 7]) -> usize
+fn put_name(room: &mut [u16], at: usize, tag: u16, n: u32, m: &Moment) -> usize
     requires { (at < 2 ^ 62) × (is_named tag n ≡ true) }
     ensures { (c : Context) (q : ℕ) → (dated_entry (entry tag n) ≡ true → DateIs m.now c)
         → Put room.old at (item_units c q (item_at (entry tag n))) result room.new }
 {
     let most = most_letters(n);
     if tag == tags::MONTH {
-        return put_letters(room, at, most, month_letters(m[numbers::MONTH]));
+        return put_letters(room, at, most, month_letters(m.month));
     }
-    put_letters(room, at, most, weekday_letters(m[numbers::DAY_NUMBER] % 7))
+    put_letters(room, at, most, weekday_letters(m.day_number % 7))
 }
 
 // The thousandths cut to n digits.
@@ -262,54 +276,37 @@ fn hour_shown(twelve: bool, hour: u64) -> u64
 }
 
 // Two digits of the year, or four.
-fn year_numeral(n: u32, year: u64, finest: u32) -> Numeral
-    ensures { (year_units n year ≡ numeral result.0 result.1) × (result.2 ≡ finest) }
+fn year_numeral(n: u32, year: u32, finest: u32) -> Numeral
+    ensures { (year_units n year ≡ numeral result.least result.number) × (result.finest ≡ finest) }
 {
     if n == 2 {
-        return Numeral(2, year % 100, finest);
+        return Numeral::new(2, (year % 100) as u64, finest);
     }
-    Numeral(4, year, finest)
-}
-
-// The millisecond of a moment: 32 bits take it, and are divided in fewer instructions.
-fn millisecond_of(m: &[u64; 7]) -> u32
-    ensures { result ≡ get_or m.now 4 0 % 4294967296 }
-{
-    (m[numbers::MILLISECOND] % 4294967296) as u32
+    Numeral::new(4, year as u64, finest)
 }
 
 // The numeral of an item that is shown by digits.
-fn numeral_of(tag: u16, n: u32, m: &[u64; 7], finest: u32) -> Numeral
+fn numeral_of(tag: u16, n: u32, m: &Moment, finest: u32) -> Numeral
     requires { (10 < tag) × (¬ (tag ≡ 17)) × (tag < 21) × (is_named tag n ≡ false) × (finest ≤ day_span) }
     ensures units { (c : Context) (q : ℕ) → ClockIs m.now c → (dated_entry (entry tag n) ≡ true → DateIs m.now c)
-        → item_units c q (item_at (entry tag n)) ≡ numeral result.0 result.1 }
-    ensures finest { result.2 ≡ min finest (item_span (item_at (entry tag n))) }
+        → item_units c q (item_at (entry tag n)) ≡ numeral result.least result.number }
+    ensures finest { result.finest ≡ min finest (item_span (item_at (entry tag n))) }
 {
+    let ms = m.millisecond;
     match tag {
-        tags::YEAR => year_numeral(n, m[numbers::YEAR], finest),
-        tags::MONTH => Numeral(n, m[numbers::MONTH], finest),
-        tags::DAY => Numeral(n, m[numbers::DAY], finest),
-        tags::HOUR => Numeral(
+        tags::YEAR => year_numeral(n, m.year, finest),
+        tags::MONTH => Numeral::new(n, m.month as u64, finest),
+        tags::DAY => Numeral::new(n, m.day as u64, finest),
+        tags::HOUR => Numeral::new(
             n,
-            hour_shown(
-                m[numbers::TWELVE] == 1,
-                (millisecond_of(m) / 3600000) as u64,
-            ),
-            finer(finest, 3600000),
+            hour_shown(m.twelve, (ms / 3600000) as u64),
+            finest.min(3600000),
         ),
-        tags::MINUTE => Numeral(
-            n,
-            (millisecond_of(m) / 60000 % 60) as u64,
-            finer(finest, 60000),
-        ),
-        tags::SECOND => Numeral(
-            n,
-            (millisecond_of(m) / 1000 % 60) as u64,
-            finer(finest, 1000),
-        ),
-        tags::ELAPSED_HOURS => Numeral(n, m[numbers::ELAPSED] / 3600000, finer(finest, 3600000)),
-        tags::ELAPSED_MINUTES => Numeral(n, m[numbers::ELAPSED] / 60000, finer(finest, 60000)),
-        _ => Numeral(n, m[numbers::ELAPSED] / 1000, finer(finest, 1000)),
+        tags::MINUTE => Numeral::new(n, (ms / 60000 % 60) as u64, finest.min(60000)),
+        tags::SECOND => Numeral::new(n, (ms / 1000 % 60) as u64, finest.min(1000)),
+        tags::ELAPSED_HOURS => Numeral::new(n, m.elapsed / 3600000, finest.min(3600000)),
+        tags::ELAPSED_MINUTES => Numeral::new(n, m.elapsed / 60000, finest.min(60000)),
+        _ => Numeral::new(n, m.elapsed / 1000, finest.min(1000)),
     }
 }
 
@@ -321,7 +318,7 @@ pub fn put_moment_item(
     at: usize,
     tag: u16,
     argument: u16,
-    m: &[u64; 7],
+    m: &Moment,
     finest: u32,
 ) -> Written
     requires { (at < 2 ^ 62) × (10 < tag) × (tag < 22) × (finest ≤ day_span) }
@@ -332,13 +329,13 @@ pub fn put_moment_item(
     let n = argument as u32;
     if tag == tags::PART {
         return Written {
-            end: put_part(room, at, n, m[numbers::MILLISECOND] % 1000),
-            finest: finer(finest, part_span(n)),
+            end: put_part(room, at, n, (m.millisecond % 1000) as u64),
+            finest: finest.min(part_span(n)),
         };
     }
     if tag == tags::HALF_DAY {
         return Written {
-            end: put_half(room, at, n, m[numbers::MILLISECOND] / 3600000),
+            end: put_half(room, at, n, (m.millisecond / 3600000) as u64),
             finest,
         };
     }
@@ -350,7 +347,7 @@ pub fn put_moment_item(
     }
     let x = numeral_of(tag, n, m, finest);
     Written {
-        end: writing::put_numeral(room, at, x.0, x.1),
-        finest: x.2,
+        end: writing::put_numeral(room, at, x.least, x.number),
+        finest: x.finest,
     }
 }

@@ -20,7 +20,7 @@ pub returns-then-tag-eq-PART-clause-finest : goal.returns-then-tag-eq-PART-claus
 unfolding clock_of item_units item_at item_span
 returns-then-tag-eq-PART-clause-finest c =
     let k = c.if-tag-eq-PART.true in
-    rw k (c.finer.ensures ∙ ap (min _) c.part_span.ensures)
+    rw k (c.min.ensures ∙ ap (min _) c.part_span.ensures)
 
 pub returns-then-tag-eq-HALF_DAY-clause-put : goal.returns-then-tag-eq-HALF_DAY-clause-put
 unfolding clock_of item_units item_at item_span

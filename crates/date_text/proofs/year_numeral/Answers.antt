@@ -8,8 +8,10 @@ use Rattle.date_text.proofs.year_numeral.Goals as goal
 
 pub returns-then-n-eq2 : goal.returns-then-n-eq2
 unfolding year_units
-returns-then-n-eq2 c = let h : c.args.n ≡ 2 = omega arith in (rw (eq-eqb _ 2 h), refl)
+returns-then-n-eq2 c =
+    let h : c.args.n ≡ 2 = omega arith in
+    rw (c.new.ensures, eq-eqb _ 2 h) (refl, refl)
 
 pub returns : goal.returns
 unfolding year_units
-returns c = (rw (ne_eqb _ 2 c.if-n-eq2.false), refl)
+returns c = rw (c.new-2.ensures, ne_eqb _ 2 c.if-n-eq2.false) (refl, refl)
