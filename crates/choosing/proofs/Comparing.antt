@@ -6,33 +6,47 @@ use native.Mathlib.Nat.{mod-lt, div-add-mod', mul-lt-mul_of_pos_right, mul-le-mu
 use mathlib.Core.Path.{◌≡◌, refl, sym, ap, ◌∙◌}
 use mathlib.Core.Bool.{Bool, true, false, cond, not, ◌&&◌, ◌||◌}
 use lib.Dec.{ltb}
-use borrow.Author.Tests.{ltb-true, ltb-false, lt-ltb, le-ltb}
+use borrow.Author.Tests.{ltb-true, ltb-false, lt-ltb, le-ltb, eq-eqb, ne_eqb}
 use Rattle.lists.proofs.Bools.{by_cases}
 use Rattle.figures.specs.Rounding.{Magnitude}
 use Rattle.figures.proofs.Tens.{ten-pos, ten-le, ten-split}
 use Rattle.formats.specs.Tokens.{Comparison, equal, less, greater, at_most, at_least, unequal}
 use Rattle.formats.specs.Choice.{Exact, smaller, less_than, compared}
-use Rattle.choosing.specs.declared.Order.{Order}
-use Rattle.choosing.specs.declared.Order.TheVariants.{Less, Equal, Greater}
+use Rattle.std.specs.Ordering.{is_eq, is_ne, is_lt, is_gt, is_le, is_ge, ordering_reverse, nat_cmp}
+use Rattle.std.specs.declared.cmp.Ordering.{Ordering}
+use Rattle.std.specs.declared.cmp.Ordering.TheVariants.{Less, Equal, Greater}
 use Rattle.choosing.specs.declared.Sought.{Sought}
 use Rattle.choosing.specs.Seeking.{parts_of_one, exact_of}
-use Rattle.choosing.specs.Comparing.{order_of, whole_order, parts_order, fraction, millionths_size, reversed, signed_order, is_less, is_greater, is_equal, holds_for}
+use Rattle.choosing.specs.Comparing.{order_of, parts_order, fraction, millionths_size, signed_order, holds_for}
 
 -- how two numbers stand, by what is known of them
-pub whole-less : (a b : ℕ) → a < b → whole_order a b ≡ Less
-unfolding whole_order
+whole-less : (a b : ℕ) → a < b → nat_cmp a b ≡ Less
 whole-less a b h = rw (lt-ltb a b h)
 
-pub whole-greater : (a b : ℕ) → b < a → whole_order a b ≡ Greater
-unfolding whole_order
-whole-greater a b h = rw (le-ltb a b (omega arith), lt-ltb b a h)
+whole-greater : (a b : ℕ) → b < a → nat_cmp a b ≡ Greater
+whole-greater a b h = rw (le-ltb a b (omega arith), ne_eqb a b (λ e. absurd (omega arith)))
 
-pub whole-equal : (a b : ℕ) → a ≡ b → whole_order a b ≡ Equal
-unfolding whole_order
-whole-equal a b h = rw (le-ltb a b (omega arith), le-ltb b a (omega arith))
+whole-equal : (a b : ℕ) → a ≡ b → nat_cmp a b ≡ Equal
+whole-equal a b h = rw (le-ltb a b (omega arith), eq-eqb a b h)
+
+-- fractions stand as their numerators do over one denominator
+crossed : (x y : Magnitude) → order_of x y ≡ nat_cmp (x.above * y.below) (y.above * x.below)
+unfolding order_of smaller
+crossed x y =
+    let a : ℕ = x.above * y.below in
+    let b : ℕ = y.above * x.below in
+    by_cases (ltb a b)
+    (λ h. rw (whole-less a b (ltb-true a b h), h))
+    (λ h. by_cases (ltb b a)
+    (λ k. rw (whole-greater a b (ltb-true b a k), h, k))
+    (λ k.
+    let l : b ≤ a = ltb-false a b h in
+    let m : a ≤ b = ltb-false b a k in
+    let e : a ≡ b = omega arith in
+    rw (whole-equal a b e, h, k)))
 
 -- numbers that stand to each other as two others do
-whole_same : (a b c d : ℕ) → (a < b → c < d) → (b < a → d < c) → (a ≡ b → c ≡ d) → whole_order c d ≡ whole_order a b
+whole_same : (a b c d : ℕ) → (a < b → c < d) → (b < a → d < c) → (a ≡ b → c ≡ d) → nat_cmp c d ≡ nat_cmp a b
 whole_same a b c d f g h =
     by_cases (ltb a b)
     (λ e. let l : a < b = ltb-true a b e in whole-less c d (f l) ∙ sym (whole-less a b l))
@@ -44,11 +58,11 @@ whole_same a b c d f g h =
     let s : a ≡ b = omega arith in
     whole-equal c d (h s) ∙ sym (whole-equal a b s)))
 
-whole-times : (a b e : ℕ) → 0 < e → whole_order (a * e) (b * e) ≡ whole_order a b
+whole-times : (a b e : ℕ) → 0 < e → nat_cmp (a * e) (b * e) ≡ nat_cmp a b
 whole-times a b e h =
     whole_same a b (a * e) (b * e) (λ l. mul-lt-mul_of_pos_right l h) (λ l. mul-lt-mul_of_pos_right l h) (λ s. ap (λ (x : ℕ). x * e) s)
 
-whole-plus : (k a b : ℕ) → whole_order (k + a) (k + b) ≡ whole_order a b
+whole-plus : (k a b : ℕ) → nat_cmp (k + a) (k + b) ≡ nat_cmp a b
 whole-plus k a b = whole_same a b (k + a) (k + b) (λ l. omega arith) (λ l. omega arith) (λ s. omega arith)
 
 -- q + r/p and w + m/u, where e and f bring the rests to one denominator
@@ -66,7 +80,7 @@ module _ (q r p w m u : ℕ) (rest : r < p) (part : m < u) where
       omega arith
 
   parts-rest : (e f : ℕ) → 0 < e → e * p ≡ f * u → q ≡ w
-      → whole_order ((q * p + r) * u) ((w * u + m) * p) ≡ whole_order (r * e) (m * f)
+      → nat_cmp ((q * p + r) * u) ((w * u + m) * p) ≡ nat_cmp (r * e) (m * f)
   parts-rest e f least common s =
       let a : (q * p + r) * u ≡ q * p * u + r * u = omega arith in
       let b : (q * u + m) * p ≡ q * p * u + m * p = omega arith in
@@ -82,28 +96,29 @@ module _ (q r p w m u : ℕ) (rest : r < p) (part : m < u) where
           x ∙ ap (λ (n : ℕ). m * n) common ∙ y
 
   parts-order : (e f : ℕ) → 0 < e → e * p ≡ f * u
-      → whole_order ((q * p + r) * u) ((w * u + m) * p) ≡ parts_order q (r * e) w (m * f)
+      → nat_cmp ((q * p + r) * u) ((w * u + m) * p) ≡ parts_order q (r * e) w (m * f)
   unfolding parts_order
   parts-order e f least common =
       by_cases (ltb q w)
-      (λ k. rw k (whole-less ((q * p + r) * u) ((w * u + m) * p) (parts-less (ltb-true q w k))))
+      (λ k. let l : q < w = ltb-true q w k in rw (whole-less q w l) (whole-less ((q * p + r) * u) ((w * u + m) * p) (parts-less l)))
       (λ k. by_cases (ltb w q)
-      (λ l. rw (k, l) (whole-greater ((q * p + r) * u) ((w * u + m) * p) (parts-greater (ltb-true w q l))))
-      (λ l.
+      (λ j. let l : w < q = ltb-true w q j in rw (whole-greater q w l) (whole-greater ((q * p + r) * u) ((w * u + m) * p) (parts-greater l)))
+      (λ j.
       let x : w ≤ q = ltb-false q w k in
-      let y : q ≤ w = ltb-false w q l in
-      rw (k, l) (parts-rest e f least common (omega arith))))
+      let y : q ≤ w = ltb-false w q j in
+      let s : q ≡ w = omega arith in
+      rw (whole-equal q w s) (parts-rest e f least common s)))
 
 -- a fraction and one with whole part and rest
 pub order-by-parts : (a p w m u e f : ℕ) → 0 < p → m < u → 0 < e → e * p ≡ f * u
     → order_of (fraction a p) (fraction (w * u + m) u) ≡ parts_order (a / p) (a % p * e) w (m * f)
-unfolding order_of smaller whole_order
 order-by-parts a p w m u e f one part least common =
-    ap (λ (x : ℕ). whole_order (x * u) ((w * u + m) * p)) (sym (div-add-mod' a p))
+    crossed (fraction a p) (fraction (w * u + m) u)
+    ∙ ap (λ (x : ℕ). nat_cmp (x * u) ((w * u + m) * p)) (sym (div-add-mod' a p))
     ∙ parts-order (a / p) (a % p) p w m u (mod-lt a one) part e f least common
 
 -- what the order of two fractions says
-order-less : (x y : Magnitude) → smaller x y ≡ is_less (order_of x y)
+order-less : (x y : Magnitude) → smaller x y ≡ is_lt (order_of x y)
 unfolding order_of
 order-less x y = by_cases (smaller x y) (λ h. rw h) (λ h. by_cases (smaller y x) (λ k. rw (h, k)) (λ k. rw (h, k)))
 
@@ -113,77 +128,71 @@ smaller-once x y h =
     let l : x.above * y.below < y.above * x.below = ltb-true (x.above * y.below) (y.above * x.below) h in
     le-ltb (y.above * x.below) (x.above * y.below) (omega arith)
 
-order-greater : (x y : Magnitude) → smaller y x ≡ is_greater (order_of x y)
+order-greater : (x y : Magnitude) → smaller y x ≡ is_gt (order_of x y)
 unfolding order_of
 order-greater x y =
     by_cases (smaller x y) (λ h. rw (h, smaller-once x y h)) (λ h. by_cases (smaller y x) (λ k. rw (h, k)) (λ k. rw (h, k)))
 
-by_order : (P : Order → Type 0) → P Less → P Equal → P Greater → (o : Order) → P o
+by_order : (P : Ordering → Type 0) → P Less → P Equal → P Greater → (o : Ordering) → P o
 by_order P l e g Less = l
 by_order P l e g Equal = e
 by_order P l e g Greater = g
 
-reversed-less : (o : Order) → is_less (reversed o) ≡ is_greater o
-reversed-less = by_order (λ (o : Order). is_less (reversed o) ≡ is_greater o) refl refl refl
+reversed-less : (o : Ordering) → is_lt (ordering_reverse o) ≡ is_gt o
+reversed-less = by_order (λ (o : Ordering). is_lt (ordering_reverse o) ≡ is_gt o) refl refl refl
 
-reversed-greater : (o : Order) → is_greater (reversed o) ≡ is_less o
-reversed-greater = by_order (λ (o : Order). is_greater (reversed o) ≡ is_less o) refl refl refl
+reversed-greater : (o : Ordering) → is_gt (ordering_reverse o) ≡ is_lt o
+reversed-greater = by_order (λ (o : Ordering). is_gt (ordering_reverse o) ≡ is_lt o) refl refl refl
 
 -- with the signs
-unfoldable pub exact_order : Exact → Exact → Order
+unfoldable pub exact_order : Exact → Exact → Ordering
 exact_order x y = signed_order x.negative y.negative (order_of x.size y.size)
 
 less-signed : (a b : Bool) (x y : Magnitude)
-    → cond a (cond b (smaller y x) true) (cond b false (smaller x y)) ≡ is_less (signed_order a b (order_of x y))
+    → cond a (cond b (smaller y x) true) (cond b false (smaller x y)) ≡ is_lt (signed_order a b (order_of x y))
 less-signed true true x y = order-greater x y ∙ sym (reversed-less (order_of x y))
 less-signed true false x y = refl
 less-signed false true x y = refl
 less-signed false false x y = order-less x y
 
 greater-signed : (a b : Bool) (x y : Magnitude)
-    → cond b (cond a (smaller x y) true) (cond a false (smaller y x)) ≡ is_greater (signed_order a b (order_of x y))
+    → cond b (cond a (smaller x y) true) (cond a false (smaller y x)) ≡ is_gt (signed_order a b (order_of x y))
 greater-signed true true x y = order-less x y ∙ sym (reversed-greater (order_of x y))
 greater-signed true false x y = refl
 greater-signed false true x y = refl
 greater-signed false false x y = order-greater x y
 
-pub less-order : (x y : Exact) → less_than x y ≡ is_less (exact_order x y)
+pub less-order : (x y : Exact) → less_than x y ≡ is_lt (exact_order x y)
 unfolding less_than exact_order
 less-order x y = less-signed x.negative y.negative x.size y.size
 
-pub greater-order : (x y : Exact) → less_than y x ≡ is_greater (exact_order x y)
+pub greater-order : (x y : Exact) → less_than y x ≡ is_gt (exact_order x y)
 unfolding less_than exact_order
 greater-order x y = greater-signed x.negative y.negative x.size y.size
 
 -- a comparison by the order
-equal-holds : (o : Order) → not (is_less o) && not (is_greater o) ≡ is_equal o
-equal-holds = by_order (λ (o : Order). not (is_less o) && not (is_greater o) ≡ is_equal o) refl refl refl
-
-unequal-holds : (o : Order) → is_less o || is_greater o ≡ not (is_equal o)
-unequal-holds = by_order (λ (o : Order). is_less o || is_greater o ≡ not (is_equal o)) refl refl refl
-
 pub compared-order : (c : Comparison) (x y : Exact) → compared c x y ≡ holds_for c (exact_order x y)
 unfolding compared holds_for
-compared-order equal x y = rw (less-order x y, greater-order x y) (equal-holds (exact_order x y))
+compared-order equal x y = rw (less-order x y, greater-order x y) (by_order (λ (o : Ordering). not (is_lt o) && not (is_gt o) ≡ is_eq o) refl refl refl (exact_order x y))
 compared-order less x y = less-order x y
 compared-order greater x y = greater-order x y
-compared-order at_most x y = rw (greater-order x y)
-compared-order at_least x y = rw (less-order x y)
-compared-order unequal x y = rw (less-order x y, greater-order x y) (unequal-holds (exact_order x y))
+compared-order at_most x y = rw (greater-order x y) (by_order (λ (o : Ordering). not (is_gt o) ≡ is_le o) refl refl refl (exact_order x y))
+compared-order at_least x y = rw (less-order x y) (by_order (λ (o : Ordering). not (is_lt o) ≡ is_ge o) refl refl refl (exact_order x y))
+compared-order unequal x y = rw (less-order x y, greater-order x y) (by_order (λ (o : Ordering). is_lt o || is_gt o ≡ is_ne o) refl refl refl (exact_order x y))
 
 -- the magnitude of what is sought, by its kind
-pub instant-size : (v : Sought) (y : Magnitude) (o : Order) → v.instant ≡ true
+pub instant-size : (v : Sought) (y : Magnitude) (o : Ordering) → v.instant ≡ true
     → o ≡ order_of (fraction v.above 86400000) y → o ≡ order_of (exact_of v).size y
 unfolding exact_of parts_of_one
 instant-size v y o h e = rw h e
 
-pub number_size : (v : Sought) (y : Magnitude) (o : Order) → v.instant ≡ false
+pub number_size : (v : Sought) (y : Magnitude) (o : Ordering) → v.instant ≡ false
     → o ≡ order_of (fraction v.above (10 ^ v.scale)) y → o ≡ order_of (exact_of v).size y
 unfolding exact_of parts_of_one
 number_size v y o h e = rw h e
 
 -- a number of few decimals against millionths: its rest becomes millionths
-pub few-decimals : (a k w m p e : ℕ) (o : Order) → k ≤ 6 → m ≤ 999999 → p ≡ 10 ^ k → e ≡ 10 ^ (6 - k)
+pub few-decimals : (a k w m p e : ℕ) (o : Ordering) → k ≤ 6 → m ≤ 999999 → p ≡ 10 ^ k → e ≡ 10 ^ (6 - k)
     → o ≡ parts_order (a / p) (a % p * e) w m → o ≡ order_of (fraction a (10 ^ k)) (millionths_size w m)
 few-decimals a k w m p e o h part is_power is_up same =
     same
@@ -191,14 +200,14 @@ few-decimals a k w m p e o h part is_power is_up same =
     (sym (ten-split k 6 h) ∙ sym (one-mul (10 ^ 6))) ∙ rw (mul-one m)))
 
 -- a number of many decimals: the millionths become parts of its denominator
-pub many-decimals : (a k w m p e : ℕ) (o : Order) → 6 < k → m ≤ 999999 → p ≡ 10 ^ k → e ≡ 10 ^ (k - 6)
+pub many-decimals : (a k w m p e : ℕ) (o : Ordering) → 6 < k → m ≤ 999999 → p ≡ 10 ^ k → e ≡ 10 ^ (k - 6)
     → o ≡ parts_order (a / p) (a % p) w (m * e) → o ≡ order_of (fraction a (10 ^ k)) (millionths_size w m)
 many-decimals a k w m p e o h part is_power is_up same =
     same
     ∙ rw (is_power, is_up) (sym (order-by-parts a (10 ^ k) w m (10 ^ 6) 1 (10 ^ (k - 6)) (ten-pos k) (omega arith) (omega arith)
     (one-mul (10 ^ k) ∙ ten-split 6 k (omega arith)) ∙ rw (mul-one (a % 10 ^ k))))
 
-pub instant-parts : (a w m : ℕ) (o : Order) → m ≤ 999999
+pub instant-parts : (a w m : ℕ) (o : Ordering) → m ≤ 999999
     → o ≡ parts_order (a / 86400000) (a % 86400000 * 1000000) w (m * 86400000) → o ≡ order_of (fraction a 86400000) (millionths_size w m)
 instant-parts a w m o part same =
     same ∙ sym (order-by-parts a 86400000 w m (10 ^ 6) 1000000 86400000 (omega arith) (omega arith) (omega arith) refl)

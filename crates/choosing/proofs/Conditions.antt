@@ -12,7 +12,7 @@ use Rattle.tables.specs.Words.{Head}
 use Rattle.tables.specs.Encode.{head_of}
 use Rattle.tables.specs.Decode.{comparison_at, whole_at, millionths_at, condition_at}
 use Rattle.tables.proofs.MadeHeads.{operator-some, says, condition-back}
-use Rattle.choosing.specs.declared.Order.{Order}
+use Rattle.std.specs.declared.cmp.Ordering.{Ordering}
 use Rattle.choosing.specs.declared.Sought.{Sought}
 use Rattle.choosing.specs.Comparing.{order_of, millionths_size, signed_order, holds_for}
 use Rattle.choosing.specs.Seeking.{exact_of}
@@ -28,7 +28,7 @@ condition_in h =
     }
 
 -- a section's own condition, by its words
-pub condition-read : (n i : ℕ) (first_has : Bool) (s : Section) (h : Head) (v : Sought) {o p : Order} {r : Bool}
+pub condition-read : (n i : ℕ) (first_has : Bool) (s : Section) (h : Head) (v : Sought) {o p : Ordering} {r : Bool}
     → h ≡ head_of n i first_has s → has_condition s ≡ true
     → o ≡ order_of (exact_of v).size (millionths_size (whole_at h) (millionths_at h))
     → p ≡ signed_order v.negative (eqb h.negative 1) o

@@ -14,8 +14,7 @@ use Rattle.formats.specs.Where.{has_condition, is_text}
 use Rattle.formats.specs.Choice.{Exact, counted, Reason, as_general, reason_for, reason_holds, Choice, nothing, chosen, choose_from, choose_first, choose, TextChoice, itself, text_in, fourth_from, text_from, choose_text}
 use Rattle.formats.specs.Minus.{is_own, exception_a}
 use Rattle.tables.specs.Decode.{decode}
-use Rattle.choosing.specs.declared.Found.TheVariants as found
-use Rattle.choosing.specs.declared.TextFound.TheVariants as text
+use Rattle.std.specs.Prelude.{Some, None}
 use Rattle.table_words.specs.Sections.{no_section, section_in}
 use Rattle.table_words.proofs.Heads.{sections-length}
 use Rattle.choosing.specs.Seeking.{found_of, text_found_of}
@@ -131,20 +130,20 @@ text-placed ss d i s e =
     (omega arith, l.there ∙ rw z)
 
 -- what the answers for a number or an instant say
-pub found_nothing : (ws : List ℕ) (x : Exact) → found.Nothing ≡ found_of (choose (decode ws) x) → choose (decode ws) x ≡ nothing
+pub found_nothing : (ws : List ℕ) (x : Exact) → None ≡ found_of (choose (decode ws) x) → choose (decode ws) x ≡ nothing
 unfolding found_of
 found_nothing ws x e = go (choose (decode ws) x) e
   where
-    go : (c : Choice) → found.Nothing ≡ found_of c → c ≡ nothing
+    go : (c : Choice) → None ≡ found_of c → c ≡ nothing
     go nothing e = refl
     go (chosen i s why) e = let z : ◌≡◌ {A = ℕ} 0 1 = cc in absurd (omega arith)
 
-pub found_at : {P : Type 0} (ws : List ℕ) (x : Exact) (i : ℕ) → found.At i ≡ found_of (choose (decode ws) x)
+pub found_at : {P : Type 0} (ws : List ℕ) (x : Exact) (i : ℕ) → Some i ≡ found_of (choose (decode ws) x)
     → ((why : Reason) → choose (decode ws) x ≡ chosen i (section_in ws i) why → i < get_or ws 0 0 → P) → P
 unfolding found_of section_in
 found_at {P} ws x i e f = go (choose (decode ws) x) refl e
   where
-    go : (c : Choice) → choose (decode ws) x ≡ c → found.At i ≡ found_of c → P
+    go : (c : Choice) → choose (decode ws) x ≡ c → Some i ≡ found_of c → P
     go nothing h e = let z : ◌≡◌ {A = ℕ} 0 1 = cc in absurd (omega arith)
     go (chosen j s why) h e =
         let p : Placement (decode ws) no_section j s why = chosen-placed (decode ws) no_section x j s why h in
@@ -153,20 +152,20 @@ found_at {P} ws x i e f = go (choose (decode ws) x) refl e
         f why (rw a (h ∙ ap (λ (t : Section). chosen j t why) p.there)) (omega (arith, p.within))
 
 -- what the answers for a text say
-pub text-itself : (ws : List ℕ) → text.Itself ≡ text_found_of (choose_text (decode ws)) → choose_text (decode ws) ≡ itself
+pub text-itself : (ws : List ℕ) → None ≡ text_found_of (choose_text (decode ws)) → choose_text (decode ws) ≡ itself
 unfolding text_found_of
 text-itself ws e = go (choose_text (decode ws)) e
   where
-    go : (c : TextChoice) → text.Itself ≡ text_found_of c → c ≡ itself
+    go : (c : TextChoice) → None ≡ text_found_of c → c ≡ itself
     go itself e = refl
     go (text_in i s) e = let z : ◌≡◌ {A = ℕ} 0 1 = cc in absurd (omega arith)
 
-pub text_at : (ws : List ℕ) (i : ℕ) → text.At i ≡ text_found_of (choose_text (decode ws))
+pub text_at : (ws : List ℕ) (i : ℕ) → Some i ≡ text_found_of (choose_text (decode ws))
     → (choose_text (decode ws) ≡ text_in i (section_in ws i)) × (i < get_or ws 0 0)
 unfolding text_found_of section_in
 text_at ws i e = go (choose_text (decode ws)) refl e
   where
-    go : (c : TextChoice) → choose_text (decode ws) ≡ c → text.At i ≡ text_found_of c
+    go : (c : TextChoice) → choose_text (decode ws) ≡ c → Some i ≡ text_found_of c
         → (choose_text (decode ws) ≡ text_in i (get_or (decode ws) i no_section)) × (i < get_or ws 0 0)
     go itself h e = let z : ◌≡◌ {A = ℕ} 0 1 = cc in absurd (omega arith)
     go (text_in j s) h e =

@@ -17,9 +17,7 @@ use Rattle.tables.specs.Decode.{decode}
 use Rattle.tables.specs.Rules.{passes}
 use Rattle.table_words.specs.Sections.{no_section, section_in}
 use Rattle.table_words.proofs.Heads.{sections-length, Long, long, section-stands}
-use Rattle.choosing.specs.declared.Found.{Found}
-use Rattle.choosing.specs.declared.Found.TheVariants as found
-use Rattle.choosing.specs.declared.TextFound.TheVariants as text
+use Rattle.std.specs.Prelude.{Option, Some, None}
 use Rattle.choosing.specs.Seeking.{found_of, text_found_of, takes}
 
 -- every section stands where it may
@@ -67,12 +65,12 @@ counted_is (a ∷ b ∷ c ∷ d ∷ e ∷ ss) st l m = absurd (omega arith)
 
 -- ---- the section of a number or an instant
 -- what is found, where N sections count, by what the first two take
-abbrev answer : ℕ → Section → Section → Exact → Found
+abbrev answer : ℕ → Section → Section → Exact → Option ℕ
 answer n a b x =
-    cond (takes n 0 a x) (found.At 0)
-    (cond (eqb n 1) found.Nothing (cond (takes n 1 b x) (found.At 1) (cond (eqb n 2) found.Nothing (found.At 2))))
+    cond (takes n 0 a x) (Some 0)
+    (cond (eqb n 1) None (cond (takes n 1 b x) (Some 1) (cond (eqb n 2) None (Some 2))))
 
-either : (b : Bool) (i : ℕ) (s : Section) (why : Reason) (c : Choice) {r : Found} → found_of c ≡ r → found_of (cond b (chosen i s why) c) ≡ cond b (found.At i) r
+either : (b : Bool) (i : ℕ) (s : Section) (why : Reason) (c : Choice) {r : Option ℕ} → found_of c ≡ r → found_of (cond b (chosen i s why) c) ≡ cond b (Some i) r
 unfolding found_of
 either true i s why c e = refl
 either false i s why c e = e
@@ -109,7 +107,7 @@ many [] st p l apart = absurd (omega arith)
 many (a ∷ []) st p l apart = absurd (apart (alone a st (p refl)))
 many (a ∷ b ∷ ss) st p l apart = omega arith
 
-single : (ss : List Section) (x : Exact) → length ss ≡ 1 → has_condition (get_or ss 0 no_section) ≡ false → found_of (choose ss x) ≡ found.At 0
+single : (ss : List Section) (x : Exact) → length ss ≡ 1 → has_condition (get_or ss 0 no_section) ≡ false → found_of (choose ss x) ≡ Some 0
 unfolding choose choose_first choose_from counted counted_from reason_for fallback reason_holds found_of
 single [] x e h = absurd (omega arith)
 single (a ∷ []) x e h = by_cases (is_text a) (λ t. rw t) (λ t. rw (t, h))
@@ -117,7 +115,7 @@ single (a ∷ b ∷ ss) x e h = absurd (omega arith)
 
 -- ---- the section of a text
 text-is : (ss : List Section) → Stand ss → 1 ≤ length ss → length ss ≤ 4
-    → text_found_of (choose_text ss) ≡ cond (eqb (length ss) 4) (text.At 3) (cond (is_text (get_or ss (length ss - 1) no_section)) (text.At (length ss - 1)) text.Itself)
+    → text_found_of (choose_text ss) ≡ cond (eqb (length ss) 4) (Some 3) (cond (is_text (get_or ss (length ss - 1) no_section)) (Some (length ss - 1)) None)
 unfolding choose_text fourth_from text_from text_found_of
 text-is [] st l m = absurd (omega arith)
 text-is (a ∷ []) st l m = by_cases (is_text a) (λ e. rw e) (λ e. rw e)
@@ -147,11 +145,11 @@ module _ (ws : List ℕ) (t : T (passes ws)) where
     unfolding section_in
     counted-told = rw size at (counted_is (decode ws) stand few.0 few.1)
 
-    pub text-told : text_found_of (choose_text (decode ws)) ≡ cond (eqb n 4) (text.At 3) (cond (is_text (section_in ws (n - 1))) (text.At (n - 1)) text.Itself)
+    pub text-told : text_found_of (choose_text (decode ws)) ≡ cond (eqb n 4) (Some 3) (cond (is_text (section_in ws (n - 1))) (Some (n - 1)) None)
     unfolding section_in
     text-told = rw size at (text-is (decode ws) stand few.0 few.1)
 
-    pub single-told : (x : Exact) → n ≡ 1 → has_condition (section_in ws 0) ≡ false → found.At 0 ≡ found_of (choose (decode ws) x)
+    pub single-told : (x : Exact) → n ≡ 1 → has_condition (section_in ws 0) ≡ false → Some 0 ≡ found_of (choose (decode ws) x)
     unfolding section_in
     single-told x e h = sym (single (decode ws) x (size ∙ e) h)
 
@@ -168,18 +166,18 @@ module _ (ws : List ℕ) (t : T (passes ws)) where
 
     -- the five answers
     module _ (x : Exact) {one : Bool} (eo : one ≡ takes m 0 (section_in ws 0) x) where
-      pub found_first : one ≡ true → found.At 0 ≡ found_of (choose (decode ws) x)
+      pub found_first : one ≡ true → Some 0 ≡ found_of (choose (decode ws) x)
       found_first a = sym (choice-told x ∙ rw (← eo, a))
 
-      pub found-none-of-one : one ≡ false → m ≡ 1 → found.Nothing ≡ found_of (choose (decode ws) x)
+      pub found-none-of-one : one ≡ false → m ≡ 1 → None ≡ found_of (choose (decode ws) x)
       found-none-of-one a e = sym (choice-told x ∙ rw (← eo, a, eq-eqb m 1 e))
 
       module _ (a : one ≡ false) (apart : m ≡ 1 → ⊥) {two : Bool} (et : two ≡ takes m 1 (section_in ws 1) x) where
-        pub found-second : two ≡ true → found.At 1 ≡ found_of (choose (decode ws) x)
+        pub found-second : two ≡ true → Some 1 ≡ found_of (choose (decode ws) x)
         found-second b = sym (choice-told x ∙ rw (← eo, a, ne_eqb m 1 apart, ← et, b))
 
-        pub found-none-of-two : two ≡ false → m ≡ 2 → found.Nothing ≡ found_of (choose (decode ws) x)
+        pub found-none-of-two : two ≡ false → m ≡ 2 → None ≡ found_of (choose (decode ws) x)
         found-none-of-two b e = sym (choice-told x ∙ rw (← eo, a, ne_eqb m 1 apart, ← et, b, eq-eqb m 2 e))
 
-        pub found-third : two ≡ false → (m ≡ 2 → ⊥) → found.At 2 ≡ found_of (choose (decode ws) x)
+        pub found-third : two ≡ false → (m ≡ 2 → ⊥) → Some 2 ≡ found_of (choose (decode ws) x)
         found-third b e = sym (choice-told x ∙ rw (← eo, a, ne_eqb m 1 apart, ← et, b, ne_eqb m 2 e))

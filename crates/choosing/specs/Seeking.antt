@@ -1,16 +1,12 @@
 -- What the chooser is asked, and what it answers.
 -- Assumes nothing.
-use Rattle.std.specs.Prelude.{ℕ, ◌^◌, Bool, true, false, cond}
+use Rattle.std.specs.Prelude.{ℕ, ◌^◌, Bool, true, false, cond, Option, Some, None}
 use Rattle.values.specs.declared.Day.{Day}
 use Rattle.values.specs.declared.Millisecond.{Millisecond}
 use Rattle.calendar.specs.Clock.{since_day_zero}
 use Rattle.formats.specs.Items.{Section}
 use Rattle.formats.specs.Choice.{Exact, Choice, nothing, chosen, TextChoice, itself, text_in, reason_for, reason_holds}
 use Rattle.choosing.specs.declared.Sought.{Sought}
-use Rattle.choosing.specs.declared.Found.{Found}
-use Rattle.choosing.specs.declared.Found.TheVariants as found
-use Rattle.choosing.specs.declared.TextFound.{TextFound}
-use Rattle.choosing.specs.declared.TextFound.TheVariants as text
 
 -- in how many parts one is divided
 unfoldable pub parts_of_one : Sought → ℕ
@@ -24,14 +20,15 @@ exact_of v = record { negative = v.negative; size = record { above = v.above; be
 unfoldable pub instant_sought : Day → Millisecond → Sought
 instant_sought d m = record { negative = false; instant = true; above = since_day_zero d.0 m.0; scale = 0 }
 
--- a choice as the function answers it
-unfoldable pub found_of : Choice → Found
-found_of nothing = found.Nothing
-found_of (chosen i s why) = found.At i
+-- the place of the section that is chosen
+unfoldable pub found_of : Choice → Option ℕ
+found_of nothing = None
+found_of (chosen i s why) = Some i
 
-unfoldable pub text_found_of : TextChoice → TextFound
-text_found_of itself = text.Itself
-text_found_of (text_in i s) = text.At i
+-- the same for a text: none where the text itself is shown
+unfoldable pub text_found_of : TextChoice → Option ℕ
+text_found_of itself = None
+text_found_of (text_in i s) = Some i
 
 -- whether section i, which counts, takes a value, where N sections count
 unfoldable pub takes : ℕ → ℕ → Section → Exact → Bool

@@ -1,26 +1,19 @@
 // The section of a table that a number, an instant or a text goes to, read off the table's words.
 #![tactic(auto)]
 
-ghost use Rattle.std.specs.Prelude.{◌≡◌, ◌^◌, ◌≤◌, ◌<◌, true, T, get_or};
-ghost use Rattle.choosing.specs.Comparing.{order_of, parts_order, fraction, millionths_size, reversed, signed_order, is_less, is_greater, is_equal, holds_for};
+ghost use Rattle.std.specs.Prelude.{◌≡◌, ◌^◌, ◌≤◌, true, get_or};
+ghost use Rattle.choosing.specs.Comparing.{order_of, parts_order, fraction, millionths_size, signed_order, holds_for};
 ghost use Rattle.table_words.specs.Sections.{section_in};
+ghost use Rattle.table_words.specs.Tabled.{sections_of, section_of};
 ghost use Rattle.choosing.specs.Seeking.{exact_of, found_of, text_found_of, takes};
 ghost use Rattle.formats.specs.Items.{Section};
 ghost use Rattle.formats.specs.Where.{has_condition};
 ghost use Rattle.formats.specs.Choice.{less_than, zero_exact, counted, fallback, condition_holds, reason_holds, choose, choose_text};
-ghost use Rattle.tables.specs.Decode.{comparison_at, decode};
-ghost use Rattle.tables.specs.Rules.{passes};
+ghost use Rattle.tables.specs.Decode.{comparison_at};
 
 use figures::power;
-use table_words::{has_condition, head_of, is_text, number, section_count};
-
-// How one number stands to another.
-#[derive(Clone, Copy)]
-enum Order {
-    Less,
-    Equal,
-    Greater,
-}
+use std::cmp::Ordering;
+use table_words::{Table, TableSection, number};
 
 // A number or an instant, exactly: above / 10^scale, or above / 86,400,000 of a day. The sign stands apart.
 #[derive(Clone, Copy)]
@@ -31,42 +24,16 @@ pub struct Sought {
     pub scale: u32,
 }
 
-// The place of the section that a number or an instant goes to.
-#[derive(Clone, Copy)]
-pub enum Found {
-    At(u16),
-    Nothing,
-}
-
-// The place of the section that a text goes to.
-#[derive(Clone, Copy)]
-pub enum TextFound {
-    At(u16),
-    Itself,
-}
-
 // By the whole parts, and by the rests where these are the same.
-fn compare_parts(whole: u64, rest: u64, limit: u64, over: u64) -> Order
+fn compare_parts(whole: u64, rest: u64, limit: u64, over: u64) -> Ordering
     ensures { result ≡ parts_order whole rest limit over }
 {
-    if whole < limit {
-        return Order::Less;
-    }
-    if limit < whole {
-        return Order::Greater;
-    }
-    if rest < over {
-        return Order::Less;
-    }
-    if over < rest {
-        return Order::Greater;
-    }
-    Order::Equal
+    whole.cmp(&limit).then(rest.cmp(&over))
 }
 
 // above / 10^scale against a whole number and millionths. The rests are brought to the finer of their denominators, so that
 // none passes 10^15.
-fn compare_number(above: u64, scale: u32, whole: u32, millionths: u32) -> Order
+fn compare_number(above: u64, scale: u32, whole: u32, millionths: u32) -> Ordering
     requires { (scale ≤ 15) × (millionths ≤ 999999) }
     ensures { result ≡ order_of (fraction above (10 ^ scale)) (millionths_size whole millionths) }
 {
@@ -89,7 +56,7 @@ fn compare_number(above: u64, scale: u32, whole: u32, millionths: u32) -> Order
 }
 
 // above / 86,400,000 against a whole number and millionths.
-fn compare_instant(above: u64, whole: u32, millionths: u32) -> Order
+fn compare_instant(above: u64, whole: u32, millionths: u32) -> Ordering
     requires { millionths ≤ 999999 }
     ensures { result ≡ order_of (fraction above 86400000) (millionths_size whole millionths) }
 {
@@ -103,7 +70,7 @@ fn compare_instant(above: u64, whole: u32, millionths: u32) -> Order
 }
 
 // The magnitude of what is sought against a whole number and millionths.
-fn compare(v: Sought, whole: u32, millionths: u32) -> Order
+fn compare(v: Sought, whole: u32, millionths: u32) -> Ordering
     requires { (v.scale ≤ 15) × (millionths ≤ 999999) }
     ensures { result ≡ order_of (exact_of v).size (millionths_size whole millionths) }
 {
@@ -113,85 +80,38 @@ fn compare(v: Sought, whole: u32, millionths: u32) -> Order
     compare_number(v.above, v.scale, whole, millionths)
 }
 
-fn reversed(order: Order) -> Order
-    ensures { result ≡ reversed order }
-{
-    match order {
-        Order::Less => Order::Greater,
-        Order::Equal => Order::Equal,
-        Order::Greater => Order::Less,
-    }
-}
-
 // How two numbers stand by their signs, and by how their magnitudes stand.
-fn signed(negative: bool, other: bool, order: Order) -> Order
+fn signed(negative: bool, other: bool, order: Ordering) -> Ordering
     ensures { result ≡ signed_order negative other order }
 {
-    if negative {
-        if other {
-            return reversed(order);
-        }
-        return Order::Less;
-    }
-    if other {
-        return Order::Greater;
-    }
-    order
-}
-
-fn is_less(order: Order) -> bool
-    ensures { result ≡ is_less order }
-{
-    match order {
-        Order::Less => true,
-        Order::Equal => false,
-        Order::Greater => false,
-    }
-}
-
-fn is_greater(order: Order) -> bool
-    ensures { result ≡ is_greater order }
-{
-    match order {
-        Order::Less => false,
-        Order::Equal => false,
-        Order::Greater => true,
-    }
-}
-
-fn is_equal(order: Order) -> bool
-    ensures { result ≡ is_equal order }
-{
-    match order {
-        Order::Less => false,
-        Order::Equal => true,
-        Order::Greater => false,
+    match (negative, other) {
+        (true, true) => order.reverse(),
+        (true, false) => Ordering::Less,
+        (false, true) => Ordering::Greater,
+        (false, false) => order,
     }
 }
 
 // Whether the comparison of an operator word holds: 1 to 6 are `= < > <= >= <>`.
-fn holds(operator: u16, order: Order) -> bool
+fn holds(operator: u16, order: Ordering) -> bool
     ensures { result ≡ holds_for (comparison_at operator) order }
 {
-    let less = is_less(order);
-    let equal = is_equal(order);
-    let greater = is_greater(order);
     match operator {
-        1 => equal,
-        2 => less,
-        3 => greater,
-        4 => !greater,
-        5 => !less,
-        _ => !equal,
+        1 => order.is_eq(),
+        2 => order.is_lt(),
+        3 => order.is_gt(),
+        4 => order.is_le(),
+        5 => order.is_ge(),
+        _ => order.is_ne(),
     }
 }
 
-// Whether the condition of section i, which has one, holds.
-fn condition_holds(table: &[u16], i: usize, v: Sought) -> bool
-    requires { T (passes table.now) × (i < get_or table.now 0 0) × (has_condition (section_in table.now i) ≡ true) × (v.scale ≤ 15) }
-    ensures { result ≡ condition_holds (section_in table.now i).condition (exact_of v) }
+// Whether the section's condition holds; it has one.
+fn condition_holds(section: TableSection, v: Sought) -> bool
+    requires { (has_condition (section_of section) ≡ true) × (v.scale ≤ 15) }
+    ensures { result ≡ condition_holds (section_of section.entry).condition (exact_of v) }
 {
-    let h = head_of(table, i);
+    let h = section.head();
     let whole = number(h.whole_low, h.whole_high);
     let millionths = number(h.millionths_low, h.millionths_high);
     let order = compare(v, whole, millionths);
@@ -209,7 +129,7 @@ fn is_positive(v: Sought) -> bool
 }
 
 // Whether section i of N, which has no condition, takes the value.
-fn fallback_holds(counted: u16, i: usize, v: Sought) -> bool
+fn fallback_holds(counted: u16, i: u16, v: Sought) -> bool
     ensures { (s : Section) → result ≡ reason_holds (fallback counted i) s (exact_of v) }
 {
     if counted == 1 {
@@ -230,79 +150,79 @@ fn fallback_holds(counted: u16, i: usize, v: Sought) -> bool
     true
 }
 
-// Whether section i takes the value, where N sections count.
-fn takes(table: &[u16], counted: u16, i: usize, v: Sought) -> bool
-    requires { T (passes table.now) × (i < get_or table.now 0 0) × (v.scale ≤ 15) }
-    ensures { result ≡ takes counted i (section_in table.now i) (exact_of v) }
+// Whether the section takes the value, where N sections count.
+fn takes(section: TableSection, counted: u16, v: Sought) -> bool
+    requires { v.scale ≤ 15 }
+    ensures { result ≡ takes counted section.entry.place (section_of section.entry) (exact_of v) }
 {
-    if has_condition(table, i) {
-        return condition_holds(table, i, v);
+    if section.has_condition() {
+        return condition_holds(section, v);
     }
-    fallback_holds(counted, i, v)
+    fallback_holds(counted, section.place, v)
 }
 
 // N: how many sections are neither text nor fourth. A text section stands last.
-pub fn counted(table: &[u16], n: usize) -> u16
-    requires { T (passes table.now) × (n ≡ get_or table.now 0 0) }
-    ensures { result ≡ counted (decode table.now) }
+pub fn counted(table: Table) -> u16
+    ensures { result ≡ counted (sections_of table.entry) }
 {
+    let n = table.section_count();
     if 3 < n {
         return 3;
     }
     let last = n - 1;
-    if is_text(table, last) {
-        return last as u16;
+    if table.section(last).is_text() {
+        return last;
     }
-    n as u16
+    n
 }
 
 // The section among several, or of one with a condition. The first N count, and only the first two may have a condition.
-fn choose_among(table: &[u16], v: Sought) -> Found
-    requires { T (passes table.now) × (v.scale ≤ 15) × (get_or table.now 0 0 ≡ 1 → has_condition (section_in table.now 0) ≡ true) }
-    ensures { result ≡ found_of (choose (decode table.now) (exact_of v)) }
+fn choose_among(table: Table, v: Sought) -> Option<u16>
+    requires { (v.scale ≤ 15) × (get_or table.words.now 0 0 ≡ 1 → has_condition (section_in table.words.now 0) ≡ true) }
+    ensures { result ≡ found_of (choose (sections_of table.entry) (exact_of v)) }
 {
-    let counted = counted(table, section_count(table));
-    if takes(table, counted, 0, v) {
-        return Found::At(0);
+    let counted = counted(table);
+    if takes(table.section(0), counted, v) {
+        return Some(0);
     }
     if counted == 1 {
-        return Found::Nothing;
+        return None;
     }
-    if takes(table, counted, 1, v) {
-        return Found::At(1);
+    if takes(table.section(1), counted, v) {
+        return Some(1);
     }
     if counted == 2 {
-        return Found::Nothing;
+        return None;
     }
-    Found::At(2)
+    Some(2)
 }
 
-// The section of a number or an instant. One that stands alone without a condition, as in most tables, takes every value.
-pub fn choose(table: &[u16], v: Sought) -> Found
-    requires { T (passes table.now) × (v.scale ≤ 15) }
-    ensures { result ≡ found_of (choose (decode table.now) (exact_of v)) }
+// The place of the section that a number or an instant goes to. A section that stands alone without a condition, as in most tables,
+// takes every value.
+pub fn choose(table: Table, v: Sought) -> Option<u16>
+    requires { v.scale ≤ 15 }
+    ensures { result ≡ found_of (choose (sections_of table.entry) (exact_of v)) }
 {
-    if has_condition(table, 0) {
+    if table.section(0).has_condition() {
         return choose_among(table, v);
     }
-    if section_count(table) == 1 {
-        return Found::At(0);
+    if table.section_count() == 1 {
+        return Some(0);
     }
     choose_among(table, v)
 }
 
-// The section of a text.
-pub fn choose_text(table: &[u16]) -> TextFound
-    requires { T (passes table.now) }
-    ensures { result ≡ text_found_of (choose_text (decode table.now)) }
+// The place of the section that a text goes to.
+pub fn choose_text(table: Table) -> Option<u16>
+    ensures { result ≡ text_found_of (choose_text (sections_of table.entry)) }
 {
-    let n = section_count(table);
+    let n = table.section_count();
     if n == 4 {
-        return TextFound::At(3);
+        return Some(3);
     }
     let last = n - 1;
-    if is_text(table, last) {
-        return TextFound::At(last as u16);
+    if table.section(last).is_text() {
+        return Some(last);
     }
-    TextFound::Itself
+    None
 }

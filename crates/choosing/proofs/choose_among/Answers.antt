@@ -1,47 +1,45 @@
 -- `choosing::choose_among` meets its contract.
 -- Assumes nothing.
-use native.Mathlib.Omega.{arith}
+use mathlib.Core.Path.{◌≡◌}
+use Rattle.table_words.specs.Sections.{section_in}
+use Rattle.choosing.specs.Seeking.{exact_of, takes}
 use Rattle.table_words.proofs.Heads.{long}
 use Rattle.choosing.proofs.Standing.{second-there, found_first, found-none-of-one, found-second, found-none-of-two, found-third}
 use Rattle.choosing.proofs.choose_among.Goals as goal
+use Rattle.choosing.proofs.choose_among.Goals.{After-takes, After-takes-2}
 
-pub section_count-requires : goal.section_count-requires
-section_count-requires c = omega (arith, long _ c.requires.0)
+-- what the first section and the second take
+first : (c : After-takes) → c.takes.result ≡ takes c.counted-counted.result 0 (section_in c.args.table.words.now 0) (exact_of c.args.v)
+first c = rw (c.section.ensures.section, c.section.ensures.place) at c.takes.ensures
 
-pub takes-requires : goal.takes-requires
-takes-requires c =
-    let p = c.requires in
-    (p.0, omega (arith, long _ p.0), p.1)
+second : (c : After-takes-2) → c.takes-2.result ≡ takes c.counted-counted.result 1 (section_in c.args.table.words.now 1) (exact_of c.args.v)
+second c = rw (c.section-2.ensures.section, c.section-2.ensures.place) at c.takes-2.ensures
+
+pub section-requires : goal.section-requires
+section-requires c = (long _ c.args.table.passes).least
 
 pub returns-then-takes : goal.returns-then-takes
-returns-then-takes c =
-    let p = c.requires in
-    found_first _ p.0 p.2 c.counted-counted.ensures _ c.takes.ensures c.if-takes.true
+returns-then-takes c = found_first _ c.args.table.passes c.requires.1 c.counted-counted.ensures _ (first (goal.at.returns-then-takes c).After-takes) c.if-takes.true
 
 pub returns-then-counted-eq1 : goal.returns-then-counted-eq1
 returns-then-counted-eq1 c =
-    let p = c.requires in
-    found-none-of-one _ p.0 p.2 c.counted-counted.ensures _ c.takes.ensures c.if-takes.false c.if-counted-eq1.true
+    found-none-of-one _ c.args.table.passes c.requires.1 c.counted-counted.ensures _ (first (goal.at.returns-then-counted-eq1 c).After-takes)
+    c.if-takes.false c.if-counted-eq1.true
 
-pub takes-requires-2 : goal.takes-requires-2
-takes-requires-2 c =
-    let p = c.requires in
-    (p.0, omega (arith, second-there _ p.0 p.2 c.counted-counted.ensures c.if-counted-eq1.false), p.1)
+pub section-requires-2 : goal.section-requires-2
+section-requires-2 c = second-there _ c.args.table.passes c.requires.1 c.counted-counted.ensures c.if-counted-eq1.false
 
 pub returns-then-takes-2 : goal.returns-then-takes-2
 returns-then-takes-2 c =
-    let p = c.requires in
-    found-second _ p.0 p.2 c.counted-counted.ensures _ c.takes.ensures c.if-takes.false c.if-counted-eq1.false
-    c.takes-2.ensures c.if-takes-2.true
+    found-second _ c.args.table.passes c.requires.1 c.counted-counted.ensures _ (first (goal.at.returns-then-takes-2 c).After-takes)
+    c.if-takes.false c.if-counted-eq1.false (second (goal.at.returns-then-takes-2 c).After-takes-2) c.if-takes-2.true
 
 pub returns-then-counted-eq2 : goal.returns-then-counted-eq2
 returns-then-counted-eq2 c =
-    let p = c.requires in
-    found-none-of-two _ p.0 p.2 c.counted-counted.ensures _ c.takes.ensures c.if-takes.false c.if-counted-eq1.false
-    c.takes-2.ensures c.if-takes-2.false c.if-counted-eq2.true
+    found-none-of-two _ c.args.table.passes c.requires.1 c.counted-counted.ensures _ (first (goal.at.returns-then-counted-eq2 c).After-takes)
+    c.if-takes.false c.if-counted-eq1.false (second (goal.at.returns-then-counted-eq2 c).After-takes-2) c.if-takes-2.false c.if-counted-eq2.true
 
 pub returns : goal.returns
 returns c =
-    let p = c.requires in
-    found-third _ p.0 p.2 c.counted-counted.ensures _ c.takes.ensures c.if-takes.false c.if-counted-eq1.false
-    c.takes-2.ensures c.if-takes-2.false c.if-counted-eq2.false
+    found-third _ c.args.table.passes c.requires.1 c.counted-counted.ensures _ (first (goal.at.returns c).After-takes)
+    c.if-takes.false c.if-counted-eq1.false (second (goal.at.returns c).After-takes-2) c.if-takes-2.false c.if-counted-eq2.false
