@@ -1,160 +1,117 @@
 -- Laws of what stands in brackets: colours, elapsed runs and conditions, and the bracket around them.
 -- Assumes nothing.
-use Prim.Native.Nat.{ℕ, zero, suc, ◌+◌, ◌-◌, ◌*◌, ◌≤◌, ◌<◌}
+use Prim.Native.Nat.{ℕ, zero, suc, ◌+◌, ◌-◌, ◌≤◌, ◌<◌, min}
 use Prim.Native.String.{String}
 use mathlib.Core.Path.{◌≡◌, refl, sym, ap, ◌∙◌}
 use mathlib.Core.Bool.{Bool, true, false, cond, not, ◌&&◌, ◌||◌, true≢false}
-use mathlib.Core.List.{List, [], ◌∷◌, map}
+use mathlib.Core.List.{List, [], ◌∷◌, ◌++◌, map}
 use mathlib.Core.Option.{Option, none, some}
 use native.Mathlib.Omega.{arith}
 use native.Mathlib.Numerals.{add-one}
 use borrow.Author.Tests.{eq-eqb, ne_eqb, le-leb, lt-leb, leb-true, leb-false, eqb-true, eqb-false}
-use lib.Dec.{T, leb, eqb, leb→le}
+use lib.Dec.{T, leb, ltb, eqb}
 use lib.ListN.{length, take, drop, get_or, drop_of_length-le, length-drop}
-use lib.Seq.{drop-cons, length-take-le}
+use Rattle.std.proofs.Common.{Option as Found, Some, None}
+use Rattle.std.proofs.Math.Bool.{and-false}
+use Rattle.std.proofs.Math.Seq.{take-append_seam}
+use Rattle.std.proofs.lemmas.List.{take-append-drop}
+use Rattle.std.proofs.lemmas.Iterator.Adapters.{position_from-zero}
+use Rattle.std.specs.List.{prefix_len, list_all, list_any, position, position_from, slice_get}
+use Rattle.std.specs.Option.{MatchOption, option_map}
 use Rattle.lists.specs.Lists.{every, is_empty, is_some}
-use Rattle.lists.proofs.Bools.{by_cases, cond_both, or-false, and_left, and_right, every-head, every-tail, true-T}
+use Rattle.lists.proofs.Bools.{no, by_cases, cond_both, or-false}
 use Rattle.calendar.specs.Names.{units}
-use Rattle.formats.specs.Tokens.{Comparison, equal, less, greater, at_most, at_least, unequal, Token, condition, before, leading, starts_with, same, is_digit, digit_of, number_from, colour_names, named_from, no_leading_zero, colour_digits, numbered, elapsed_inside, decimals_of, whole_of, signed_of, condition_inside, first_form, inside_of, closed, bracketed}
+use Rattle.formats.specs.Tokens.{Comparison, equal, less, greater, at_most, at_least, unequal, Token, colour, condition, before, leading, starts_with, same, is_digit, digit_of, number_from, fixed_number, colour_names, named_from, no_leading_zero, colour_digits, numbered, elapsed_inside, decimals_of, whole_of, signed_of, condition_inside, first_form, inside_of, closed, bracketed}
 use Rattle.formats.specs.Kinds.{condition_in}
-use Rattle.lexing.specs.declared.Mark.{Mark}
-use Rattle.lexing.specs.declared.Step.TheVariants.{Read, Broken}
-use Rattle.lexing.specs.declared.scan.Set.TheVariants.{But}
 use Rattle.lexing.specs.declared.brackets.Inside.{Inside}
-use Rattle.lexing.specs.declared.brackets.Inside.TheVariants.{Found, Nothing}
-use Rattle.lexing.specs.Scan.{member}
 use Rattle.marks.specs.Marks.{written_or, written_in, condition_of, mark_token, mark_rows}
-use Rattle.lexing.specs.Marks.{step_behind, inside_meant, plain_inside}
+use Rattle.lexing.specs.Marks.{step_behind, inside_meant, form_meant, plain_inside}
 use Rattle.lexing.specs.Brackets.{colour_meant, is_run_of, is_wide, is_narrow, is_pointed}
-use Rattle.formats.proofs.Lexing.{number-grows, leading-most, word-most}
-use Rattle.lexing.proofs.Scanning.{before-leading, every-leading, digit-unit}
+use Rattle.formats.proofs.Lexing.{leading-most, word-most}
+use Rattle.lexing.proofs.Scanning.{every-all}
 
 -- ---- named colours
-module _ (us : List ℕ) (k : ℕ) where
-  pub named-hit : k < 8 → same (units (get_or colour_names k "")) us ≡ true → colour_meant (k + 1) ≡ named_from (suc k) (drop k colour_names) us
-  unfolding named_from colour_names colour_meant
-  named-hit h e = rw (add-one k, le-leb (suc k) 56 (omega arith), drop-cons {A = String} colour_names k "" h, e)
+-- the colour of the first name that the units are
+module _ (us : List ℕ) where
+  named-place : (names : List String) (k : ℕ)
+      → colour_meant (option_map (λ (j : ℕ). j + 1) (position_from (λ (w : List ℕ). same w us) k (map units names))) ≡ named_from (suc k) names us
+  unfolding named_from colour_meant
+  named-place [] k = refl
+  named-place (name ∷ names) k =
+      by_cases (same (units name) us) (λ e. rw (e, add-one k)) (λ e. rw (e, add-one k) (named-place names (suc k)))
 
-  pub named-miss : k < 8 → same (units (get_or colour_names k "")) us ≡ false
-      → named_from (suc k) (drop k colour_names) us ≡ named_from (suc (k + 1)) (drop (k + 1) colour_names) us
-  unfolding named_from colour_names
-  named-miss h e = rw (add-one k, drop-cons {A = String} colour_names k "" h, e)
-
-  pub named_none : 8 ≤ k → colour_meant 57 ≡ named_from (suc k) (drop k colour_names) us
-  unfolding named_from colour_names colour_meant
-  named_none h = rw (drop_of_length-le {A = String} colour_names h)
+  pub named-colour : (o r : Found ℕ) → o ≡ position (λ (w : List ℕ). same w us) (map units colour_names) → r ≡ option_map (λ (j : ℕ). j + 1) o
+      → colour_meant r ≡ named_from 1 colour_names us
+  named-colour o r e f =
+      let g : o ≡ position_from (λ (w : List ℕ). same w us) 0 (map units colour_names) = e ∙ position_from-zero (λ (w : List ℕ). same w us) (map units colour_names) in
+      rw (f, g) (named-place colour_names 0)
 
 -- ---- colours by number
-pub digit-bounds : (us : List ℕ) (i : ℕ) → T (every is_digit us) → i < length us → (48 ≤ get_or us i 0) × (get_or us i 0 ≤ 57)
-digit-bounds [] i t h = absurd (omega arith)
-digit-bounds (u ∷ us) zero t h = digit-unit u (every-head is_digit u us t)
-digit-bounds (u ∷ us) (suc i) t h = digit-bounds us i (every-tail is_digit u us t) (omega arith)
-
-pub number-one : (us : List ℕ) → length us ≡ 1 → get_or us 0 0 - 48 ≡ number_from 0 (map digit_of us)
-unfolding number_from digit_of
-number-one [] h = absurd (omega arith)
-number-one (u ∷ []) h = omega arith
-number-one (u ∷ v ∷ us) h = absurd (omega arith)
-
-pub number-two : (us : List ℕ) → length us ≡ 2 → 10 * (get_or us 0 0 - 48) + (get_or us 1 0 - 48) ≡ number_from 0 (map digit_of us)
-unfolding number_from digit_of
-number-two [] h = absurd (omega arith)
-number-two (u ∷ []) h = absurd (omega arith)
-number-two (u ∷ v ∷ []) h = omega arith
-number-two (u ∷ v ∷ w ∷ us) h = absurd (omega arith)
-
 -- the test of a colour's digits
 abbrev digits_test : List ℕ → Bool
 digits_test us = no_leading_zero us && every is_digit us && leb (number_from 0 (map digit_of us)) 56
 
-digits-refused : (us : List ℕ) → (T (digits_test us) → ⊥) → colour_meant 57 ≡ colour_digits us
+digits-refused : (us : List ℕ) → digits_test us ≡ false → colour_meant None ≡ colour_digits us
 unfolding colour_digits colour_meant
-digits-refused us h = by_cases (digits_test us) (λ e. absurd (h (true-T e))) (λ e. rw e)
+digits-refused us h = rw h
 
--- the parts of the test
-test_zero : (us : List ℕ) → T (digits_test us) → T (no_leading_zero us)
-test_zero us t = and_left (no_leading_zero us) (every is_digit us) (and_left (no_leading_zero us && every is_digit us) _ t)
-
-test-digits : (us : List ℕ) → T (digits_test us) → T (every is_digit us)
-test-digits us t = and_right (no_leading_zero us) (every is_digit us) (and_left (no_leading_zero us && every is_digit us) _ t)
-
-test-few : (us : List ℕ) → T (digits_test us) → number_from 0 (map digit_of us) ≤ 56
-test-few us t = leb→le _ 56 (and_right (no_leading_zero us && every is_digit us) _ t)
+leads : (us : List ℕ) (u : ℕ) → Some u ≡ slice_get us 0 → no_leading_zero us ≡ not (eqb u 48)
+unfolding no_leading_zero
+leads [] u h = cc
+leads (v ∷ vs) u h = let e : u ≡ v = cc in rw e
 
 module _ (us : List ℕ) where
-  pub digits-empty : length us ≡ 0 → colour_meant 57 ≡ colour_digits us
+  pub digits-empty : None ≡ slice_get us 0 → colour_meant None ≡ colour_digits us
   unfolding no_leading_zero
-  digits-empty h = digits-refused us (λ t. empty us h (test_zero us t))
+  digits-empty h = digits-refused us (empty us h)
     where
-      empty : (vs : List ℕ) → length vs ≡ 0 → T (no_leading_zero vs) → ⊥
-      empty [] h t = t
-      empty (v ∷ vs) h t = absurd (omega arith)
+      empty : (vs : List ℕ) → None ≡ slice_get vs 0 → digits_test vs ≡ false
+      empty [] h = refl
+      empty (v ∷ vs) h = cc
 
-  pub digits-zero : get_or us 0 0 ≡ 48 → colour_meant 57 ≡ colour_digits us
-  unfolding no_leading_zero
-  digits-zero h = digits-refused us (λ t. zeroed us h (test_zero us t))
-    where
-      zeroed : (vs : List ℕ) → get_or vs 0 0 ≡ 48 → T (no_leading_zero vs) → ⊥
-      zeroed [] h t = t
-      zeroed (v ∷ vs) h t = rw (eq-eqb v 48 h) at t
+  module _ (u : ℕ) (first : Some u ≡ slice_get us 0) where
+    pub digits-zero : u ≡ 48 → colour_meant None ≡ colour_digits us
+    digits-zero h = digits-refused us (rw (leads us u first, eq-eqb u 48 h))
 
-  pub digits_long : 2 < length us → (get_or us 0 0 ≡ 48 → ⊥) → colour_meant 57 ≡ colour_digits us
-  unfolding number_from digit_of
-  digits_long h k = digits-refused us (λ t. large us h k (digit-bounds us 0 (test-digits us t) (omega arith)) (test-few us t))
-    where
-      large : (vs : List ℕ) → 2 < length vs → (get_or vs 0 0 ≡ 48 → ⊥) → (48 ≤ get_or vs 0 0) × (get_or vs 0 0 ≤ 57) → number_from 0 (map digit_of vs) ≤ 56 → ⊥
-      large [] h k b m = omega arith
-      large (u ∷ []) h k b m = omega arith
-      large (u ∷ v ∷ []) h k b m = omega arith
-      large (u ∷ v ∷ w ∷ vs) h k b m =
-          let least = number-grows (10 * (10 * (10 * 0 + (u - 48)) + (v - 48)) + (w - 48)) (map digit_of vs) in
-          let first : 49 ≤ u = omega arith in
-          omega arith
+    pub digits-broken : list_all is_digit us ≡ false → colour_meant None ≡ colour_digits us
+    digits-broken h = digits-refused us (rw (every-all is_digit us, h, and-false (no_leading_zero us)))
 
-  pub digits-broken : (leading is_digit us ≡ length us → ⊥) → colour_meant 57 ≡ colour_digits us
-  digits-broken h = digits-refused us (λ t. never (every is_digit us) (every-leading is_digit us ∙ ne_eqb _ _ h) (test-digits us t))
-    where
-      never : (b : Bool) → b ≡ false → T b → ⊥
-      never b e t = rw e at t
+    module _ (n : ℕ) (e : n ≡ fixed_number us) where
+      pub digits-large : 56 < n → colour_meant None ≡ colour_digits us
+      unfolding fixed_number
+      digits-large h = digits-refused us (rw (lt-leb (number_from 0 (map digit_of us)) 56 (omega arith)) (and-false (no_leading_zero us && every is_digit us)))
 
-  pub digits-every : leading is_digit us ≡ length us → T (every is_digit us)
-  digits-every h = true-T (every-leading is_digit us ∙ eq-eqb _ _ h)
-
-  pub digits-read : (get_or us 0 0 ≡ 48 → ⊥) → (length us ≡ 0 → ⊥) → leading is_digit us ≡ length us
-      → (n : ℕ) → n ≡ number_from 0 (map digit_of us) → colour_meant n ≡ colour_digits us
-  unfolding colour_digits colour_meant no_leading_zero
-  digits-read k l h n e = rw (leads us k l, every-leading is_digit us ∙ eq-eqb _ _ h, e)
-    where
-      leads : (vs : List ℕ) → (get_or vs 0 0 ≡ 48 → ⊥) → (length vs ≡ 0 → ⊥) → no_leading_zero vs ≡ true
-      leads [] k l = absurd (l refl)
-      leads (v ∷ vs) k l = rw (ne_eqb v 48 k)
+      pub digits-read : (u ≡ 48 → ⊥) → list_all is_digit us ≡ true → n ≤ 56 → colour_meant (Some n) ≡ colour_digits us
+      unfolding fixed_number colour_digits colour_meant
+      digits-read z d h =
+          let m : n ≡ number_from 0 (map digit_of us) = omega arith in
+          let b : number_from 0 (map digit_of us) ≤ 56 = omega arith in
+          rw (leads us u first, ne_eqb u 48 z, every-all is_digit us, d, le-leb (number_from 0 (map digit_of us)) 56 b, m)
 
 module _ (us : List ℕ) where
-  pub numbered-read : starts_with (units "Color") us ≡ true → (r : ℕ) → colour_meant r ≡ colour_digits (drop 5 us) → colour_meant r ≡ numbered us
+  pub numbered-read : starts_with (units "Color") us ≡ true → (r : Found ℕ) → colour_meant r ≡ colour_digits (drop 5 us) → colour_meant r ≡ numbered us
   unfolding numbered
   numbered-read e r f = f ∙ rw e
 
-  pub numbered-none : starts_with (units "Color") us ≡ false → colour_meant 57 ≡ numbered us
+  pub numbered-none : starts_with (units "Color") us ≡ false → colour_meant None ≡ numbered us
   unfolding numbered colour_meant
   numbered-none e = rw e
 
+  -- by name or by number
+  pub colour-either : (a r : Found ℕ) → colour_meant a ≡ named_from 1 colour_names us → MatchOption a (colour_meant r ≡ numbered us) (λ (n : ℕ). r ≡ Some n)
+      → colour_meant r ≡ first_form (named_from 1 colour_names us) (numbered us)
+  unfolding first_form colour_meant
+  colour-either None r e m = rw (← e) m
+  colour-either (Some n) r e m = rw (← e, m)
+
 -- ---- elapsed runs
-empty-test : (us : List ℕ) → (length us ≡ 0 → ⊥) → is_empty us ≡ false
+empty-test : (us : List ℕ) → is_empty us ≡ eqb (length us) 0
 unfolding is_empty
-empty-test [] h = absurd (h refl)
-empty-test (u ∷ us) h = refl
+empty-test [] = refl
+empty-test (u ∷ us) = sym (ne_eqb (suc (length us)) 0 (omega arith))
 
-module _ (u : ℕ) (us : List ℕ) where
-  pub run-empty : length us ≡ 0 → false ≡ is_run_of u us
-  unfolding is_empty
-  run-empty h = go us h
-    where
-      go : (vs : List ℕ) → length vs ≡ 0 → false ≡ is_run_of u vs
-      go [] h = refl
-      go (v ∷ vs) h = absurd (omega arith)
-
-  pub run-test : (length us ≡ 0 → ⊥) → (n : ℕ) → n ≡ leading (eqb u) us → eqb n (length us) ≡ is_run_of u us
-  run-test h n e = rw (empty-test us h, every-leading (eqb u) us, e)
+pub run-test : (u : ℕ) (us : List ℕ) (b a : Bool) → b ≡ eqb (length us) 0 → a ≡ list_all (eqb u) us → (not b && a) ≡ is_run_of u us
+run-test u us b a e f = rw (e, f, empty-test us, every-all (eqb u) us)
 
 -- ---- conditions
 some-cond : {A : Type 0} (b : Bool) (x : A) → is_some (cond b (some x) none) ≡ b
@@ -162,22 +119,10 @@ unfolding is_some
 some-cond true x = refl
 some-cond false x = refl
 
-module _ (us : List ℕ) where
-  pub pointed-other : (get_or us 0 0 ≡ 46 → ⊥) → false ≡ is_pointed us
-  unfolding is_pointed
-  pointed-other h = rw (ne_eqb (get_or us 0 0) 46 h)
-
-  pub pointed-alone : length us ≡ 1 → false ≡ is_pointed us
-  unfolding is_pointed is_empty
-  pointed-alone h = rw (drop_of_length-le us {i = 1} (omega arith)) (go (eqb (get_or us 0 0) 46))
-    where
-      go : (b : Bool) → false ≡ (b && false && every is_digit [])
-      go true = refl
-      go false = refl
-
-  pub pointed-read : get_or us 0 0 ≡ 46 → 1 < length us → (n : ℕ) → n ≡ leading is_digit (drop 1 us) → eqb n (length (drop 1 us)) ≡ is_pointed us
-  unfolding is_pointed
-  pointed-read h k n e = rw (eq-eqb (get_or us 0 0) 46 h, empty-test (drop 1 us) (rw length-drop (omega arith)), every-leading is_digit (drop 1 us), e)
+pub pointed-test : (us : List ℕ) (b a : Bool) → b ≡ eqb (length (drop 1 us)) 0 → a ≡ list_all is_digit (drop 1 us)
+    → (eqb (get_or us 0 0) 46 && not b && a) ≡ is_pointed us
+unfolding is_pointed
+pointed-test us b a e f = rw (e, f, empty-test (drop 1 us), every-all is_digit (drop 1 us))
 
 module _ (c : Comparison) (s : Bool) where
   decimals-some : (w us : List ℕ) → 1 ≤ length us → is_some (decimals_of c s w us) ≡ is_pointed us
@@ -231,41 +176,52 @@ module _ (us : List ℕ) where
       let e : is_wide us ≡ true = sym f ∙ t in
       by_cases (starts_with (units "<=") us) (λ a. rw a (signed-some equal at_most (drop 2 us)))
       (λ a. by_cases (starts_with (units ">=") us) (λ b. rw (a, b) (signed-some equal at_least (drop 2 us)))
-      (λ b. rw (a, b, rw (a, b) at e) (signed-some equal unequal (drop 2 us))))
+      (λ b. by_cases (starts_with (units "<>") us) (λ c. rw (a, b, c) (signed-some equal unequal (drop 2 us))) (λ c. no (rw (a, b, c) at e))))
+
+  wide-none : is_wide us ≡ false → (starts_with (units "<=") us ≡ false) × (starts_with (units ">=") us ≡ false) × (starts_with (units "<>") us ≡ false)
+  unfolding is_wide
+  wide-none w =
+      let a = or-false (starts_with (units "<=") us) _ w in
+      let b = or-false (starts_with (units ">=") us) _ a.1 in
+      (a.0, b.0, (or-false (starts_with (units "<>") us) _ b.1).0)
+
+  narrow-none : is_narrow us ≡ false → (starts_with (units "=") us ≡ false) × (starts_with (units "<") us ≡ false) × (starts_with (units ">") us ≡ false)
+  unfolding is_narrow
+  narrow-none w =
+      let a = or-false (starts_with (units "=") us) _ w in
+      let b = or-false (starts_with (units "<") us) _ a.1 in
+      (a.0, b.0, (or-false (starts_with (units ">") us) _ b.1).0)
 
   pub condition-narrow : (r s : Bool) → r ≡ is_wide us → r ≡ false → s ≡ is_narrow us → s ≡ true → is_some (signed_of equal (drop 1 us)) ≡ is_some (condition_inside us)
-  unfolding is_wide is_narrow condition_inside
+  unfolding is_narrow condition_inside
   condition-narrow r s f t g u =
       let e : is_narrow us ≡ true = sym g ∙ u in
-      let ab = or-false (starts_with (units "<=") us || starts_with (units ">=") us) _ (sym f ∙ t) in
-      let a = or-false (starts_with (units "<=") us) _ ab.0 in
-      rw (a.0, a.1, ab.1)
+      let w = wide-none (sym f ∙ t) in
+      rw (w.0, w.1, w.2)
       (by_cases (starts_with (units "=") us) (λ x. rw x)
       (λ x. by_cases (starts_with (units "<") us) (λ y. rw (x, y) (signed-some equal less (drop 1 us)))
-      (λ y. rw (x, y, rw (x, y) at e) (signed-some equal greater (drop 1 us)))))
+      (λ y. by_cases (starts_with (units ">") us) (λ z. rw (x, y, z) (signed-some equal greater (drop 1 us))) (λ z. no (rw (x, y, z) at e)))))
 
   pub condition-none : is_wide us ≡ false → is_narrow us ≡ false → false ≡ is_some (condition_inside us)
-  unfolding is_wide is_narrow condition_inside is_some
-  condition-none w e =
-      let ab = or-false (starts_with (units "<=") us || starts_with (units ">=") us) _ w in
-      let a = or-false (starts_with (units "<=") us) _ ab.0 in
-      let xy = or-false (starts_with (units "=") us || starts_with (units "<") us) _ e in
-      let x = or-false (starts_with (units "=") us) _ xy.0 in
-      rw (a.0, a.1, ab.1, x.0, x.1, xy.1)
+  unfolding condition_inside is_some
+  condition-none w n =
+      let a = wide-none w in
+      let b = narrow-none n in
+      rw (a.0, a.1, a.2, b.0, b.1, b.2)
 
   pub wide-most : is_wide us ≡ true → 2 ≤ length us
   unfolding is_wide units
   wide-most e =
       by_cases (starts_with (units "<=") us) (λ a. word-most (units "<=") us a)
       (λ a. by_cases (starts_with (units ">=") us) (λ b. word-most (units ">=") us b)
-      (λ b. word-most (units "<>") us (rw (a, b) at e)))
+      (λ b. by_cases (starts_with (units "<>") us) (λ c. word-most (units "<>") us c) (λ c. no (rw (a, b, c) at e))))
 
   pub narrow-most : is_narrow us ≡ true → 1 ≤ length us
   unfolding is_narrow units
   narrow-most e =
       by_cases (starts_with (units "=") us) (λ a. word-most (units "=") us a)
       (λ a. by_cases (starts_with (units "<") us) (λ b. word-most (units "<") us b)
-      (λ b. word-most (units ">") us (rw (a, b) at e)))
+      (λ b. by_cases (starts_with (units ">") us) (λ c. word-most (units ">") us c) (λ c. no (rw (a, b, c) at e))))
 
 -- what a condition's form gives is a condition
 abbrev Written : Option Token → Type 0
@@ -308,63 +264,73 @@ none_of none e = refl
 none_of (some t) e = absurd (true≢false e)
 
 -- ---- the forms that are no colours
-module _ (us : List ℕ) (n : ℕ) (h : n ≤ length us) where
-  size : length (take n us) ≡ n
-  size = length-take-le n us h
+module _ (inside : List ℕ) where
+  pub plain-hours : is_run_of 104 inside ≡ true → (us : List ℕ) → form_meant (inside ++ us) (length inside) (Some 20) ≡ plain_inside inside
+  unfolding plain_inside elapsed_inside first_form form_meant mark_token mark_rows
+  plain-hours e us = rw e
 
-  pub plain-hours : is_run_of 104 (take n us) ≡ true → inside_meant us (Found (record { form = 20; argument = n })) ≡ plain_inside (take n us)
-  unfolding plain_inside elapsed_inside first_form inside_meant mark_token mark_rows
-  plain-hours e = rw (e, size)
+  pub plain-minutes : is_run_of 104 inside ≡ false → is_run_of 109 inside ≡ true
+      → (us : List ℕ) → form_meant (inside ++ us) (length inside) (Some 21) ≡ plain_inside inside
+  unfolding plain_inside elapsed_inside first_form form_meant mark_token mark_rows
+  plain-minutes e f us = rw (e, f)
 
-  pub plain-minutes : is_run_of 104 (take n us) ≡ false → is_run_of 109 (take n us) ≡ true
-      → inside_meant us (Found (record { form = 21; argument = n })) ≡ plain_inside (take n us)
-  unfolding plain_inside elapsed_inside first_form inside_meant mark_token mark_rows
-  plain-minutes e f = rw (e, f, size)
+  pub plain-seconds : is_run_of 104 inside ≡ false → is_run_of 109 inside ≡ false → is_run_of 115 inside ≡ true
+      → (us : List ℕ) → form_meant (inside ++ us) (length inside) (Some 22) ≡ plain_inside inside
+  unfolding plain_inside elapsed_inside first_form form_meant mark_token mark_rows
+  plain-seconds e f g us = rw (e, f, g)
 
-  pub plain-seconds : is_run_of 104 (take n us) ≡ false → is_run_of 109 (take n us) ≡ false → is_run_of 115 (take n us) ≡ true
-      → inside_meant us (Found (record { form = 22; argument = n })) ≡ plain_inside (take n us)
-  unfolding plain_inside elapsed_inside first_form inside_meant mark_token mark_rows
-  plain-seconds e f g = rw (e, f, g, size)
+  module _ (e : is_run_of 104 inside ≡ false) (f : is_run_of 109 inside ≡ false) (g : is_run_of 115 inside ≡ false) where
+    pub plain-condition : is_some (condition_inside inside) ≡ true → (us : List ℕ) → form_meant (inside ++ us) (length inside) (Some 24) ≡ plain_inside inside
+    unfolding plain_inside elapsed_inside first_form form_meant mark_token mark_rows
+    plain-condition k us = rw (e, f, g, condition-some inside k, take-append_seam inside us)
 
-  pub plain-condition : is_run_of 104 (take n us) ≡ false → is_run_of 109 (take n us) ≡ false → is_run_of 115 (take n us) ≡ false
-      → is_some (condition_inside (take n us)) ≡ true → inside_meant us (Found (record { form = 24; argument = n })) ≡ plain_inside (take n us)
-  unfolding plain_inside elapsed_inside first_form inside_meant mark_token mark_rows
-  plain-condition e f g k = rw (e, f, g, condition-some (take n us) k)
-
-  pub plain-none : is_run_of 104 (take n us) ≡ false → is_run_of 109 (take n us) ≡ false → is_run_of 115 (take n us) ≡ false
-      → is_some (condition_inside (take n us)) ≡ false → inside_meant us Nothing ≡ plain_inside (take n us)
-  unfolding plain_inside elapsed_inside first_form inside_meant
-  plain-none e f g k = rw (e, f, g) (none_of (condition_inside (take n us)) k)
+    pub plain-none : is_some (condition_inside inside) ≡ false → (us : List ℕ) → form_meant (inside ++ us) (length inside) None ≡ plain_inside inside
+    unfolding plain_inside elapsed_inside first_form form_meant
+    plain-none k us = rw (e, f, g) (none_of (condition_inside inside) k)
 
 -- ---- what a bracket's inside stands for
-module _ (us : List ℕ) (n r : ℕ) (e : colour_meant r ≡ named_from 1 colour_names (take n us)) where
-  pub inside-named : r ≤ 56 → inside_meant us (Found (record { form = 23; argument = r })) ≡ inside_of (take n us)
-  unfolding inside_of first_form inside_meant mark_token mark_rows colour_meant
-  inside-named h = rw (← e, le-leb r 56 h)
+inside-parts : (a b c : Option Token) → first_form (first_form a b) c ≡ first_form a (first_form b c)
+unfolding first_form
+inside-parts none b c = refl
+inside-parts (some t) b c = refl
 
-  module _ (low : 56 < r) (s : ℕ) (f : colour_meant s ≡ numbered (take n us)) where
-    pub inside-numbered : s ≤ 56 → inside_meant us (Found (record { form = 23; argument = s })) ≡ inside_of (take n us)
-    unfolding inside_of first_form inside_meant mark_token mark_rows colour_meant
-    inside-numbered h = rw (← e, lt-leb r 56 low, ← f, le-leb s 56 h)
+module _ (inside : List ℕ) (r : Found ℕ) (e : colour_meant r ≡ first_form (named_from 1 colour_names inside) (numbered inside)) where
+  parts : inside_of inside ≡ first_form (colour_meant r) (plain_inside inside)
+  unfolding inside_of plain_inside
+  parts = rw e (sym (inside-parts (named_from 1 colour_names inside) (numbered inside) _))
 
-    pub inside-plain : 56 < s → (x : Inside) → inside_meant us x ≡ plain_inside (take n us) → inside_meant us x ≡ inside_of (take n us)
-    unfolding inside_of plain_inside first_form colour_meant
-    inside-plain h x g = g ∙ rw (← e, lt-leb r 56 low, ← f, lt-leb s 56 h)
+  pub inside-colour : (n : ℕ) → r ≡ Some n → (us : List ℕ) → inside_meant (inside ++ us) (Some (record { form = 23; argument = n })) ≡ inside_of inside
+  unfolding inside_meant mark_token mark_rows first_form colour_meant
+  inside-colour n f us = sym (parts ∙ rw f)
+
+  module _ (f : r ≡ None) (s : Found ℕ) (g : (us : List ℕ) → form_meant (inside ++ us) (length inside) s ≡ plain_inside inside) where
+    plain_alone : inside_of inside ≡ plain_inside inside
+    unfolding first_form colour_meant
+    plain_alone = parts ∙ rw f
+
+    pub inside-plain : (form : ℕ) → s ≡ Some form → (us : List ℕ) → inside_meant (inside ++ us) (Some (record { form = form; argument = length inside })) ≡ inside_of inside
+    unfolding inside_meant form_meant
+    inside-plain form h us = (rw h at (g us)) ∙ sym plain_alone
+
+    pub inside-none : s ≡ None → (us : List ℕ) → inside_meant (inside ++ us) None ≡ inside_of inside
+    unfolding inside_meant form_meant
+    inside-none h us = (rw h at (g us)) ∙ sym plain_alone
 
 -- ---- the bracket
-module _ (us : List ℕ) (n : ℕ) (e : n ≡ leading (member (But 93)) us) where
-  counted : n ≡ before 93 us
-  counted = e ∙ sym (before-leading 93 us)
-
-  pub bracket-open : n ≡ length us → step_behind us Broken ≡ bracketed us
+module _ (us : List ℕ) where
+  pub bracket-open : before 93 us ≡ length us → step_behind us None ≡ bracketed us
   unfolding bracketed step_behind
-  bracket-open h = rw (← counted, eq-eqb n (length us) h)
+  bracket-open e = rw (e, eq-eqb (length us) (length us) refl)
 
-  pub bracket-read : (n ≡ length us → ⊥) → (x : Inside) (m : Mark) → inside_meant us x ≡ inside_of (take n us) → x ≡ Found m
-      → step_behind us (Read m (n + 1)) ≡ bracketed us
-  unfolding bracketed step_behind closed inside_meant
-  bracket-read h x m g f = rw (← counted, ne_eqb n (length us) h, ← g, f, add-one n)
+  module _ (n : ℕ) (e : n ≡ before 93 us) (h : n < length us) (x : Found Inside)
+      (f : (vs : List ℕ) → inside_meant (take n us ++ vs) x ≡ inside_of (take n us)) where
+    meant : inside_meant us x ≡ inside_of (take n us)
+    meant = rw (take-append-drop n us) at (f (drop n us))
 
-  pub bracket-none : (n ≡ length us → ⊥) → (x : Inside) → inside_meant us x ≡ inside_of (take n us) → x ≡ Nothing → step_behind us Broken ≡ bracketed us
-  unfolding bracketed step_behind closed inside_meant
-  bracket-none h x g f = rw (← counted, ne_eqb n (length us) h, ← g, f)
+    pub bracket-read : (m : Inside) → x ≡ Some m → step_behind us (Some (record { form = m.form; argument = m.argument; more = n + 1 })) ≡ bracketed us
+    unfolding bracketed step_behind closed inside_meant
+    bracket-read m g = rw (← e, ne_eqb n (length us) (omega arith), ← meant, g, add-one n)
+
+    pub bracket-none : x ≡ None → step_behind us None ≡ bracketed us
+    unfolding bracketed step_behind closed inside_meant
+    bracket-none g = rw (← e, ne_eqb n (length us) (omega arith), ← meant, g)

@@ -2,6 +2,6 @@ pub mod Scanning
 pub mod Reading
 pub mod Placing
 pub mod Bracketing
-pub mod Classing
+pub mod Starting
 pub mod Filling
 pub mod Semicolons

@@ -1,5 +1,4 @@
-pub mod Scan
 pub mod Marks
+pub mod Bare
 pub mod Brackets
-pub mod Classes
 pub mod Buffer

@@ -1,82 +1,82 @@
-// Scans of units: how many at the start are of a set, and whether a word stands there.
-ghost use Rattle.std.specs.Prelude.{◌≡◌, ◌||◌, ◌≤◌, length};
-ghost use Rattle.formats.specs.Tokens.{leading, starts_with, same};
-ghost use Rattle.lexing.specs.Scan.{member};
+// What stands at the start of units: digits, a unit for the first time, a word.
+ghost use Rattle.std.specs.Prelude.{◌≡◌, ◌≤◌, T, length, eqb, position};
+ghost use Rattle.std.specs.List.{list_all, list_any, prefix_len};
+ghost use Rattle.lists.specs.Lists.{every};
+ghost use Rattle.formats.specs.Tokens.{starts_with, same, is_digit, fixed_number};
 
 const ZERO: u16 = b'0' as u16;
 
 const NINE: u16 = b'9' as u16;
 
-// The sets that scans go over: a unit alone, every unit but one, the decimal digits.
-#[derive(Clone, Copy)]
-pub enum Set {
-    Only(u16),
-    But(u16),
-    Digits,
+// A number above 999 is told as this.
+const TOO_MUCH: u16 = 1000;
+
+#[tactic(auto, unfolding(formats::specs::Tokens::is_digit))]
+pub fn is_digit(u: u16) -> bool
+    ensures { result ≡ is_digit u }
+{
+    (ZERO..=NINE).contains(&u)
 }
 
-// The unit is of the set.
-fn is_member(s: Set, u: u16) -> bool
-    ensures { result ≡ member s u }
+// All of them are digits.
+pub fn are_digits(us: &[u16]) -> bool
+    ensures { result ≡ list_all is_digit us.now }
 {
-    match s {
-        Set::Only(v) => v == u,
-        Set::But(v) => u != v,
-        Set::Digits => { if ZERO <= u { u <= NINE } else { false } }
+    us.iter().all(|u| is_digit(*u))
+}
+
+// How many digits stand at the start.
+pub fn digits(us: &[u16]) -> usize
+    ensures count { result ≡ prefix_len is_digit us.now }
+    ensures within { result ≤ length us.now }
+{
+    us.iter().take_while(|u| is_digit(**u)).count()
+}
+
+// How many u stand at the start.
+pub fn run_of(us: &[u16], u: u16) -> usize
+    ensures count { result ≡ prefix_len (eqb u) us.now }
+    ensures within { result ≤ length us.now }
+{
+    us.iter().take_while(|v| u == **v).count()
+}
+
+// The number that digits write.
+pub fn number_of(digits: &[u16]) -> u16
+    requires { T (every is_digit digits.now) }
+    ensures { result ≡ fixed_number digits.now }
+{
+    let mut n = 0;
+    for digit in digits {
+        n = (10 * n + (*digit - ZERO)).min(TOO_MUCH);
     }
+    n
 }
 
-// How many units at the start are of the set.
-pub fn scan(us: &[u16], s: Set) -> usize
-    ensures { (result ≡ leading (member s) us.now) × (result ≤ length us.now) }
+// Where the first u stands.
+pub fn position_of(us: &[u16], u: u16) -> Option<usize>
+    ensures { result ≡ position (λ v. eqb v u) us.now }
 {
-    let mut i: usize = 0;
-    while i < us.len() {
-        if !is_member(s, us[i]) {
-            return i;
-        }
-        i += 1;
-    }
-    i
-}
-
-fn wide(b: u8) -> u16
-    ensures { result ≡ b }
-{
-    b as u16
+    us.iter().position(|v| *v == u)
 }
 
 // The units begin with the word.
 pub fn starts_with(us: &[u16], word: &[u8]) -> bool
     ensures { result ≡ starts_with word.now us.now }
 {
-    let mut i: usize = 0;
-    while i < word.len() {
-        if us.len() <= i {
-            return false;
-        }
-        if wide(word[i]) != us[i] {
-            return false;
-        }
-        i += 1;
-    }
-    true
+    word.len() <= us.len() && word.iter().zip(us).all(|(b, u)| u16::from(*b) == *u)
 }
 
 // One of the words stands at the start.
-pub fn starts_with_any(us: &[u16], a: &[u8], b: &[u8], c: &[u8]) -> bool
-    ensures { result ≡ (starts_with a.now us.now || starts_with b.now us.now || starts_with c.now us.now) }
+pub fn starts_with_any(us: &[u16], words: &[&[u8]]) -> bool
+    ensures { result ≡ list_any (λ word. starts_with word.now us.now) words.now }
 {
-    starts_with(us, a) | starts_with(us, b) | starts_with(us, c)
+    words.iter().any(|word| starts_with(us, *word))
 }
 
 // The units are the word.
 pub fn is_word(us: &[u16], word: &[u8]) -> bool
     ensures { result ≡ same word.now us.now }
 {
-    if word.len() == us.len() {
-        starts_with(us, word)
-    } else {
-        false
-    }
+    word.len() == us.len() && starts_with(us, word)
 }

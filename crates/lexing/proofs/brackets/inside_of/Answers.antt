@@ -1,15 +1,14 @@
 -- `lexing::brackets::inside_of` meets its contract.
 -- Assumes nothing.
-use Rattle.lexing.proofs.Bracketing.{inside-named, inside-numbered, inside-plain}
+use mathlib.Core.Path.{refl}
+use Rattle.lexing.proofs.Bracketing.{inside-colour, inside-none, inside-plain}
 use Rattle.lexing.proofs.brackets.inside_of.Goals as goal
 
-pub returns-then-named-le-LAST_COLOUR : goal.returns-then-named-le-LAST_COLOUR
-returns-then-named-le-LAST_COLOUR c = inside-named c.args.us.now c.args.n _ c.named_colour-named.ensures c.if-named-le-LAST_COLOUR.true
+pub returns-in-Some : goal.returns-in-Some
+returns-in-Some c = inside-colour c.args.inside.now _ c.in-Some.ensures _ refl
 
-pub returns-then-number-le-LAST_COLOUR : goal.returns-then-number-le-LAST_COLOUR
-returns-then-number-le-LAST_COLOUR c =
-    inside-numbered c.args.us.now c.args.n _ c.named_colour-named.ensures c.if-named-le-LAST_COLOUR.false _ c.numbered_colour-number.ensures c.if-number-le-LAST_COLOUR.true
+pub returns-in_err-form : goal.returns-in_err-form
+returns-in_err-form c = rw c.from_residual.ensures (inside-none c.args.inside.now _ c.in_default.ensures refl _ c.in_err-form.ensures refl)
 
 pub returns : goal.returns
-returns c =
-    inside-plain c.args.us.now c.args.n _ c.named_colour-named.ensures c.if-named-le-LAST_COLOUR.false _ c.numbered_colour-number.ensures c.if-number-le-LAST_COLOUR.false _ c.plain_inside.ensures
+returns c = inside-plain c.args.inside.now _ c.in_default.ensures refl _ c.in_ok-form.ensures _ refl

@@ -1,6 +1,6 @@
 -- `lexing::buffer::fill` meets its contract. The invariant, `Filling`: the lexing of the whole is the tokens that are put, their semicolons counted, and then that of what is left.
 -- Assumes nothing.
-use mathlib.Core.Path.{refl}
+use mathlib.Core.Path.{refl, ◌∙◌}
 use native.Mathlib.Omega.{arith}
 use borrow.Author.Rules.{rules}
 use Rattle.lexing.specs.Buffer.{count_of, semicolons_of, semicolons_in}
@@ -11,25 +11,25 @@ pub loop-at-init : goal.loop-at-init
 loop-at-init c = filling-start _ _ c.requires.0 c.requires.1
 
 pub overflow_add-at : goal.overflow_add-at
-overflow_add-at c = omega (arith, filling-inside _ _ _ _ _ _ c.loop-at.invariant c.loop-at-test.true _ _ c.in-Read.ensures)
+overflow_add-at c = omega (arith, filling-inside _ _ _ _ _ _ c.loop-at.invariant c.loop-at-test.true _ c.in-Some.ensures)
 
-pub overflow_add-at-in-Read : goal.overflow_add-at-in-Read
-overflow_add-at-in-Read c = omega (arith, filling-inside _ _ _ _ _ _ c.loop-at.invariant c.loop-at-test.true _ _ c.in-Read.ensures)
+pub overflow_add-at-in-loop-at : goal.overflow_add-at-in-loop-at
+overflow_add-at-in-loop-at c = omega (arith, filling-inside _ _ _ _ _ _ c.loop-at.invariant c.loop-at-test.true _ c.in-Some.ensures)
 
-pub loop-at-preserved-then-m-eq-SEMICOLON : goal.loop-at-preserved-then-m-eq-SEMICOLON
-loop-at-preserved-then-m-eq-SEMICOLON c =
-    rw c.put.ensures (filling-hit _ _ _ _ _ _ c.loop-at.invariant c.loop-at-test.true _ _ c.in-Read.ensures c.if-m-eq-SEMICOLON.true)
+pub loop-at-preserved-then-step-eq-SEMICOLON : goal.loop-at-preserved-then-step-eq-SEMICOLON
+loop-at-preserved-then-step-eq-SEMICOLON c =
+    filling-hit _ _ _ _ _ _ c.loop-at.invariant c.loop-at-test.true _ c.in-Some.ensures c.if-step-eq-SEMICOLON.true
 
 pub loop-at-preserved : goal.loop-at-preserved
 loop-at-preserved c =
-    rw c.put.ensures (filling-miss _ _ _ _ _ _ c.loop-at.invariant c.loop-at-test.true _ _ c.in-Read.ensures c.if-m-eq-SEMICOLON.false)
+    filling-miss _ _ _ _ _ _ c.loop-at.invariant c.loop-at-test.true _ c.in-Some.ensures c.if-step-eq-SEMICOLON.false
 
-pub returns-in-Broken : goal.returns-in-Broken
+pub returns-in_default : goal.returns-in_default
 unfolding count_of semicolons_of semicolons_in
-returns-in-Broken c =
+returns-in_default c =
     let inv = c.loop-at.invariant in
     record {
-      same = filling-broken _ _ _ _ _ _ inv c.loop-at-test.true _ (omega arith) c.in-Broken.ensures;
+      same = filling-broken _ _ _ _ _ _ inv c.loop-at-test.true c.in_default.ensures;
       few = search rules;
       counted = refl;
       size = inv.size;
@@ -39,4 +39,9 @@ pub returns : goal.returns
 unfolding count_of semicolons_of
 returns c =
     let inv = c.loop-at.invariant in
-    record { same = filling-end _ _ _ _ _ _ inv c.loop-at-test.false; few = omega arith; counted = inv.counted; size = inv.size }
+    record {
+      same = rw c.from.ensures (filling-end _ _ _ _ _ _ inv c.loop-at-test.false);
+      few = omega arith;
+      counted = c.from.ensures ∙ inv.counted;
+      size = inv.size;
+    }

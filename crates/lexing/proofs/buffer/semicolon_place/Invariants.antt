@@ -1,11 +1,7 @@
--- `lexing::buffer::semicolon_place` meets its contract. The invariant, `Seeking`: the semicolon is `left` semicolons ahead.
+-- `lexing::buffer::semicolon_place` meets its contract. The invariant, `Ahead`: the semicolon is `left` semicolons ahead.
 -- Assumes nothing.
-use Prim.Native.Nat.{◌-◌}
-use Rattle.lexing.proofs.Semicolons.{Seeking}
+use Rattle.lexing.proofs.Semicolons.{Ahead}
 use Rattle.lexing.proofs.buffer.semicolon_place.Given as goal
 
-abbrev pub invariant-loop-i : goal.invariant-loop-i
-invariant-loop-i l = Seeking l.tokens l.n l.k l.left l.i
-
-abbrev pub decreases-loop-i : goal.decreases-loop-i
-decreases-loop-i l = l.n - l.i
+abbrev pub invariant-loop-m : goal.invariant-loop-m
+invariant-loop-m l = Ahead l.tokens l.k l.left l.m-index

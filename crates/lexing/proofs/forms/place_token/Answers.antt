@@ -1,22 +1,26 @@
 -- `lexing::forms::place_token` meets its contract.
 -- Assumes nothing.
-use native.Mathlib.Omega.{arith}
+use mathlib.Core.Path.{sym, ◌∙◌}
+use Rattle.calendar.specs.Names.{units}
+use Rattle.formats.proofs.Lexing.{word-most}
 use Rattle.lexing.proofs.Scanning.{rest_all}
-use Rattle.lexing.proofs.Placing.{place-last, place-over, place-alone}
+use Rattle.lexing.proofs.Placing.{place-over, place-alone}
 use Rattle.lexing.proofs.forms.place_token.Goals as goal
 
-pub returns-then-us-eq0 : goal.returns-then-us-eq0
-returns-then-us-eq0 c =
-    let a = c in
-    place-last a.args.form a.requires.1 a.requires.2 a.args.us.now c.if-us-eq0.true
+pub slice_bounds-over_token-count : goal.slice_bounds-over_token-count
+unfolding units
+slice_bounds-over_token-count c = word-most (units "/") c.args.us.now (sym c.starts_with.ensures ∙ c.if-starts_with.true)
 
-pub returns-then-us-eq-SOLIDUS : goal.returns-then-us-eq-SOLIDUS
-returns-then-us-eq-SOLIDUS c =
-    let a = c in
-    let us = a.args.us.now in
-    place-over a.args.form a.requires.1 a.requires.2 us c.if-us-eq0.false (omega (arith, c.if-us-eq-SOLIDUS.true)) _ (rw (rest_all us 1) at c.over_token.ensures)
+pub slice_bounds-over_token-start : goal.slice_bounds-over_token-start
+unfolding units
+slice_bounds-over_token-start c = word-most (units "/") c.args.us.now (sym c.starts_with.ensures ∙ c.if-starts_with.true)
+
+pub returns-then-starts_with : goal.returns-then-starts_with
+unfolding units
+returns-then-starts_with c =
+    let us = c.args.us.now in
+    place-over c.args.form c.requires.1 c.requires.2 us (sym c.starts_with.ensures ∙ c.if-starts_with.true) _ (rw (rest_all us 1) at c.over_token.ensures)
 
 pub returns : goal.returns
-returns c =
-    let a = c in
-    place-alone a.args.form a.requires.1 a.requires.2 a.args.us.now c.if-us-eq0.false (λ e. omega (arith, c.if-us-eq-SOLIDUS.false))
+unfolding units
+returns c = place-alone c.args.form c.requires.1 c.requires.2 c.args.us.now (sym c.starts_with.ensures ∙ c.if-starts_with.false) _ c.single_unit.ensures

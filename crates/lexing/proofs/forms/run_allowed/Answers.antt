@@ -1,18 +1,14 @@
 -- `lexing::forms::run_allowed` meets its contract.
 -- Assumes nothing.
-use borrow.Author.Tests.{eq-eqb, ne_eqb, le-leb}
+use borrow.Author.Tests.{le-leb}
 use Rattle.formats.specs.Tokens.{run_allowed}
-use Rattle.lexing.specs.Classes.{letter_at}
+use Rattle.lexing.specs.Marks.{letter_at}
 use Rattle.lexing.proofs.Reading.{letter-last}
 use Rattle.lexing.proofs.forms.run_allowed.Goals as goal
 
-pub returns-then-n-eq2 : goal.returns-then-n-eq2
+pub returns-in-15 : goal.returns-in-15
 unfolding run_allowed letter_at
-returns-then-n-eq2 c = rw (c.in-15.is, eq-eqb _ _ c.if-n-eq2.true)
-
-pub returns-else-n-eq2 : goal.returns-else-n-eq2
-unfolding run_allowed letter_at
-returns-else-n-eq2 c = rw (c.in-15.is, ne_eqb _ _ c.if-n-eq2.false)
+returns-in-15 c = rw c.in-15.is
 
 pub returns-in-16 : goal.returns-in-16
 unfolding run_allowed letter_at

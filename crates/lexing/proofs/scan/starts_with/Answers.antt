@@ -1,30 +1,23 @@
--- `lexing::scan::starts_with` meets its contract. The invariant: the whole test is the test of what is left of both.
+-- `lexing::scan::starts_with` meets its contract.
 -- Assumes nothing.
-use mathlib.Core.Path.{sym, ◌∙◌}
+use mathlib.Core.Path.{◌≡◌, sym, ◌∙◌}
+use Prim.Native.Nat.{ℕ}
 use borrow.Author.Rules.{rules}
-use Rattle.lexing.proofs.Scanning.{starts_more, starts-differ, starts-short, starts-done}
+use borrow.Author.Tests.{le-leb, lt-leb, tests}
+use lib.Dec.{eqb}
+use Rattle.std.specs.List.{list_all, zip}
+use Rattle.std.proofs.lemmas.Iterator.{YieldsList-from_slice, YieldsList-from_zip}
+use Rattle.std.proofs.lemmas.Iterator.Search.{all_from_yields_List}
+use Rattle.lexing.proofs.Scanning.{starts-zip}
 use Rattle.lexing.proofs.scan.starts_with.Goals as goal
 
-pub returns-then-us-i : goal.returns-then-us-i
-returns-then-us-i c =
-    let a = c.args in
-    let l = c.loop-i in
-    sym (l.invariant.1 ∙ starts-short a.word.now a.us.now l.i c.loop-i-test.true c.if-us-i.true)
+pub returns-then-word-us : goal.returns-then-word-us
+returns-then-word-us c =
+    let pair : ℕ × ℕ → _ = λ p. eqb p.0 p.1 in
+    let e : c.all.result ≡ list_all pair (zip c.args.word.now c.args.us.now)
+    = all_from_yields_List pair c.all.new.self _ c.all.result c.all.ensures.ran
+    (YieldsList-from_zip (YieldsList-from_slice c.args.word.now cc) (YieldsList-from_slice c.args.us.now cc)) (λ x b q k. search (rules, tests)) in
+    e ∙ sym (rw (le-leb _ _ c.if-word-us.true) at (starts-zip c.args.word.now c.args.us.now))
 
-pub returns-then-wide-us : goal.returns-then-wide-us
-returns-then-wide-us c =
-    let a = c.args in
-    let l = c.loop-i in
-    sym (l.invariant.1 ∙ starts-differ a.word.now a.us.now l.i (search rules) (search rules) (λ q. c.if-wide-us.true (c.wide.ensures ∙ q)))
-
-pub loop-i-preserved : goal.loop-i-preserved
-loop-i-preserved c =
-    let a = c.args in
-    let l = c.loop-i in
-    (search rules, l.invariant.1 ∙ starts_more a.word.now a.us.now l.i (search rules) (search rules) (sym c.wide.ensures ∙ c.if-wide-us.false))
-
-pub returns : goal.returns
-returns c =
-    let a = c.args in
-    let l = c.loop-i in
-    sym (l.invariant.1 ∙ starts-done a.word.now a.us.now l.i c.loop-i-test.false)
+pub returns-else-word-us : goal.returns-else-word-us
+returns-else-word-us c = let h = lt-leb _ _ c.if-word-us.false in rw h (sym (rw h at (starts-zip c.args.word.now c.args.us.now)))
