@@ -2,58 +2,30 @@
 -- Assumes nothing.
 use Prim.Native.Nat.{ℕ, zero, suc, ◌+◌, ◌-◌, ◌≤◌, ◌<◌}
 use mathlib.Core.Path.{◌≡◌, sym, ap, ◌∙◌}
-use mathlib.Core.Bool.{Bool, true, false, ◌&&◌}
+use mathlib.Core.Bool.{true, false, ◌&&◌}
 use mathlib.Core.List.{List, [], ◌∷◌, ◌++◌, map}
 use native.Mathlib.Omega.{arith}
 use native.Mathlib.Numerals.{add-one}
 use native.Mathlib.Nat.{add-sub_cancel_left, add-suc, sub-zero, zero-sub, suc-sub-suc}
-use borrow.Author.Tests.{lt-ltb, le-ltb, le-leb, lt-leb, leb-true}
-use lib.Dec.{leb, ltb}
-use lib.ListN.{length, take, drop, get_or, length-drop, drop_of_length-le}
-use lib.Seq.{drop-cons, drop-drop, length-take-le, take-nil}
+use borrow.Author.Tests.{lt-ltb, le-ltb, lt-leb, leb-true}
+use lib.Dec.{leb, ltb, eqb}
+use lib.ListN.{length, take, drop, get_or, length-drop}
+use lib.Seq.{drop-drop, length-take-le, take-nil}
 use Rattle.lists.specs.Lists.{every}
 use Rattle.lists.proofs.Bools.{by_cases, and_left, and_right, true-T, T_true}
-use Rattle.formats.specs.Tokens.{before, leading, starts_with}
+use Rattle.formats.specs.Tokens.{before, starts_with}
 use Rattle.writing.proofs.Laws.{drop-first}
-use Rattle.lexing.specs.declared.scan.Set.TheVariants.{But}
-use Rattle.lexing.specs.Scan.{member}
 use Rattle.formats.proofs.Lexing.{word-most}
-use Rattle.lexing.proofs.Scanning.{before-leading, rest_all}
+use Rattle.std.proofs.Common.{Option, Some, None, MatchOption, position, unwrap_or}
+use Rattle.lexing.proofs.Scanning.{position-before}
 use Rattle.requests.specs.Bytes.{low_byte}
 use Rattle.requests.specs.Lines.{is_ascii, is_line, missing, field_of}
 use Rattle.requests.specs.Reads.{part_of, Content}
-
--- ---- every unit
-module _ (f : ℕ → Bool) (us : List ℕ) (i : ℕ) where
-  pub every_more : i < length us → f (get_or us i 0) ≡ true → every f (drop i us) ≡ every f (drop (i + 1) us)
-  unfolding every
-  every_more h e = rw (add-one, drop-cons us i 0, e)
-
-  pub every-not : i < length us → f (get_or us i 0) ≡ false → every f (drop i us) ≡ false
-  unfolding every
-  every-not h e = rw (drop-cons us i 0, e)
-
-  pub every-past : length us ≤ i → every f (drop i us) ≡ true
-  unfolding every
-  every-past h = rw drop_of_length-le
-
-pub ascii-not : (u : ℕ) → 127 < u → is_ascii u ≡ false
-unfolding is_ascii
-ascii-not u h = lt-leb u 127 h
-
-pub ascii-is : (u : ℕ) → u ≤ 127 → is_ascii u ≡ true
-unfolding is_ascii
-ascii-is u h = le-leb u 127 h
 
 -- ---- a line
 pub line-long : (name line : List ℕ) → 2048 < length line → false ≡ is_line name line
 unfolding is_line
 line-long name line h = rw (lt-leb (length line) 2048 h)
-
-pub line-short : (name line : List ℕ) (a b : Bool) → length line ≤ 2048 → a ≡ every is_ascii line → b ≡ starts_with name line
-    → (a && b) ≡ is_line name line
-unfolding is_line
-line-short name line a b h e f = rw (le-leb (length line) 2048 h, e, f)
 
 -- what a line's test says
 pub line-says : (name line : List ℕ) → is_line name line ≡ true → (length line ≤ 2048) × (length name ≤ length line)
@@ -71,13 +43,21 @@ drop-take (suc k) zero us = rw (zero-sub (suc k))
 drop-take (suc k) (suc n) [] = sym (take-nil (suc n - suc k))
 drop-take (suc k) (suc n) (u ∷ us) = drop-take k n us ∙ ap (λ (m : ℕ). take m (drop k us)) (sym (suc-sub-suc n k))
 
--- a scan up to a unit stops before the first one; the scan of all that is behind a place
-pub scanned : (u : ℕ) (us : List ℕ) (n : ℕ) → n ≡ leading (member (But u)) us → n ≡ before u us
-scanned u us n e = e ∙ sym (before-leading u us)
+-- ---- where the first of a unit stands
+module _ (u : ℕ) (us : List ℕ) (o : Option ℕ) (e : o ≡ position (λ (v : ℕ). eqb v u) us) where
+  pub marked : (n : ℕ) → o ≡ Some n → (n ≡ before u us) × (n < length us)
+  marked n f = rw f at (position-before u us o e)
 
-pub scanned-behind : (u : ℕ) (us : List ℕ) (at n : ℕ) → n ≡ leading (member (But u)) (take (length us - at) (drop at us))
-    → n ≡ before u (drop at us)
-scanned-behind u us at n e = scanned u (drop at us) n (rw (rest_all us at) at e)
+  pub unmarked : o ≡ None → before u us ≡ length us
+  unmarked f = rw f at (position-before u us o e)
+
+  -- or behind all, where it does not
+  pub mark-or-end : (n : ℕ) → n ≡ unwrap_or o (length us) → n ≡ before u us
+  mark-or-end n g = from o (position-before u us o e) g
+    where
+      from : (o : Option ℕ) → MatchOption o (before u us ≡ length us) (λ (m : ℕ). (m ≡ before u us) × (m < length us)) → n ≡ unwrap_or o (length us) → n ≡ before u us
+      from None h g = g ∙ sym h
+      from (Some m) h g = g ∙ h.0
 
 module _ (input name : List ℕ) (at n : ℕ) (e : n ≡ before 10 (drop at input)) where
   pub line-unended : length input ≤ at + n → field_of name (drop at input) ≡ missing

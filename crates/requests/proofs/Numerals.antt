@@ -1,38 +1,40 @@
 -- Laws of digits: one or more, and the number that they write, up to a limit.
 -- Assumes nothing.
-use Prim.Native.Nat.{ℕ, suc, ◌+◌, ◌-◌, ◌*◌, ◌≤◌, ◌<◌, min}
+use Prim.Native.Nat.{ℕ, zero, suc, ◌+◌, ◌-◌, ◌*◌, ◌≤◌, ◌<◌, min}
 use mathlib.Core.Path.{◌≡◌, refl, sym, ◌∙◌}
-use mathlib.Core.Bool.{Bool, true, false, not, ◌&&◌}
+use mathlib.Core.Bool.{Bool, true, not, ◌&&◌}
 use mathlib.Core.List.{List, [], ◌∷◌, ◌++◌, map}
 use native.Mathlib.Omega.{arith}
 use native.Mathlib.Numerals.{add-one}
 use native.Mathlib.Nat.{min-eq_left, min-eq_right}
 use native.Mathlib.Decide.{dec_le}
+use borrow.Author.Tests.{ne_eqb}
 use lib.Dec.{T, eqb}
 use lib.ListN.{length, drop, get_or, drop_of_length-le}
 use lib.Seq.{drop-cons}
 use Rattle.lists.specs.Lists.{every, is_empty}
-use Rattle.lists.proofs.Bools.{and_left, and_right, true-T, T_true}
-use Rattle.formats.specs.Tokens.{leading, is_digit, digit_of, number_from}
+use Rattle.lists.proofs.Bools.{and_left, and_right, true-T, T_true, every-head, every-tail}
+use Rattle.std.specs.List.{list_all}
+use Rattle.formats.specs.Tokens.{is_digit, digit_of, number_from}
 use Rattle.formats.proofs.Lexing.{number-grows}
-use Rattle.lexing.proofs.Scanning.{every-leading}
+use Rattle.lexing.proofs.Scanning.{every-all, digit-unit}
 use Rattle.requests.specs.Written.{is_digits}
 
 -- ---- one digit or more
-pub digits-none : (us : List ℕ) → length us ≡ 0 → false ≡ is_digits us
+pub digits-told : (us : List ℕ) (a b : Bool) → a ≡ eqb (length us) 0 → b ≡ list_all is_digit us → (not a && b) ≡ is_digits us
 unfolding is_digits is_empty
-digits-none [] h = refl
-digits-none (u ∷ us) h = absurd (omega arith)
-
-pub digits-test : (us : List ℕ) → (length us ≡ 0 → ⊥) → (n : ℕ) → n ≡ leading is_digit us → eqb n (length us) ≡ is_digits us
-unfolding is_digits is_empty
-digits-test [] h n e = absurd (h refl)
-digits-test (u ∷ us) h n e = rw e (sym (every-leading is_digit (u ∷ us)))
+digits-told [] a b e f = rw e
+digits-told (u ∷ us) a b e f = rw (e, ne_eqb (length (u ∷ us)) 0 (λ n. absurd (omega arith)), f) (sym (every-all is_digit (u ∷ us)))
 
 -- where there are digits, each unit is one
 pub digits-each : (us : List ℕ) → is_digits us ≡ true → T (every is_digit us)
 unfolding is_digits
 digits-each us e = and_right (not (is_empty us)) (every is_digit us) (true-T e)
+
+pub digit-bounds : (us : List ℕ) (i : ℕ) → T (every is_digit us) → i < length us → (48 ≤ get_or us i 0) × (get_or us i 0 ≤ 57)
+digit-bounds [] i d h = absurd (omega arith)
+digit-bounds (u ∷ us) zero d h = digit-unit u (every-head is_digit u us d)
+digit-bounds (u ∷ us) (suc i) d h = digit-bounds us i (every-tail is_digit u us d) (omega arith)
 
 -- of two runs that are both digits
 module _ (xs ys : List ℕ) (a b : Bool) (e : a ≡ is_digits xs) (f : b ≡ is_digits ys) (h : (a && b) ≡ true) where

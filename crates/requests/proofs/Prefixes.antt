@@ -11,16 +11,15 @@ use borrow.Author.Tests.{lt-ltb, le-ltb, ltb-true, ltb-false}
 use lib.Dec.{ltb, eqb}
 use lib.ListN.{length, take, drop, length-take}
 use lib.Seq.{take-take, length-take-le}
+use Rattle.std.proofs.Common.{Option, Some, None}
 use Rattle.values.specs.declared.Ask.{Ask}
+use Rattle.values.specs.declared.Value.{Value}
+use Rattle.requests.specs.declared.written.Sort.{Sort}
 use Rattle.values.specs.Ranges.{asked}
 use Rattle.lists.specs.Lists.{is_empty}
 use Rattle.lists.proofs.Bools.{by_cases}
 use Rattle.calendar.specs.Names.{units}
 use Rattle.formats.specs.Tokens.{before}
-use Rattle.requests.specs.declared.written.SortRead.{SortRead}
-use Rattle.requests.specs.declared.written.SortRead.TheVariants.{Known, Unknown}
-use Rattle.requests.specs.declared.written.ValueRead.{ValueRead}
-use Rattle.requests.specs.declared.written.ValueRead.TheVariants as read
 use Rattle.requests.specs.Lines.{is_line, Field, field, missing, field_of}
 use Rattle.requests.specs.Written.{sort_of, value_of, text_of}
 use Rattle.requests.specs.Request.{Request, from_end, from_value, from_third, from_kind, from_second, from_first, request_of}
@@ -84,15 +83,15 @@ end-prefix code ask text rest zero h = absurd (omega arith)
 end-prefix code ask text [] (suc j) h = refl
 end-prefix code ask text (u ∷ us) (suc j) h = refl
 
-value-prefix : (code : List ℕ) (o : ValueRead) (text rest : List ℕ) (j : ℕ) → 1 ≤ j → from_value code o text (take j rest) ≡ from_value code o text rest
+value-prefix : (code : List ℕ) (o : Option Value) (text rest : List ℕ) (j : ℕ) → 1 ≤ j → from_value code o text (take j rest) ≡ from_value code o text rest
 unfolding from_value
-value-prefix code read.Malformed text rest j h = refl
-value-prefix code (read.Known v) text rest j h = end-prefix code (asked v) text rest j h
+value-prefix code None text rest j h = refl
+value-prefix code (Some v) text rest j h = end-prefix code (asked v) text rest j h
 
-kind-prefix : (code : List ℕ) (k : SortRead) (rest : List ℕ) (j : ℕ) → 2050 ≤ j → from_kind code k (take j rest) ≡ from_kind code k rest
+kind-prefix : (code : List ℕ) (k : Option Sort) (rest : List ℕ) (j : ℕ) → 2050 ≤ j → from_kind code k (take j rest) ≡ from_kind code k rest
 unfolding from_kind from_third
-kind-prefix code Unknown rest j h = refl
-kind-prefix code (Known s) rest j h =
+kind-prefix code None rest j h = refl
+kind-prefix code (Some s) rest j h =
     field-prefix (from_third code s) (units "value=") rest j (omega arith)
     (λ c r i l. value-prefix code (value_of s c) (text_of s c) r i (omega arith))
 

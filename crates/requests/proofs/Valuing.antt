@@ -19,7 +19,7 @@ use Rattle.figures.proofs.Sign.{back, nat_abs-negℤ}
 use Rattle.calendar.specs.Names.{units}
 use Rattle.formats.specs.Tokens.{before, starts_with, digit_of, number_from}
 use Rattle.lexing.proofs.Scanning.{rest_all}
-use Rattle.requests.specs.declared.written.ValueRead.TheVariants as read
+use Rattle.std.proofs.Common.{Some, None}
 use Rattle.requests.specs.Written.{is_digits, numeral_up_to, signed_by, unsigned_of, number_of, instant_of}
 use Rattle.requests.proofs.Numerals.{capped-from, numeral-behind}
 
@@ -39,23 +39,23 @@ coefficient-is negative n c h e =
 
 -- ---- a number behind its sign, with n units before its point
 module _ (negative : Bool) (us : List ℕ) (n : ℕ) (e : n ≡ before 46 us) where
-  pub unsigned-none : is_digits (take n us) ≡ false → read.Malformed ≡ unsigned_of negative us
+  pub unsigned-none : is_digits (take n us) ≡ false → None ≡ unsigned_of negative us
   unfolding unsigned_of
   unsigned-none f = rw (← e, f)
 
-  pub unsigned-bad : is_digits (take n us) ≡ true → (n ≡ length us → ⊥) → is_digits (drop (suc n) us) ≡ false → read.Malformed ≡ unsigned_of negative us
+  pub unsigned-bad : is_digits (take n us) ≡ true → (n ≡ length us → ⊥) → is_digits (drop (suc n) us) ≡ false → None ≡ unsigned_of negative us
   unfolding unsigned_of
   unsigned-bad f h g = rw (← e, f, ne_eqb n (length us) h, g)
 
   well-formed : is_digits (take n us) ≡ true → (eqb n (length us) || is_digits (drop (suc n) us)) ≡ true
       → (m : ℕ) → m ≡ numeral_up_to (10 ^ 15) (take n us ++ drop (suc n) us)
-      → read.Known (value.Number (record { coefficient = signed_by negative m; scale = length (drop (suc n) us) })) ≡ unsigned_of negative us
+      → Some (value.Number (record { coefficient = signed_by negative m; scale = length (drop (suc n) us) })) ≡ unsigned_of negative us
   unfolding unsigned_of
   well-formed f g m k = rw (← e, f, g, k)
 
   module _ (f : is_digits (take n us) ≡ true) (w : ℕ) (k : w ≡ min (number_from 0 (map digit_of (take n us))) (10 ^ 15)) (c : ℤ) where
     pub unsigned-whole : n ≡ length us → c ≡ signed_by negative w
-        → read.Known (value.Number (record { coefficient = c; scale = 0 })) ≡ unsigned_of negative us
+        → Some (value.Number (record { coefficient = c; scale = 0 })) ≡ unsigned_of negative us
     unfolding numeral_up_to
     unsigned-whole h q =
         let z : drop (suc n) us ≡ [] = drop_of_length-le us {i = suc n} (omega arith) in
@@ -63,7 +63,7 @@ module _ (negative : Bool) (us : List ℕ) (n : ℕ) (e : n ≡ before 46 us) wh
 
     pub unsigned-read : is_digits (drop (suc n) us) ≡ true → (m : ℕ) → m ≡ min (number_from w (map digit_of (drop (suc n) us))) (10 ^ 15)
         → c ≡ signed_by negative m → (s : ℕ) → s ≡ length (drop (suc n) us)
-        → read.Known (value.Number (record { coefficient = c; scale = s })) ≡ unsigned_of negative us
+        → Some (value.Number (record { coefficient = c; scale = s })) ≡ unsigned_of negative us
     unfolding numeral_up_to
     unsigned-read g m l q s p =
         let ds : List ℕ = map digit_of (drop (suc n) us) in
@@ -88,11 +88,11 @@ both-digits us n a b t e f h = rw (← e, ← behind-mark us n, ← f) h
 
 -- ---- an instant, with n units before its solidus
 module _ (us : List ℕ) (n : ℕ) (e : n ≡ before 47 us) where
-  pub instant-bad : (is_digits (take n us) && is_digits (drop (suc n) us)) ≡ false → read.Malformed ≡ instant_of us
+  pub instant-bad : (is_digits (take n us) && is_digits (drop (suc n) us)) ≡ false → None ≡ instant_of us
   unfolding instant_of
   instant-bad f = rw (← e, f)
 
-  pub instant-unmarked : n ≡ length us → read.Malformed ≡ instant_of us
+  pub instant-unmarked : n ≡ length us → None ≡ instant_of us
   unfolding is_digits is_empty
   instant-unmarked h =
       let z : drop (suc n) us ≡ [] = drop_of_length-le us {i = suc n} (omega arith) in
@@ -100,6 +100,6 @@ module _ (us : List ℕ) (n : ℕ) (e : n ≡ before 47 us) where
 
   pub instant-read : (is_digits (take n us) && is_digits (drop (suc n) us)) ≡ true
       → (d m : ℕ) → d ≡ numeral_up_to (10 ^ 9) (take n us) → m ≡ numeral_up_to (10 ^ 9) (drop (suc n) us)
-      → read.Known (value.Instant (record { 0 = d }) (record { 0 = m })) ≡ instant_of us
+      → Some (value.Instant (record { 0 = d }) (record { 0 = m })) ≡ instant_of us
   unfolding instant_of
   instant-read f d m k l = rw (← e, f, k, l)

@@ -11,10 +11,8 @@ pub fn put_bytes(room: &mut [u16], at: usize, bytes: &[u8]) -> usize
     ensures { Put room.old at bytes.now result room.new }
 {
     let mut o = at;
-    let mut i = 0;
-    while i < bytes.len() {
-        o = put_unit(room, o, bytes[i] as u16);
-        i += 1;
+    for byte in bytes {
+        o = put_unit(room, o, u16::from(*byte));
     }
     o
 }
@@ -24,10 +22,8 @@ pub fn narrow(units: &[u16], room: &mut [u8]) -> usize
     requires { length units.now ≤ length room.old }
     ensures { Put room.old 0 (map low_byte units.now) result room.new }
 {
-    let mut i = 0;
-    while i < units.len() {
-        room[i] = (units[i] % 256) as u8;
-        i += 1;
+    for (i, unit) in units.iter().enumerate() {
+        room[i] = (*unit % 256) as u8;
     }
-    i
+    units.len()
 }

@@ -4,16 +4,15 @@ ghost use Rattle.lists.specs.Lists.{every};
 ghost use Rattle.formats.specs.Tokens.{is_digit, digit_of, number_from};
 ghost use Rattle.requests.specs.Written.{is_digits};
 
-use lexing::scan::{Set, scan};
+use lexing::scan::are_digits;
+
+const ZERO: u16 = b'0' as u16;
 
 // One digit or more, and nothing else.
 pub fn is_digits(us: &[u16]) -> bool
     ensures { result ≡ is_digits us.now }
 {
-    if us.len() == 0 {
-        return false;
-    }
-    scan(us, Set::Digits) == us.len()
+    !us.is_empty() & are_digits(us)
 }
 
 // The digit that a unit writes.
@@ -21,14 +20,7 @@ fn digit_of(u: u16) -> u64
     requires { (48 ≤ u) × (u ≤ 57) }
     ensures { (result ≡ u - 48) × (result ≤ 9) }
 {
-    (u - 48) as u64
-}
-
-// The number, or the limit where it is larger.
-fn at_most(n: u64, limit: u64) -> u64
-    ensures { result ≡ min n limit }
-{
-    if n < limit { n } else { limit }
+    u64::from(u - ZERO)
 }
 
 // The number that digits write behind those of v, or the limit where it is larger. It never grows past the limit, so that any
@@ -38,10 +30,8 @@ pub fn number_behind(v: u64, us: &[u16], limit: u64) -> u64
     ensures { result ≡ min (number_from v (map digit_of us.now)) limit }
 {
     let mut n = v;
-    let mut i: usize = 0;
-    while i < us.len() {
-        n = at_most(10 * n + digit_of(us[i]), limit);
-        i += 1;
+    for u in us {
+        n = (10 * n + digit_of(*u)).min(limit);
     }
     n
 }

@@ -1,13 +1,13 @@
 // Lines of a lent run of units: a name, what stands behind it, and a line feed.
-ghost use Rattle.std.specs.Prelude.{◌≡◌, ◌≤◌, length};
-ghost use Rattle.lists.specs.Lists.{every};
-ghost use Rattle.requests.specs.Lines.{is_ascii, is_line};
+ghost use Rattle.std.specs.Prelude.{◌≡◌, ◌≤◌, length, leb};
+ghost use Rattle.std.specs.List.{list_all};
+ghost use Rattle.requests.specs.Lines.{is_line};
 ghost use Rattle.requests.specs.Reads.{LineAt};
 
-use lexing::scan::{Set, scan, starts_with};
+use lexing::scan::{position_of, starts_with};
 
 // The unit that ends a line.
-const LINE_FEED: u16 = 10;
+const LINE_FEED: u16 = b'\n' as u16;
 
 // The most bytes of a line before its line feed.
 const LONGEST: usize = 2048;
@@ -21,52 +21,31 @@ pub struct Part {
     pub end: usize,
 }
 
-// What stands behind the name of a line.
-#[derive(Clone, Copy)]
-pub enum Line {
-    Content(Part),
-    Malformed,
-}
-
 // Every unit is ASCII.
 fn is_ascii(us: &[u16]) -> bool
-    ensures { result ≡ every is_ascii us.now }
+    ensures { result ≡ list_all (λ u. leb u 127) us.now }
 {
-    let mut i: usize = 0;
-    while i < us.len() {
-        if LAST_ASCII < us[i] {
-            return false;
-        }
-        i += 1;
-    }
-    true
+    us.iter().all(|u| *u <= LAST_ASCII)
 }
 
 // The units are an ASCII line with this name, short enough.
 fn is_line(line: &[u16], name: &[u8]) -> bool
     ensures { result ≡ is_line name.now line.now }
 {
-    if LONGEST < line.len() {
-        return false;
-    }
-    is_ascii(line) & starts_with(line, name)
+    (line.len() <= LONGEST) & is_ascii(line) & starts_with(line, name)
 }
 
-// The line with this name at a place.
-pub fn line_at(input: &[u16], at: usize, name: &[u8]) -> Line
+// What stands behind the name of the line at a place, where it is a line with this name.
+pub fn line_at(input: &[u16], at: usize, name: &[u8]) -> Option<Part>
     requires { at ≤ length input.now }
     ensures { LineAt input.now at name.now result }
 {
-    let n = scan(&input[at..], Set::But(LINE_FEED));
-    let end = at + n;
-    if end == input.len() {
-        return Line::Malformed;
+    let end = at + position_of(&input[at..], LINE_FEED)?;
+    if !is_line(&input[at..end], name) {
+        return None;
     }
-    if is_line(&input[at..end], name) {
-        return Line::Content(Part {
-            start: at + name.len(),
-            end,
-        });
-    }
-    Line::Malformed
+    Some(Part {
+        start: at + name.len(),
+        end,
+    })
 }

@@ -5,7 +5,7 @@ ghost use Rattle.formats.specs.Tokens.{is_digit};
 ghost use Rattle.requests.specs.Written.{numeral_up_to, signed_by, sort_of, unsigned_of, number_of, instant_of, value_of};
 
 use super::digits::{is_digits, number_behind};
-use lexing::scan::{Set, is_word, scan, starts_with};
+use lexing::scan::{is_word, position_of, starts_with};
 use values::{Day, Millisecond, Number, Value};
 
 // The kinds of a value that a line may name.
@@ -16,23 +16,9 @@ pub enum Sort {
     Text,
 }
 
-// The kind that a line names, if it is one.
-#[derive(Clone, Copy)]
-pub enum SortRead {
-    Known(Sort),
-    Unknown,
-}
+const POINT: u16 = b'.' as u16;
 
-// The value that a line writes, if it is well formed.
-#[derive(Clone, Copy)]
-pub enum ValueRead {
-    Known(Value),
-    Malformed,
-}
-
-const POINT: u16 = 46;
-
-const SOLIDUS: u16 = 47;
+const SOLIDUS: u16 = b'/' as u16;
 
 // The least coefficient that is too large: any larger one is read as it.
 const LARGE: u64 = 1000000000000000;
@@ -40,20 +26,20 @@ const LARGE: u64 = 1000000000000000;
 // Too large for a day number and for a millisecond: any larger one is read as it.
 const LATE: u64 = 1000000000;
 
-// The kind that the units name.
-pub fn sort_of(us: &[u16]) -> SortRead
+// The kind that the units name, if it is one.
+pub fn sort_of(us: &[u16]) -> Option<Sort>
     ensures { result ≡ sort_of us.now }
 {
     if is_word(us, b"number") {
-        return SortRead::Known(Sort::Number);
+        return Some(Sort::Number);
     }
     if is_word(us, b"instant") {
-        return SortRead::Known(Sort::Instant);
+        return Some(Sort::Instant);
     }
     if is_word(us, b"text") {
-        return SortRead::Known(Sort::Text);
+        return Some(Sort::Text);
     }
-    SortRead::Unknown
+    None
 }
 
 // The coefficient of a sign and a magnitude.
@@ -66,18 +52,18 @@ fn signed(negative: bool, n: u64) -> i64
 }
 
 // A number behind its sign: digits, and perhaps a point and digits.
-fn unsigned(negative: bool, us: &[u16]) -> ValueRead
+fn unsigned(negative: bool, us: &[u16]) -> Option<Value>
     requires { length us.now ≤ 2048 }
     ensures { result ≡ unsigned_of negative us.now }
 {
-    let n = scan(us, Set::But(POINT));
+    let n = position_of(us, POINT).unwrap_or(us.len());
     let digits = &us[..n];
     if !is_digits(digits) {
-        return ValueRead::Malformed;
+        return None;
     }
     let whole = number_behind(0, digits, LARGE);
     if n == us.len() {
-        return ValueRead::Known(Value::Number(Number {
+        return Some(Value::Number(Number {
             coefficient: signed(negative, whole),
             scale: 0,
         }));
@@ -85,17 +71,17 @@ fn unsigned(negative: bool, us: &[u16]) -> ValueRead
     let from = n + 1;
     let decimals = &us[from..];
     if !is_digits(decimals) {
-        return ValueRead::Malformed;
+        return None;
     }
     let coefficient = signed(negative, number_behind(whole, decimals, LARGE));
-    ValueRead::Known(Value::Number(Number {
+    Some(Value::Number(Number {
         coefficient,
         scale: decimals.len() as u32,
     }))
 }
 
 // A number: perhaps a minus, and a number without one.
-fn number(us: &[u16]) -> ValueRead
+fn number(us: &[u16]) -> Option<Value>
     requires { length us.now ≤ 2048 }
     ensures { result ≡ number_of us.now }
 {
@@ -114,32 +100,29 @@ fn count(us: &[u16]) -> u32
 }
 
 // An instant: a day number, a solidus, a millisecond.
-fn instant(us: &[u16]) -> ValueRead
+fn instant(us: &[u16]) -> Option<Value>
     ensures { result ≡ instant_of us.now }
 {
-    let n = scan(us, Set::But(SOLIDUS));
-    if n == us.len() {
-        return ValueRead::Malformed;
-    }
+    let n = position_of(us, SOLIDUS)?;
     let from = n + 1;
     let before = &us[..n];
     let behind = &us[from..];
     if is_digits(before) & is_digits(behind) {
         let day = Day(count(before));
         let millisecond = Millisecond(count(behind));
-        return ValueRead::Known(Value::Instant(day, millisecond));
+        return Some(Value::Instant(day, millisecond));
     }
-    ValueRead::Malformed
+    None
 }
 
-// The value that a line of this kind writes.
-pub fn value_of(sort: Sort, us: &[u16]) -> ValueRead
+// The value that a line of this kind writes, if it is well formed.
+pub fn value_of(sort: Sort, us: &[u16]) -> Option<Value>
     requires { length us.now ≤ 2048 }
     ensures { result ≡ value_of sort us.now }
 {
     match sort {
         Sort::Number => number(us),
         Sort::Instant => instant(us),
-        Sort::Text => ValueRead::Known(Value::Text),
+        Sort::Text => Some(Value::Text),
     }
 }

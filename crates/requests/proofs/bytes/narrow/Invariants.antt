@@ -1,14 +1,10 @@
 -- `requests::bytes::narrow` meets its contract.
 -- Assumes nothing.
-use Prim.Native.Nat.{◌≤◌, ◌-◌}
 use mathlib.Core.List.{map}
-use lib.ListN.{length, drop}
+use lib.ListN.{drop}
 use Rattle.writing.specs.Put.{Rest}
 use Rattle.requests.specs.Bytes.{low_byte}
 use Rattle.requests.proofs.bytes.narrow.Given as goal
 
 abbrev pub invariant-loop-i : goal.invariant-loop-i
-invariant-loop-i l = Rest l.initial.room 0 (map low_byte l.units) l.room l.i (map low_byte (drop l.i l.units)) × (l.i ≤ length l.units)
-
-abbrev pub decreases-loop-i : goal.decreases-loop-i
-decreases-loop-i l = length l.units - l.i
+invariant-loop-i l = Rest l.initial.room 0 (map low_byte l.units) l.room l.i (map low_byte (drop l.i l.units))

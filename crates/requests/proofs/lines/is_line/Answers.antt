@@ -1,16 +1,15 @@
 -- `requests::lines::is_line` meets its contract.
 -- Assumes nothing.
-use native.Mathlib.Omega.{arith}
-use borrow.Author.Rules.{rules}
-use Rattle.requests.proofs.Lining.{line-long, line-short}
+use Rattle.std.proofs.Common.{◌≡◌, leb}
+use Rattle.std.specs.List.{list_all}
+use Rattle.lists.specs.Lists.{every}
+use Rattle.lexing.proofs.Scanning.{every-all}
+use Rattle.requests.specs.Lines.{is_ascii, is_line}
 use Rattle.requests.proofs.lines.is_line.Goals as goal
 
-pub returns-then-line-gt-LONGEST : goal.returns-then-line-gt-LONGEST
-returns-then-line-gt-LONGEST c =
-    let a = c.args in
-    line-long a.name.now a.line.now (omega arith)
-
 pub returns : goal.returns
+unfolding is_line is_ascii
 returns c =
-    let a = c.args in
-    line-short a.name.now a.line.now _ _ (search rules) c.is_ascii.ensures c.starts_with.ensures
+    let us = c.args.line.now in
+    let all : every is_ascii us ≡ list_all (λ u. leb u 127) us = every-all is_ascii us in
+    rw (all, c.is_ascii.ensures, c.starts_with.ensures)

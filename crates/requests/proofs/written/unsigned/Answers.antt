@@ -6,14 +6,15 @@ use borrow.Author.Rules.{rules}
 use lib.ListN.{length}
 use Rattle.requests.specs.Written.{is_digits}
 use Rattle.requests.proofs.Valuing.{behind-mark, coefficient-is, unsigned-none, unsigned-bad, unsigned-whole, unsigned-read}
-use Rattle.requests.proofs.Lining.{scanned}
+use Rattle.requests.proofs.Lining.{mark-or-end}
 use Rattle.requests.proofs.Numerals.{digits-each}
 use Rattle.requests.proofs.written.unsigned.Goals as goal
 
 pub returns-then-not-is_digits : goal.returns-then-not-is_digits
 returns-then-not-is_digits c =
     let a = c.args in
-    unsigned-none a.negative a.us.now _ (scanned 46 a.us.now _ c.scan-n.ensures.0) (sym c.is_digits.ensures ∙ c.if-not-is_digits.true)
+    let mark = mark-or-end 46 a.us.now _ c.position_of.ensures _ c.unwrap_or-n.ensures in
+    unsigned-none a.negative a.us.now _ mark (sym c.is_digits.ensures ∙ c.if-not-is_digits.true)
 
 pub number_behind-whole-requires : goal.number_behind-whole-requires
 number_behind-whole-requires c = (search rules, search rules, digits-each _ (sym c.is_digits.ensures ∙ c.if-not-is_digits.false))
@@ -21,14 +22,16 @@ number_behind-whole-requires c = (search rules, search rules, digits-each _ (sym
 pub returns-then-n-us : goal.returns-then-n-us
 returns-then-n-us c =
     let a = c.args in
-    unsigned-whole a.negative a.us.now _ (scanned 46 a.us.now _ c.scan-n.ensures.0) (sym c.is_digits.ensures ∙ c.if-not-is_digits.false) _ c.number_behind-whole.ensures _
+    let mark = mark-or-end 46 a.us.now _ c.position_of.ensures _ c.unwrap_or-n.ensures in
+    unsigned-whole a.negative a.us.now _ mark (sym c.is_digits.ensures ∙ c.if-not-is_digits.false) _ c.number_behind-whole.ensures _
     c.if-n-us.true (coefficient-is a.negative _ _ (omega arith) c.signed.ensures)
 
 pub returns-then-not-is_digits-2 : goal.returns-then-not-is_digits-2
 returns-then-not-is_digits-2 c =
     let a = c.args in
-    unsigned-bad a.negative a.us.now _ (scanned 46 a.us.now _ c.scan-n.ensures.0) (sym c.is_digits.ensures ∙ c.if-not-is_digits.false) c.if-n-us.false
-    (ap is_digits (sym (behind-mark a.us.now c.scan-n.result)) ∙ sym c.is_digits-2.ensures ∙ c.if-not-is_digits-2.true)
+    let mark = mark-or-end 46 a.us.now _ c.position_of.ensures _ c.unwrap_or-n.ensures in
+    unsigned-bad a.negative a.us.now _ mark (sym c.is_digits.ensures ∙ c.if-not-is_digits.false) c.if-n-us.false
+    (ap is_digits (sym (behind-mark a.us.now c.unwrap_or-n.result)) ∙ sym c.is_digits-2.ensures ∙ c.if-not-is_digits-2.true)
 
 pub number_behind-requires : goal.number_behind-requires
 number_behind-requires c = (omega arith, search rules, digits-each _ (sym c.is_digits-2.ensures ∙ c.if-not-is_digits-2.false))
@@ -37,7 +40,8 @@ pub returns : goal.returns
 returns c =
     let a = c.args in
     let us = a.us.now in
-    let behind = behind-mark us c.scan-n.result in
-    unsigned-read a.negative us _ (scanned 46 us _ c.scan-n.ensures.0) (sym c.is_digits.ensures ∙ c.if-not-is_digits.false) _ c.number_behind-whole.ensures _
+    let mark = mark-or-end 46 us _ c.position_of.ensures _ c.unwrap_or-n.ensures in
+    let behind = behind-mark us c.unwrap_or-n.result in
+    unsigned-read a.negative us _ mark (sym c.is_digits.ensures ∙ c.if-not-is_digits.false) _ c.number_behind-whole.ensures _
     (ap is_digits (sym behind) ∙ sym c.is_digits-2.ensures ∙ c.if-not-is_digits-2.false) _ (rw behind at c.number_behind.ensures)
     (coefficient-is a.negative _ _ (omega arith) c.signed-coefficient.ensures) _ (ap length behind)
