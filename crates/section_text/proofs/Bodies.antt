@@ -1,12 +1,14 @@
 -- The item words of a section, as the walkers ask for them, and what is shown of them.
 -- Assumes nothing.
 use Prim.Native.Nat.{ℕ}
-use mathlib.Core.Path.{◌≡◌, sym, ap, subst, ◌∙◌}
+use mathlib.Core.Path.{◌≡◌, refl, sym, ap, subst, ◌∙◌}
 use mathlib.Core.Bool.{Bool, false}
 use mathlib.Core.List.{List, ◌++◌}
 use lib.Dec.{T}
 use Rattle.lists.specs.Lists.{any}
 use Rattle.lists.proofs.Bools.{carry}
+use Rattle.std.specs.Prelude.{Result}
+use Rattle.answers.specs.declared.Refusal.{Refusal}
 use Rattle.answers.specs.declared.Shown.{Shown}
 use Rattle.formats.specs.Items.{Item, Section, Kind, scientific_kind, fraction_kind, same_kind, kind_of, is_solidus, integer_places, places_behind}
 use Rattle.formats.specs.Text.{Context, items_units, section_units, first_of}
@@ -19,7 +21,7 @@ use Rattle.tables.proofs.BackEntries.{powers-all}
 use Rattle.table_words.specs.Sections.{ItemsOf}
 use Rattle.section_text.specs.declared.Subject.{Subject}
 use Rattle.section_text.specs.Subject.{SubjectIs}
-use Rattle.section_text.specs.Walk.{EntriesFit, Ready, Known}
+use Rattle.section_text.specs.Walk.{EntriesFit, TextOf}
 use Rattle.section_text.specs.Show.{sign_text, section_reading, Shows}
 use Rattle.section_text.proofs.Cuts.{other-kind, uncut-bare, powers-anew}
 
@@ -48,12 +50,13 @@ module _ {z : Section} {words : List ℕ} (o : ItemsOf z words) where
         powers = carry (powers-anew _ (first_of c.integer_places) _ (entries_in words) (uncut-bare (kind_of z) (entries_in words) h.0 h.1 o.allowed)) (items-powers none);
       }
 
-  -- words that are ready for a subject
-  pub items-ready : {digits : List ℕ} {s : Subject} {text : List ℕ} → Known (kind_of z) digits s text → Ready (λ k. SubjectIs k digits s text) words
-  items-ready k = record { context = k.context; kind = kind_of z; power = first_of (integer_places z.items); subject = k.is; fit = items-fit k.context (subject-uncut k.is) }
+  -- what a context with the property shows of them, in a section that is cut nowhere
+  pub items-text : {P : Kind → Context → Type 0} (c : Context) → Uncut (kind_of z) → P (kind_of z) c
+      → TextOf P (entries_in words) (items_units c (first_of (integer_places z.items)) (items_at (entries_in words)))
+  items-text c u p = record { context = c; kind = kind_of z; power = first_of (integer_places z.items); subject = p; fit = items-fit c u; is = refl }
 
   -- what is shown of the words is what is shown of the section
-  pub items-shows : {old out : List ℕ} {r : Shown} {colour : ℕ} (size i : ℕ) (minus exact : Bool) (c : Context)
+  pub items-shows : {old out : List ℕ} {r : Result Shown Refusal} {colour : ℕ} (size i : ℕ) (minus exact : Bool) (c : Context)
       → colour ≡ z.colour → c.integer_places ≡ integer_places z.items
       → Shows (within size (look_of (sign_text minus ++ items_units c (first_of (integer_places z.items)) (items_at (entries_in words))) colour i exact)) old r out
       → Shows (section_reading size z i minus exact c) old r out

@@ -8,12 +8,12 @@ use mathlib.Core.List.{List, [], ◌∷◌, ◌++◌}
 use lib.ListN.{length}
 use lib.Dec.{leb, leb→le}
 use borrow.Author.Tests.{le-leb, lt-leb}
-use Rattle.answers.specs.declared.Answer.{Answer}
-use Rattle.answers.specs.declared.Answer.TheVariants as answer
+use Rattle.std.specs.Prelude.{Result, Ok, Err}
+use Rattle.answers.specs.declared.Refusal.{Refusal}
+use Rattle.answers.specs.declared.Refusal.TheVariants as answer
 use Rattle.answers.specs.declared.Shown.{Shown}
-use Rattle.answers.specs.Number.{done_shown, refused_shown}
 use Rattle.lists.proofs.Bools.{no, true-T}
-use Rattle.formats.specs.Reading.{refused, shown, look_of, within}
+use Rattle.formats.specs.Reading.{Look, refused, shown, look_of, within}
 use Rattle.tables.specs.Calls.{shown_as, text_as}
 use Rattle.writing.specs.Put.{Put}
 use Rattle.writing.proofs.Laws.{put-none}
@@ -33,11 +33,6 @@ unfolding sign_text
 sign-short true us size h = omega arith
 sign-short false us size h = omega arith
 
--- a refusal leaves the room alone
-pub shows-refused : (old : List ℕ) (a : Answer) → Shows (refused a) old (refused_shown a) old
-unfolding shown_as text_as
-shows-refused old a = record { result = refl; room = refl }
-
 -- a room that surely takes a text: no text is lent, and it has 82 units for each two words and one for a minus
 pub sure : (lent : Bool) (words size : ℕ) → (not lent && leb (41 * words + 1) size) ≡ true → (lent ≡ false) × (41 * words + 1 ≤ size)
 sure true words size e = no e
@@ -48,28 +43,33 @@ pub measured : {old out text : List ℕ} {n : ℕ} → Put old 0 text n out → 
 measured p = omega (arith, p.next)
 
 -- a text that is put is shown
-pub shows-put : {old out text : List ℕ} {n : ℕ} (colour i : ℕ) (exact : Bool) → Put old 0 text n out
-    → Shows (shown (look_of text colour i exact)) old (done_shown n colour i exact) out
+pub shows-put : {old out text : List ℕ} {colour i : ℕ} {exact : Bool} {s : Shown} → Put old 0 text s.length out
+    → s.colour ≡ colour → s.section ≡ i → s.exact ≡ exact → Shows (shown (look_of text colour i exact)) old (Ok s) out
 unfolding shown_as text_as
-shows-put colour i exact p = record { result = rw (measured p); room = p.room }
+shows-put p c i e = record { result = rw (c, i, e, measured p); room = p.room }
+
+-- what is told of a look
+pub told-length : {old out : List ℕ} {s : Shown} {look : Look} → Shows (shown look) old (Ok s) out → s.length ≡ length look.text
+unfolding shown_as
+told-length x = cc (x.result)
+
+-- a refusal leaves the room alone
+pub shows-refused : (old : List ℕ) (a : Refusal) → Shows (refused a) old (Err a) old
+unfolding shown_as text_as
+shows-refused old a = record { result = refl; room = refl }
 
 -- a room of so many units refuses a text that it does not take, and shows one that it takes
-module _ (size : ℕ) (text : List ℕ) (colour i : ℕ) (exact : Bool) where
-  pub shows-none : (old : List ℕ) → size < length text → Shows (within size (look_of text colour i exact)) old (refused_shown answer.TextRoom) old
+module _ (size : ℕ) (look : Look) where
+  pub shows-none : (old : List ℕ) → size < length look.text → Shows (within size look) old (Err answer.TextRoom) old
   unfolding within
-  shows-none old h = rw (lt-leb (length text) size h) (shows-refused old answer.TextRoom)
+  shows-none old h = rw (lt-leb (length look.text) size h) (shows-refused old answer.TextRoom)
 
-  pub shows-within : {old out : List ℕ} {r : Shown} → length text ≤ size → Shows (shown (look_of text colour i exact)) old r out
-      → Shows (within size (look_of text colour i exact)) old r out
+  pub shows-within : {old out : List ℕ} {r : Result Shown Refusal} → length look.text ≤ size → Shows (shown look) old r out → Shows (within size look) old r out
   unfolding within
-  shows-within h x = rw (le-leb (length text) size h) x
-
-  pub shows-all : {old out : List ℕ} {n : ℕ} → length text ≤ size → Put old 0 text n out
-      → Shows (within size (look_of text colour i exact)) old (done_shown n colour i exact) out
-  shows-all h p = shows-within h (shows-put colour i exact p)
+  shows-within h x = rw (le-leb (length look.text) size h) x
 
 -- no minus is no text
-pub unsigned : {old out : List ℕ} {r : Shown} (size : ℕ) (text : List ℕ) (colour i : ℕ) (exact : Bool)
+pub unsigned : {old out : List ℕ} {r : Result Shown Refusal} (size : ℕ) (text : List ℕ) (colour i : ℕ) (exact : Bool)
     → Shows (within size (look_of text colour i exact)) old r out
     → Shows (within size (look_of (sign_text false ++ text) colour i exact)) old r out
 unfolding sign_text

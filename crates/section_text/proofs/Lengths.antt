@@ -21,7 +21,7 @@ use Rattle.formats.specs.Tokens.{Place, zero_place, hash_place, space_place, Hal
 use Rattle.formats.specs.Items.{Item, general, at, Kind, item_in_range, item_allowed}
 use Rattle.formats.specs.Text.{Context, insignificant, idle_units, ends_group, with_separator, figure_units, extra_units, units_beyond, at_first_integer, place_units, point_units, year_units, named_units, hour_shown, part_units, elapsed_count, half_units, item_units, items_units, digit_after, along, first_of, exponent_units}
 use Rattle.formats.proofs.Each.{by-item}
-use Rattle.tables.specs.Words.{entries_in}
+use Rattle.tables.specs.Words.{Entry, entries_in}
 use Rattle.tables.specs.Decode.{item_at, items_at}
 use Rattle.tables.proofs.BackEntries.{between-facts, items-ranged}
 use Rattle.tables.proofs.Words.{entries_at-length}
@@ -30,7 +30,7 @@ use Rattle.figure_text.specs.declared.Figures.{Figures}
 use Rattle.date_text.proofs.Letters.{month-spelt, weekday-spelt}
 use Rattle.section_text.specs.declared.Subject.{Subject}
 use Rattle.section_text.specs.Subject.{StandsFor, SubjectIs}
-use Rattle.section_text.specs.Walk.{EntriesFit, OfText, Ready}
+use Rattle.section_text.specs.Walk.{EntriesFit, TextOf, HasText}
 
 -- ---- figures
 idle-length : (p : Place) → length (idle_units p) ≤ 1
@@ -178,15 +178,14 @@ standing-short false digits f text us n h l g = rw g.shows (omega (arith, genera
 
 module _ (n : ℕ) (words : List ℕ) (h : 82 ≤ n) where
   -- of a subject, whose text has at most n units where it is lent
-  pub subject-short : {digits : List ℕ} {s : Subject} {text : List ℕ} → (s.lent ≡ true → length text ≤ n)
-      → OfText (λ k. SubjectIs k digits s text) words (λ us. length us ≤ n * (length words / 2))
+  pub subject-short : {digits : List ℕ} {s : Subject} {text us : List ℕ} → (s.lent ≡ true → length text ≤ n)
+      → TextOf (λ k. SubjectIs k digits s text) (entries_in words) us → length us ≤ n * (length words / 2)
   unfolding item_allowed
-  subject-short {digits} {s} {text} l c k q i f =
-      let short = standing-short s.lent digits s.figures text c.standing n h l in
-      words-short c k n h (λ g. short (i.general g)) (λ a. short (i.textual a)) q words f
+  subject-short {digits} {s} {text} l t =
+      let short = standing-short s.lent digits s.figures text t.context.standing n h l in
+      rw t.is (words-short t.context t.kind n h (λ g. short (t.subject.general g)) (λ a. short (t.subject.textual a)) t.power words t.fit)
 
--- a short text keeps a walk's places small
-pub short-within : {P : Kind → Context → Type 0} {words : List ℕ} → length words ≤ 508 → (d : Ready P words)
-    → OfText P words (λ us. length us ≤ 1024 * (length words / 2))
-    → length (items_units d.context d.power (items_at (entries_in words))) ≤ 260096
-short-within h d l = omega (arith, l d.context d.kind d.power d.subject d.fit)
+-- so the text of few words keeps a walk's places small
+pub short-text : {text : List Entry → List ℕ → Type 0} (words us : List ℕ) → length words ≤ 508 → text (entries_in words) us
+    → length us ≤ 1024 * (length words / 2) → HasText text (entries_in words)
+short-text words us few t h = record { units = us; has = t; short = omega (arith, h, few) }

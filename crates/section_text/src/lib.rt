@@ -2,21 +2,22 @@
 // them to show a text, none to ask whether it would be shown.
 #![tactic(auto)]
 
-ghost use Rattle.std.specs.Prelude.{◌≡◌, true, false, List, ◌++◌, ℕ, ◌+◌, ◌*◌, ◌≤◌, ◌<◌, ◌^◌, T, length, get_or};
+ghost use Rattle.std.specs.Prelude.{◌≡◌, true, false, List, [], ◌∷◌, ◌++◌, ℕ, ◌+◌, ◌*◌, ◌≤◌, ◌<◌, ◌^◌, T, length};
 ghost use Rattle.formats.specs.Items.{kind_of, integer_places};
-ghost use Rattle.formats.specs.Reading.{shown, look_of, within};
+ghost use Rattle.formats.specs.Reading.{Look, within};
 ghost use Rattle.formats.specs.Text.{Context};
+ghost use Rattle.tables.specs.Words.{Entry, entries_in};
 ghost use Rattle.tables.specs.Encode.{entry};
-ghost use Rattle.tables.specs.Rules.{entry_in_range, passes};
-ghost use Rattle.table_words.specs.Sections.{section_in};
+ghost use Rattle.table_words.specs.Tabled.{section_of};
 ghost use Rattle.writing.specs.Put.{Put};
 ghost use Rattle.section_text.specs.Subject.{StandsFor, SubjectIs};
-ghost use Rattle.section_text.specs.Walk.{Ready, ItemPut, OfText, Known};
-ghost use Rattle.section_text.specs.Show.{sign_text, section_reading, Shows};
+ghost use Rattle.section_text.specs.Walk.{Begins, PutsFirst, HasText, TextOf, text-ends, Known};
+ghost use Rattle.section_text.specs.Show.{sign_text, section_reading, Shows, Writes};
 
-use answers::{Answer, Shown, done_shown, refused_shown};
+use answers::{Refusal, Shown};
 use figure_text::Figures;
-use table_words::{head_of, items_of};
+use table_words::TableSection;
+use table_words::runs::is_place;
 use tables::tags;
 use writing::{put_unit, units};
 
@@ -31,74 +32,81 @@ pub struct Subject {
 
 pub const MINUS: u16 = 45;
 
-// Puts what General and `@` stand for.
-fn put_standing(room: &mut [u16], at: usize, digits: &[u8; 40], s: Subject, text: &[u16]) -> usize
-    requires { (at < 2 ^ 61) × (s.figures.used ≤ 40) × (s.lent ≡ true → length text.now ≤ 1024) }
-    ensures { (us : List ℕ) → StandsFor s.lent digits.now s.figures text.now us
-        → Put room.old at us result room.new }
-{
-    if s.lent {
-        return writing::put_units(room, at, text);
-    }
-    figure_text::put_general(room, at, digits, s.figures)
+// What shows items one behind another.
+pub trait ShowsItems {
+    // `text s es us`: the items that stand for these entries are shown as these units
+    ghost text: { Self → List Entry → List ℕ → Type 0 };
+
+    // Puts the text of the item that a table has under this tag with this argument. (A place's argument is one more than the place
+    // of its digit.)
+    fn put_item(&self, room: &mut [u16], at: usize, tag: u16, argument: u16) -> usize
+        requires { (at < 2 ^ 61) × Begins (text self.now) (entry tag argument) }
+        ensures { PutsFirst (text self.now) (entry tag argument) room.old at result room.new };
+
+    // no item is shown as no unit
+    ghost ends: { (s : Self) (us : List ℕ) → text s [] us → us ≡ [] };
 }
 
-// Puts the text of an item that a table has under this tag with this argument; it is none of a date-time section's own. (A place's argument is one
-// more than the place of its digit.)
-fn put_item(
-    room: &mut [u16],
-    at: usize,
-    tag: u16,
-    argument: u16,
-    digits: &[u8; 40],
-    s: Subject,
-    text: &[u16],
-) -> usize
-    requires { (at < 2 ^ 61) × (s.figures.used ≤ 40) × (s.lent ≡ true → length text.now ≤ 1024) × T (entry_in_range (entry tag argument)) }
-    ensures { ItemPut (λ k. SubjectIs k digits.now s text.now) (entry tag argument) room.old at result room.new }
-{
-    if (tags::ZERO_PLACE <= tag) & (tag <= tags::SPACE_PLACE) {
-        let q = argument as usize - 1;
-        return figure_text::put_place(room, at, digits, s.figures, tag, q);
-    }
-    match tag {
-        tags::LITERAL => put_unit(room, at, argument),
-        tags::BLANK => put_unit(room, at, units::SPACE),
-        tags::FILL => at,
-        tags::POINT => figure_text::put_point(room, at, digits, s.figures),
-        tags::PERCENT => put_unit(room, at, 37),
-        tags::GENERAL => put_standing(room, at, digits, s, text),
-        tags::AT => put_standing(room, at, digits, s, text),
-        _ => at,
-    }
-}
-
-// Puts the text of a segment, whose words these are: a part of a section's items with digits and places of its own.
-// (A section has one segment: all of its items, in a scientific section those before the E; a fraction has one for each of its numbers.)
-pub fn put_segment(
-    room: &mut [u16],
-    at: usize,
-    items: &[u16],
-    digits: &[u8; 40],
-    s: Subject,
-    text: &[u16],
-) -> usize
-    requires { (at ≤ 2 ^ 40) × (s.figures.used ≤ 40) × (s.lent ≡ true → length text.now ≤ 1024) × (length items.now ≤ 508)
-        × Ready (λ k. SubjectIs k digits.now s text.now) items.now }
+// Puts the text of items, whose words these are: of a section, or of a part of one with digits and places of its own.
+// (A number section is one part; a scientific section has one before the E and one from it on, a fraction one for each of its numbers.)
+pub fn put_items<I: ShowsItems>(room: &mut [u16], at: usize, items: &[u16], from: &I) -> usize
+    requires { (at ≤ 2 ^ 40) × HasText (I.text from.now) (entries_in items.now) }
     ensures within { result ≤ at + 260096 }
-    ensures put { OfText (λ k. SubjectIs k digits.now s text.now) items.now
-        (λ us. Put room.old at us result room.new) }
+    ensures put { (us : List ℕ) → I.text from.now (entries_in items.now) us → Put room.old at us result room.new }
 {
-    let n = items.len() / 2;
-    let mut k: usize = 0;
-    let mut o = at;
-    while k < n {
-        let i = 2 * k;
-        let j = i + 1;
-        o = put_item(room, o, items[i], items[j], digits, s, text);
-        k += 1;
+    let mut end = at;
+    for pair in items.chunks_exact(2) {
+        end = from.put_item(room, end, pair[0], pair[1]);
     }
-    o
+    end
+}
+
+// A subject with what it speaks of: the digits of its figures, and the text that is lent.
+#[derive(Clone, Copy)]
+pub struct Source<'a> {
+    pub subject: Subject,
+    pub digits: &'a [u8; 40],
+    pub text: &'a [u16],
+    pub ghost used: { subject.figures.used ≤ 40 },
+    pub ghost short: { subject.lent ≡ true → length text.now ≤ 1024 },
+}
+
+impl<'a> Source<'a> {
+    // Puts what General and `@` stand for.
+    fn put_standing(&self, room: &mut [u16], at: usize) -> usize
+        requires { at < 2 ^ 61 }
+        ensures { (us : List ℕ) → StandsFor self.now.subject.lent self.now.digits.now self.now.subject.figures self.now.text.now us
+            → Put room.old at us result room.new }
+    {
+        if self.subject.lent {
+            return writing::put_units(room, at, self.text);
+        }
+        figure_text::put_general(room, at, self.digits, self.subject.figures)
+    }
+}
+
+// The items are none of a date-time section's own, and none of a scientific or fraction section's.
+impl<'a> ShowsItems for Source<'a> {
+    ghost text = { λ s. TextOf (λ k. SubjectIs k s.digits.now s.subject s.text.now) };
+
+    ghost ends = { λ s us t. text-ends t };
+
+    fn put_item(&self, room: &mut [u16], at: usize, tag: u16, argument: u16) -> usize {
+        if is_place(tag) {
+            let q = argument as usize - 1;
+            return figure_text::put_place(room, at, self.digits, self.subject.figures, tag, q);
+        }
+        match tag {
+            tags::LITERAL => put_unit(room, at, argument),
+            tags::BLANK => put_unit(room, at, units::SPACE),
+            tags::FILL => at,
+            tags::POINT => figure_text::put_point(room, at, self.digits, self.subject.figures),
+            tags::PERCENT => put_unit(room, at, 37),
+            tags::GENERAL => self.put_standing(room, at),
+            tags::AT => self.put_standing(room, at),
+            _ => at,
+        }
+    }
 }
 
 // Puts a minus, or nothing.
@@ -113,22 +121,14 @@ pub fn put_sign(room: &mut [u16], minus: bool) -> usize
 }
 
 // Puts a section's text: a minus or nothing, and then its items'.
-pub fn put_text(
-    room: &mut [u16],
-    minus: bool,
-    items: &[u16],
-    digits: &[u8; 40],
-    s: Subject,
-    text: &[u16],
-) -> usize
-    requires { (s.figures.used ≤ 40) × (s.lent ≡ true → length text.now ≤ 1024) × (length items.now ≤ 508)
-        × Ready (λ k. SubjectIs k digits.now s text.now) items.now }
+pub fn put_text(room: &mut [u16], minus: bool, items: &[u16], source: Source) -> usize
+    requires { HasText (TextOf (λ k. SubjectIs k source.digits.now source.subject source.text.now)) (entries_in items.now) }
     ensures within { result ≤ 260097 }
-    ensures put { OfText (λ k. SubjectIs k digits.now s text.now) items.now
-        (λ us. Put room.old 0 (sign_text minus ++ us) result room.new) }
+    ensures put { (us : List ℕ) → TextOf (λ k. SubjectIs k source.entry.digits.now source.entry.subject source.entry.text.now) (entries_in items.now) us
+        → Put room.old 0 (sign_text minus ++ us) result room.new }
 {
     let at = put_sign(room, minus);
-    put_segment(room, at, items, digits, s, text)
+    put_items(room, at, items, &source)
 }
 
 // Whether a room of this size surely takes the text of so many item words: 82 units an item, and a minus.
@@ -139,85 +139,52 @@ pub fn is_roomy(size: usize, words: usize, lent: bool) -> bool
     !lent & (41 * words + 1 <= size)
 }
 
-// How long a section's text is: it is put into no room.
-fn length_of(minus: bool, items: &[u16], digits: &[u8; 40], s: Subject, text: &[u16]) -> usize
-    requires { (s.figures.used ≤ 40) × (s.lent ≡ true → length text.now ≤ 1024) × (length items.now ≤ 508)
-        × Ready (λ k. SubjectIs k digits.now s text.now) items.now }
-    ensures { OfText (λ k. SubjectIs k digits.now s text.now) items.now (λ us. result ≡ length (sign_text minus ++ us)) }
-{
-    let mut none = [0; 1];
-    put_text(&mut none[..0], minus, items, digits, s, text)
-}
-
-// Writes a section's text.
-fn write_items(
-    room: &mut [u16],
-    minus: bool,
-    items: &[u16],
-    digits: &[u8; 40],
-    s: Subject,
-    text: &[u16],
-    exact: bool,
-    colour: u16,
-    section: u16,
-) -> Shown
-    requires { (s.figures.used ≤ 40) × (s.lent ≡ true → length text.now ≤ 1024) × (length items.now ≤ 508)
-        × Ready (λ k. SubjectIs k digits.now s text.now) items.now }
-    ensures { OfText (λ k. SubjectIs k digits.now s text.now) items.now
-        (λ us. Shows (shown (look_of (sign_text minus ++ us) colour section exact)) room.old result room.new) }
-{
-    let n = put_text(room, minus, items, digits, s, text);
-    done_shown(n as u32, colour, section, exact)
-}
-
-// Shows a section's text where the room takes it. Only where it may not is the text measured.
-fn show_items(
+// Shows a text where the room takes it: `put` puts it and tells what is shown. Only where the room may not take it is the text measured:
+// it is put into no room.
+pub fn show_whole<F: Fn(&mut [u16]) -> Shown>(
     room: &mut [u16],
     size: usize,
-    minus: bool,
-    items: &[u16],
-    digits: &[u8; 40],
-    s: Subject,
-    text: &[u16],
-    exact: bool,
-    colour: u16,
-    section: u16,
-) -> Shown
-    requires { (s.figures.used ≤ 40) × (s.lent ≡ true → length text.now ≤ 1024) × (length items.now ≤ 508)
-        × Ready (λ k. SubjectIs k digits.now s text.now) items.now }
-    ensures { OfText (λ k. SubjectIs k digits.now s text.now) items.now
-        (λ us. Shows (within size (look_of (sign_text minus ++ us) colour section exact)) room.old result room.new) }
+    is_roomy: bool,
+    put: F,
+) -> Result<Shown, Refusal>
+    requires { F.IsAlwaysCallable put }
+    ensures { (look : Look) → Writes (F.post put) look → (is_roomy ≡ true → length look.text ≤ size)
+        → Shows (within size look) room.old result room.new }
 {
-    if is_roomy(size, items.len(), s.lent) {
-        return write_items(room, minus, items, digits, s, text, exact, colour, section);
+    if !is_roomy {
+        let mut none = [0; 1];
+        let measured = put(&mut none[..0]);
+        if size < measured.length as usize {
+            return Err(Refusal::TextRoom);
+        }
     }
-    if size < length_of(minus, items, digits, s, text) {
-        return refused_shown(Answer::TextRoom);
-    }
-    write_items(room, minus, items, digits, s, text, exact, colour, section)
+    Ok(put(room))
 }
 
-// Shows section i, which is no date-time section; `exact`: what it shows is.
+// Shows a section that is no date-time section; `exact`: what it shows is.
 pub fn show_section(
     room: &mut [u16],
     size: usize,
-    table: &[u16],
-    i: u16,
+    section: TableSection,
     minus: bool,
-    digits: &[u8; 40],
-    s: Subject,
-    text: &[u16],
+    source: Source,
     exact: bool,
-) -> Shown
-    requires { T (passes table.now) × (i < get_or table.now 0 0) × (s.figures.used ≤ 40) × (s.lent ≡ true → length text.now ≤ 1024)
-        × Known (kind_of (section_in table.now i)) digits.now s text.now }
-    ensures { (c : Context) → SubjectIs (kind_of (section_in table.now i)) digits.now s text.now c
-        → c.integer_places ≡ integer_places (section_in table.now i).items
-        → Shows (section_reading size (section_in table.now i) i minus exact c) room.old result room.new }
+) -> Result<Shown, Refusal>
+    requires { Known (kind_of (section_of section)) source.digits.now source.subject source.text.now }
+    ensures { (c : Context) → SubjectIs (kind_of (section_of section.entry)) source.entry.digits.now source.entry.subject source.entry.text.now c
+        → c.integer_places ≡ integer_places (section_of section.entry).items
+        → Shows (section_reading size (section_of section.entry) section.entry.place minus exact c) room.old result room.new }
 {
-    let h = head_of(table, i as usize);
-    let items = items_of(table, i as usize);
-    show_items(
-        room, size, minus, items, digits, s, text, exact, h.colour, i,
-    )
+    let colour = section.head().colour;
+    let items = section.items();
+    let roomy = is_roomy(size, items.len(), source.subject.lent);
+    show_whole(room, size, roomy, |room| {
+        let length = put_text(room, minus, items, source) as u32;
+        Shown {
+            length,
+            colour,
+            section: section.place,
+            exact,
+        }
+    })
 }
