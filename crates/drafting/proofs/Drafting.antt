@@ -1,19 +1,17 @@
 -- What a section's tokens and items say of it is what its draft tells.
 -- Assumes nothing.
-use Prim.Native.Nat.{ℕ, zero, suc, ◌+◌, ◌-◌, ◌*◌, ◌/◌, ◌%◌, ◌≤◌, ◌<◌}
+use Prim.Native.Nat.{ℕ, suc, ◌+◌, ◌-◌, ◌*◌, ◌/◌, ◌%◌, ◌≤◌}
 use native.Mathlib.Omega.{arith}
 use mathlib.Core.Path.{◌≡◌, refl, sym, ◌∙◌, ap}
 use mathlib.Core.Bool.{Bool, true, false, ◌&&◌, ◌||◌, true≢false}
 use mathlib.Core.List.{List, [], ◌++◌}
 use mathlib.Core.Option.{none, some}
-use native.Mathlib.Decide.{dec_le}
-use lib.ListN.{length, take, drop, length-take, length-drop, drop_of_length-le}
+use lib.ListN.{length, take, drop, length-take, length-drop}
 use lib.Seq.{take_all}
 use lib.Dec.{T, leb→le, ltb, eqb}
-use Rattle.calendar.specs.Names.{units}
-use Rattle.lists.specs.Lists.{every, any, count, is_some}
+use Rattle.lists.specs.Lists.{every, any, count}
 use Rattle.lists.proofs.Bools.{and_left, and_right, and_parts, T_true, true-T, cond_both, by_cases, or-false}
-use Rattle.formats.specs.Tokens.{Token, Written, starts_with, condition_inside}
+use Rattle.formats.specs.Tokens.{Token, Written}
 use Rattle.formats.specs.Items.{same_kind, date_kind, fraction_kind, is_solidus, integer_places, fraction_fits, items_fit}
 use Rattle.formats.specs.Kinds.{is_comma, is_fill_token, no_bracket, Parts, parts_of, condition_of, section_of, fits, commas_fit, body_kind, body_items}
 use Rattle.formats.proofs.Cutting.{whole-none, main-all}
@@ -25,8 +23,13 @@ use Rattle.tables.specs.Standing.{shift_of}
 use Rattle.tables.proofs.Words.{length-entries, entries-in-words}
 use Rattle.tables.proofs.Standing.{section_kind, shift_word_lem}
 use Rattle.tables.proofs.MadeItems.{made-length}
-use Rattle.marks.specs.Marks.{tokens_in}
+use Rattle.std.proofs.Common.{Option, Some, None, unwrap_or}
+use Rattle.std.specs.Option.{is_some as is_there}
+use Rattle.std.proofs.lemmas.Option.{same_Some}
+use Rattle.marks.specs.declared.Mark.{Mark}
+use Rattle.marks.specs.Marks.{marked, tokens_in}
 use Rattle.writing.specs.Put.{Put}
+use Rattle.bodies.specs.declared.conditions.Amount.{Amount}
 use Rattle.bodies.specs.declared.conditions.Compared.{Compared}
 use Rattle.bodies.specs.declared.facts.Facts.{Facts}
 use Rattle.bodies.specs.declared.commas.Commas.{Commas}
@@ -35,16 +38,16 @@ use Rattle.bodies.specs.Conditions.{written_inside, ComparedBy}
 use Rattle.bodies.specs.Bodies.{facts_of}
 use Rattle.bodies.specs.Uses.{commas_of}
 use Rattle.bodies.specs.Fraction.{has_units}
-use Rattle.bodies.specs.Sections.{heading_parts, HeadingOf}
+use Rattle.bodies.specs.Sections.{condition_marked, heading_parts, HeadingOf}
 use Rattle.bodies.proofs.Inside.{condition-at}
-use Rattle.marks.proofs.Words.{tokens-drop}
+use Rattle.marks.proofs.Buffer.{tokens-drop}
 use Rattle.numbering.specs.declared.Numbered.{Numbered}
 use Rattle.tallies.specs.declared.Tally.{Tally}
 use Rattle.tallies.specs.Tally.{tally_of, has_exponent, has_solidus, Uncut, Cut, kind_told, items_fit_told, within_told, fraction_told}
 use Rattle.tallies.proofs.Told.{percents-are, half-told, uncut-told, within-told, fraction-within-told, decimals-told, section-kind-told}
 use Rattle.drafting.specs.declared.Body.{Body}
 use Rattle.drafting.specs.declared.Draft.{Draft}
-use Rattle.drafting.specs.Draft.{body_words, settled_words, ConditionAs, heading_condition, no_condition, thousands_by, commas_fit_by, body_by, bare_body, kept_by, Parted, BodyRead, BodyOf, Drafts, DraftOf, shift_told}
+use Rattle.drafting.specs.Draft.{body_words, settled_words, AmountAs, ConditionAs, thousands_by, commas_fit_by, body_by, bare_body, kept_by, Parted, BodyRead, BodyOf, Drafts, DraftOf, shift_told}
 use Rattle.drafting.proofs.Settled.{body-size, words-bare, put-read, put-over}
 use Rattle.drafting.proofs.Solidus.{items, entries, entries-back, solidus-none, solidus-some, bare-fits, cut_fits}
 use borrow.Author.Tests.{ltb-false}
@@ -54,40 +57,29 @@ conditioned : (w : Written) (r : Compared) → ComparedBy w r → ConditionAs (s
 unfolding condition_of operator_word negative_word whole_part millionths_part
 conditioned w r h = record {
   operator = h.operator;
-  within = h.within;
-  negative = λ t. ap bit (h.negative t);
-  whole = λ t. rw (h.number t) (omega (arith, h.millionths));
-  millionths = λ t. rw (h.number t) (omega (arith, h.millionths));
+  within = h.amount.within;
+  amount = λ a e. let m = h.amount.measures a e in record {
+    negative = ap bit m.negative;
+    whole = rw m.number (omega (arith, m.millionths));
+    millionths = rw m.number (omega (arith, m.millionths));
+  };
 }
 
-inside-none : (a : ℕ) → is_some (condition_inside (take a [])) ≡ false
-unfolding condition_inside starts_with units is_some
-inside-none zero = refl
-inside-none (suc a) = refl
+abbrev nothing : Amount
+nothing = record { negative = false; whole = 0; millionths = 0 }
 
-module _ (code : List ℕ) (h : Heading) where
-  -- the bracket has units behind its first one
-  pub start-inside : is_some (condition_inside (take h.argument (drop (suc h.start) code))) ≡ true → suc h.start < length code
-  start-inside e = elim (dec_le (length code) (suc h.start)) [
-    | yes l ↦ absurd (true≢false (sym e ∙ rw (drop_of_length-le code {i = suc h.start} l) (inside-none h.argument)))
-    | no l ↦ omega arith
-  ]
+module _ (code : List ℕ) where
+  pub condition-none : ConditionAs (condition_marked code None) (record { operator = 0; amount = Some nothing })
+  unfolding condition_marked condition_of operator_word negative_word whole_part millionths_part bit written_within
+  condition-none = record {
+    operator = refl;
+    within = refl;
+    amount = λ a e. rw (← (same_Some _ a e)) (record { negative = refl; whole = refl; millionths = refl });
+  }
 
-  pub condition-none : h.condition ≡ false → ConditionAs (heading_condition code h) no_condition
-  unfolding heading_condition condition_of operator_word negative_word whole_part millionths_part bit written_within
-  condition-none e = rw e (record { operator = refl; within = refl; negative = λ t. refl; whole = λ t. refl; millionths = λ t. refl })
-
-  pub condition-some : h.condition ≡ true → (r : Compared) → ComparedBy (written_inside (take h.argument (drop (suc h.start) code))) r → ConditionAs (heading_condition code h) r
-  unfolding heading_condition
-  condition-some here r b = rw (here, condition-at code h.argument h.start) (conditioned _ r b)
-
--- the units end with the code
-pub clamped : (code : List ℕ) (start size room : ℕ) → room ≡ length code - start - 1 → room ≤ size
-    → take room (drop (suc start) code) ≡ take size (drop (suc start) code)
-clamped code start size room e l =
-    let us : List ℕ = drop (suc start) code in
-    let d : length us ≡ length code - suc start = length-drop (suc start) code in
-    take_all room us (omega arith) ∙ sym (take_all size us (omega arith))
+  pub condition-some : (m : Mark) → m.form ≡ 24 → (r : Compared) → ComparedBy (written_inside (take m.argument (drop (suc m.start) code))) r → ConditionAs (condition_marked code (Some m)) r
+  unfolding condition_marked marked
+  condition-some m e r b = rw (e, condition-at code m.argument m.start) (conditioned _ r b)
 
 pub body-length : (ts : List Token) → length (body_words ts) ≡ 2 * length (items ts)
 body-length ts = omega (arith, length-entries (entries_of (items ts)) [], made-length (items ts))
@@ -218,48 +210,54 @@ module _ (ts : List Token) {old out : List ℕ} {at end : ℕ} (put : Put old at
   bare-put b (d, e) = (d, rw (body_end d, ← e) put)
 
 -- a part of a list is no longer
-pub part-short : (ws : List ℕ) (n m : ℕ) → length ws ≤ 762 → length (take n (drop m ws)) ≤ 762
-part-short ws n m h = rw (length-take n (drop m ws), length-drop m ws) (omega arith)
+pub part-short : (ms : List Mark) (n k : ℕ) → length ms ≤ 254 → length (take n (drop k ms)) ≤ 254
+part-short ms n k h = rw (length-take n (drop k ms), length-drop k ms) (omega arith)
 
 -- ---- the section
-abbrev pub draft_by : ℕ → Compared → Body → Draft
-draft_by colour w b =
+abbrev pub draft_by : ℕ → Compared → Amount → Body → Draft
+draft_by colour w a b =
     record {
       colour = colour;
       operator = w.operator;
-      negative = w.negative;
-      whole_low = w.whole % 65536;
-      whole_high = w.whole / 65536;
-      millionths_low = w.millionths % 65536;
-      millionths_high = w.millionths / 65536;
-      within = w.within && b.within;
+      negative = a.negative;
+      whole_low = a.whole % 65536;
+      whole_high = a.whole / 65536;
+      millionths_low = a.millionths % 65536;
+      millionths_high = a.millionths / 65536;
+      within = is_there w.amount && b.within;
       body = b;
     }
 
-module _ (code ws : List ℕ) (h : Heading) (head : HeadingOf ws h) where
-  abbrev tokens : List Token
-  tokens = tokens_in code ws
+amount-there : (o : Option Amount) (d a : Amount) → a ≡ unwrap_or o d → is_there o ≡ true → o ≡ Some a
+amount-there None d a e t = absurd (true≢false (sym t))
+amount-there (Some x) d a e t = ap (λ (y : Amount). Some y) (sym e)
 
-  pub heading-body : tokens_in code (take (length ws - 3 * h.tokens) (drop (3 * h.tokens) ws)) ≡ (parts_of tokens).body
+module _ (code : List ℕ) (ms : List Mark) (h : Heading) (head : HeadingOf ms h) where
+  abbrev tokens : List Token
+  tokens = tokens_in code ms
+
+  pub heading-body : tokens_in code (take (length ms - h.tokens) (drop h.tokens ms)) ≡ (parts_of tokens).body
   unfolding heading_parts
   heading-body =
-      rw (take_all (length ws - 3 * h.tokens) (drop (3 * h.tokens) ws) (rw (length-drop (3 * h.tokens) ws) (omega arith)), tokens-drop code ws h.tokens, head.same code)
+      rw (take_all (length ms - h.tokens) (drop h.tokens ms) (rw (length-drop h.tokens ms) (omega arith)), tokens-drop code ms h.tokens, head.same code)
 
   -- the draft of a section by its heading, its condition and its body
-  pub section-drafted : (w : Compared) (b : Body) → ConditionAs (heading_condition code h) w → BodyOf (parts_of tokens) b → DraftOf (parts_of tokens) (draft_by h.colour w b)
-  unfolding heading_parts heading_condition within_limits low_word high_word
-  section-drafted w b cw bw =
+  pub section-drafted : (w : Compared) (d a : Amount) (b : Body) → ConditionAs (condition_marked code h.condition) w → a ≡ unwrap_or w.amount d → BodyOf (parts_of tokens) b
+      → DraftOf (parts_of tokens) (draft_by h.colour w a b)
+  unfolding heading_parts within_limits low_word high_word
+  section-drafted w d a b cw e bw =
       let same = head.same code in
       let x : ConditionAs (parts_of tokens).condition w = rw same cw in
-      let told : (w.within && b.within) ≡ true → w.within ≡ true = λ t. (and_parts w.within b.within t).0 in
+      let told : (is_there w.amount && b.within) ≡ true → AmountAs (parts_of tokens).condition a
+      = λ t. x.amount a (amount-there w.amount d a e (and_parts (is_there w.amount) b.within t).0) in
       record {
         colour = rw same;
         operator = x.operator;
         within = rw (x.within, bw.within);
-        negative = λ t. x.negative (told t);
-        whole_low = λ t. ap low_word (x.whole (told t));
-        whole_high = λ t. ap high_word (x.whole (told t));
-        millionths_low = λ t. ap low_word (x.millionths (told t));
-        millionths_high = λ t. ap high_word (x.millionths (told t));
+        negative = λ t. (told t).negative;
+        whole_low = λ t. ap low_word (told t).whole;
+        whole_high = λ t. ap high_word (told t).whole;
+        millionths_low = λ t. ap low_word (told t).millionths;
+        millionths_high = λ t. ap high_word (told t).millionths;
         body = bw;
       }

@@ -1,14 +1,16 @@
 -- The integer places of a body's items and the places behind its E or solidus, from its tokens.
 -- Assumes nothing.
-use Prim.Native.Nat.{ℕ, zero, suc, ◌+◌, ◌-◌, ◌*◌, ◌≤◌, ◌<◌, min}
+use Prim.Native.Nat.{ℕ, zero, suc, ◌+◌, ◌-◌, ◌≤◌, min}
 use native.Mathlib.Omega.{arith}
 use mathlib.Core.Path.{◌≡◌, refl, sym, ◌∙◌, ap}
 use mathlib.Core.Bool.{Bool, true, false, cond, not, ◌&&◌, ◌||◌, true≢false}
 use mathlib.Core.List.{List, [], ◌∷◌, ◌++◌, map}
-use lib.ListN.{length, drop, get_or}
+use lib.ListN.{length, take, drop, length-take}
+use lib.Seq.{take_all}
 use lib.Dec.{ltb, eqb}
 use borrow.Author.Tests.{le-leb, lt-leb, lt-ltb, le-ltb, eqb-true}
 use native.Mathlib.Nat.{zero-min}
+use Rattle.std.specs.List.{fold}
 use Rattle.lists.specs.Lists.{count}
 use Rattle.lists.proofs.Bools.{by_cases, and_parts}
 use Rattle.lists.proofs.Counts.{count-least}
@@ -18,13 +20,16 @@ use Rattle.formats.specs.Items.{Item, from_cut, integer_places, places_behind, s
 use Rattle.formats.specs.Kinds.{form_of, integer_place_tokens, is_place, is_point, is_exponent, is_over, is_zero, is_seconds_token, leading_zeros, part_zeros, Piece, whole, second_part, pieces_from, run_item, token_items, piece_items, plain_items, date_items, body_kind, body_items}
 use Rattle.formats.proofs.Each.{by_token, by-letter}
 use Rattle.formats.proofs.FormedGrouping.{token-places, places-plain}
-use Rattle.marks.specs.Marks.{mark_rows, mark_token, condition_of, token_at, tokens_in}
+use Rattle.marks.specs.declared.Mark.{Mark}
+use Rattle.marks.specs.Marks.{mark_rows, mark_token, condition_of, token_at, marked, tokens_in}
 use Rattle.marks.proofs.ByForm.{by_form, zero-form, place-form, point-form, seconds-form, over-form}
-use Rattle.marks.proofs.Words.{tokens-first, tokens-end, tokens-length}
+use Rattle.marks.proofs.Buffer.{tokens-length}
 use Rattle.bodies.specs.declared.facts.Facts.{Facts}
 use Rattle.bodies.specs.Forms.{cut_form}
 use Rattle.bodies.specs.Bodies.{has_place, exponent_place_tokens, facts_of}
 use Rattle.bodies.proofs.Bodies.{integers-few}
+use Rattle.emitting.specs.declared.Told.{Told}
+use Rattle.emitting.specs.Emit.{ToldOf}
 use Rattle.drafting.specs.declared.places.Parting.{Parting}
 use Rattle.drafting.specs.declared.places.Places.{Places}
 use Rattle.drafting.specs.Places.{places_of, is_cut, is_aside, date_places, date_places_of, has_place_form, part_form}
@@ -172,30 +177,43 @@ exponents-few (t ∷ ts) =
     let s = count-least has_place ts in
     by_cases (is_cut t) (λ e. rw e (omega arith)) (λ e. rw e (omega arith))
 
-module _ (f : Facts) (ws : List ℕ) (same : (code : List ℕ) → f ≡ facts_of (tokens_in code ws)) where
-  date-told : (code : List ℕ) → same_kind (body_kind (tokens_in code ws)) date_kind ≡ f.date
+module _ (f : Facts) (ms : List Mark) (same : (code : List ℕ) → f ≡ facts_of (tokens_in code ms)) where
+  date-told : (code : List ℕ) → same_kind (body_kind (tokens_in code ms)) date_kind ≡ f.date
   unfolding facts_of
   date-told code = sym (ap (λ (g : Facts). g.date) (same code))
 
-  places-told : (code : List ℕ) → integer_place_tokens (tokens_in code ws) ≡ f.places
+  places-told : (code : List ℕ) → integer_place_tokens (tokens_in code ms) ≡ f.places
   unfolding facts_of
   places-told code = sym (ap (λ (g : Facts). g.places) (same code))
 
-  exponents-told : (code : List ℕ) → exponent_place_tokens (tokens_in code ws) ≡ f.exponents
+  exponents-told : (code : List ℕ) → exponent_place_tokens (tokens_in code ms) ≡ f.exponents
   unfolding facts_of
   exponents-told code = sym (ap (λ (g : Facts). g.exponents) (same code))
 
-  pub places-dated : (r : Places) → ((code : List ℕ) → r ≡ date_places_of (tokens_in code ws)) → f.date ≡ true
-      → (code : List ℕ) → r ≡ places_of (body_items (tokens_in code ws))
-  places-dated r h e code = h code ∙ sym (places-body (tokens_in code ws) ∙ rw (date-told code, e))
+  pub places-dated : (r : Places) → ((code : List ℕ) → r ≡ date_places_of (tokens_in code ms)) → f.date ≡ true
+      → (code : List ℕ) → r ≡ places_of (body_items (tokens_in code ms))
+  places-dated r h e code = h code ∙ sym (places-body (tokens_in code ms) ∙ rw (date-told code, e))
 
-  pub places-other : f.date ≡ false → (code : List ℕ) → record { integers = f.places; exponents = f.exponents } ≡ places_of (body_items (tokens_in code ws))
-  places-other e code = rw (← (places-told code), ← (exponents-told code)) (sym (places-body (tokens_in code ws) ∙ rw (date-told code, e)))
+  pub places-other : f.date ≡ false → (code : List ℕ) → record { integers = f.places; exponents = f.exponents } ≡ places_of (body_items (tokens_in code ms))
+  places-other e code = rw (← (places-told code), ← (exponents-told code)) (sym (places-body (tokens_in code ms) ∙ rw (date-told code, e)))
 
-  pub places-bound : length ws ≤ 762 → (f.places ≤ 254) × (f.exponents ≤ 254)
+  pub places-bound : length ms ≤ 254 → (f.places ≤ 254) × (f.exponents ≤ 254)
   places-bound h =
-      let n = tokens-length [] ws in
-      (omega (arith, places-told [], integers-few (tokens_in [] ws)), omega (arith, exponents-told [], exponents-few (tokens_in [] ws)))
+      let n = tokens-length [] ms in
+      (omega (arith, places-told [], integers-few (tokens_in [] ms)), omega (arith, exponents-told [], exponents-few (tokens_in [] ms)))
+
+  -- what is told of a body by its facts and the places of its items
+  pub told-of : (r : Told) → r.date ≡ f.date → r.fills ≡ f.fills → (r.integers ≤ 254) × (r.exponents ≤ 254)
+      → ((code : List ℕ) → record { integers = r.integers; exponents = r.exponents } ≡ places_of (body_items (tokens_in code ms))) → (code : List ℕ) → ToldOf (tokens_in code ms) r
+  unfolding facts_of
+  told-of r d l few p code = record {
+    date = d ∙ ap (λ (g : Facts). g.date) (same code);
+    fills = l ∙ ap (λ (g : Facts). g.fills) (same code);
+    integers = ap (λ (q : Places). q.integers) (p code);
+    exponents = ap (λ (q : Places). q.exponents) (p code);
+    few = few.0;
+    later = few.1;
+  }
 
 -- ---- the pass over a date's tokens
 -- the places met on one side of the cut
@@ -233,35 +251,34 @@ part-few s f = by_cases (eqb f 4 && ltb 0 s.left) (λ e. rw e (omega arith)) (λ
     go true false i e = omega arith
     go false met i e = omega arith
 
--- what the loop of `date_places` keeps
-pub record Passing (ws : List ℕ) (i : ℕ) (s : Parting) : Type 0 where
-  pub small : length ws ≤ 762
-  pub inside : i ≤ length ws
-  pub few : 3 * (s.integers + s.exponents) ≤ i
-  pub same : (b : Bool) (code : List ℕ) → date_places b false false 0 (tokens_in code ws) ≡ total b s (tokens_in code (drop i ws))
-
 abbrev pub nothing_parted : Parting
 nothing_parted = record { behind = false; left = 0; cut = false; integers = 0; exponents = 0 }
 
-pub passing-start : (ws : List ℕ) → length ws ≤ 762 → Passing ws 0 nothing_parted
-passing-start ws h =
-    record { small = h; inside = omega arith; few = omega arith; same = λ b code. by_cases b (λ e. rw e (omega arith)) (λ e. rw e (omega arith)) }
+abbrev pub part_marks : Parting → List Mark → Parting
+part_marks s ms = fold (λ t m. part_form t m.form) s ms
 
-module _ {ws : List ℕ} {i : ℕ} {s : Parting} (inv : Passing ws i s) where
-  passing-side : length ws ≤ i + 2 → (b : Bool) (code : List ℕ) → aside b s ≡ date_places b false false 0 (tokens_in code ws)
-  unfolding date_places
-  passing-side h b code = let e = rw (tokens-end code ws i h) at (inv.same b code) in omega arith
+marks-few : (s : Parting) (ms : List Mark) → (part_marks s ms).integers + (part_marks s ms).exponents ≤ s.integers + s.exponents + length ms
+marks-few s [] = omega arith
+marks-few s (m ∷ ms) = omega (arith, marks-few (part_form s m.form) ms, part-few s m.form)
 
-  pub passing-end : length ws ≤ i + 2
-      → ((code : List ℕ) → record { integers = s.integers; exponents = s.exponents } ≡ date_places_of (tokens_in code ws)) × (s.integers ≤ 254) × (s.exponents ≤ 254)
-  passing-end h =
-      ((λ code. rw (passing-side h false code, passing-side h true code)), omega (arith, inv.few, inv.inside, inv.small), omega (arith, inv.few, inv.inside, inv.small))
+marks-total : (b : Bool) (code : List ℕ) (s : Parting) (ms : List Mark) → total b s (tokens_in code ms) ≡ total b (part_marks s ms) []
+unfolding tokens_in marked token_at
+marks-total b code s [] = refl
+marks-total b code s (m ∷ ms) =
+    part_step b s m.form m.argument (drop (suc m.start) code) (map (marked code) ms) ∙ marks-total b code (part_form s m.form) ms
 
-  pub passing_step : i + 2 < length ws → (r : Parting) → r ≡ part_form s (get_or ws i 0) → Passing ws (i + 3) r
-  unfolding token_at
-  passing_step h r e = rw e (record {
-    small = inv.small;
-    inside = omega arith;
-    few = omega (arith, part-few s (get_or ws i 0), inv.few);
-    same = λ b code. inv.same b code ∙ rw (tokens-first code ws i h) (part_step b s (get_or ws i 0) (get_or ws (i + 1) 0) (drop (suc (get_or ws (i + 2) 0)) code) (tokens_in code (drop (i + 3) ws)));
-  })
+marks-aside : (b : Bool) (code : List ℕ) (ms : List Mark) → aside b (part_marks nothing_parted ms) ≡ date_places b false false 0 (tokens_in code ms)
+unfolding date_places
+marks-aside true code ms = omega (arith, marks-total true code nothing_parted ms)
+marks-aside false code ms = omega (arith, marks-total false code nothing_parted ms)
+
+-- what the loop of `date_places` needs, and what it gives
+module _ (ms : List Mark) (k : ℕ) (s : Parting) (e : s ≡ part_marks nothing_parted (take k ms)) where
+  pub part-room : s.integers + s.exponents ≤ k
+  part-room = rw e (omega (arith, marks-few nothing_parted (take k ms), length-take k ms))
+
+pub parting-end : (ms : List Mark) (s : Parting) → s ≡ part_marks nothing_parted (take (length ms) ms)
+    → (code : List ℕ) → record { integers = s.integers; exponents = s.exponents } ≡ date_places_of (tokens_in code ms)
+parting-end ms s e code =
+    let all : s ≡ part_marks nothing_parted ms = e ∙ ap (λ (l : List Mark). part_marks nothing_parted l) (take_all (length ms) ms (omega arith)) in
+    rw (all, marks-aside false code ms, marks-aside true code ms)

@@ -3,15 +3,14 @@
 use Prim.Native.Nat.{ℕ, zero, suc, ◌+◌, ◌-◌, ◌*◌, ◌≤◌, ◌<◌}
 use native.Mathlib.Omega.{arith}
 use native.Mathlib.Numerals.{add-one}
-use mathlib.Core.Path.{◌≡◌, refl, sym, ◌∙◌, ap, subst}
-use mathlib.Core.Bool.{Bool, true, false, cond}
+use mathlib.Core.Path.{◌≡◌, refl, sym, ◌∙◌, ap}
+use mathlib.Core.Bool.{false}
 use mathlib.Core.List.{List, [], ◌∷◌, ◌++◌, map}
 use mathlib.Core.Option.{none}
-use lib.ListN.{length, take, drop, get_or, set, length-append, length-take, length-drop, drop_of_length-le}
-use lib.Seq.{sets, length-sets, take_all, drop-cons, drop-drop, get_or-set_other, get_or-take, get_or-drop}
-use lib.Dec.{T, ltb, eqb}
-use borrow.Author.Tests.{eqb-false, ltb-true}
-use mir.Val.{bool_byte}
+use lib.ListN.{length, take, drop, get_or, set, length-set, length-append, length-take, length-drop, drop_of_length-le}
+use lib.Seq.{take_all, drop-cons, drop-drop}
+use lib.Dec.{T, eqb}
+use borrow.Author.Tests.{eqb-false}
 use Rattle.lists.specs.Lists.{every}
 use Rattle.lists.proofs.Bools.{by_cases}
 use Rattle.formats.specs.Tokens.{Token}
@@ -19,53 +18,20 @@ use Rattle.formats.specs.Kinds.{Parts, is_semicolon, parts_of, section_of}
 use Rattle.formats.specs.Accept.{split, parts_in, sections_in}
 use Rattle.formats.specs.WellFormed.{items_in_all}
 use Rattle.formats.proofs.ItemCount.{items-most}
+use Rattle.marks.specs.declared.Mark.{Mark}
 use Rattle.marks.specs.Marks.{tokens_in}
 use Rattle.writing.specs.Put.{Put, Rest}
 use Rattle.writing.proofs.Laws.{rest-start, rest_put, rest-done}
 use Rattle.bodies.specs.Sections.{first_section, later_sections, SectionEnd}
-use Rattle.marks.proofs.Words.{tokens-drop, tokens-take, tokens-length}
+use Rattle.marks.proofs.Buffer.{tokens-drop, tokens-take, tokens-length}
 use Rattle.bodies.proofs.Endings.{split-first}
 use Rattle.drafting.specs.declared.Draft.{Draft}
-use Rattle.drafting.specs.Draft.{body_words, draft_words, draft_from, draft_in, DraftOf, Drafted, item_words, AllDrafted, Lexes, is_read}
-use Rattle.drafting.proofs.Settled.{put-read}
+use Rattle.drafting.specs.Draft.{body_words, DraftOf, Drafted, item_words, AllDrafted, Lexes, is_read}
 use Rattle.drafting.proofs.Drafting.{body-length}
 use Rattle.drafting.proofs.Digits.{read_all, read-drop, read_take}
 
 abbrev no_parts : Parts
 no_parts = record { colour = 0; condition = none; body = [] }
-
--- ---- the draft of a section in its room
-byte-back : (b : Bool) → eqb (bool_byte b) 1 ≡ b
-byte-back true = refl
-byte-back false = refl
-
-draft-back : (d : Draft) → draft_from d.colour (λ j. get_or (draft_words d) j 0) ≡ d
-draft-back d =
-    rw (byte-back d.negative, byte-back d.within, byte-back d.body.fits, byte-back d.body.within, byte-back d.body.grouped, byte-back d.body.twelve)
-
-draft-same : {c e : ℕ} {w v : ℕ → ℕ} → c ≡ e → ((j : ℕ) → j < 16 → w j ≡ v j) → draft_from c w ≡ draft_from e v
-draft-same {w = w} {v = v} x h =
-    let first : (j : ℕ) → cond (ltb j 16) (w j) 0 ≡ cond (ltb j 16) (v j) 0 = λ j. by_cases (ltb j 16) (λ t. rw t (h j (ltb-true j 16 t))) (λ t. rw t) in
-    λ t. draft_from (x t) (λ j. first j t)
-
-kept-below : (vs ws : List ℕ) (at j : ℕ) → j < at → get_or (sets ws at vs) j 0 ≡ get_or ws j 0
-kept-below [] ws at j h = refl
-kept-below (v ∷ vs) ws at j h = kept-below vs (set ws at v) (suc at) j (omega arith) ∙ get_or-set_other ws at j v 0 (λ e. omega arith)
-
-module _ (ws : List ℕ) {out : List ℕ} (k : ℕ) (d : Draft) (e : out ≡ sets ws (16 * k) (draft_words d)) where
-  put : Put ws (16 * k) (draft_words d) (16 * k + 16) out
-  put = record { next = refl; room = e }
-
-  draft-kept : (i : ℕ) → i < k → draft_in out i ≡ draft_in ws i
-  draft-kept i h =
-      let kept : (j : ℕ) → j < 16 * k → get_or out j 0 ≡ get_or ws j 0 = λ j l. rw e (kept-below (draft_words d) ws (16 * k) j l) in
-      draft-same (kept (16 * i) (omega arith)) (λ j l. kept (j + 16 * i) (omega arith))
-
-  draft-put : 16 * k + 16 ≤ length ws → draft_in out k ≡ d
-  draft-put h =
-      let read : (j at : ℕ) → at ≡ 16 * k + j → j < 16 → get_or out at 0 ≡ get_or (draft_words d) j 0
-      = λ j at a l. rw (a, ← get_or-drop (16 * k) out j 0, ← get_or-take (16 * k + 16 - 16 * k) (drop (16 * k) out) j 0 (omega arith), put-read put h) in
-      draft-same (read 0 (16 * k) (omega arith) (omega arith)) (λ j l. read j (j + 16 * k) (omega arith) l) ∙ draft-back d
 
 -- ---- the items' words of all sections
 items-length : (ps : List Parts) → length (item_words ps) ≡ 2 * items_in_all (map section_of ps)
@@ -78,12 +44,12 @@ unfolding sections_in
 items-room code h = omega (arith, items-length (parts_in code), items-most code)
 
 -- ---- one section more
-drafted-next : (ps : List Parts) (ws out : List ℕ) (i k at : ℕ) → at ≡ i + k → Drafted (take k ps) i ws → k < length ps
-    → ((j : ℕ) → j < at → draft_in out j ≡ draft_in ws j) → DraftOf (get_or ps k no_parts) (draft_in out at) → Drafted (take (suc k) ps) i out
-drafted-next [] ws out i k at e a h kept x = absurd (omega arith)
-drafted-next (p ∷ ps) ws out i zero at e a h kept x = (subst (λ (j : ℕ). DraftOf p (draft_in out j)) (omega arith) x, tt)
-drafted-next (p ∷ ps) ws out i (suc k) at e a h kept x =
-    (subst (DraftOf p) (sym (kept i (omega arith))) a.0, drafted-next ps ws out (i + 1) k at (omega arith) a.1 (omega arith) kept x)
+drafted-next : (ps : List Parts) (ds : List Draft) (k : ℕ) (d : Draft) → Drafted (take k ps) ds → k < length ps → k < length ds → DraftOf (get_or ps k no_parts) d
+    → Drafted (take (suc k) ps) (set ds k d)
+drafted-next [] ds k d a h l x = absurd (omega arith)
+drafted-next (p ∷ ps) [] k d a h l x = absurd (omega arith)
+drafted-next (p ∷ ps) (e ∷ ds) zero d a h l x = (x, tt)
+drafted-next (p ∷ ps) (e ∷ ds) (suc k) d a h l x = (a.0, drafted-next ps ds k d a.1 (omega arith) (omega arith) x)
 
 first-few : (ts : List Token) → first_section ts ≤ length ts
 unfolding first_section
@@ -91,21 +57,21 @@ first-few [] = omega arith
 first-few (t ∷ ts) = let r = first-few ts in by_cases (is_semicolon t) (λ e. rw e (omega arith)) (λ e. rw e (omega arith))
 
 -- what the loop keeps: the sections from k on are those of the tokens from `first` on
-pub record Sectioning (code words old room ds : List ℕ) (n first at k : ℕ) : Type 0 where
+pub record Sectioning (code : List ℕ) (words : List Mark) (old room : List ℕ) (ds : List Draft) (n first at k : ℕ) : Type 0 where
   pub small : length code ≤ 254
-  pub words_small : length words ≤ 762
+  pub words_small : length words ≤ 254
   pub few : n ≤ 4
   pub lexes : Lexes code words n
   pub inside : k ≤ n
-  pub size : length ds ≡ 64
+  pub size : length ds ≡ 4
   pub wide : length old ≡ 508
-  pub place : k < n → 3 * first ≤ length words
-  pub tokens : k < n → drop k (parts_in code) ≡ map parts_of (split (tokens_in code (drop (3 * first) words)))
-  pub done : Drafted (take k (parts_in code)) 0 ds
+  pub place : k < n → first ≤ length words
+  pub tokens : k < n → drop k (parts_in code) ≡ map parts_of (split (tokens_in code (drop (first) words)))
+  pub done : Drafted (take k (parts_in code)) ds
   pub rest : Rest old 0 (item_words (parts_in code)) room at (item_words (drop k (parts_in code)))
 
-pub sectioning-start : (code words old ds : List ℕ) (n : ℕ)
-    → (length code ≤ 254) × (length words ≤ 762) × (length old ≡ 508) × (length ds ≡ 64) × (n ≤ 4) → Lexes code words n → Sectioning code words old old ds n 0 0 0
+pub sectioning-start : (code : List ℕ) (words : List Mark) (old : List ℕ) (ds : List Draft) (n : ℕ)
+    → (length code ≤ 254) × (length words ≤ 254) × (length old ≡ 508) × (length ds ≡ 4) × (n ≤ 4) → Lexes code words n → Sectioning code words old old ds n 0 0 0
 unfolding parts_in
 sectioning-start code words old ds n h l = record {
   small = h.0;
@@ -121,19 +87,19 @@ sectioning-start code words old ds n h l = record {
   rest = rest-start old 0 _;
 }
 
-module _ {code words old room ds : List ℕ} {n first at k : ℕ} (inv : Sectioning code words old room ds n first at k) (less : k < n) where
+module _ {code : List ℕ} {words : List Mark} {old room : List ℕ} {ds : List Draft} {n first at k : ℕ} (inv : Sectioning code words old room ds n first at k) (less : k < n) where
   abbrev ps : List Parts
   ps = parts_in code
 
   abbrev ts : List Token
-  ts = tokens_in code (drop (3 * first) words)
+  ts = tokens_in code (drop (first) words)
 
   -- the part of the buffer that is left
-  abbrev left : List ℕ
-  left = take (length words - 3 * first) (drop (3 * first) words)
+  abbrev left : List Mark
+  left = take (length words - first) (drop (first) words)
 
-  left-all : left ≡ drop (3 * first) words
-  left-all = take_all (length words - 3 * first) (drop (3 * first) words) (rw (length-drop (3 * first) words) (omega arith))
+  left-all : left ≡ drop (first) words
+  left-all = take_all (length words - first) (drop (first) words) (rw (length-drop (first) words) (omega arith))
 
   more : k < length ps
   more = omega (arith, inv.lexes.many)
@@ -163,58 +129,58 @@ module _ {code words old room ds : List ℕ} {n first at k : ℕ} (inv : Section
       (λ e. let none = ap length (rw e at later) in absurd (omega (arith, none, length-drop (suc k) ps, inv.lexes.many)))
       (λ e. e)
 
-  behind : (s : ℕ) → drop (suc s) ts ≡ tokens_in code (drop (3 * (first + (s + 1))) words)
+  behind : (s : ℕ) → drop (suc s) ts ≡ tokens_in code (drop ((first + (s + 1))) words)
   behind s =
       let m : first + (s + 1) ≡ first + suc s = omega arith in
       rw (m, tokens-drop code words (first + suc s), tokens-drop code words first) (drop-drop (suc s) first (tokens_in code words))
 
-  tokens-behind : suc k < n → drop (suc k) ps ≡ map parts_of (split (tokens_in code (drop (3 * (first + (first_section ts + 1))) words)))
+  tokens-behind : suc k < n → drop (suc k) ps ≡ map parts_of (split (tokens_in code (drop (first + (first_section ts + 1)) words)))
   unfolding later_sections
   tokens-behind l = later ∙ rw (later-split l, behind (first_section ts))
 
-  place-behind : suc k < n → 3 * (first + (first_section ts + 1)) ≤ length words
+  place-behind : suc k < n → first + (first_section ts + 1) ≤ length words
   place-behind l =
-      omega (arith, eqb-false (first_section ts) (length ts) (later-split l), first-few ts, tokens-length code (drop (3 * first) words), length-drop (3 * first) words, inv.place less)
+      omega (arith, eqb-false (first_section ts) (length ts) (later-split l), first-few ts, tokens-length code (drop (first) words), length-drop (first) words, inv.place less)
 
   module _ (size : ℕ) (e : SectionEnd left size) where
     same : size ≡ first_section ts
     same = e.same code ∙ rw left-all
 
-    part : tokens_in code (take (3 * size) left) ≡ take (first_section ts) ts
+    part : tokens_in code (take (size) left) ≡ take (first_section ts) ts
     part = tokens-take code left size ∙ rw (left-all, same)
 
-    pub next-size : 3 * size ≤ 762
-    next-size = omega (arith, same, first-few ts, tokens-length code (drop (3 * first) words), length-drop (3 * first) words, inv.words_small)
+    pub next-size : size ≤ 254
+    next-size = omega (arith, same, first-few ts, tokens-length code (drop first words), length-drop first words, inv.words_small)
 
     -- what drafting the next section asks
-    pub next-asks : ((length code ≤ 254) × (length (take (3 * size) left) ≤ 762) × (length room ≤ 508))
-        × ((at + length (body_words (parts_of (tokens_in code (take (3 * size) left))).body) ≤ length room) × T (every is_read (tokens_in code (take (3 * size) left))))
+    pub next-asks : ((length code ≤ 254) × (length (take size left) ≤ 254) × (length room ≤ 508))
+        × ((at + length (body_words (parts_of (tokens_in code (take (size) left))).body) ≤ length room) × T (every is_read (tokens_in code (take (size) left))))
     next-asks = (
-      (inv.small, omega (arith, length-take (3 * size) left, next-size), omega (arith, inv.rest.size, inv.wide)),
+      (inv.small, omega (arith, length-take (size) left, next-size), omega (arith, inv.rest.size, inv.wide)),
       (rw part next-room, read_take code left size (rw left-all (read-drop code words first (rw inv.lexes.same (read_all code))))),
     )
 
-    module _ (d : Draft) (out : List ℕ) (drafted : DraftOf (parts_of (tokens_in code (take (3 * size) left))) d)
-        (put : Put room at (body_words (parts_of (tokens_in code (take (3 * size) left))).body) (at + 2 * d.body.items) out) where
+    module _ (d : Draft) (out : List ℕ) (drafted : DraftOf (parts_of (tokens_in code (take (size) left))) d)
+        (put : Put room at (body_words (parts_of (tokens_in code (take (size) left))).body) (at + 2 * d.body.items) out) where
       pub next-items : at + 2 * d.body.items ≤ 508
       next-items = omega (arith, put.next, next-asks.1.0, inv.rest.size, inv.wide)
 
-      pub sectioning-step : {ds' : List ℕ} → ds' ≡ sets ds (16 * k) (draft_words d) → Sectioning code words old out ds' n (first + (size + 1)) (at + 2 * d.body.items) (k + 1)
-      sectioning-step {ds'} x = rw (add-one k) (record {
+      pub sectioning-step : Sectioning code words old out (set ds k d) n (first + (size + 1)) (at + 2 * d.body.items) (k + 1)
+      sectioning-step = rw (add-one k) (record {
         small = inv.small;
         words_small = inv.words_small;
         few = inv.few;
         lexes = inv.lexes;
         inside = omega arith;
-        size = rw x (length-sets ds (16 * k) (draft_words d)) ∙ inv.size;
+        size = length-set ds k d ∙ inv.size;
         wide = inv.wide;
         place = λ l. rw same (place-behind l);
         tokens = λ l. rw same (tokens-behind l);
-        done = drafted-next ps ds ds' 0 k k (omega arith) inv.done more (draft-kept ds k d x) (subst (DraftOf (get_or ps k no_parts)) (sym (draft-put ds k d x (omega (arith, inv.size, inv.few)))) (rw (here, ← part) drafted));
+        done = drafted-next ps ds k d inv.done more (omega (arith, inv.size, inv.few)) (rw (here, ← part) drafted);
         rest = rest_put (rw words-here at inv.rest) (rw part at put);
       })
 
-pub sectioning-end : {code words old room ds : List ℕ} {n first at k : ℕ} → Sectioning code words old room ds n first at k → n ≤ k
+pub sectioning-end : {code : List ℕ} {words : List Mark} {old room : List ℕ} {ds : List Draft} {n first at k : ℕ} → Sectioning code words old room ds n first at k → n ≤ k
     → AllDrafted (parts_in code) old at room ds
 unfolding item_words
 sectioning-end {code} {k = k} inv h =

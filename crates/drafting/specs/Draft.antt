@@ -1,8 +1,8 @@
 -- What one section of a code is drafted as, and what the tests and the heads ask of drafts.
 -- Assumes nothing.
 use Rattle.std.specs.Prelude.{ℕ, zero, suc, ◌+◌, ◌*◌, ◌≡◌, Bool, true, false, cond, not, ◌&&◌, ◌||◌, List, [], ◌∷◌, ◌++◌, length, get_or, T, eqb}
+use Rattle.std.specs.Prelude as std
 use Rattle.std.proofs.Math.Option.{Option, none, some}
-use mir.Val.{bool_byte}
 use Rattle.lists.specs.Lists.{every, is_empty}
 use Rattle.formats.specs.Tokens.{Token, Written, lex}
 use Rattle.formats.specs.Items.{kind_of, integer_places, whole_items, main_items, fraction_fits, settled}
@@ -12,12 +12,13 @@ use Rattle.formats.specs.Limits.{written_within, within_limits, section_within}
 use Rattle.tables.specs.Words.{entries_words}
 use Rattle.tables.specs.Encode.{kind_word, operator_word, negative_word, whole_part, millionths_part, bit, low_word, high_word, shift_word, has_half, decimals_word, run_entries, entries_of}
 use Rattle.tables.specs.Standing.{shift_of}
-use Rattle.marks.specs.Marks.{token_at, tokens_in}
+use Rattle.marks.specs.declared.Mark.{Mark}
+use Rattle.marks.specs.Marks.{tokens_in}
+use Rattle.bodies.specs.declared.conditions.Amount.{Amount}
 use Rattle.bodies.specs.declared.conditions.Compared.{Compared}
 use Rattle.drafting.specs.declared.Draft.{Draft}
 use Rattle.drafting.specs.declared.Body.{Body}
 use Rattle.writing.specs.Put.{Put}
-use Rattle.bodies.specs.declared.sections.Heading.{Heading}
 use Rattle.bodies.specs.declared.facts.Facts.{Facts}
 use Rattle.bodies.specs.declared.commas.Commas.{Commas}
 use Rattle.numbering.specs.declared.Numbered.{Numbered}
@@ -35,52 +36,17 @@ body_words ts = entries_words (entries_of (settled (last_fill (body_items ts))))
 abbrev pub settled_words : List Token → List ℕ
 settled_words ts = entries_words (run_entries (settled (last_fill (body_items ts)))) []
 
--- the condition of a section, if it has one, as numbers; they are only told where its digits are within the limits
+-- what a section's condition compares with, if it has one, as numbers
+pub record AmountAs (o : Option Written) (a : Amount) : Type 0 where
+  pub negative : bit a.negative ≡ negative_word (condition_of o)
+  pub whole : a.whole ≡ whole_part (condition_of o)
+  pub millionths : a.millionths ≡ millionths_part (condition_of o)
+
+-- the condition of a section, if it has one, as numbers; what it compares with is only told where its digits are within the limits
 pub record ConditionAs (o : Option Written) (r : Compared) : Type 0 where
   pub operator : r.operator ≡ operator_word (condition_of o)
-  pub within : r.within ≡ written_within o
-  pub negative : r.within ≡ true → bit r.negative ≡ negative_word (condition_of o)
-  pub whole : r.within ≡ true → r.whole ≡ whole_part (condition_of o)
-  pub millionths : r.within ≡ true → r.millionths ≡ millionths_part (condition_of o)
-
--- the condition of a section with this heading
-unfoldable pub heading_condition : List ℕ → Heading → Option Written
-heading_condition code h = cond h.condition (condition_in (token_at code 24 h.argument h.start)) none
-
--- no condition as numbers
-abbrev pub no_condition : Compared
-no_condition = record { operator = 0; negative = false; whole = 0; millionths = 0; within = true }
-
--- the words that tell a draft
-abbrev pub draft_words : Draft → List ℕ
-draft_words d =
-    d.colour ∷ d.operator ∷ bool_byte d.negative ∷ d.whole_low ∷ d.whole_high ∷ d.millionths_low ∷ d.millionths_high ∷ bool_byte d.within
-    ∷ bool_byte d.body.fits ∷ bool_byte d.body.within ∷ d.body.kind ∷ d.body.shift ∷ bool_byte d.body.grouped ∷ bool_byte d.body.twelve
-    ∷ d.body.decimals ∷ d.body.items ∷ []
-
--- the draft that words tell, the first of them and the others by their places
-abbrev pub draft_from : ℕ → (ℕ → ℕ) → Draft
-draft_from colour w =
-    record {
-      colour = colour;
-      operator = w 1;
-      negative = eqb (w 2) 1;
-      whole_low = w 3;
-      whole_high = w 4;
-      millionths_low = w 5;
-      millionths_high = w 6;
-      within = eqb (w 7) 1;
-      body = record { fits = eqb (w 8) 1; within = eqb (w 9) 1; kind = w 10; shift = w 11; grouped = eqb (w 12) 1; twelve = eqb (w 13) 1; decimals = w 14; items = w 15 };
-    }
-
--- the draft of section i in a room, sixteen words a section
-abbrev pub draft_in : List ℕ → ℕ → Draft
-draft_in ws i = draft_from (get_or ws (16 * i) 0) (λ j. get_or ws (j + 16 * i) 0)
-
--- the drafts of n sections there, from section i on
-unfoldable pub drafts_in : ℕ → ℕ → List ℕ → List Draft
-drafts_in zero i ws = []
-drafts_in (suc n) i ws = draft_in ws i ∷ drafts_in n (i + 1) ws
+  pub within : std.is_some r.amount ≡ written_within o
+  pub amount : (a : Amount) → r.amount ≡ std.Some a → AmountAs o a
 
 -- only the commas of a number divide
 abbrev pub thousands_by : Facts → Commas → ℕ
@@ -157,10 +123,11 @@ pub record DraftOf (p : Parts) (d : Draft) : Type 0 where
   pub millionths_high : d.within ≡ true → d.millionths_high ≡ high_word (millionths_part (condition_of p.condition))
   pub body : BodyOf p d.body
 
--- the sections are drafted in a room of words, the first of them as section i
-abbrev pub Drafted : List Parts → ℕ → List ℕ → Type 0
-Drafted [] i ws = Unit {0}
-Drafted (p ∷ ps) i ws = DraftOf p (draft_in ws i) × Drafted ps (i + 1) ws
+-- the sections are drafted, the first of them first
+abbrev pub Drafted : List Parts → List Draft → Type 0
+Drafted [] ds = Unit {0}
+Drafted (p ∷ ps) [] = ⊥
+Drafted (p ∷ ps) (d ∷ ds) = DraftOf p d × Drafted ps ds
 
 -- the words of the items of sections, one behind the other
 unfoldable pub item_words : List Parts → List ℕ
@@ -168,12 +135,12 @@ item_words [] = []
 item_words (p ∷ ps) = body_words p.body ++ item_words ps
 
 -- the sections of a code are drafted, and the words of their items are put
-pub record AllDrafted (ps : List Parts) (old : List ℕ) (r : ℕ) (out drafts : List ℕ) : Type 0 where
-  pub each : Drafted ps 0 drafts
+pub record AllDrafted (ps : List Parts) (old : List ℕ) (r : ℕ) (out : List ℕ) (drafts : List Draft) : Type 0 where
+  pub each : Drafted ps drafts
   pub put : Put old 0 (item_words ps) r out
 
 -- the buffer holds the tokens of the code, of n sections
-pub record Lexes (code tokens : List ℕ) (n : ℕ) : Type 0 where
+pub record Lexes (code : List ℕ) (tokens : List Mark) (n : ℕ) : Type 0 where
   pub same : tokens_in code tokens ≡ tokens_of (placed_of (lex code))
   pub many : n ≡ length (parts_in code)
 

@@ -4,23 +4,26 @@ ghost use Rattle.lists.specs.Lists.{every, is_some};
 ghost use Rattle.formats.specs.Tokens.{Token, condition_inside};
 ghost use Rattle.formats.specs.Items.{settled};
 ghost use Rattle.formats.specs.Kinds.{parts_of, body_items, last_fill};
+ghost use Rattle.marks.specs.declared.Mark.{Mark};
 ghost use Rattle.marks.specs.Marks.{tokens_in};
 ghost use Rattle.tables.specs.Encode.{run_entries};
 ghost use Rattle.writing.specs.Put.{Put};
 ghost use Rattle.bodies.specs.Bodies.{facts_of};
 ghost use Rattle.bodies.specs.Fraction.{has_units};
-ghost use Rattle.drafting.specs.Draft.{body_words, settled_words, ConditionAs, heading_condition, no_condition, thousands_by, shift_told, commas_fit_by, body_by, bare_body, kept_by, Parted, BodyRead, Drafts, DraftOf, is_read};
+ghost use Rattle.bodies.specs.Sections.{condition_marked};
+ghost use Rattle.emitting.specs.Emit.{ToldOf};
+ghost use Rattle.drafting.specs.Draft.{body_words, settled_words, ConditionAs, thousands_by, shift_told, commas_fit_by, body_by, bare_body, kept_by, Parted, BodyRead, Drafts, DraftOf, is_read};
 ghost use Rattle.tallies.specs.Tally.{tally_of, Uncut, Cut, items_fit_told, within_told};
-ghost use Rattle.drafting.specs.Places.{places_of};
 
-use super::places::{Places, places_of};
+use super::places::told_of;
 use super::{Body, Draft};
 use bodies::commas::{Commas, commas_of};
-use bodies::conditions::{Compared, condition_of};
+use bodies::conditions::{Amount, Compared, condition_of};
 use bodies::facts::{Facts, facts_of};
 use bodies::fraction::fraction_fits;
 use bodies::sections::{Heading, heading_of};
-use emitting::put_items;
+use emitting::{Told, put_items};
+use marks::Mark;
 use numbering::{Numbered, number_fraction};
 use settling::settle;
 use tables::kinds;
@@ -29,31 +32,25 @@ use tallies::{
     tally_words, within,
 };
 
-pub fn no_condition() -> Compared
-    ensures { result ≡ no_condition }
-{
-    Compared {
-        operator: 0,
-        negative: false,
-        whole: 0,
-        millionths: 0,
-        within: true,
-    }
-}
+// What no condition compares with, and a condition beyond the limits as its head never has it.
+const NOTHING: Amount = Amount {
+    negative: false,
+    whole: 0,
+    millionths: 0,
+};
 
-// The condition of a section with this heading.
+// The condition of a section with this heading, as its head has it: none is the operator 0.
 fn heading_condition(code: &[u16], h: Heading) -> Compared
-    requires { (length code.now ≤ 254) × (h.condition ≡ true → is_some (condition_inside (take h.argument (drop (suc h.start) code.now))) ≡ true) }
-    ensures { ConditionAs (heading_condition code.now h) result }
+    requires { (length code.now ≤ 254) × ((m : Mark) → h.condition ≡ Some m → (m.form ≡ 24) × (is_some (condition_inside (take m.argument (drop (suc m.start) code.now))) ≡ true)) }
+    ensures { ConditionAs (condition_marked code.now h.condition) result }
 {
-    if !h.condition {
-        return no_condition();
+    match h.condition {
+        Some(mark) => condition_of(code, mark),
+        None => Compared {
+            operator: 0,
+            amount: Some(NOTHING),
+        },
     }
-    let room = code.len() - h.start as usize - 1;
-    if (h.argument as usize) < room {
-        return condition_of(code, h.start, h.argument);
-    }
-    condition_of(code, h.start, room as u16)
 }
 
 // How many commas divide: only those of a number do.
@@ -130,8 +127,8 @@ fn cut_body(f: Facts, c: Commas, t: Tally, kept: bool, within: bool, items: u16)
 }
 
 // Whether the rules for a solidus are kept.
-fn solidus_kept(body: &[u16], f: Facts, t: Tally) -> bool
-    requires { length body.now ≤ 762 }
+fn solidus_kept(body: &[Mark], f: Facts, t: Tally) -> bool
+    requires { length body.now ≤ 254 }
     ensures { (code : List ℕ) → T (every has_units (tokens_in code body.now)) → f ≡ facts_of (tokens_in code body.now)
         → result ≡ kept_by (tokens_in code body.now) f t }
 {
@@ -157,8 +154,8 @@ fn part_places(t: Tally, words: &mut [u16]) -> Numbered
 }
 
 // Drafts a body with an E or a solidus among its items, which have these words.
-fn draft_cut(body: &[u16], f: Facts, c: Commas, t: Tally, words: &mut [u16], items: u16) -> Body
-    requires { (length body.now ≤ 762) × (length words.old ≤ 508) × Cut t }
+fn draft_cut(body: &[Mark], f: Facts, c: Commas, t: Tally, words: &mut [u16], items: u16) -> Body
+    requires { (length body.now ≤ 254) × (length words.old ≤ 508) × Cut t }
     ensures { (code : List ℕ) → BodyRead (tokens_in code body.now) f c t items → words.old ≡ settled_words (tokens_in code body.now)
         → Drafts (tokens_in code body.now) result × (words.new ≡ body_words (tokens_in code body.now)) }
 {
@@ -168,43 +165,27 @@ fn draft_cut(body: &[u16], f: Facts, c: Commas, t: Tally, words: &mut [u16], ite
 }
 
 // Puts the words of a body's items at `at`, all places being of one run, and settles the runs of m among them.
-fn put_settled(
-    code: &[u16],
-    body: &[u16],
-    f: Facts,
-    places: Places,
-    items: &mut [u16],
-    at: usize,
-) -> usize
-    requires code_len_bound { (length code.now ≤ 254) × (length body.now ≤ 762) × (length items.old ≤ 508) × (at + length (settled_words (tokens_in code.now body.now)) ≤ length items.old) }
-    requires f_value { (f ≡ facts_of (tokens_in code.now body.now)) × (places ≡ places_of (body_items (tokens_in code.now body.now))) × (places.integers ≤ 254) × (places.exponents ≤ 254) }
+fn put_settled(code: &[u16], body: &[Mark], told: Told, items: &mut [u16], at: usize) -> usize
+    requires code_len_bound { (length code.now ≤ 254) × (length body.now ≤ 254) × (length items.old ≤ 508) × (at + length (settled_words (tokens_in code.now body.now)) ≤ length items.old) }
+    requires told { ToldOf (tokens_in code.now body.now) told }
     ensures { Put items.old at (settled_words (tokens_in code.now body.now)) result items.new }
 {
-    let end = put_items(
-        code,
-        body,
-        f.date,
-        f.fills,
-        places.integers,
-        places.exponents,
-        items,
-        at,
-    );
+    let end = put_items(code, body, told, items, at);
     settle(&mut items[at..end]);
     end
 }
 
 // Drafts a body, and puts the words of its items at `at`. (Most have neither E nor solidus, and pay for this test alone.)
-fn draft_body(code: &[u16], body: &[u16], items: &mut [u16], at: usize) -> Body
-    requires code_len_bound { (length code.now ≤ 254) × (length body.now ≤ 762) × (length items.old ≤ 508) × (at + length (body_words (tokens_in code.now body.now)) ≤ length items.old) }
+fn draft_body(code: &[u16], body: &[Mark], items: &mut [u16], at: usize) -> Body
+    requires code_len_bound { (length code.now ≤ 254) × (length body.now ≤ 254) × (length items.old ≤ 508) × (at + length (body_words (tokens_in code.now body.now)) ≤ length items.old) }
     requires t { T (every has_units (tokens_in code.now body.now)) }
     ensures draft { Drafts (tokens_in code.now body.now) result }
     ensures put { Put items.old at (body_words (tokens_in code.now body.now)) (at + 2 * result.items) items.new }
 {
     let f = facts_of(body);
     let c = commas_of(body, f.commas);
-    let places = places_of(body, f);
-    let end = put_settled(code, body, f, places, items, at);
+    let told = told_of(body, f);
+    let end = put_settled(code, body, told, items, at);
     let t = tally_words(&items[at..end]);
     let size = end - at;
     let n = (size / 2) as u16;
@@ -215,26 +196,26 @@ fn draft_body(code: &[u16], body: &[u16], items: &mut [u16], at: usize) -> Body
 }
 
 // Drafts the section of these tokens, and puts the words of its items at `at`.
-pub fn draft_section(code: &[u16], part: &[u16], items: &mut [u16], at: usize) -> Draft
-    requires code_len_bound { (length code.now ≤ 254) × (length part.now ≤ 762) × (length items.old ≤ 508) }
+pub fn draft_section(code: &[u16], part: &[Mark], items: &mut [u16], at: usize) -> Draft
+    requires code_len_bound { (length code.now ≤ 254) × (length part.now ≤ 254) × (length items.old ≤ 508) }
     requires part_in_bounds { at + length (body_words (parts_of (tokens_in code.now part.now)).body) ≤ length items.old }
     requires t { T (every is_read (tokens_in code.now part.now)) }
     ensures draft { DraftOf (parts_of (tokens_in code.now part.now)) result }
     ensures put { Put items.old at (body_words (parts_of (tokens_in code.now part.now)).body) (at + 2 * result.body.items) items.new }
 {
     let h = heading_of(part);
-    let from = 3 * h.tokens;
     let condition = heading_condition(code, h);
-    let body = draft_body(code, &part[from..], items, at);
+    let amount = condition.amount.unwrap_or(NOTHING);
+    let body = draft_body(code, &part[h.tokens..], items, at);
     Draft {
         colour: h.colour,
         operator: condition.operator,
-        negative: condition.negative,
-        whole_low: (condition.whole % 65536) as u16,
-        whole_high: (condition.whole / 65536) as u16,
-        millionths_low: (condition.millionths % 65536) as u16,
-        millionths_high: (condition.millionths / 65536) as u16,
-        within: condition.within & body.within,
+        negative: amount.negative,
+        whole_low: (amount.whole % 65536) as u16,
+        whole_high: (amount.whole / 65536) as u16,
+        millionths_low: (amount.millionths % 65536) as u16,
+        millionths_high: (amount.millionths / 65536) as u16,
+        within: condition.amount.is_some() & body.within,
         body,
     }
 }

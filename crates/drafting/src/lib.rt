@@ -4,7 +4,6 @@
 mod drafts;
 mod places;
 pub mod sections;
-pub mod words;
 
 ghost use Rattle.std.specs.Prelude.{◌≡◌};
 ghost use Rattle.drafting.specs.Draft.{has_condition_by};
@@ -35,6 +34,28 @@ pub struct Draft {
     pub within: bool,
     pub body: Body,
 }
+
+// What a room for drafts is filled with.
+pub const EMPTY: Draft = Draft {
+    colour: 0,
+    operator: 0,
+    negative: false,
+    whole_low: 0,
+    whole_high: 0,
+    millionths_low: 0,
+    millionths_high: 0,
+    within: false,
+    body: Body {
+        fits: false,
+        within: false,
+        kind: 0,
+        shift: 0,
+        grouped: false,
+        twelve: false,
+        decimals: 0,
+        items: 0,
+    },
+};
 
 pub fn has_condition(d: Draft) -> bool
     ensures { result ≡ has_condition_by d }

@@ -1,16 +1,18 @@
 // How many integer places the items of a body have, and how many behind its E or solidus.
 ghost use Rattle.std.specs.Prelude.{◌≡◌, cond, List, ℕ, ◌+◌, ◌≤◌, length};
 ghost use Rattle.formats.specs.Kinds.{body_items};
+ghost use Rattle.emitting.specs.Emit.{ToldOf};
 ghost use Rattle.marks.specs.Marks.{tokens_in};
 ghost use Rattle.bodies.specs.Bodies.{facts_of};
 ghost use Rattle.drafting.specs.Places.{places_of, part_form, date_places_of};
 
 use bodies::facts::Facts;
-use marks::forms;
+use emitting::Told;
+use marks::{Mark, forms};
 
 // The places before the point and the E or solidus, and those behind the E or solidus.
 #[derive(Clone, Copy)]
-pub struct Places {
+struct Places {
     pub integers: u16,
     pub exponents: u16,
 }
@@ -34,21 +36,18 @@ fn zeros_with(starts: bool) -> u16
 }
 
 fn places_with(n: u16, place: bool) -> u16
-    requires { n ≤ 762 }
+    requires { n ≤ 254 }
     ensures { result ≡ cond place (n + 1) n }
 {
-    if place {
-        return n + 1;
-    }
-    n
+    n + u16::from(place)
 }
 
 // The places with an E more, or with a place and its solidus. (Told apart from the others: few dates hold one.)
 fn part_cut(s: Parting, form: u16) -> Parting
-    requires { (25 ≤ form) × (s.integers ≤ 762) × (s.exponents ≤ 762) }
+    requires { (25 ≤ form) × (s.integers ≤ 254) × (s.exponents ≤ 254) }
     ensures { result ≡ part_form s form }
 {
-    let place = (forms::ZERO_OVER <= form) & (form <= forms::SPACE_OVER_FIXED);
+    let place = (forms::ZERO_OVER..=forms::SPACE_OVER_FIXED).contains(&form);
     Parting {
         behind: false,
         left: 0,
@@ -60,7 +59,7 @@ fn part_cut(s: Parting, form: u16) -> Parting
 
 // The places with one token more.
 fn part_token(s: Parting, form: u16) -> Parting
-    requires { (s.integers ≤ 762) × (s.exponents ≤ 762) }
+    requires { (s.integers ≤ 254) × (s.exponents ≤ 254) }
     ensures { result ≡ part_form s form }
 {
     if (form == forms::ZERO_PLACE) & (0 < s.left) {
@@ -75,7 +74,7 @@ fn part_token(s: Parting, form: u16) -> Parting
     if forms::EXPONENT_PLUS <= form {
         return part_cut(s, form);
     }
-    let place = (forms::ZERO_PLACE <= form) & (form <= forms::SPACE_PLACE);
+    let place = (forms::ZERO_PLACE..=forms::SPACE_PLACE).contains(&form);
     Parting {
         behind: (form == forms::SECONDS) | (form == forms::ELAPSED_SECONDS),
         left: zeros_with(s.behind & (form == forms::POINT)),
@@ -86,8 +85,8 @@ fn part_token(s: Parting, form: u16) -> Parting
 }
 
 // The places of a date's items: the zeros of a part of a second are none.
-fn date_places(body: &[u16]) -> Places
-    requires { length body.now ≤ 762 }
+fn date_places(body: &[Mark]) -> Places
+    requires { length body.now ≤ 254 }
     ensures { ((code : List ℕ) → result ≡ date_places_of (tokens_in code body.now)) × (result.integers ≤ 254) × (result.exponents ≤ 254) }
 {
     let mut s = Parting {
@@ -97,10 +96,8 @@ fn date_places(body: &[u16]) -> Places
         integers: 0,
         exponents: 0,
     };
-    let mut i: usize = 0;
-    while i + 2 < body.len() {
-        s = part_token(s, body[i]);
-        i += 3;
+    for mark in body {
+        s = part_token(s, mark.form);
     }
     Places {
         integers: s.integers,
@@ -109,8 +106,8 @@ fn date_places(body: &[u16]) -> Places
 }
 
 // The places of a body whose facts these are.
-pub fn places_of(body: &[u16], f: Facts) -> Places
-    requires { (length body.now ≤ 762) × ((code : List ℕ) → f ≡ facts_of (tokens_in code body.now)) }
+fn places_of(body: &[Mark], f: Facts) -> Places
+    requires { (length body.now ≤ 254) × ((code : List ℕ) → f ≡ facts_of (tokens_in code body.now)) }
     ensures { ((code : List ℕ) → result ≡ places_of (body_items (tokens_in code body.now))) × (result.integers ≤ 254) × (result.exponents ≤ 254) }
 {
     if f.date {
@@ -119,5 +116,19 @@ pub fn places_of(body: &[u16], f: Facts) -> Places
     Places {
         integers: f.places,
         exponents: f.exponents,
+    }
+}
+
+// What is told of a body whose facts these are, for the words of its items.
+pub fn told_of(body: &[Mark], f: Facts) -> Told
+    requires { (length body.now ≤ 254) × ((code : List ℕ) → f ≡ facts_of (tokens_in code body.now)) }
+    ensures { (code : List ℕ) → ToldOf (tokens_in code body.now) result }
+{
+    let places = places_of(body, f);
+    Told {
+        date: f.date,
+        fills: f.fills,
+        integers: places.integers,
+        exponents: places.exponents,
     }
 }

@@ -1,7 +1,7 @@
 -- `drafting::drafts::draft_section` meets its contract.
 -- Assumes nothing.
 use mathlib.Core.Path.{sym}
-use Prim.Native.Nat.{◌-◌, ◌*◌}
+use Prim.Native.Nat.{◌-◌}
 use lib.ListN.{length}
 use Rattle.drafting.proofs.Drafting.{part-short, heading-body, section-drafted}
 use Rattle.drafting.proofs.Digits.{heading-digit, units-behind}
@@ -15,7 +15,7 @@ pub draft_body-body-requires-clause-code_len_bound : goal.draft_body-body-requir
 draft_body-body-requires-clause-code_len_bound c =
     let code = c.args.code.now in
     let part = c.args.part.now in
-    let n = c.heading_of-h.result.tokens in (c.requires.code_len_bound.0, part-short part (length part - 3 * n) (3 * n) c.requires.code_len_bound.1, c.requires.code_len_bound.2, rw (heading-body code part _ c.heading_of-h.ensures) c.requires.part_in_bounds)
+    let n = c.heading_of-h.result.tokens in (c.requires.code_len_bound.0, part-short part (length part - n) n c.requires.code_len_bound.1, c.requires.code_len_bound.2, rw (heading-body code part _ c.heading_of-h.ensures) c.requires.part_in_bounds)
 
 pub draft_body-body-requires-clause-t : goal.draft_body-body-requires-clause-t
 draft_body-body-requires-clause-t c =
@@ -25,7 +25,7 @@ draft_body-body-requires-clause-t c =
 
 pub returns-clause-draft : goal.returns-clause-draft
 returns-clause-draft c =
-    let body = heading-body c.args.code.now c.args.part.now _ c.heading_of-h.ensures in section-drafted c.args.code.now c.args.part.now _ c.heading_of-h.ensures _ _ c.heading_condition-condition.ensures (c.draft_body-body.ensures.draft _ (sym body))
+    let body = heading-body c.args.code.now c.args.part.now _ c.heading_of-h.ensures in rw c.is_some.ensures (section-drafted c.args.code.now c.args.part.now _ c.heading_of-h.ensures _ _ _ _ c.heading_condition-condition.ensures c.unwrap_or-amount.ensures (c.draft_body-body.ensures.draft _ (sym body)))
 
 pub returns-clause-put : goal.returns-clause-put
 returns-clause-put c =

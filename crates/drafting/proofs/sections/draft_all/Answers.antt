@@ -21,7 +21,7 @@ overflow_add-at c =
 pub loop-k-preserved : goal.loop-k-preserved
 loop-k-preserved c =
     let d = c.draft_section-draft.ensures in
-    sectioning-step c.loop-k.invariant c.loop-k-test.true _ c.section_end-size.ensures _ _ d.draft d.put c.put_draft.ensures
+    rw c.from.ensures (sectioning-step c.loop-k.invariant c.loop-k-test.true _ c.section_end-size.ensures _ _ d.draft d.put)
 
 pub returns : goal.returns
 returns c = sectioning-end c.loop-k.invariant c.loop-k-test.false
