@@ -9,11 +9,11 @@ use mathlib.Core.Option.{none, some}
 use lib.ListN.{length, take, drop, length-take, length-drop}
 use lib.Seq.{take_all}
 use lib.Dec.{T, leb→le, ltb, eqb}
-use Rattle.lists.specs.Lists.{every, any, count}
+use Rattle.lists.specs.Lists.{every, any}
 use Rattle.lists.proofs.Bools.{and_left, and_right, and_parts, T_true, true-T, cond_both, by_cases, or-false}
 use Rattle.formats.specs.Tokens.{Token, Written}
-use Rattle.formats.specs.Items.{same_kind, date_kind, fraction_kind, is_solidus, integer_places, fraction_fits, items_fit}
-use Rattle.formats.specs.Kinds.{is_comma, is_fill_token, no_bracket, Parts, parts_of, condition_of, section_of, fits, commas_fit, body_kind, body_items}
+use Rattle.formats.specs.Items.{same_kind, fraction_kind, is_solidus, integer_places, fraction_fits, items_fit}
+use Rattle.formats.specs.Kinds.{is_comma, no_bracket, Parts, parts_of, condition_of, section_of, fits, commas_fit, body_kind, body_items}
 use Rattle.formats.proofs.Cutting.{whole-none, main-all}
 use Rattle.formats.specs.Limits.{written_within, section_within, within_limits}
 use Rattle.tables.specs.Words.{entries_in}
@@ -170,10 +170,6 @@ module _ (ts : List Token) {f : Facts} {c : Commas} {t : Tally} {n : ℕ} (read 
       (rw (thousands-same p) (within-told (entries p.body) (section_of p) (section-items p) (rw (entries-back p.body, q) (solidus-none ts (rw read.tally at h))))))
 
 -- ---- what the passes over a body gave
-pub facts-date : (f : Facts) (ts : List Token) → f ≡ facts_of ts → f.date ≡ same_kind (body_kind ts) date_kind
-unfolding facts_of
-facts-date f ts e = ap (λ (g : Facts). g.date) e
-
 pub facts-fraction : (f : Facts) (ts : List Token) → f ≡ facts_of ts → f.fraction ≡ same_kind (body_kind ts) fraction_kind
 unfolding facts_of
 facts-fraction f ts e = ap (λ (g : Facts). g.fraction) e
@@ -181,10 +177,6 @@ facts-fraction f ts e = ap (λ (g : Facts). g.fraction) e
 pub facts-commas : (f : Facts) (ts : List Token) → f ≡ facts_of ts → f.commas ≡ any is_comma ts
 unfolding facts_of
 facts-commas f ts e = ap (λ (g : Facts). g.commas) e
-
-pub facts-fills : (f : Facts) (ts : List Token) → f ≡ facts_of ts → f.fills ≡ count is_fill_token ts
-unfolding facts_of
-facts-fills f ts e = ap (λ (g : Facts). g.fills) e
 
 -- ---- the words that were put
 module _ (ts : List Token) {old out : List ℕ} {at end : ℕ} (put : Put old at (settled_words ts) end out) (room : at + length (settled_words ts) ≤ length old) where
