@@ -24,7 +24,8 @@ use Rattle.std.specs.List.{prefix_len}
 use Rattle.std.proofs.lemmas.Option.{none-some, same_Some}
 use Rattle.bodies.specs.Conditions.{whole_units, decimal_units, written_of, padded_number, Measures, AmountOf}
 use Rattle.formats.proofs.Lexing.{leading-most}
-use Rattle.bodies.proofs.Numbers.{leading-prefix, leading-digits, padded-number}
+use Rattle.lexing.proofs.Scanning.{leading-prefix}
+use Rattle.bodies.proofs.Numbers.{leading-digits, padded-number}
 
 pub word_back : (n : ℕ) → n ≤ 6 → eqb n 0 ≡ false → n ≡ comparison_word (comparison_at n)
 unfolding comparison_word comparison_at
@@ -38,12 +39,9 @@ sign_of n w m e = by_cases (ltb 0 (w + m))
     (λ t. let p = ltb-true 0 (w + m) t in rw (t, ne_eqb n 0 (λ z. omega arith)))
     (λ t. let p = ltb-false 0 (w + m) t in rw (t, eq-eqb n 0 (omega arith)))
 
-pub digits-room : (us : List ℕ) (n : ℕ) → n ≡ prefix_len (λ (u : ℕ). leb 48 u && leb u 57) us → n ≤ length us
-digits-room us n g = let d : n ≡ leading is_digit us = g ∙ leading-prefix us in omega (arith, leading-most is_digit us)
-
-module _ (us : List ℕ) (n b : ℕ) (g : n ≡ prefix_len (λ (u : ℕ). leb 48 u && leb u 57) us) (f : b ≡ min (length us) (n + 1)) where
+module _ (us : List ℕ) (n b : ℕ) (g : n ≡ prefix_len is_digit us) (f : b ≡ min (length us) (n + 1)) where
   e : n ≡ leading is_digit us
-  e = g ∙ leading-prefix us
+  e = g ∙ sym (leading-prefix is_digit us)
 
   pub whole_length : n ≡ length (take n us)
   whole_length = let d = e in let m = leading-most is_digit us in sym (length-take-le n us (omega arith))

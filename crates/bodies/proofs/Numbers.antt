@@ -2,7 +2,7 @@
 -- Assumes nothing.
 use Prim.Native.Nat.{ℕ, zero, suc, ◌+◌, ◌-◌, ◌*◌, ◌^◌, ◌≤◌, ◌<◌}
 use mathlib.Core.Path.{◌≡◌, refl, sym, ap, ◌∙◌}
-use mathlib.Core.Bool.{true, ◌&&◌, true≢false}
+use mathlib.Core.Bool.{true, true≢false}
 use mathlib.Core.List.{List, [], ◌∷◌, map}
 use native.Mathlib.Omega.{arith}
 use native.Mathlib.Numerals.{add-one}
@@ -11,7 +11,6 @@ use lib.Dec.{leb, ltb}
 use borrow.Author.Tests.{leb-true, ltb-true, ltb-false}
 use lib.ListN.{length, take, drop, get_or, get_or-eq_default, drop_of_length-le}
 use lib.Seq.{drop-cons}
-use Rattle.std.specs.List.{prefix_len}
 use Rattle.lists.specs.Lists.{every}
 use Rattle.lists.proofs.Bools.{by_cases}
 use Rattle.formats.specs.Tokens.{leading, is_digit, digit_of, number_from}
@@ -22,12 +21,6 @@ pub leading-digits : (us : List ℕ) → every is_digit (take (leading is_digit 
 unfolding leading every
 leading-digits [] = refl
 leading-digits (u ∷ us) = by_cases (is_digit u) (λ e. rw (e, e) (leading-digits us)) (λ e. rw e)
-
--- as the code counts them
-pub leading-prefix : (us : List ℕ) → prefix_len (λ (u : ℕ). leb 48 u && leb u 57) us ≡ leading is_digit us
-unfolding leading is_digit
-leading-prefix [] = refl
-leading-prefix (u ∷ us) = by_cases (leb 48 u && leb u 57) (λ e. rw e (omega (arith, leading-prefix us))) (λ e. rw e)
 
 -- ---- digits in places
 digit-at : (us : List ℕ) (i : ℕ) → every is_digit us ≡ true → is_digit (get_or us i 48) ≡ true

@@ -1,17 +1,15 @@
 // The condition that the units inside a bracket write.
-ghost use Rattle.std.specs.Prelude.{◌≡◌, true, false, ℕ, suc, ◌+◌, ◌-◌, ◌^◌, ◌≤◌, ◌<◌, leb, eqb, ◌&&◌, length, take, drop, get_or};
-ghost use Rattle.std.specs.List.{prefix_len};
+ghost use Rattle.std.specs.Prelude.{◌≡◌, true, false, ℕ, suc, ◌+◌, ◌-◌, ◌^◌, ◌≤◌, ◌<◌, eqb, length, take, drop, get_or};
 ghost use Rattle.lists.specs.Lists.{every, is_some};
 ghost use Rattle.formats.specs.Tokens.{leading, is_digit, condition_inside};
 ghost use Rattle.bodies.specs.Conditions.{operator_by, operator_width, padded_number, decimal_units, written_inside, written_of, AmountOf, ComparedBy};
 
+use lexing::scan::digits;
 use marks::Mark;
 
 const MINUS: u16 = 45;
 
 const ZERO: u16 = 48;
-
-const NINE: u16 = 57;
 
 const LESS: u16 = 60;
 
@@ -47,13 +45,6 @@ fn operator_by(u: u16, v: u16) -> u16
         (GREATER, _) => 3,
         _ => 0,
     }
-}
-
-// How many digits stand at the start.
-fn digits(us: &[u16]) -> usize
-    ensures { result ≡ prefix_len (λ u. leb 48 u && leb u 57) us.now }
-{
-    us.iter().take_while(|u| (ZERO..=NINE).contains(*u)).count()
 }
 
 // The digits as a number of so many places, with zeros where they end.
