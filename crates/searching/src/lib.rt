@@ -32,12 +32,12 @@ fn later_guess(day: u32) -> u32
     ensures { result ≡ later_guess day }
 {
     if 146463 < day {
-        return 401;
+        401
+    } else if day < 109940 {
+        (4 * (day - 73416) + 3) / 1461 + 202
+    } else {
+        (4 * (day - 109940) + 3) / 1461 + 302
     }
-    if day < 109940 {
-        return (4 * (day - 73416) + 3) / 1461 + 202;
-    }
-    (4 * (day - 109940) + 3) / 1461 + 302
 }
 
 // How many years from 1900 to 2300 have begun by a day, 1900 counted as a leap year: four years have 1,461 days. Any other list is
@@ -46,9 +46,10 @@ fn guess(day: u32) -> u32
     ensures { result ≡ guessed day }
 {
     if day < 73416 {
-        return (4 * day + 1457) / 1461;
+        (4 * day + 1457) / 1461
+    } else {
+        later_guess(day)
     }
-    later_guess(day)
 }
 
 // The two entries at the border of the guess show whether it is right. The first is the one that leaves the fewer entries untold
@@ -56,83 +57,88 @@ fn guess(day: u32) -> u32
 fn first_asked(count: u32) -> u32
     ensures { result ≡ first_asked count }
 {
-    if BORDER < count {
-        return count - 1;
-    }
-    count
+    if BORDER < count { count - 1 } else { count }
 }
 
-// Asks for an entry.
-fn reading(day: u32, low: u32, last: u32, asked: u32, first: bool) -> Turn
-    ensures { result ≡ reading day low last asked first }
+// Asks for the entry that the search names.
+fn reading(s: Search) -> Turn
+    ensures { result ≡ reading s.day s.low s.last s.asked s.first }
 {
-    Turn::Read(
-        asked,
-        Search {
-            day: day,
-            low: low,
-            last: last,
-            asked: asked,
-            first: first,
-        },
-    )
+    Turn::Read(s.asked, s)
 }
 
 // Asks for the entry in the middle of those that are not told yet.
-fn between(day: u32, low: u32, last: u32) -> Turn
-    requires { low ≤ last }
-    ensures { result ≡ between day low last }
+fn between(s: Search) -> Turn
+    requires { s.low ≤ s.last }
+    ensures { result ≡ between s.day s.low s.last }
 {
-    reading(day, low, last, low + (last - low) / 2, false)
+    let asked = s.low + (s.last - s.low) / 2;
+    reading(Search {
+        asked,
+        first: false,
+        ..s
+    })
 }
 
 // The answer where the entries before `low` are those that are not above the day.
 fn answer(low: u32) -> Turn
     ensures { result ≡ answer low }
 {
-    if low == 0 {
-        return Turn::Nothing;
+    match low.checked_sub(1) {
+        Some(k) => Turn::Found(k),
+        None => Turn::Nothing,
     }
-    Turn::Found(low - 1)
 }
 
 // The entry asked for is above the day.
 fn above(s: Search) -> Turn
     ensures { result ≡ above s }
 {
-    let asked = s.asked;
-    let low = s.low;
-    if asked <= low {
-        return answer(low);
+    if s.asked <= s.low {
+        return answer(s.low);
     }
-    let last = asked - 1;
-    if s.first & (asked <= BORDER) {
-        return reading(s.day, low, last, last, false);
+    let last = s.asked - 1;
+    if s.first & (s.asked <= BORDER) {
+        return reading(Search {
+            last,
+            asked: last,
+            first: false,
+            ..s
+        });
     }
-    between(s.day, low, last)
+    between(Search { last, ..s })
 }
 
 // The entry asked for is not above the day.
 fn not_above(s: Search) -> Turn
     ensures { result ≡ not_above s }
 {
-    let asked = s.asked;
-    let last = s.last;
-    if last <= asked {
-        return Turn::Found(asked);
+    if s.last <= s.asked {
+        return Turn::Found(s.asked);
     }
-    let low = asked + 1;
-    if s.first & (BORDER <= asked) {
-        return reading(s.day, low, last, low, false);
+    let low = s.asked + 1;
+    if s.first & (BORDER <= s.asked) {
+        return reading(Search {
+            low,
+            asked: low,
+            first: false,
+            ..s
+        });
     }
-    between(s.day, low, last)
+    between(Search { low, ..s })
 }
 
 // Begins the search for a day.
 pub fn start(day: u32) -> Turn
     ensures { result ≡ started day }
 {
-    reading(day, 0, 400, first_asked(guess(day)), true)
+    reading(Search {
+        day,
+        low: 0,
+        last: 400,
+        asked: first_asked(guess(day)),
+        first: true,
+    })
 }
 
 // Goes on with the number of the entry asked for.
@@ -140,7 +146,8 @@ pub fn told(s: Search, number: u32) -> Turn
     ensures { result ≡ told_of s number }
 {
     if s.day < number {
-        return above(s);
+        above(s)
+    } else {
+        not_above(s)
     }
-    not_above(s)
 }

@@ -5,20 +5,20 @@ use borrow.Author.Tests.{le-leb, lt-leb}
 use Rattle.searching.specs.Machine.{above}
 use Rattle.searching.proofs.above.Goals as goal
 
-pub returns-then-asked-low : goal.returns-then-asked-low
+pub returns-then-s : goal.returns-then-s
 unfolding above
-returns-then-asked-low c =
+returns-then-s c =
     let s = c.args.s in
     rw (le-leb s.asked s.low (omega arith)) c.answer.ensures
 
-pub returns-then-s-asked : goal.returns-then-s-asked
+pub returns-then-s-2 : goal.returns-then-s-2
 unfolding above
-returns-then-s-asked c =
+returns-then-s-2 c =
     let s = c.args.s in
-    rw (lt-leb s.asked s.low (omega arith), c.if-s-asked.true) c.reading.ensures
+    rw (lt-leb s.asked s.low (omega arith), c.if-s-2.true) c.reading.ensures
 
 pub returns : goal.returns
 unfolding above
 returns c =
     let s = c.args.s in
-    rw (lt-leb s.asked s.low (omega arith), c.if-s-asked.false) c.between.ensures
+    rw (lt-leb s.asked s.low (omega arith), c.if-s-2.false) c.between.ensures

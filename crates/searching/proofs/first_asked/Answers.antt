@@ -9,6 +9,6 @@ pub returns-then-count-gt-BORDER : goal.returns-then-count-gt-BORDER
 unfolding first_asked
 returns-then-count-gt-BORDER c = rw (lt-ltb border c.args.count (omega arith))
 
-pub returns : goal.returns
+pub returns-else-count-gt-BORDER : goal.returns-else-count-gt-BORDER
 unfolding first_asked
-returns c = rw (le-ltb border c.args.count (omega arith))
+returns-else-count-gt-BORDER c = rw (le-ltb border c.args.count (omega arith))

@@ -9,6 +9,6 @@ pub returns-then-day-lt73416 : goal.returns-then-day-lt73416
 unfolding guessed
 returns-then-day-lt73416 c = rw (lt-ltb c.args.day 73416 (omega arith))
 
-pub returns : goal.returns
+pub returns-else-day-lt73416 : goal.returns-else-day-lt73416
 unfolding guessed
-returns c = rw (le-ltb c.args.day 73416 (omega arith)) c.later_guess.ensures
+returns-else-day-lt73416 c = rw (le-ltb c.args.day 73416 (omega arith)) c.later_guess.ensures

@@ -15,8 +15,8 @@ returns-then-day-lt109940 c =
     let d = c.args.day in
     rw (le-ltb 146463 d (omega arith), lt-ltb d 109940 (omega arith))
 
-pub returns : goal.returns
+pub returns-else-day-lt109940 : goal.returns-else-day-lt109940
 unfolding later_guess
-returns c =
+returns-else-day-lt109940 c =
     let d = c.args.day in
     rw (le-ltb 146463 d (omega arith), le-ltb d 109940 (omega arith))

@@ -5,20 +5,20 @@ use borrow.Author.Tests.{le-leb, lt-leb}
 use Rattle.searching.specs.Machine.{not_above}
 use Rattle.searching.proofs.not_above.Goals as goal
 
-pub returns-then-last-asked : goal.returns-then-last-asked
+pub returns-then-s : goal.returns-then-s
 unfolding not_above
-returns-then-last-asked c =
+returns-then-s c =
     let s = c.args.s in
     rw (le-leb s.last s.asked (omega arith))
 
-pub returns-then-s-asked : goal.returns-then-s-asked
+pub returns-then-s-2 : goal.returns-then-s-2
 unfolding not_above
-returns-then-s-asked c =
+returns-then-s-2 c =
     let s = c.args.s in
-    rw (lt-leb s.last s.asked (omega arith), c.if-s-asked.true) c.reading.ensures
+    rw (lt-leb s.last s.asked (omega arith), c.if-s-2.true) c.reading.ensures
 
 pub returns : goal.returns
 unfolding not_above
 returns c =
     let s = c.args.s in
-    rw (lt-leb s.last s.asked (omega arith), c.if-s-asked.false) c.between.ensures
+    rw (lt-leb s.last s.asked (omega arith), c.if-s-2.false) c.between.ensures

@@ -10,7 +10,7 @@ returns-then-s-number c =
     let a = c.args in
     c.above.ensures ∙ sym (told-above a.s a.number (omega arith))
 
-pub returns : goal.returns
-returns c =
+pub returns-else-s-number : goal.returns-else-s-number
+returns-else-s-number c =
     let a = c.args in
     c.not_above.ensures ∙ sym (told-not-above a.s a.number (omega arith))
