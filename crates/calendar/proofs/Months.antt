@@ -1,15 +1,15 @@
 -- The months: their lengths make up the year, and the month that is found is the right one.
 -- Assumes nothing.
-use mathlib.Core.Path.{◌≡◌, refl, sym, subst, ◌∙◌}
-use mathlib.Core.Bool.{Bool, true, false, cond, ◌||◌, true≢false, or-false as or_no}
+use mathlib.Core.Path.{◌≡◌, refl, subst, ◌∙◌}
+use mathlib.Core.Bool.{Bool, true, false, cond}
 use mathlib.Core.List.{List, [], ◌∷◌}
 use Prim.Native.Nat.{ℕ, zero, suc, pred, ◌+◌, ◌-◌, ◌*◌, ◌/◌, ◌≤◌, ◌<◌}
 use native.Mathlib.Omega.{arith}
-use borrow.Author.Tests.{leb-true, leb-false, ltb-false, eqb-true, le-ltb, lt-leb}
-use lib.Dec.{leb, ltb, eqb}
+use borrow.Author.Tests.{leb-true, leb-false, lt-leb}
+use lib.Dec.{leb}
 use lib.ListN.{length, get_or, take}
 use Rattle.lists.specs.Tables.{values}
-use Rattle.lists.proofs.Bools.{cond-case, or-false}
+use Rattle.lists.proofs.Bools.{cond-case}
 use Rattle.calendar.proofs.Table.{same-values}
 use Rattle.calendar.specs.Year.{leap, year_days}
 use Rattle.calendar.specs.Date.{month_days, MonthDay, month_day_from}
@@ -148,13 +148,3 @@ pub month-of-moved : (k n day : ℕ) (b : Bool) → b ≡ leap k → 1 ≤ n →
 unfolding month_days month_at day_at
 month-of-moved k zero day b e l h f = absurd (omega arith)
 month-of-moved k (suc n) day b e l h f = rw (← e, f) (month-computed b n (omega arith))
-
--- how the code tells a day of a year
-pub outside : (n : ℕ) → (eqb n 0 || ltb 366 n) ≡ true → n ≤ 366 → n ≡ 0
-outside n e h =
-    let f : (eqb n 0 || false) ≡ true = rw (le-ltb 366 n h) at e in
-    eqb-true n 0 (sym (or_no (eqb n 0)) ∙ f)
-
-pub inside : (n : ℕ) → (eqb n 0 || ltb 366 n) ≡ false → (1 ≤ n) × (n ≤ 366)
-inside zero e = absurd (true≢false e)
-inside (suc n) e = (omega arith, ltb-false 366 (suc n) (or-false (eqb (suc n) 0) (ltb 366 (suc n)) e).1)

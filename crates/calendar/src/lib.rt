@@ -65,10 +65,7 @@ fn first_days() -> [u32; 401]
 fn kept(day: u32, number: u32, before: u32) -> u32
     ensures { result ≡ cond (leb number day) number before }
 {
-    if number <= day {
-        return number;
-    }
-    before
+    if number <= day { number } else { before }
 }
 
 // Hands the search the entries of the table that it names, ten at most. The table is taken once: each use of the constant makes it
@@ -85,10 +82,7 @@ fn driven_year(day: u32) -> YearStart
         match turn {
             Turn::Read(k, s) => {
                 if left == 0 {
-                    return YearStart {
-                        years: 0,
-                        first: first,
-                    };
+                    return YearStart { years: 0, first };
                 }
                 let number = firsts[k as usize];
                 first = kept(day, number, first);
@@ -96,16 +90,10 @@ fn driven_year(day: u32) -> YearStart
                 left -= 1;
             }
             Turn::Found(k) => {
-                return YearStart {
-                    years: k,
-                    first: first,
-                };
+                return YearStart { years: k, first };
             }
             Turn::Nothing => {
-                return YearStart {
-                    years: 0,
-                    first: first,
-                };
+                return YearStart { years: 0, first };
             }
         }
     }
@@ -126,7 +114,7 @@ fn in_table(day: u32) -> Cycled
     ensures { (result.years ≡ 400 * ((day - 367) / 146097)) × (result.day ≡ (day - 367) % 146097 + 367) }
 {
     if day < 146464 {
-        return Cycled { years: 0, day: day };
+        return Cycled { years: 0, day };
     }
     Cycled {
         years: 400 * ((day - 367) / 146097),
@@ -140,7 +128,7 @@ fn year_day_of(d: Day) -> YearDay
 {
     let day = d.0;
     if day < 367 {
-        return YearDay { years: 0, day: day };
+        return YearDay { years: 0, day };
     }
     let c = in_table(day);
     let start = year_within(c.day);
@@ -151,38 +139,23 @@ fn year_day_of(d: Day) -> YearDay
 }
 
 // The year 1900 + years has a 29 February.
+#[tactic(auto, unfolding(crate::specs::Year::leap, crate::specs::Year::gregorian_leap))]
 fn is_leap(years: u32) -> bool
     requires { 1900 + years < 2 ^ 32 }
     ensures { result ≡ leap years }
 {
     let y = 1900 + years;
-    if y % 4 != 0 {
-        return false;
-    }
-    if y % 100 != 0 {
-        return true;
-    }
-    if y % 400 == 0 {
-        return true;
-    }
-    years == 0
+    y % 4 == 0 && (y % 100 != 0 || y % 400 == 0 || years == 0)
 }
 
 // A day of a year in a year whose February has 30 days, so that months of 31 and 30 days take turns but at July and August.
+#[tactic(auto, unfolding(crate::specs::Moved::moved_by))]
 fn moved(long: bool, n: u32) -> u32
     requires { n ≤ 366 }
     ensures { (result ≡ moved_by long n) × (n ≤ result) × (result ≤ n + 2) }
 {
-    if long {
-        if n <= 60 {
-            return n;
-        }
-        return n + 1;
-    }
-    if n <= 59 {
-        return n;
-    }
-    n + 2
+    let (last, missing) = if long { (60, 1) } else { (59, 2) };
+    if n <= last { n } else { n + missing }
 }
 
 // What is no day of any year: day 0 stands in January, the days behind December in a month 13.
@@ -193,15 +166,9 @@ fn outside_year(long: bool, n: u32) -> MonthDay
     if n <= 366 {
         return MonthDay { month: 1, day: 0 };
     }
-    if long {
-        return MonthDay {
-            month: 13,
-            day: n - 366,
-        };
-    }
     MonthDay {
         month: 13,
-        day: n - 365,
+        day: n - if long { 366 } else { 365 },
     }
 }
 
@@ -212,13 +179,13 @@ fn month_day_of(years: u32, n: u32) -> MonthDay
     ensures { result ≡ made_month_day (month_day_from 1 (month_days years) n) }
 {
     let long = is_leap(years);
-    if (n == 0) | (366 < n) {
+    if !(1..=366).contains(&n) {
         return outside_year(long, n);
     }
     let day = moved(long, n);
     let month = (67 * day + 2010) / 2048;
     MonthDay {
-        month: month,
+        month,
         day: day - (489 * month - 480) / 16,
     }
 }
@@ -234,21 +201,22 @@ pub fn date_of(d: Day) -> Date
         year: 1900 + y.years,
         month: m.month,
         day: m.day,
-        weekday: weekday,
+        weekday,
     }
 }
 
 // The hour on "a 12-hour clock (12, 1 to 11)".
+#[tactic(auto, unfolding(crate::specs::Clock::twelve_hour))]
 pub fn twelve_hour(hour: u64) -> u64
     ensures { result ≡ twelve_hour hour }
 {
-    let h = hour % 12;
-    if h == 0 {
-        return 12;
+    match hour % 12 {
+        0 => 12,
+        h => h,
     }
-    h
 }
 
+#[tactic(auto, unfolding(crate::specs::Clock::afternoon))]
 pub fn is_afternoon(hour: u64) -> bool
     ensures { result ≡ afternoon hour }
 {
@@ -256,8 +224,9 @@ pub fn is_afternoon(hour: u64) -> bool
 }
 
 // The milliseconds since the start of day 0, of which "elapsed tokens count all whole units".
+#[tactic(auto, unfolding(crate::specs::Clock::since_day_zero))]
 pub fn since_day_zero(d: Day, m: Millisecond) -> u64
     ensures { result ≡ since_day_zero d.0 m.0 }
 {
-    d.0 as u64 * 86400000 + m.0 as u64
+    u64::from(d.0) * 86400000 + u64::from(m.0)
 }
