@@ -1,27 +1,26 @@
 -- The finest unit that a date-time section's items show, kept by the loop over their words.
 -- Assumes nothing.
-use Prim.Native.Nat.{ℕ, ◌+◌, ◌-◌, ◌*◌, ◌/◌, ◌%◌, ◌≤◌, ◌<◌, min}
-use native.Mathlib.Nat.{sub-zero}
+use Prim.Native.Nat.{ℕ, ◌%◌, ◌≤◌, ◌<◌, min}
 use native.Mathlib.Omega.{arith}
 use mathlib.Core.Path.{◌≡◌, refl, sym, ap, ◌∙◌}
-use mathlib.Core.List.{List, [], ◌∷◌}
+use mathlib.Core.List.{List, [], ◌∷◌, ◌++◌}
 use lib.ListN.{length, get_or}
 use lib.Dec.{T, leb, eqb}
 use borrow.Author.Tests.{leb-true, leb-false}
 use Rattle.lists.proofs.Bools.{by_cases}
 use Rattle.formats.specs.Items.{Item, Section, Kind, date_kind, kind_of, item_allowed}
 use Rattle.formats.specs.Reading.{item_span, finest_span, day_span, instant_exactly}
-use Rattle.tables.specs.Words.{Entry, entries_at, entries_in}
+use Rattle.tables.specs.Words.{Entry, entries_in}
 use Rattle.tables.specs.Encode.{entry}
 use Rattle.tables.specs.Decode.{item_at, items_at}
 use Rattle.tables.specs.Rules.{entry_in_range}
 use Rattle.tables.proofs.BackEntries.{span-at, tag-known}
-use Rattle.tables.proofs.Words.{entries_left, entries-front}
 use Rattle.values.specs.declared.Millisecond.{Millisecond}
 use Rattle.table_words.specs.Sections.{ItemsOf}
 use Rattle.table_words.specs.Runs.{items_in}
 use Rattle.date_text.proofs.Spans.{with-day}
 use Rattle.section_text.specs.Walk.{EntryFits}
+use Rattle.section_text.proofs.Walking.{entries-pair, entries-none}
 
 -- a date-time section holds no tag behind that of a half-day mark
 pub dated-tag : (k : Kind) (q tag a : ℕ) → k ≡ date_kind → T (entry_in_range (entry tag a)) → EntryFits k q (entry tag a) → tag < 22
@@ -49,34 +48,32 @@ pub dated-exactly : {s : Section} {words : List ℕ} (m : Millisecond) → kind_
 unfolding instant_exactly
 dated-exactly m k o = rw (k, o.items)
 
--- after k of n items f is the finest unit shown: with what is left it is the finest of all
-pub record Finest (words : List ℕ) (n k f : ℕ) : Type 0 where
+-- f is the finest unit shown before these words: with theirs it is the finest of all
+pub record Finest (words rest : List ℕ) (f : ℕ) : Type 0 where
   pub most : f ≤ day_span
-  pub all : finest_span (items_in words) ≡ min f (finest_span (items_at (entries_left words n k)))
+  pub all : finest_span (items_in words) ≡ min f (finest_span (items_in rest))
 
 coarsest : (is : List Item) → finest_span is ≡ min day_span (finest_span is)
 unfolding finest_span
 coarsest [] = refl
 coarsest (i ∷ is) = omega (arith, coarsest is)
 
-pub finest-start : (words : List ℕ) (n f : ℕ) → n ≡ length words / 2 → f ≡ day_span → Finest words n 0 f
-unfolding entries_in
-finest-start words n f e g = rw g (record { most = omega arith; all = rw (sub-zero n, e) (coarsest _) })
+pub finest-start : (words rest : List ℕ) (f : ℕ) → rest ≡ words → f ≡ day_span → Finest words rest f
+finest-start words rest f e g = rw (e, g) (record { most = omega arith; all = coarsest _ })
 
 front : (f : ℕ) (e : Entry) (es : List Entry)
     → min f (finest_span (items_at (e ∷ es))) ≡ min (min f (item_span (item_at e))) (finest_span (items_at es))
 unfolding finest_span items_at
 front f e es = omega arith
 
-module _ {words : List ℕ} {n k f : ℕ} (inv : Finest words n k f) where
-  pub finest-step : {g : ℕ} → k < n → g ≡ min f (item_span (item_at (entry (get_or words (2 * k) 0) (get_or words (2 * k + 1) 0)))) → Finest words n (k + 1) g
-  finest-step h e = record {
+module _ {words rest : List ℕ} {f : ℕ} (inv : Finest words rest f) where
+  pub finest-step : {g : ℕ} (pair behind : List ℕ) → rest ≡ pair ++ behind → length pair ≡ 2
+      → g ≡ min f (item_span (item_at (entry (get_or pair 0 0) (get_or pair 1 0)))) → Finest words behind g
+  finest-step {g} pair behind e n h = record {
     most = omega (arith, inv.most);
-    all = inv.all ∙ ap (λ (es : List Entry). min f (finest_span (items_at es))) (entries-front words n k h) ∙ front f _ _ ∙ ap (λ (x : ℕ). min x (finest_span (items_at (entries_left words n (k + 1))))) (sym e);
+    all = inv.all ∙ ap (λ (es : List Entry). min f (finest_span (items_at es))) (ap entries_in e ∙ entries-pair pair behind n) ∙ front f _ _ ∙ ap (λ (x : ℕ). min x (finest_span (items_in behind))) (sym h);
   }
 
-  pub finest-end : n ≤ k → f ≡ finest_span (items_in words)
-  unfolding finest_span items_at entries_at
-  finest-end h =
-      let none : n - k ≡ 0 = omega arith in
-      with-day f inv.most ∙ sym (rw none at inv.all)
+  pub finest-end : length rest < 2 → f ≡ finest_span (items_in words)
+  unfolding finest_span items_at
+  finest-end h = with-day f inv.most ∙ sym (rw (entries-none rest h) at inv.all)

@@ -12,7 +12,7 @@ use Rattle.date_sections.proofs.put_dated_item.Goals as goal
 pub returns-in-1-clause-put : goal.returns-in-1-clause-put
 unfolding item_units item_at
 returns-in-1-clause-put c =
-    λ x kind q i f. rw c.in-1.is c.put_unit.ensures
+    λ x kind q i f. rw c.in-1.is c.put_unit-end.ensures
 
 pub returns-in-1-clause-finest : goal.returns-in-1-clause-finest
 unfolding item_units item_at
@@ -22,7 +22,7 @@ returns-in-1-clause-finest c =
 pub returns-in-2-clause-put : goal.returns-in-2-clause-put
 unfolding item_units item_at
 returns-in-2-clause-put c =
-    λ x kind q i f. rw c.in-2.is c.put_unit-in-2.ensures
+    λ x kind q i f. rw c.in-2.is c.put_unit-end-in-2.ensures
 
 pub returns-in-2-clause-finest : goal.returns-in-2-clause-finest
 unfolding item_units item_at

@@ -1,52 +1,62 @@
--- `date_sections::put_dated_items` meets its contract. The invariant, `Walking`: the text of the entries that are left is what is left to put; and
--- `Finest`: the finest unit so far and those that are left make the finest of all.
+-- `date_sections::put_dated_items` meets its contract.
 -- Assumes nothing.
-use native.Mathlib.Omega.{arith}
-use mathlib.Core.Path.{refl}
-use Rattle.date_text.proofs.Moments.{dated-at}
-use Rattle.date_sections.proofs.Dated.{dated-put, dated-short}
-use Rattle.section_text.proofs.Walking.{walking_start, walking-in-range, walking-fits, walking-step, walking-end, walking-within}
+use Rattle.std.proofs.Common.{◌≡◌, ◌<◌, length, ap, ◌∙◌, refl, true, arith, rules}
+use Rattle.std.specs.Slice.Iter.{chunks_exact_rest}
+use Rattle.lists.specs.Lists.{any}
+use Rattle.tables.specs.Words.{entries_in}
+use Rattle.date_text.specs.Moment.{dated_entry}
+use Rattle.date_text.proofs.Spans.{finest-some}
+use Rattle.section_text.proofs.Walking.{entries-pair, begins-in-range, begins-fits, puts-first, walking_start, walking-begins, walking-step, walking-end, walking-within}
+use Rattle.section_text.specs.Walk.{text-ends}
+use Rattle.date_sections.proofs.Dated.{dated-put, dated-first, dated-behind}
 use Rattle.date_sections.proofs.FinestUnit.{dated-tag, finest-start, finest-step, finest-end}
-use Rattle.section_text.proofs.Lengths.{short-within}
 use Rattle.date_sections.proofs.put_dated_items.Goals as goal
 
-pub loop-k-init : goal.loop-k-init
-loop-k-init c =
-    (walking_start _ _ _ refl c.requires.1 (short-within c.requires.0 c.requires.1 (dated-short 1024 _ (omega arith))), finest-start _ _ _ refl (omega arith))
+pub loop-pair-init : goal.loop-pair-init
+loop-pair-init c =
+    let e : chunks_exact_rest c.into_iter-pair-iterator.result ≡ c.args.items.now = search rules in
+    record {
+      can_next = search rules;
+      is_finite = search rules;
+      pairs = search rules;
+      walking = walking_start e c.requires;
+      dated = λ t. rw e at t;
+      finest = finest-start _ _ _ e refl;
+    }
 
-pub put_dated_item-w-requires : goal.put_dated_item-w-requires
-put_dated_item-w-requires c =
-    let inv = c.loop-k.invariant in
-    let w = inv.0 in
-    let h = c.loop-k-test.true in
-    let r = walking-in-range w h in
-    (omega (arith, walking-within w), r, dated-tag _ _ _ _ w.ready.subject.0 r (walking-fits w h), inv.1.most)
+pub put_dated_item-written-requires : goal.put_dated_item-written-requires
+put_dated_item-written-requires c =
+    let i = c.loop-pair.invariant in
+    let s = c.in-Some.ensures.steps in
+    let b = walking-begins i.walking _ _ s.1.0 (s.1.1 ∙ i.pairs) in
+    let r = begins-in-range b in
+    (omega (arith, walking-within i.walking), r, dated-tag _ _ _ _ b.has.subject.0 r (begins-fits b), i.finest.most)
 
-pub loop-k-preserved : goal.loop-k-preserved
-loop-k-preserved c =
-    let inv = c.loop-k.invariant in
-    let w = inv.0 in
-    let h = c.loop-k-test.true in
-    let e = c.put_dated_item-w.ensures in
-    (walking-step w h (dated-put _ (dated-at _ _ _ w.items h) e.put), finest-step inv.1 h e.finest)
+pub loop-pair-preserved : goal.loop-pair-preserved
+loop-pair-preserved c =
+    let i = c.loop-pair.invariant in
+    let s = c.in-Some.ensures.steps in
+    let n = s.1.1 ∙ i.pairs in
+    let e = c.put_dated_item-written.ensures in
+    let next = ap entries_in s.1.0 ∙ entries-pair _ _ n in
+    let some : (any dated_entry _ ≡ true) → any dated_entry (entries_in c.args.items.now) ≡ true = λ t. i.dated (rw next t) in
+    record {
+      can_next = search rules;
+      is_finite = search rules;
+      pairs = s.0 ∙ i.pairs;
+      walking = walking-step i.walking _ _ s.1.0 n (puts-first (dated-put _ (λ t. some (dated-first _ _ t)) e.put));
+      dated = λ t. some (dated-behind _ _ t);
+      finest = finest-step i.finest _ _ s.1.0 n e.finest;
+    }
 
-pub returns-clause-within : goal.returns-clause-within
-returns-clause-within c =
-    let inv = c.loop-k.invariant in
-    let w = inv.0 in
-    let h = c.loop-k-test.false in
-    walking-within w
-
-pub returns-clause-put : goal.returns-clause-put
-returns-clause-put c =
-    let inv = c.loop-k.invariant in
-    let w = inv.0 in
-    let h = c.loop-k-test.false in
-    walking-end w h
-
-pub returns-clause-finest : goal.returns-clause-finest
-returns-clause-finest c =
-    let inv = c.loop-k.invariant in
-    let w = inv.0 in
-    let h = c.loop-k-test.false in
-    finest-end inv.1 h
+pub returns : goal.returns
+returns c =
+    let i = c.loop-pair.invariant in
+    let h : length (chunks_exact_rest c.loop-pair.pair-iterator) < 2 = omega (arith, c.in-None.ensures.steps.1.0, i.pairs) in
+    let finest = finest-end i.finest h in
+    record {
+      within = walking-within i.walking;
+      put = walking-end i.walking (λ us t. text-ends t) h;
+      finest = finest;
+      some = finest-some _ finest;
+    }
