@@ -3,22 +3,22 @@
 use Prim.Native.Nat.{ℕ, ◌*◌, ◌/◌, ◌≤◌, ◌<◌}
 use native.Mathlib.Omega.{arith}
 use mathlib.Core.Path.{◌≡◌, refl}
-use mathlib.Core.Bool.{true, false, true≢false}
+use mathlib.Core.Bool.{Bool, true, false, true≢false}
 use mathlib.Core.List.{List}
 use lib.Dec.{T}
 use lib.ListN.{length}
 use Rattle.values.specs.Ranges.{between}
 use Rattle.formats.specs.Items.{Kind, scientific_kind, item_allowed}
 use Rattle.formats.specs.Text.{Context, item_units, exponent_units}
+use Rattle.tables.specs.Words.{entries_in}
 use Rattle.tables.specs.Encode.{entry}
 use Rattle.tables.specs.Decode.{item_at}
 use Rattle.tables.specs.Rules.{entry_in_range}
 use Rattle.tables.proofs.BackEntries.{span-at, tag-known}
 use Rattle.figures.proofs.Past.{Apart}
-use Rattle.section_text.specs.Walk.{EntryFits, OfText}
+use Rattle.section_text.specs.Walk.{EntryFits, TextOf}
 use Rattle.section_text.proofs.Lengths.{words-short}
 use Rattle.scientific_sections.specs.Power.{mark_of_tag, PowerIs}
-use Rattle.scientific_sections.specs.declared.Power.{Power}
 
 -- an E by its tag: a scientific section holds no solidus and no fixed number
 pub mark-units : (tag a : ℕ) (c : Context) (k : Kind) (q : ℕ) → k ≡ scientific_kind → 22 ≤ tag → T (entry_in_range (entry tag a)) → EntryFits k q (entry tag a)
@@ -70,6 +70,8 @@ power-fill k q tag a e t b most o f =
 
 module _ (n : ℕ) (words : List ℕ) (h : 82 ≤ n) where
   -- how long their text can be: there is no General and no `@` among them
-  pub power-short : {p : Power} → OfText (PowerIs p) words (λ us. length us ≤ n * (length words / 2))
+  pub power-short : {size places : ℕ} {below : Bool} {us : List ℕ} → TextOf (PowerIs size below places) (entries_in words) us
+      → length us ≤ n * (length words / 2)
   unfolding item_allowed
-  power-short c k q i f = words-short c k n h (λ g. absurd (rw i.0 at g)) (λ a. absurd (rw i.0 at a)) q words f
+  power-short t =
+      rw t.is (words-short t.context t.kind n h (λ g. absurd (rw t.subject.0 at g)) (λ a. absurd (rw t.subject.0 at a)) t.power words t.fit)

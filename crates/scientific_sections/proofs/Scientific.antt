@@ -1,19 +1,21 @@
 -- The item words of a scientific section, cut at the E: those before it are as a number section's, those from it on show the exponent.
 -- Assumes nothing.
-use Prim.Native.Nat.{ℕ, ◌+◌, ◌-◌, ◌*◌, ◌^◌, ◌≤◌, ◌<◌}
+use Prim.Native.Nat.{ℕ, ◌+◌, ◌*◌, ◌^◌, ◌≤◌}
 use native.Mathlib.Omega.{arith}
 use mathlib.Core.Path.{◌≡◌, refl, sym, ap, ◌∙◌}
 use mathlib.Core.Bool.{Bool, false, ◌&&◌}
 use mathlib.Core.List.{List, [], ◌++◌}
 use lib.Dec.{T}
-use lib.ListN.{length, take, drop, length-take, length-drop, length-append}
+use lib.ListN.{length, take, drop, length-take, length-drop}
+use Rattle.std.specs.Prelude.{Result}
+use Rattle.answers.specs.declared.Refusal.{Refusal}
 use Rattle.answers.specs.declared.Shown.{Shown}
 use Rattle.lists.specs.Lists.{any, every, count}
-use Rattle.lists.proofs.Bools.{no, T_true, and_left, and_right, carry}
+use Rattle.lists.proofs.Bools.{T_true, and_left, and_right, carry}
 use Rattle.lists.proofs.Counts.{every-both}
 use Rattle.calendar.specs.Date.{date_of}
 use Rattle.calendar.specs.Clock.{clock_of}
-use Rattle.formats.specs.Items.{exponent, Section, number_kind, scientific_kind, kind_of, item_allowed, is_place, is_solidus, is_cut, before_cut, from_cut, integer_places, places_behind}
+use Rattle.formats.specs.Items.{exponent, Section, Kind, number_kind, scientific_kind, kind_of, item_allowed, is_place, is_solidus, is_cut, before_cut, from_cut, integer_places, places_behind}
 use Rattle.formats.specs.Text.{Context, items_units, section_units, first_of}
 use Rattle.formats.specs.Reading.{look_of, within}
 use Rattle.formats.proofs.Cutting.{before-bare, every-before, every-from, Cut, cut, scientific-some, no-solidus}
@@ -21,28 +23,14 @@ use Rattle.tables.specs.Words.{entries_in}
 use Rattle.tables.specs.Decode.{items_at}
 use Rattle.tables.specs.Rules.{entry_in_range, powers_from}
 use Rattle.table_words.specs.Sections.{ItemsOf}
-use Rattle.section_text.specs.declared.Subject.{Subject}
-use Rattle.scientific_sections.specs.declared.Power.{Power}
 use Rattle.table_words.specs.Runs.{CutAt}
-use Rattle.section_text.specs.Walk.{EntriesFit, Known}
-use Rattle.scientific_sections.specs.Power.{ScientificReady, OfScientific}
+use Rattle.section_text.specs.Walk.{EntriesFit, TextOf, HasText}
+use Rattle.scientific_sections.specs.Power.{PowerIs}
 use Rattle.section_text.specs.Show.{sign_text, scientific_reading, Shows}
-use Rattle.section_text.proofs.Lengths.{subject-short}
+use Rattle.section_text.proofs.Lengths.{short-text}
 use Rattle.scientific_sections.proofs.PowerItems.{power-short}
-use Rattle.section_text.proofs.Fitting.{sign-short}
-use Rattle.table_words.proofs.Cuts.{rest_all}
 use Rattle.section_text.proofs.Cuts.{plain-allowed, powers-anew, powers-front, powers-behind}
 use Rattle.section_text.proofs.Bodies.{items-powers}
-
--- a room that surely takes the text of the two parts
-pub scientific-short : {digits : List ℕ} {s : Subject} {p : Power} (minus : Bool) (before from : List ℕ) (size : ℕ) → s.lent ≡ false
-    → 41 * (length before + length from) + 1 ≤ size → OfScientific digits s p before from (λ us. length (sign_text minus ++ us) ≤ size)
-scientific-short minus before from size unlent h m k q i f c j r l g =
-    let us = items_units m q (items_at (entries_in before)) in
-    let vs = items_units c r (items_at (entries_in from)) in
-    let fu = subject-short 82 before (omega arith) (λ t. no (sym unlent ∙ t)) m k q i f in
-    let fv = power-short 82 from (omega arith) c j r l g in
-    sign-short minus (us ++ vs) size (omega (arith, fu, fv, length-append us vs))
 
 -- a context that shows an exponent in so many places
 abbrev power_context : ℕ → Bool → ℕ → Context
@@ -59,25 +47,19 @@ power_context size below places = record {
 }
 
 module _ {z : Section} {words : List ℕ} {start : ℕ} (o : ItemsOf z words) (k : kind_of z ≡ scientific_kind)
-    (x : CutAt words start (before_cut (items_at (entries_in words))) (from_cut (items_at (entries_in words)))) where
-  -- the two parts as the code takes them
-  abbrev before : List ℕ
-  before = take start words
-
-  abbrev from : List ℕ
-  from = take (length words - start) (drop start words)
-
-  whole : from ≡ drop start words
-  whole = rest_all start words
-
+    (x : CutAt words start (before_cut (items_at (entries_in words))) (from_cut (items_at (entries_in words))))
+    {before from : List ℕ} (eb : before ≡ take start words) (ef : from ≡ drop start words) where
   before-items : items_at (entries_in before) ≡ before_cut z.items
-  before-items = x.before ∙ ap before_cut (sym o.items)
+  before-items = ap (λ (ws : List ℕ). items_at (entries_in ws)) eb ∙ x.before ∙ ap before_cut (sym o.items)
 
   from-items : items_at (entries_in from) ≡ from_cut z.items
-  from-items = ap (λ (ws : List ℕ). items_at (entries_in ws)) whole ∙ x.from ∙ ap from_cut (sym o.items)
+  from-items = ap (λ (ws : List ℕ). items_at (entries_in ws)) ef ∙ x.from ∙ ap from_cut (sym o.items)
 
   joined : entries_in words ≡ entries_in before ++ entries_in from
-  joined = x.joins ∙ ap (λ (ws : List ℕ). entries_in before ++ entries_in ws) (sym whole)
+  joined = rw (eb, ef) x.joins
+
+  pub parts-few : (length before + length from ≡ length words) × (length before ≤ 508) × (length from ≤ 508)
+  parts-few = rw (eb, ef) (rw (length-take start words, length-drop start words) (omega (arith, x.inside), omega (arith, o.few), omega (arith, o.few)))
 
   in-range : T (every entry_in_range (entries_in before) && every entry_in_range (entries_in from))
   in-range = carry (ap (every entry_in_range) joined ∙ every-both entry_in_range (entries_in before) (entries_in from)) o.in_range
@@ -117,34 +99,23 @@ module _ {z : Section} {words : List ℕ} {start : ℕ} (o : ItemsOf z words) (k
   unfolding places_behind
   power-places c = c ∙ ap (count is_place) from-items
 
-  pub scientific-ready : {digits : List ℕ} {s : Subject} {size : ℕ} {below : Bool} {n : ℕ} → s.figures.used ≤ 40 → s.lent ≡ false → size < 100
-      → Known number_kind digits s [] → 1 ≤ places_behind z.items → places_behind z.items ≤ 254 → n ≡ count is_place (items_at (entries_in from))
-      → ScientificReady digits s (record { size = size; below = below; places = n }) before from
-  scientific-ready {size = size} {below} {n} used unlent small known least most c =
-      let places : n ≡ places_behind z.items = power-places c in
-      record {
-        used = used;
-        unlent = unlent;
-        small = (small, omega (arith, places), omega (arith, places));
-        few = rw whole (rw (length-take start words, length-drop start words) (omega (arith, o.few, x.inside)));
-        mantissa = record {
-          context = known.context;
-          kind = number_kind;
-          power = first_of (integer_places z.items);
-          subject = known.is;
-          fit = mantissa-fit known.context;
-        };
-        power = record {
-          context = power_context size below n;
-          kind = scientific_kind;
-          power = first_of (places_behind z.items);
-          subject = (refl, record { figures = refl; ungrouped = refl; sign = refl }, refl);
-          fit = power-fit (power_context size below n) places;
-        };
-      }
+  -- the mantissa's text, and the exponent's, of which there is one
+  pub mantissa-text : {P : Kind → Context → Type 0} (m : Context) → P number_kind m
+      → TextOf P (entries_in before) (items_units m (first_of (integer_places z.items)) (items_at (entries_in before)))
+  mantissa-text m p = record { context = m; kind = number_kind; power = first_of (integer_places z.items); subject = p; fit = mantissa-fit m; is = refl }
+
+  pub power-text : {P : Kind → Context → Type 0} (c : Context) → P scientific_kind c → c.integer_places ≡ places_behind z.items
+      → TextOf P (entries_in from) (items_units c (first_of (places_behind z.items)) (items_at (entries_in from)))
+  power-text c p places = record { context = c; kind = scientific_kind; power = first_of (places_behind z.items); subject = p; fit = power-fit c places; is = refl }
+
+  pub power-some : (size : ℕ) (below : Bool) → HasText (TextOf (PowerIs size below (places_behind z.items))) (entries_in from)
+  power-some size below =
+      let t : TextOf (PowerIs size below (places_behind z.items)) (entries_in from) _ =
+      power-text (power_context size below (places_behind z.items)) (refl, record { figures = refl; ungrouped = refl; sign = refl }, refl) refl in
+      short-text from _ parts-few.2 t (power-short 1024 from (omega arith) t)
 
   -- what is shown of the words is what is shown of the section
-  pub scientific-shows : {old out : List ℕ} {r : Shown} {colour : ℕ} (size i : ℕ) (minus exact : Bool) (m c : Context)
+  pub scientific-shows : {old out : List ℕ} {r : Result Shown Refusal} {colour : ℕ} (size i : ℕ) (minus exact : Bool) (m c : Context)
       → colour ≡ z.colour → m.integer_places ≡ integer_places z.items → c.integer_places ≡ places_behind z.items
       → Shows (within size (look_of (sign_text minus ++ (items_units m (first_of (integer_places z.items)) (items_at (entries_in before))
       ++ items_units c (first_of (places_behind z.items)) (items_at (entries_in from)))) colour i exact)) old r out

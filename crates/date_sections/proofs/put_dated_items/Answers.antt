@@ -21,7 +21,7 @@ loop-pair-init c =
       pairs = search rules;
       walking = walking_start e c.requires;
       dated = λ t. rw e at t;
-      finest = finest-start _ _ _ e refl;
+      finest = finest-start _ _ _ e (omega arith);
     }
 
 pub put_dated_item-written-requires : goal.put_dated_item-written-requires

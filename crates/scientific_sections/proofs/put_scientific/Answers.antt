@@ -5,5 +5,4 @@ use Rattle.writing.proofs.Laws.{put-put}
 use Rattle.scientific_sections.proofs.put_scientific.Goals as goal
 
 pub returns-clause-put : goal.returns-clause-put
-returns-clause-put c =
-    λ m k q i f e j r l g. rw (← append_assoc) (put-put (c.put_text-at.ensures.put m k q i f) (c.put_exponent_items.ensures.put e j r l g))
+returns-clause-put c = λ us vs t u. rw (← append_assoc) (put-put (c.put_text-at.ensures.put us t) (c.put_items.ensures.put vs u))
