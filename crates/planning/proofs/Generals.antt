@@ -8,7 +8,7 @@ use mathlib.Core.Bool.{Bool, true, false}
 use mathlib.Core.List.{List, []}
 use lib.Dec.{T, eqb, leb}
 use borrow.Author.Tests.{ne_eqb, lt-leb}
-use Rattle.answers.specs.declared.Answer.TheVariants as answer
+use Rattle.answers.specs.declared.Refusal.TheVariants as answer
 use Rattle.values.specs.declared.Number.{Number}
 use Rattle.lists.proofs.Bools.{T_true}
 use Rattle.calendar.specs.Date.{date_of}

@@ -1,21 +1,18 @@
 -- An instant in the section that takes it.
 -- Assumes nothing.
-use Prim.Native.Nat.{ℕ, ◌+◌, ◌*◌, ◌≤◌, ◌<◌}
+use Prim.Native.Nat.{ℕ, ◌+◌, ◌*◌, ◌≤◌}
 use mathlib.Core.Path.{◌≡◌, refl, sym, ap, ◌∙◌}
 use mathlib.Core.Bool.{Bool, true, false, true≢false}
 use mathlib.Core.List.{List}
-use lib.Dec.{T}
-use lib.ListN.{get_or}
-use Rattle.answers.specs.declared.Answer.TheVariants as answer
+use Rattle.answers.specs.declared.Refusal.TheVariants as answer
 use Rattle.values.specs.declared.Day.{Day}
 use Rattle.values.specs.declared.Millisecond.{Millisecond}
 use Rattle.formats.specs.Items.{Section, Kind, date_kind, literal_kind, shows_places, kind_of, integer_places}
 use Rattle.calendar.specs.Clock.{since_day_zero}
 use Rattle.formats.specs.Choice.{instant_exact, Reason, chosen, choose}
 use Rattle.formats.specs.Reading.{refused, takes_instant, instant_context, instant_exactly, read_instant}
-use Rattle.tables.specs.Decode.{decode}
-use Rattle.tables.specs.Rules.{passes}
-use Rattle.table_words.specs.Sections.{section_in}
+use Rattle.table_words.specs.declared.TableSection.{TableSection}
+use Rattle.table_words.specs.Tabled.{sections_of, section_of}
 use Rattle.choosing.specs.Seeking.{instant_sought}
 use Rattle.figure_text.specs.declared.Figures.{Figures}
 use Rattle.section_text.specs.Show.{sign_text, section_reading}
@@ -38,34 +35,33 @@ literal-exactly : (s : Section) (m : Millisecond) → kind_of s ≡ literal_kind
 unfolding instant_exactly
 literal-exactly s m e = rw e
 
-module _ (ws : List ℕ) (i : ℕ) (t : T (passes ws)) (h : i < get_or ws 0 0) (d : Day) (m : Millisecond) where
-  pub instant-places : TakesInstant (kind_of (section_in ws i)) → (instant_context (section_in ws i) d m).integer_places ≡ integer_places (section_in ws i).items
+module _ (z : TableSection) (d : Day) (m : Millisecond) where
+  pub instant-places : TakesInstant (kind_of (section_of z)) → (instant_context (section_of z) d m).integer_places ≡ integer_places (section_of z).items
   unfolding instant_context
-  instant-places e = section-places ws i t h e.1
+  instant-places e = section-places z e.1
 
   -- the reading of an instant in the section, by whether its kind takes one
-  module _ (why : Reason) (eo : choose (decode ws) (instant_exact d m) ≡ chosen i (section_in ws i) why) where
-    pub instant-refused : takes_instant (kind_of (section_in ws i)) ≡ false
-        → (size : ℕ) → read_instant d m size (choose (decode ws) (instant_exact d m)) ≡ refused answer.Sort
+  module _ (why : Reason) (eo : choose (sections_of z.table) (instant_exact d m) ≡ chosen z.place (section_of z) why) where
+    pub instant-refused : takes_instant (kind_of (section_of z)) ≡ false
+        → (size : ℕ) → read_instant d m size (choose (sections_of z.table) (instant_exact d m)) ≡ refused answer.Sort
     unfolding read_instant
     instant-refused e size = rw (eo, e)
 
-    pub instant-reads : TakesInstant (kind_of (section_in ws i)) → (size : ℕ) → read_instant d m size (choose (decode ws) (instant_exact d m))
-        ≡ section_reading size (section_in ws i) i false (instant_exactly (section_in ws i) m) (instant_context (section_in ws i) d m)
+    pub instant-reads : TakesInstant (kind_of (section_of z)) → (size : ℕ) → read_instant d m size (choose (sections_of z.table) (instant_exact d m))
+        ≡ section_reading size (section_of z) z.place false (instant_exactly (section_of z) m) (instant_context (section_of z) d m)
     unfolding read_instant section_reading sign_text
     instant-reads e size = rw (eo, e.0)
 
-    pub instant-literal : {digits text : List ℕ} {f : Figures} → f.used ≤ 40 → kind_of (section_in ws i) ≡ literal_kind
-        → SectionIs i false (record { figures = f; lent = false }) digits true ws text (λ size. read_instant d m size (choose (decode ws) (instant_exact d m)))
+    pub instant-literal : {digits text : List ℕ} {f : Figures} → f.used ≤ 40 → kind_of (section_of z) ≡ literal_kind
+        → SectionIs z false (record { figures = f; lent = false }) digits true text (λ size. read_instant d m size (choose (sections_of z.table) (instant_exact d m)))
     instant-literal u e =
-        let k = literal-takes (kind_of (section_in ws i)) e in
+        let k = literal-takes (kind_of (section_of z)) e in
         record {
-          inside = h;
           used = u;
           short = λ l. absurd (true≢false (sym l));
-          known = record { context = instant_context (section_in ws i) d m; is = literal-subject (instant_context (section_in ws i) d m) e };
+          known = record { context = instant_context (section_of z) d m; is = literal-subject (instant_context (section_of z) d m) e };
           places = instant-places k;
-          reads = λ size. instant-reads k size ∙ ap (λ (b : Bool). section_reading size (section_in ws i) i false b (instant_context (section_in ws i) d m)) (literal-exactly (section_in ws i) m e);
+          reads = λ size. instant-reads k size ∙ ap (λ (b : Bool). section_reading size (section_of z) z.place false b (instant_context (section_of z) d m)) (literal-exactly (section_of z) m e);
         }
 
 pub sought-instant : (d : Day) (m : Millisecond)

@@ -1,4 +1,4 @@
-pub mod KindWords
+pub mod Sorts
 pub mod Places
 pub mod Minus
 pub mod Subjects

@@ -1,11 +1,11 @@
 -- A number in the section that takes it: its sign, and its reading.
 -- Assumes nothing.
-use Prim.Native.Nat.{ℕ, ◌≤◌, ◌<◌}
+use Prim.Native.Nat.{ℕ, ◌≤◌}
 use mathlib.Core.Path.{◌≡◌, refl, sym, ap, ap₂, ◌∙◌}
 use mathlib.Core.Bool.{Bool, true, false, ◌&&◌, true≢false}
 use mathlib.Core.List.{List, ◌++◌}
 use lib.Dec.{eqb}
-use lib.ListN.{length, get_or}
+use lib.ListN.{length}
 use Rattle.values.specs.declared.Number.{Number}
 use Rattle.figures.specs.declared.Signed.{Signed}
 use Rattle.figures.specs.Sign.{signed_of}
@@ -18,8 +18,9 @@ use Rattle.formats.specs.Minus.{is_own, first_has_condition, exception_a, sign_u
 use Rattle.formats.specs.Reading.{look_of, within, number_context, takes_number, shows_general, shows_nought, section_text, exponent_context, section_fraction, number_sign, number_units, number_exactly, read_number}
 use Rattle.tables.specs.Words.{Head}
 use Rattle.tables.specs.Encode.{head_of}
-use Rattle.tables.specs.Decode.{decode}
-use Rattle.table_words.specs.Sections.{section_in, head_in}
+use Rattle.table_words.specs.declared.TableSection.{TableSection}
+use Rattle.table_words.specs.Sections.{head_in}
+use Rattle.table_words.specs.Tabled.{sections_of, section_of}
 use Rattle.choosing.proofs.Finding.{chosen-exception}
 use Rattle.figure_text.specs.declared.Figures.{Figures}
 use Rattle.section_text.specs.Subject.{SubjectIs}
@@ -29,10 +30,10 @@ use Rattle.planning.specs.Minus.{minus_told, minus_in}
 use Rattle.planning.specs.Plan.{SectionIs}
 use Rattle.planning.proofs.Minus.{sign-told}
 
-pub minus-words : (ws : List ℕ) (i : ℕ) (negative held : Bool) {minus excepted x : Bool} {h : Head} → h ≡ head_in ws i → excepted ≡ x
-    → minus ≡ minus_told negative (eqb h.items 0) excepted held → minus ≡ minus_told negative (eqb (length (section_in ws i).items) 0) x held
+pub minus-words : (z : TableSection) (negative held : Bool) {minus excepted x : Bool} {h : Head} → h ≡ head_in z.table.words.now z.place → excepted ≡ x
+    → minus ≡ minus_told negative (eqb h.items 0) excepted held → minus ≡ minus_told negative (eqb (length (section_of z).items) 0) x held
 unfolding head_of
-minus-words ws i negative held eh ee em = em ∙ ap₂ (λ (k : Head) (b : Bool). minus_told negative (eqb k.items 0) b held) eh ee
+minus-words z negative held eh ee em = em ∙ ap₂ (λ (k : Head) (b : Bool). minus_told negative (eqb k.items 0) b held) eh ee
 
 -- a value's number is the one that its magnitude and sign are of
 pub exact : (v : Signed) (x : Number) → v ≡ signed_of x → decimal v.magnitude v.scale ≡ (number_exact x).size
@@ -49,61 +50,60 @@ pub literal-takes : (z : Section) (x : Number) → kind_of z ≡ literal_kind �
 unfolding shows_nought shows_general takes_number
 literal-takes z x e = record { nought = rw e; number = rw e; narrow = rw e }
 
-module _ (ws : List ℕ) (i : ℕ) (v : Signed) (x : Number) (why : Reason) (ev : v ≡ signed_of x)
-    (eo : choose (decode ws) (number_exact x) ≡ chosen i (section_in ws i) why) {held : Bool} (t : Takes (section_in ws i) x held) where
+module _ (z : TableSection) (v : Signed) (x : Number) (why : Reason) (ev : v ≡ signed_of x)
+    (eo : choose (sections_of z.table) (number_exact x) ≡ chosen z.place (section_of z) why) {held : Bool} (t : Takes (section_of z) x held) where
   -- the sign as the code finds it, from the section's count of items, exception (a) by its flag and whether it shows nought
-  number-sign : sign_units (number_sign (decode ws) i (section_in ws i) why x) ≡ sign_text (minus_in ws i v.negative held)
+  number-sign : sign_units (number_sign (sections_of z.table) z.place (section_of z) why x) ≡ sign_text (minus_in z v.negative held)
   unfolding number_sign signed_of
   number-sign =
-      let s : Section = section_in ws i in
-      let first : Bool = first_has_condition (decode ws) in
-      let a : exception_a (counted (decode ws)) i (has_condition s) first ≡ exception_a (counted (decode ws)) i (is_own why) first =
-      chosen-exception (decode ws) (number_exact x) i s why first eo in
-      sign-told x s (exception_a (counted (decode ws)) i (is_own why) first) (shows_nought s x) (length s.items) refl
+      let s : Section = section_of z in
+      let first : Bool = first_has_condition (sections_of z.table) in
+      let a : exception_a (counted (sections_of z.table)) z.place (has_condition s) first ≡ exception_a (counted (sections_of z.table)) z.place (is_own why) first =
+      chosen-exception (sections_of z.table) (number_exact x) z.place s why first eo in
+      sign-told x s (exception_a (counted (sections_of z.table)) z.place (is_own why) first) (shows_nought s x) (length s.items) refl
       ∙ sym (rw (ap (λ (w : Signed). w.negative) ev, t.nought, a))
 
   number-reads : (size : ℕ)
-      → read_number (decode ws) x size (choose (decode ws) (number_exact x))
-      ≡ within size (look_of (sign_text (minus_in ws i v.negative held) ++ section_text (section_in ws i) x) (section_in ws i).colour i (number_exactly (section_in ws i) x))
+      → read_number (sections_of z.table) x size (choose (sections_of z.table) (number_exact x))
+      ≡ within size (look_of (sign_text (minus_in z v.negative held) ++ section_text (section_of z) x) (section_of z).colour z.place (number_exactly (section_of z) x))
   unfolding read_number number_units
   number-reads size =
-      let s : Section = section_in ws i in
-      ap (read_number (decode ws) x size) eo ∙ rw (t.number, t.narrow)
-      (ap (λ (us : List ℕ). within size (look_of (us ++ section_text s x) s.colour i (number_exactly s x))) number-sign)
+      let s : Section = section_of z in
+      ap (read_number (sections_of z.table) x size) eo ∙ rw (t.number, t.narrow)
+      (ap (λ (us : List ℕ). within size (look_of (us ++ section_text s x) s.colour z.place (number_exactly s x))) number-sign)
 
   -- in a section with no E and no solidus
-  plain-reads : same_kind (kind_of (section_in ws i)) scientific_kind ≡ false → same_kind (kind_of (section_in ws i)) fraction_kind ≡ false → (size : ℕ)
-      → read_number (decode ws) x size (choose (decode ws) (number_exact x))
-      ≡ section_reading size (section_in ws i) i (minus_in ws i v.negative held) (number_exactly (section_in ws i) x) (number_context (section_in ws i) x)
+  plain-reads : same_kind (kind_of (section_of z)) scientific_kind ≡ false → same_kind (kind_of (section_of z)) fraction_kind ≡ false → (size : ℕ)
+      → read_number (sections_of z.table) x size (choose (sections_of z.table) (number_exact x))
+      ≡ section_reading size (section_of z) z.place (minus_in z v.negative held) (number_exactly (section_of z) x) (number_context (section_of z) x)
   unfolding section_reading section_text
   plain-reads e f size = number-reads size ∙ rw (e, f)
 
-  pub number-section : {digits text : List ℕ} {f : Figures} {exact : Bool} → exact ≡ number_exactly (section_in ws i) x → i < get_or ws 0 0 → f.used ≤ 40
-      → SubjectIs (kind_of (section_in ws i)) digits (record { figures = f; lent = false }) text (number_context (section_in ws i) x)
-      → SectionIs i (minus_in ws i v.negative held) (record { figures = f; lent = false }) digits exact ws text
-      (λ size. read_number (decode ws) x size (choose (decode ws) (number_exact x)))
+  pub number-section : {digits text : List ℕ} {f : Figures} {exact : Bool} → exact ≡ number_exactly (section_of z) x → f.used ≤ 40
+      → SubjectIs (kind_of (section_of z)) digits (record { figures = f; lent = false }) text (number_context (section_of z) x)
+      → SectionIs z (minus_in z v.negative held) (record { figures = f; lent = false }) digits exact text
+      (λ size. read_number (sections_of z.table) x size (choose (sections_of z.table) (number_exact x)))
   unfolding number_context
-  number-section ee h u is = record {
-    inside = h;
+  number-section ee u is = record {
     used = u;
     short = λ e. absurd (true≢false (sym e));
-    known = record { context = number_context (section_in ws i) x; is = is };
+    known = record { context = number_context (section_of z) x; is = is };
     places = refl;
     reads =
         λ size.
-        rw ee (plain-reads (other-kind scientific_kind (kind_of (section_in ws i)) is.unscientific) (other-kind fraction_kind (kind_of (section_in ws i)) is.unfractional) size);
+        rw ee (plain-reads (other-kind scientific_kind (kind_of (section_of z)) is.unscientific) (other-kind fraction_kind (kind_of (section_of z)) is.unfractional) size);
   }
 
   -- in a scientific section
-  pub scientific-reads : kind_of (section_in ws i) ≡ scientific_kind → (size : ℕ)
-      → read_number (decode ws) x size (choose (decode ws) (number_exact x))
-      ≡ scientific_reading size (section_in ws i) i (minus_in ws i v.negative held) (number_exactly (section_in ws i) x) (number_context (section_in ws i) x) (exponent_context (section_in ws i) x)
+  pub scientific-reads : kind_of (section_of z) ≡ scientific_kind → (size : ℕ)
+      → read_number (sections_of z.table) x size (choose (sections_of z.table) (number_exact x))
+      ≡ scientific_reading size (section_of z) z.place (minus_in z v.negative held) (number_exactly (section_of z) x) (number_context (section_of z) x) (exponent_context (section_of z) x)
   unfolding scientific_reading section_text
   scientific-reads k size = number-reads size ∙ rw k
 
   -- in a fraction
-  pub fraction-reads : kind_of (section_in ws i) ≡ fraction_kind → (size : ℕ)
-      → read_number (decode ws) x size (choose (decode ws) (number_exact x))
-      ≡ fraction_reading size (section_in ws i) i (minus_in ws i v.negative held) (number_exactly (section_in ws i) x) (section_fraction (section_in ws i) x)
+  pub fraction-reads : kind_of (section_of z) ≡ fraction_kind → (size : ℕ)
+      → read_number (sections_of z.table) x size (choose (sections_of z.table) (number_exact x))
+      ≡ fraction_reading size (section_of z) z.place (minus_in z v.negative held) (number_exactly (section_of z) x) (section_fraction (section_of z) x)
   unfolding fraction_reading section_text
   fraction-reads k size = number-reads size ∙ rw k

@@ -1,8 +1,12 @@
 -- The integer places of a section: the argument of its first place is 15 more.
 -- Assumes nothing.
-use Prim.Native.Nat.{ℕ, suc, ◌+◌, ◌*◌, ◌≤◌, ◌<◌}
+use Prim.Native.Nat.{ℕ, suc, ◌+◌, ◌≤◌}
 use native.Mathlib.Omega.{arith}
-use mathlib.Core.Path.{◌≡◌, refl, sym, ◌∙◌}
+use mathlib.Core.Path.{◌≡◌, refl, sym, ap, ◌∙◌}
+use Rattle.std.specs.Borrow.{Bor}
+use Rattle.std.specs.Prelude.{Option, Some, None, MatchOption}
+use Rattle.std.specs.Option.{option_map, option_map_or}
+use Rattle.std.specs.List.{find}
 use mathlib.Core.Bool.{true, false, ◌||◌}
 use mathlib.Core.List.{List, [], ◌∷◌}
 use lib.Dec.{T, eqb→eq}
@@ -16,11 +20,13 @@ use Rattle.formats.specs.Text.{digit_after, along, first_of}
 use Rattle.formats.proofs.Cutting.{no-solidus, main-all}
 use Rattle.tables.specs.Words.{Entry, entries_in}
 use Rattle.tables.specs.Decode.{item_at, items_at}
-use Rattle.tables.specs.Rules.{power_fits, powers_from, run_powers, all_of, passes}
-use Rattle.tables.proofs.Words.{Seeking, seeking-front, seeking-step, seeking-end}
+use Rattle.tables.specs.Rules.{power_fits, powers_from, run_powers, all_of}
 use Rattle.tables.proofs.BackEntries.{place-tag, powers-all}
-use Rattle.table_words.specs.Sections.{section_in, ItemsOf}
+use Rattle.table_words.specs.declared.TableSection.{TableSection}
+use Rattle.table_words.specs.Sections.{ItemsOf}
+use Rattle.table_words.specs.Tabled.{section_of}
 use Rattle.table_words.proofs.Bodies.{section-allowed, section-limits, section-exponent}
+use Rattle.table_words.proofs.Pairs.{entry_of}
 use Rattle.planning.specs.Number.{first_argument}
 
 -- a place's argument, and that an item which is no place, no E and no solidus changes no power
@@ -69,37 +75,38 @@ first-is a n (e ∷ es) t z p =
     (λ y. z (omega (arith, places-most (item_at e) (items_at es) h))) (placed-behind (item_at e) (items_at es) h p)))
 
 -- of a section that is no fraction
-module _ (ws : List ℕ) (i : ℕ) (t : T (passes ws)) (l : i < get_or ws 0 0) (k : same_kind (kind_of (section_in ws i)) fraction_kind ≡ false) where
-  no_fraction : any is_solidus (section_in ws i).items ≡ false
-  no_fraction = no-solidus (kind_of (section_in ws i)) (section_in ws i).items k (section-allowed ws i t l)
+module _ (z : TableSection) (k : same_kind (kind_of (section_of z)) fraction_kind ≡ false) where
+  no_fraction : any is_solidus (section_of z).items ≡ false
+  no_fraction = no-solidus (kind_of (section_of z)) (section_of z).items k (section-allowed _ _ z.table.passes z.there)
 
-  pub integers-most : integer_places (section_in ws i).items ≤ 20
-  integers-most = rw (main-all (section_in ws i).items no_fraction) at (section-limits ws i t l).integers-most
+  pub integers-most : integer_places (section_of z).items ≤ 20
+  integers-most = rw (main-all (section_of z).items no_fraction) at (section-limits _ _ z.table.passes z.there).integers-most
 
-  section-placed : Placed (section_in ws i).items
+  section-placed : Placed (section_of z).items
   section-placed some =
-      (section-exponent ws i t l
-      (by_cases (any is_exponent (section_in ws i).items) (λ e. e) (λ e. sym (any-either is_exponent is_solidus (section_in ws i).items ∙ rw (e, no_fraction)) ∙ some))).integer
+      (section-exponent _ _ z.table.passes z.there
+      (by_cases (any is_exponent (section_of z).items) (λ e. e) (λ e. sym (any-either is_exponent is_solidus (section_of z).items ∙ rw (e, no_fraction)) ∙ some))).integer
 
   -- its integer places, from the words of its items
-  pub argument_is : {words : List ℕ} {r : ℕ} → ItemsOf (section_in ws i) words → r ≡ first_argument (entries_in words)
-      → r ≡ 15 + integer_places (section_in ws i).items
+  pub argument_is : {words : List ℕ} {r : ℕ} → ItemsOf (section_of z) words → r ≡ first_argument (entries_in words)
+      → r ≡ 15 + integer_places (section_of z).items
   unfolding run_powers
   argument_is {words} o e =
       e ∙ rw o.items
       (first-is _ (integer_places (items_at (entries_in words))) (entries_in words)
       (powers-all (entries_in words) (rw o.items at no_fraction) o.powers) (λ y. y) (rw o.items at section-placed))
 
--- ---- the loop over the item words, before item k: no place has been met
-module _ {words : List ℕ} {n k : ℕ} (s : Seeking first_argument words n k) where
-  pub place-met : k < n → between 4 6 (get_or words (2 * k) 0) ≡ true → get_or words (2 * k + 1) 0 ≡ first_argument (entries_in words)
-  unfolding first_argument
-  place-met h t = sym (seeking-front s h ∙ rw t)
+-- ---- the argument of the first place, as it is found among the entries
+first-found : (es : List Entry) → first_argument es ≡ option_map_or (λ (e : Entry). e.argument) (find (λ (e : Entry). between 4 6 e.tag) es) 15
+unfolding first_argument
+first-found [] = refl
+first-found (e ∷ es) = by_cases (between 4 6 e.tag) (λ t. rw t) (λ t. rw t (first-found es))
 
-  pub place-passed : k < n → between 4 6 (get_or words (2 * k) 0) ≡ false → Seeking first_argument words n (k + 1)
-  unfolding first_argument
-  place-passed h t = seeking-step s h (seeking-front s h ∙ rw t)
+read-off : (o : Option (Bor (List ℕ))) (r : ℕ) → MatchOption o (r ≡ 15) (λ x. r ≡ get_or x.now 1 0) → r ≡ option_map_or (λ (e : Entry). e.argument) (option_map entry_of o) 15
+read-off None r m = m
+read-off (Some x) r m = m
 
-  pub place_none : n ≤ k → 15 ≡ first_argument (entries_in words)
-  unfolding first_argument
-  place_none h = sym (seeking-end s h)
+pub argument-found : (es : List Entry) (o : Option (Bor (List ℕ))) (r : ℕ) → option_map entry_of o ≡ find (λ (e : Entry). between 4 6 e.tag) es
+    → MatchOption o (r ≡ 15) (λ x. r ≡ get_or x.now 1 0) → r ≡ first_argument es
+argument-found es o r f m =
+    read-off o r m ∙ ap (λ (e : Option Entry). option_map_or (λ (x : Entry). x.argument) e 15) f ∙ sym (first-found es)

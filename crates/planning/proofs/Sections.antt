@@ -5,9 +5,8 @@ use native.Mathlib.Omega.{arith}
 use mathlib.Core.Path.{◌≡◌, refl, sym, ap, ap₂, ◌∙◌}
 use mathlib.Core.Bool.{Bool, true, false, ◌||◌}
 use mathlib.Core.List.{List}
-use lib.Dec.{T, eqb}
+use lib.Dec.{eqb}
 use lib.IntN.{nat_abs}
-use lib.ListN.{get_or}
 use Rattle.values.specs.declared.Number.{Number}
 use Rattle.lists.specs.Lists.{count}
 use Rattle.figures.specs.declared.Signed.{Signed}
@@ -23,9 +22,10 @@ use Rattle.formats.specs.Reading.{takes_number, shows_general, section_rounded, 
 use Rattle.formats.proofs.Exactness.{exactly-number}
 use Rattle.tables.specs.Words.{Head}
 use Rattle.tables.specs.Encode.{shift_word, decimals_word, head_of}
-use Rattle.tables.specs.Rules.{passes}
 use Rattle.tables.proofs.MadeHeads.{Within}
-use Rattle.table_words.specs.Sections.{section_in, head_in}
+use Rattle.table_words.specs.declared.TableSection.{TableSection}
+use Rattle.table_words.specs.Sections.{head_in}
+use Rattle.table_words.specs.Tabled.{section_of}
 use Rattle.table_words.proofs.Bodies.{section-limits}
 use Rattle.figure_text.specs.declared.Figures.{Figures}
 use Rattle.figure_text.specs.Shown.{FiguresAre, figures_with}
@@ -40,12 +40,12 @@ pub record NumberWords (shift decimals : ℕ) (s : Section) : Type 0 where
   pub net : shift + 3 * s.thousands ≡ 15 + 2 * count is_percent s.items
   pub places : decimals ≡ decimal_places s.items
 
-pub number-words : (ws : List ℕ) (i : ℕ) {h : Head} → T (passes ws) → i < get_or ws 0 0 → kind_of (section_in ws i) ≡ number_kind → h ≡ head_in ws i
-    → NumberWords h.shift h.decimals (section_in ws i)
+pub number-words : (z : TableSection) {h : Head} → kind_of (section_of z) ≡ number_kind → h ≡ head_in z.table.words.now z.place
+    → NumberWords h.shift h.decimals (section_of z)
 unfolding head_of shift_word decimals_word
-number-words ws i {h} t l k e =
-    let s : Section = section_in ws i in
-    let w : Within s = section-limits ws i t l in
+number-words z {h} k e =
+    let s : Section = section_of z in
+    let w : Within s = section-limits _ _ z.table.passes z.there in
     let shift : h.shift ≡ 15 + 2 * count is_percent s.items - 3 * s.thousands = ap (λ (x : Head). x.shift) e ∙ rw k in
     let decimals : h.decimals ≡ decimal_places s.items = ap (λ (x : Head). x.decimals) e ∙ rw k in
     record {

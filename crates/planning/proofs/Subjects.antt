@@ -1,18 +1,17 @@
 -- What a section's kind says of its places, and of the subject that it shows.
 -- Assumes nothing.
-use Prim.Native.Nat.{ℕ, ◌<◌}
+use Prim.Native.Nat.{ℕ}
 use mathlib.Core.Path.{◌≡◌, refl}
 use mathlib.Core.Bool.{false}
 use mathlib.Core.List.{List, [], ◌∷◌}
 use lib.Dec.{T}
-use lib.ListN.{get_or}
 use Rattle.lists.specs.Lists.{every}
 use Rattle.lists.proofs.Bools.{every-head, every-tail}
 use Rattle.formats.specs.Items.{Item, Kind, date_kind, number_kind, scientific_kind, fraction_kind, literal_kind, same_kind, shows_places, item_allowed, kind_of, integer_places}
 use Rattle.formats.specs.Text.{Context}
 use Rattle.formats.proofs.Each.{by-item}
-use Rattle.tables.specs.Rules.{passes}
-use Rattle.table_words.specs.Sections.{section_in}
+use Rattle.table_words.specs.declared.TableSection.{TableSection}
+use Rattle.table_words.specs.Tabled.{section_of}
 use Rattle.table_words.proofs.Bodies.{section-allowed}
 use Rattle.figure_text.specs.Shown.{FiguresAre}
 use Rattle.section_text.specs.declared.Subject.{Subject}
@@ -33,10 +32,9 @@ no-places k (i ∷ is) t e =
     (λ t r. refl) (λ n t r. r)
     i (every-head (item_allowed k) i is t) (no-places k is (every-tail (item_allowed k) i is t) e)
 
-pub section-places : (ws : List ℕ) (i : ℕ) → T (passes ws) → i < get_or ws 0 0 → shows_places (kind_of (section_in ws i)) ≡ false
-    → 0 ≡ integer_places (section_in ws i).items
-section-places ws i t h e =
-    no-places (kind_of (section_in ws i)) (section_in ws i).items (section-allowed ws i t h) e
+pub section-places : (z : TableSection) → shows_places (kind_of (section_of z)) ≡ false → 0 ≡ integer_places (section_of z).items
+section-places z e =
+    no-places (kind_of (section_of z)) (section_of z).items (section-allowed _ _ z.table.passes z.there) e
 
 module _ {k : Kind} {digits : List ℕ} {s : Subject} {text : List ℕ} (c : Context) where
   -- nothing is asked of the subject of a literal section, its figures alone of a number section's

@@ -14,9 +14,9 @@ use Rattle.formats.specs.Where.{implies, is_text, stands_at}
 use Rattle.formats.specs.Choice.{TextChoice, itself, text_in, fourth_from, text_from, choose_text}
 use Rattle.formats.specs.Reading.{text_context, look_of, within, read_text, read_value}
 use Rattle.tables.specs.Decode.{decode}
-use Rattle.tables.specs.Rules.{passes}
-use Rattle.choosing.specs.declared.TextFound.TheVariants as found
-use Rattle.table_words.specs.Sections.{section_in}
+use Rattle.std.specs.Prelude.{Some, None}
+use Rattle.table_words.specs.declared.TableSection.{TableSection}
+use Rattle.table_words.specs.Tabled.{sections_of, section_of}
 use Rattle.table_words.proofs.Heads.{section-stands}
 use Rattle.choosing.specs.Seeking.{text_found_of}
 use Rattle.choosing.proofs.Finding.{text-itself, text_at}
@@ -67,33 +67,32 @@ fourth-plain n i s t e =
     let a : T (implies (eqb i 3) (Plain (kind_of s))) = search (and_left, and_right) in
     implied (eqb i 3) (Plain (kind_of s)) a (true-T e)
 
-module _ (ws : List ℕ) (i : ℕ) (t : T (passes ws)) (e : found.At i ≡ text_found_of (choose_text (decode ws))) where
-  section-plain : T (Plain (kind_of (section_in ws i)))
+module _ (z : TableSection) (e : Some z.place ≡ text_found_of (choose_text (sections_of z.table))) where
+  section-plain : T (Plain (kind_of (section_of z)))
   section-plain =
-      by_cases (eqb i 3)
-      (λ f. fourth-plain (length (decode ws)) i (section_in ws i) (true-T (section-stands ws i t (text_at ws i e).1)) f)
-      (λ f. text-plain (kind_of (section_in ws i)) (goes (decode ws) i (section_in ws i) (text_at ws i e).0 f))
+      by_cases (eqb z.place 3)
+      (λ f. fourth-plain (length (sections_of z.table)) z.place (section_of z) (true-T (section-stands _ _ z.table.passes z.there)) f)
+      (λ f. text-plain (kind_of (section_of z)) (goes (sections_of z.table) z.place (section_of z) (text_at _ _ e).0 f))
 
   text-reads : (text : List ℕ) → length text ≤ 1024
-      → (size : ℕ) → value_reading ws value.Text text size ≡ section_reading size (section_in ws i) i false true (text_context text)
+      → (size : ℕ) → value_reading z.table.words.now value.Text text size ≡ section_reading size (section_of z) z.place false true (text_context text)
   unfolding read_value read_text section_reading sign_text
-  text-reads text h size = rw (le-leb (length text) 1024 h, (text_at ws i e).0)
+  text-reads text h size = rw (le-leb (length text) 1024 h, (text_at _ _ e).0)
 
   pub text-section : {digits text : List ℕ} {f : Figures} → f.used ≤ 40 → length text ≤ 1024
-      → SectionIs i false (record { figures = f; lent = true }) digits true ws text (value_reading ws value.Text text)
+      → SectionIs z false (record { figures = f; lent = true }) digits true text (value_reading z.table.words.now value.Text text)
   unfolding text_context
   text-section {digits} {text} u h =
-      let k = plain-kind (kind_of (section_in ws i)) section-plain in
+      let k = plain-kind (kind_of (section_of z)) section-plain in
       record {
-        inside = (text_at ws i e).1;
         used = u;
         short = λ l. h;
         known = record { context = text_context text; is = standing-subject (text_context text) k refl };
-        places = section-places ws i t (text_at ws i e).1 k.0;
+        places = section-places z k.0;
         reads = text-reads text h;
       }
 
-pub itself-reads : (ws text : List ℕ) → length text ≤ 1024 → found.Itself ≡ text_found_of (choose_text (decode ws))
+pub itself-reads : (ws text : List ℕ) → length text ≤ 1024 → None ≡ text_found_of (choose_text (decode ws))
     → (size : ℕ) → value_reading ws value.Text text size ≡ within size (look_of text 0 4 true)
 unfolding read_value read_text
 itself-reads ws text h e size = rw (le-leb (length text) 1024 h, text-itself ws e)

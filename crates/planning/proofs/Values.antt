@@ -14,15 +14,15 @@ use Rattle.values.specs.declared.Value.{Value}
 use Rattle.values.specs.declared.Ask.{Ask}
 use Rattle.values.specs.Ranges.{day_greatest, millisecond_greatest, instant_in_range}
 use Rattle.figures.specs.declared.Signed.{Signed}
-use Rattle.figures.specs.declared.Taken.TheVariants as taken
 use Rattle.figures.specs.Sign.{signed_of, taken_of}
 use Rattle.figures.proofs.Sign.{in-says, range-says}
 use Rattle.formats.specs.Choice.{Exact, number_exact, instant_exact, Reason, nothing, chosen, choose}
 use Rattle.formats.specs.Reading.{Reading, reading}
 use Rattle.tables.specs.Decode.{decode}
-use Rattle.table_words.specs.Sections.{section_in}
+use Rattle.table_words.specs.declared.TableSection.{TableSection}
+use Rattle.table_words.specs.Tabled.{sections_of, section_of}
 use Rattle.choosing.specs.declared.Sought.{Sought}
-use Rattle.choosing.specs.declared.Found.TheVariants as found
+use Rattle.std.specs.Prelude.{Some, None}
 use Rattle.choosing.specs.Seeking.{parts_of_one, exact_of, instant_sought, found_of}
 use Rattle.choosing.proofs.Asking.{instant-exact}
 use Rattle.choosing.proofs.Finding.{found_nothing, found_at}
@@ -46,16 +46,16 @@ module _ (d : Day) (m : Millisecond) where
   instant-within h k = rw (le-leb 0 d.0 (omega arith), le-leb d.0 day_greatest h, le-leb 0 m.0 (omega arith), le-leb m.0 millisecond_greatest k)
 
 -- the section that was found for a number or an instant
-pub found_within : (ws : List ℕ) (x : Exact) (i : ℕ) → found.At i ≡ found_of (choose (decode ws) x) → i < get_or ws 0 0
+pub found_within : (ws : List ℕ) (x : Exact) (i : ℕ) → Some i ≡ found_of (choose (decode ws) x) → i < get_or ws 0 0
 found_within ws x i e = found_at ws x i e (λ why h l. l)
 
 module _ (ws : List ℕ) {x y : Exact} (e : x ≡ y) where
-  pub none_found : found.Nothing ≡ found_of (choose (decode ws) y) → choose (decode ws) x ≡ nothing
+  pub none_found : None ≡ found_of (choose (decode ws) y) → choose (decode ws) x ≡ nothing
   none_found h = ap (choose (decode ws)) e ∙ found_nothing ws y h
 
-  pub some-found : {P : Type 0} (i : ℕ) → found.At i ≡ found_of (choose (decode ws) y)
-      → ((why : Reason) → choose (decode ws) x ≡ chosen i (section_in ws i) why → P) → P
-  some-found i h f = found_at ws y i h (λ why g l. f why (ap (choose (decode ws)) e ∙ g))
+pub some-found : {P : Type 0} (z : TableSection) {x y : Exact} → x ≡ y → Some z.place ≡ found_of (choose (sections_of z.table) y)
+    → ((why : Reason) → choose (sections_of z.table) x ≡ chosen z.place (section_of z) why → P) → P
+some-found z e h f = found_at _ _ z.place h (λ why g l. f why (ap (choose (sections_of z.table)) e ∙ g))
 
 pub number-exact : {s : Sought} (v : Signed) (x : Number) → s ≡ signed_sought v → v ≡ signed_of x → number_exact x ≡ exact_of s
 unfolding number_exact exact_of parts_of_one signed_of
@@ -67,5 +67,5 @@ sought-exact d m es = instant-exact d m ∙ ap exact_of (sym es)
 pub sought-scale : {s : Sought} (v : Signed) → s ≡ signed_sought v → v.scale ≤ 15 → s.scale ≤ 15
 sought-scale v e h = rw e h
 
-pub taken-small : (x : Number) (v : Signed) → taken_of x ≡ taken.In v → (v.magnitude < 10 ^ 15) × (v.scale ≤ 15)
+pub taken-small : (x : Number) (v : Signed) → taken_of x ≡ Some v → (v.magnitude < 10 ^ 15) × (v.scale ≤ 15)
 taken-small x v e = let s = in-says x v e in rw s.1 (range-says x s.0)

@@ -2,7 +2,7 @@
 // minus. No room is needed to make it.
 #![tactic(auto)]
 
-ghost use Rattle.std.specs.Prelude.{◌≡◌, true, false, List, ◌≤◌, ◌<◌, ◌^◌, ℕ, T, eqb, get_or};
+ghost use Rattle.std.specs.Prelude.{◌≡◌, true, false, List, Ok, ◌≤◌, ◌<◌, ◌^◌, ℕ, T, eqb};
 ghost use Rattle.formats.specs.Items.{number_kind, fraction_kind, same_kind, kind_of, integer_places};
 ghost use Rattle.formats.specs.Choice.{instant_exact, Reason, chosen, choose};
 ghost use Rattle.formats.specs.Reading.{read_instant, shows_general, section_rounded, number_exactly, read_value, reading};
@@ -11,49 +11,45 @@ ghost use Rattle.figures.specs.Sign.{signed_of};
 ghost use Rattle.values.specs.declared.Number.{Number};
 ghost use Rattle.values.specs.declared.Value.TheVariants as value;
 ghost use Rattle.tables.specs.Words.{entries_in};
-ghost use Rattle.tables.specs.Decode.{decode};
-ghost use Rattle.tables.specs.Rules.{passes};
-ghost use Rattle.table_words.specs.Sections.{section_in};
+ghost use Rattle.table_words.specs.Tabled.{sections_of, section_of};
 ghost use Rattle.choosing.specs.Seeking.{instant_sought};
 ghost use Rattle.figure_text.specs.Shown.{figures_with};
 ghost use Rattle.planning.specs.Minus.{minus_told, minus_in};
 ghost use Rattle.planning.specs.Number.{signed_sought, first_argument};
-ghost use Rattle.planning.specs.Plan.{PlanIs, PlansNumber, value_reading, bare_plan, digits_plan};
+ghost use Rattle.planning.specs.Plan.{BareIs, PlannedIs, PlansNumber, value_reading, bare_plan, digits_plan};
 
-use answers::Answer;
-use choosing::{Found, Sought, TextFound};
+use answers::Refusal;
+use choosing::Sought;
 use figure_text::{Figures, figures_of};
-use figures::{Signed, Taken};
+use figures::Signed;
 use section_text::Subject;
-use table_words::{head_of, is_grouped, items_of, no_minus};
-use tables::{kinds, tags};
-use values::integers::excess;
+use table_words::runs::is_place;
+use table_words::{Kind, Table, TableSection};
 use values::{Ask, Day, Millisecond, Number, Value};
 
-// What is to be shown of a value: a refusal, a text by itself, an instant in a date-time section, a number in a scientific or a fraction
-// section, or another section, with an added minus or without.
+// What is to be shown of a value: a text by itself, an instant in a date-time section, a number in a scientific or a fraction section, or
+// another section, with an added minus or without.
 #[derive(Clone, Copy)]
-pub enum Plan {
-    Refused(Answer),
+pub enum Plan<'a> {
     Itself,
-    Dated(u16, Day, Millisecond),
-    Scientific(u16, Signed),
-    Fraction(u16, Signed),
-    Section(u16, bool, Subject),
+    Dated(TableSection<'a>, Day, Millisecond),
+    Scientific(TableSection<'a>, Signed),
+    Fraction(TableSection<'a>, Signed),
+    Section(TableSection<'a>, bool, Subject),
 }
 
 // A plan, the digits of the segment that a section has, and whether what it shows is exact. (Beside the plan: in a section's subject it
 // would be passed on to every item.)
 #[derive(Clone, Copy)]
-pub struct Planned {
-    pub plan: Plan,
+pub struct Planned<'a> {
+    pub plan: Plan<'a>,
     pub digits: [u8; 40],
     pub exact: bool,
 }
 
 // A plan that needs no digits: a section that is so planned is exact.
-fn without_digits(plan: Plan) -> Planned
-    ensures { (result.plan ≡ plan) × (result.exact ≡ true) }
+fn without_digits<'a>(plan: Plan<'a>) -> Planned<'a>
+    ensures { (result.plan ≡ plan.entry) × (result.exact ≡ true) }
 {
     Planned {
         plan,
@@ -62,12 +58,12 @@ fn without_digits(plan: Plan) -> Planned
     }
 }
 
-// Section i, which shows no figures.
-fn bare(i: u16, minus: bool, lent: bool) -> Plan
-    ensures { result ≡ bare_plan i minus lent }
+// A section that shows no figures.
+fn bare<'a>(section: TableSection<'a>, minus: bool, lent: bool) -> Plan<'a>
+    ensures { result ≡ bare_plan section.entry minus lent }
 {
     Plan::Section(
-        i,
+        section,
         minus,
         Subject {
             figures: Figures {
@@ -80,21 +76,17 @@ fn bare(i: u16, minus: bool, lent: bool) -> Plan
     )
 }
 
-// The plan of an instant in section i, where that takes one.
-fn instant_in(table: &[u16], i: u16, d: Day, m: Millisecond) -> Plan
-    requires { T (passes table.now) × (i < get_or table.now 0 0) }
-    ensures { (digits text : List ℕ) (why : Reason) → choose (decode table.now) (instant_exact d m) ≡ chosen i (section_in table.now i) why
-        → PlanIs result digits true table.now text (λ size. read_instant d m size (choose (decode table.now) (instant_exact d m))) }
+// The plan of an instant in a section, where that takes one.
+fn instant_in<'a>(section: TableSection<'a>, d: Day, m: Millisecond) -> Result<Plan<'a>, Refusal>
+    ensures { (text : List ℕ) (why : Reason)
+        → choose (sections_of section.entry.table) (instant_exact d m) ≡ chosen section.entry.place (section_of section.entry) why
+        → BareIs result text (λ size. read_instant d m size (choose (sections_of section.entry.table) (instant_exact d m))) }
 {
-    let h = head_of(table, i as usize);
-    let kind = h.kind;
-    if kind == kinds::DATE_TIME {
-        return Plan::Dated(i, d, m);
+    match section.kind() {
+        Kind::DateTime => Ok(Plan::Dated(section, d, m)),
+        Kind::Literal => Ok(bare(section, false, false)),
+        _ => Err(Refusal::Sort),
     }
-    if kind == kinds::LITERAL {
-        return bare(i, false, false);
-    }
-    Plan::Refused(Answer::Sort)
 }
 
 // An instant as the chooser is asked for it.
@@ -110,33 +102,31 @@ pub fn instant_sought(d: Day, m: Millisecond) -> Sought
 }
 
 // The plan of an instant; one out of range is refused.
-fn instant_plan(table: &[u16], d: Day, m: Millisecond) -> Plan
-    requires { T (passes table.now) }
-    ensures { (digits text : List ℕ) → PlanIs result digits true table.now text (value_reading table.now (value.Instant d m) text) }
+fn instant_plan<'a>(table: Table<'a>, d: Day, m: Millisecond) -> Result<Plan<'a>, Refusal>
+    ensures { (text : List ℕ) → BareIs result text (value_reading table.entry.words.now (value.Instant d m) text) }
 {
     if Day::GREATEST < d.0 {
-        return Plan::Refused(Answer::Range);
+        return Err(Refusal::Range);
     }
     if Millisecond::GREATEST < m.0 {
-        return Plan::Refused(Answer::Range);
+        return Err(Refusal::Range);
     }
     match choosing::choose(table, instant_sought(d, m)) {
-        Found::Nothing => Plan::Refused(Answer::NoSection),
-        Found::At(i) => instant_in(table, i, d, m),
+        None => Err(Refusal::NoSection),
+        Some(i) => instant_in(table.section(i), d, m),
     }
 }
 
 // The plan of a text; one that is too long is refused.
-fn text_plan(table: &[u16], text: &[u16]) -> Plan
-    requires { T (passes table.now) }
-    ensures { (digits : List ℕ) → PlanIs result digits true table.now text.now (value_reading table.now value.Text text.now) }
+fn text_plan<'a>(table: Table<'a>, text: &[u16]) -> Result<Plan<'a>, Refusal>
+    ensures { BareIs result text.now (value_reading table.entry.words.now value.Text text.now) }
 {
     if 1024 < text.len() {
-        return Plan::Refused(Answer::Range);
+        return Err(Refusal::Range);
     }
     match choosing::choose_text(table) {
-        TextFound::Itself => Plan::Itself,
-        TextFound::At(i) => bare(i, false, true),
+        None => Ok(Plan::Itself),
+        Some(i) => Ok(bare(table.section(i), false, true)),
     }
 }
 
@@ -156,33 +146,30 @@ fn has_minus(negative: bool, items: u16, excepted: bool, nought: bool) -> bool
     negative
 }
 
-// The added minus of a number in section i; `nought`: the figures that it shows are nought.
-pub fn added_minus(table: &[u16], i: u16, negative: bool, nought: bool) -> bool
-    requires { T (passes table.now) × (i < get_or table.now 0 0) }
-    ensures { result ≡ minus_in table.now i negative nought }
+// The added minus of a number in a section; `nought`: the figures that it shows are nought.
+pub fn added_minus(section: TableSection, negative: bool, nought: bool) -> bool
+    ensures { result ≡ minus_in section.entry negative nought }
 {
-    let h = head_of(table, i as usize);
-    has_minus(negative, h.items, no_minus(table, i as usize), nought)
+    let h = section.head();
+    has_minus(negative, h.items, section.no_minus(), nought)
 }
 
-// Section i with the digits of a rounded number, which is exact or not.
-fn with_digits(
-    table: &[u16],
-    i: u16,
+// A section with the digits of a rounded number, which is exact or not.
+fn with_digits<'a>(
+    section: TableSection<'a>,
     negative: bool,
     digits: [u8; 40],
     exact: bool,
     integers: u32,
     grouped: bool,
-) -> Planned
-    requires { T (passes table.now) × (i < get_or table.now 0 0) }
-    ensures { (result.plan ≡ digits_plan table.now i negative (figures_with digits integers grouped)) × (result.digits ≡ digits) × (result.exact ≡ exact) }
+) -> Planned<'a>
+    ensures { (result.plan ≡ digits_plan section.entry negative (figures_with digits integers grouped)) × (result.digits ≡ digits) × (result.exact ≡ exact) }
 {
     let figures = figures_of(digits, integers, grouped);
-    let minus = added_minus(table, i, negative, figures.used == 0);
+    let minus = added_minus(section, negative, figures.used == 0);
     Planned {
         plan: Plan::Section(
-            i,
+            section,
             minus,
             Subject {
                 figures,
@@ -194,95 +181,83 @@ fn with_digits(
     }
 }
 
-// The plan of a number in section i, which shows General.
-fn general_plan(table: &[u16], i: u16, v: Signed) -> Planned
-    requires { T (passes table.now) × (i < get_or table.now 0 0) × (v.magnitude < 10 ^ 15)
-        × T (shows_general (kind_of (section_in table.now i))) }
-    ensures { PlansNumber table.now i v result }
+// The plan of a number in a section that shows General.
+fn general_plan<'a>(section: TableSection<'a>, v: Signed) -> Result<Planned<'a>, Refusal>
+    requires { (v.magnitude < 10 ^ 15) × T (shows_general (kind_of (section_of section))) }
+    ensures { PlansNumber section.entry v result }
 {
     if figures::general_too_wide(v.magnitude, v.scale) {
-        return without_digits(Plan::Refused(Answer::General));
+        return Err(Refusal::General);
     }
     let mut exact = true;
     let digits = figures::round_general([0; 40], v.magnitude, v.scale, &mut exact);
-    with_digits(table, i, v.negative, digits, exact, 0, false)
+    Ok(with_digits(section, v.negative, digits, exact, 0, false))
 }
 
 // The argument of the first place among item words; 15 where there is none.
 fn first_argument(items: &[u16]) -> u16
     ensures { result ≡ first_argument (entries_in items.now) }
 {
-    let n = items.len() / 2;
-    let mut k: usize = 0;
-    while k < n {
-        let i = 2 * k;
-        let tag = items[i];
-        if (tags::ZERO_PLACE <= tag) & (tag <= tags::SPACE_PLACE) {
-            return items[i + 1];
-        }
-        k += 1;
-    }
-    15
+    let first = items.chunks_exact(2).find(|entry| is_place(entry[0]));
+    first.map_or(15, |entry| entry[1])
 }
 
-// How many integer places section i has, which is no fraction: powers run down by one from the first place, whose argument is 16 more
+// How many integer places a section has, which is no fraction: powers run down by one from the first place, whose argument is 16 more
 // than its power.
-pub fn integer_places(table: &[u16], i: usize) -> u32
-    requires { T (passes table.now) × (i < get_or table.now 0 0) × (same_kind (kind_of (section_in table.now i)) fraction_kind ≡ false) }
-    ensures { result ≡ integer_places (section_in table.now i).items }
+pub fn integer_places(section: TableSection) -> u32
+    requires { same_kind (kind_of (section_of section)) fraction_kind ≡ false }
+    ensures { result ≡ integer_places (section_of section.entry).items }
 {
-    first_argument(items_of(table, i)) as u32 - 15
+    first_argument(section.items()) as u32 - 15
 }
 
-// A number rounded as section i shows it, which is a number section: a shift above 15 multiplies, one below 15 divides.
-fn number_digits(table: &[u16], i: usize, v: Signed, exact: &mut bool) -> [u8; 40]
-    requires { T (passes table.now) × (i < get_or table.now 0 0) × (v.magnitude < 10 ^ 15) × (v.scale ≤ 15)
-        × (kind_of (section_in table.now i) ≡ number_kind) }
-    ensures digits { (x : Number) → v ≡ signed_of x → result ≡ figures (section_rounded (section_in table.now i) x) }
-    ensures exact { (x : Number) → v ≡ signed_of x → exact.new ≡ number_exactly (section_in table.now i) x }
+// A number rounded as a number section shows it: a shift above 15 multiplies, one below 15 divides.
+fn number_digits(section: TableSection, v: Signed, exact: &mut bool) -> [u8; 40]
+    requires { (v.magnitude < 10 ^ 15) × (v.scale ≤ 15) × (kind_of (section_of section) ≡ number_kind) }
+    ensures digits { (x : Number) → v ≡ signed_of x → result ≡ figures (section_rounded (section_of section.entry) x) }
+    ensures exact { (x : Number) → v ≡ signed_of x → exact.new ≡ number_exactly (section_of section.entry) x }
 {
-    let h = head_of(table, i);
+    let h = section.head();
     let shift = h.shift as u32;
     let decimals = h.decimals as u32;
-    let up = excess(shift, 15);
-    let down = v.scale + excess(15, shift);
+    let up = shift.saturating_sub(15);
+    let down = v.scale + 15u32.saturating_sub(shift);
     figures::round([0; 40], v.magnitude, up, down, decimals, exact)
 }
 
-// The plan of a number in section i, which is a number section.
-fn figures_plan(table: &[u16], i: u16, v: Signed) -> Planned
-    requires { T (passes table.now) × (i < get_or table.now 0 0) × (v.magnitude < 10 ^ 15) × (v.scale ≤ 15)
-        × (kind_of (section_in table.now i) ≡ number_kind) }
-    ensures { PlansNumber table.now i v result }
+// The plan of a number in a number section.
+fn figures_plan<'a>(section: TableSection<'a>, v: Signed) -> Planned<'a>
+    requires { (v.magnitude < 10 ^ 15) × (v.scale ≤ 15) × (kind_of (section_of section) ≡ number_kind) }
+    ensures { PlansNumber section.entry v (Ok result) }
 {
     let mut exact = true;
-    let digits = number_digits(table, i as usize, v, &mut exact);
-    let integers = integer_places(table, i as usize);
+    let digits = number_digits(section, v, &mut exact);
+    let integers = integer_places(section);
     with_digits(
-        table,
-        i,
+        section,
         v.negative,
         digits,
         exact,
         integers,
-        is_grouped(table, i as usize),
+        section.is_grouped(),
     )
 }
 
-// The plan of a number in section i, by the section's kind.
-fn number_in(table: &[u16], i: u16, v: Signed) -> Planned
-    requires { T (passes table.now) × (i < get_or table.now 0 0) × (v.magnitude < 10 ^ 15) × (v.scale ≤ 15) }
-    ensures { PlansNumber table.now i v result }
+// The plan of a number in a section, by the section's kind.
+fn number_in<'a>(section: TableSection<'a>, v: Signed) -> Result<Planned<'a>, Refusal>
+    requires { (v.magnitude < 10 ^ 15) × (v.scale ≤ 15) }
+    ensures { PlansNumber section.entry v result }
 {
-    let h = head_of(table, i as usize);
-    let kind = h.kind;
-    match kind {
-        kinds::LITERAL => without_digits(bare(i, added_minus(table, i, v.negative, false), false)),
-        kinds::NUMBER => figures_plan(table, i, v),
-        kinds::DATE_TIME => without_digits(Plan::Refused(Answer::Sort)),
-        kinds::SCIENTIFIC => without_digits(Plan::Scientific(i, v)),
-        kinds::FRACTION => without_digits(Plan::Fraction(i, v)),
-        _ => general_plan(table, i, v),
+    match section.kind() {
+        Kind::Literal => {
+            let minus = added_minus(section, v.negative, false);
+            Ok(without_digits(bare(section, minus, false)))
+        }
+        Kind::Number => Ok(figures_plan(section, v)),
+        Kind::DateTime => Err(Refusal::Sort),
+        Kind::Scientific => Ok(without_digits(Plan::Scientific(section, v))),
+        Kind::Fraction => Ok(without_digits(Plan::Fraction(section, v))),
+        Kind::General | Kind::Text => general_plan(section, v),
     }
 }
 
@@ -299,37 +274,34 @@ pub fn number_sought(v: Signed) -> Sought
 }
 
 // The plan of a number that is in range.
-fn number_in_range(table: &[u16], v: Signed) -> Planned
-    requires { T (passes table.now) × (v.magnitude < 10 ^ 15) × (v.scale ≤ 15) }
+fn number_in_range<'a>(table: Table<'a>, v: Signed) -> Result<Planned<'a>, Refusal>
+    requires { (v.magnitude < 10 ^ 15) × (v.scale ≤ 15) }
     ensures { (text : List ℕ) (x : Number) → v ≡ signed_of x
-        → PlanIs result.plan result.digits result.exact table.now text (read_value (decode table.now) (value.Number x) text) }
+        → PlannedIs result text (read_value (sections_of table.entry) (value.Number x) text) }
 {
     match choosing::choose(table, number_sought(v)) {
-        Found::Nothing => without_digits(Plan::Refused(Answer::NoSection)),
-        Found::At(i) => number_in(table, i, v),
+        None => Err(Refusal::NoSection),
+        Some(i) => number_in(table.section(i), v),
     }
 }
 
 // The plan of a number; one out of range is refused.
-fn number_plan(table: &[u16], x: Number) -> Planned
-    requires { T (passes table.now) }
-    ensures { (text : List ℕ) → PlanIs result.plan result.digits result.exact table.now text (value_reading table.now (value.Number x) text) }
+fn number_plan<'a>(table: Table<'a>, x: Number) -> Result<Planned<'a>, Refusal>
+    ensures { (text : List ℕ) → PlannedIs result text (value_reading table.entry.words.now (value.Number x) text) }
 {
     match figures::take_number(x) {
-        Taken::OutOfRange => without_digits(Plan::Refused(Answer::Range)),
-        Taken::In(v) => number_in_range(table, v),
+        None => Err(Refusal::Range),
+        Some(v) => number_in_range(table, v),
     }
 }
 
 // The plan of what is asked for: no room is needed to make it.
-pub fn plan_of(table: &[u16], ask: Ask, text: &[u16]) -> Planned
-    requires { T (passes table.now) }
-    ensures { PlanIs result.plan result.digits result.exact table.now text.now (reading (decode table.now) ask text.now) }
+pub fn plan_of<'a>(table: Table<'a>, ask: Ask, text: &[u16]) -> Result<Planned<'a>, Refusal>
+    ensures { PlannedIs result text.now (reading (sections_of table.entry) ask text.now) }
 {
-    let value = ask.value;
-    match value {
+    match ask.value {
         Value::Number(x) => number_plan(table, x),
-        Value::Instant(d, m) => without_digits(instant_plan(table, d, m)),
-        Value::Text => without_digits(text_plan(table, text)),
+        Value::Instant(d, m) => Ok(without_digits(instant_plan(table, d, m)?)),
+        Value::Text => Ok(without_digits(text_plan(table, text)?)),
     }
 }

@@ -1,20 +1,15 @@
--- `planning::first_argument` meets its contract. The invariant, `Seeking`: no place has been met.
+-- `planning::first_argument` meets its contract.
 -- Assumes nothing.
-use mathlib.Core.Path.{refl}
-use Rattle.tables.proofs.Words.{seeking-start}
-use Rattle.planning.proofs.Places.{place-met, place-passed, place_none}
+use Rattle.std.proofs.Common.{rules, tests}
+use Rattle.std.proofs.lemmas.Iterator.Search.{find_from_yields_List}
+use Rattle.values.specs.Ranges.{between}
+use Rattle.tables.specs.Words.{Entry, entries_in}
+use Rattle.table_words.proofs.Pairs.{YieldsList-from_entries}
+use Rattle.planning.proofs.Places.{argument-found}
 use Rattle.planning.proofs.first_argument.Goals as goal
 
-pub loop-k-init : goal.loop-k-init
-loop-k-init c = seeking-start _ _ _ refl
-
-pub returns-then-tag : goal.returns-then-tag
-returns-then-tag c =
-    place-met c.loop-k.invariant c.loop-k-test.true c.if-tag.true
-
-pub loop-k-preserved : goal.loop-k-preserved
-loop-k-preserved c =
-    place-passed c.loop-k.invariant c.loop-k-test.true c.if-tag.false
-
 pub returns : goal.returns
-returns c = place_none c.loop-k.invariant c.loop-k-test.false
+returns c =
+    argument-found (entries_in c.args.items.now) c.find-first.result _
+    (find_from_yields_List (λ (e : Entry). between 4 6 e.tag) _ _ c.find-first.result c.find-first.ensures.ran (YieldsList-from_entries c.args.items.now (cc) (cc)) (λ x b q k. search (rules, tests)))
+    (search (rules, tests))

@@ -8,15 +8,14 @@ use Rattle.planning.proofs.general_plan.Goals as goal
 
 pub returns-then-general_too_wide : goal.returns-then-general_too_wide
 returns-then-general_too_wide c =
-    let p = c.requires in
     λ text x why ev eo.
-    rw (c.without_digits.ensures.0, eo) (general-wide _ p.3 x (wide_is _ x ev c.general_too_wide.ensures ∙ c.if-general_too_wide.true) _ _ why)
+    rw eo (general-wide _ c.requires.1 x (wide_is _ x ev c.general_too_wide.ensures ∙ c.if-general_too_wide.true) _ _ why)
 
 pub returns : goal.returns
 returns c =
     let p = c.requires in
     λ text x why ev eo.
-    let are = general-figures _ x ev p.2 c.round_general-digits.ensures.digits in
+    let are = general-figures _ x ev p.0 c.round_general-digits.ensures.digits in
     rw (c.with_digits.ensures.0, c.with_digits.ensures.1, c.with_digits.ensures.2)
-    (number-section _ _ _ x why ev eo (general-takes _ p.3 x are (wide_is _ x ev c.general_too_wide.ensures ∙ c.if-general_too_wide.false))
-    (general-exactly _ x ev _ p.3 c.round_general-digits.ensures.exact) p.1 (figures-used are) (general-subject _ p.3 x are))
+    (number-section c.args.section _ x why ev eo (general-takes _ p.1 x are (wide_is _ x ev c.general_too_wide.ensures ∙ c.if-general_too_wide.false))
+    (general-exactly _ x ev _ p.1 c.round_general-digits.ensures.exact) (figures-used are) (general-subject _ p.1 x are))

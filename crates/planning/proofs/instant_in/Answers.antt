@@ -1,24 +1,20 @@
 -- `planning::instant_in` meets its contract.
 -- Assumes nothing.
 use native.Mathlib.Omega.{arith}
-use Rattle.planning.proofs.KindWords.{kind-with, told-sort}
+use mathlib.Core.Path.{sym}
+use Rattle.planning.proofs.Sorts.{other-sort}
 use Rattle.planning.proofs.Instants.{date-takes, instant-reads, instant-literal, instant-refused}
 use Rattle.planning.proofs.instant_in.Goals as goal
 
-pub returns-then-kind-eq-DATE_TIME : goal.returns-then-kind-eq-DATE_TIME
-returns-then-kind-eq-DATE_TIME c =
-    let p = c.requires in
-    let e = kind-with _ _ c.head_of-h.ensures.words 4 c.if-kind-eq-DATE_TIME.true in
-    λ digits text why eo. (p.1, e, instant-reads _ _ p.0 p.1 _ _ why eo (date-takes _ e))
+pub returns-in-DateTime : goal.returns-in-DateTime
+returns-in-DateTime c =
+    let e = sym c.in-DateTime.ensures in
+    λ text why eo digits. (e, instant-reads c.args.section _ _ why eo (date-takes _ e))
 
-pub returns-then-kind-eq-LITERAL : goal.returns-then-kind-eq-LITERAL
-returns-then-kind-eq-LITERAL c =
-    let p = c.requires in
-    λ digits text why eo.
-    rw c.bare.ensures (instant-literal _ _ p.0 p.1 _ _ why eo (omega arith) (kind-with _ _ c.head_of-h.ensures.words 0 c.if-kind-eq-LITERAL.true))
+pub returns-in-Literal : goal.returns-in-Literal
+returns-in-Literal c =
+    λ text why eo digits. rw c.bare.ensures (instant-literal c.args.section _ _ why eo (omega arith) (sym c.in-Literal.ensures))
 
-pub returns : goal.returns
-returns c =
-    let p = c.requires in
-    λ digits text why eo.
-    instant-refused _ _ p.0 p.1 _ _ why eo (told-sort _ _ c.head_of-h.ensures.words c.if-kind-eq-DATE_TIME.false c.if-kind-eq-LITERAL.false)
+pub returns-in_default : goal.returns-in_default
+returns-in_default c =
+    λ text why eo. instant-refused c.args.section _ _ why eo (other-sort c.kind.result c.kind.ensures c.in_default.not-DateTime c.in_default.not-Literal)

@@ -9,25 +9,25 @@ use Rattle.planning.proofs.Values.{instant-within, found_within, none_found, som
 use Rattle.planning.proofs.instant_plan.Goals as goal
 
 pub choose-requires : goal.choose-requires
-choose-requires c = (c.requires, rw c.instant_sought.ensures (instant-scale _ _))
+choose-requires c = rw c.instant_sought.ensures (instant-scale _ _)
 
-pub instant_in-requires : goal.instant_in-requires
-instant_in-requires c =
-    (c.requires, found_within _ _ _ (sym c.in-At.is ∙ c.choose.ensures))
+pub section-requires : goal.section-requires
+section-requires c = found_within _ _ _ (sym c.in-Some.is ∙ c.choose.ensures)
 
-pub returns-in-Nothing : goal.returns-in-Nothing
+pub returns-in-None : goal.returns-in-None
 unfolding read_value read_instant
-returns-in-Nothing c =
+returns-in-None c =
     let a = c.args in
     let e = sought-exact _ _ c.instant_sought.ensures in
-    λ digits text size.
-    rw (instant-within a.d a.m (omega arith) (omega arith), none_found _ e (sym c.in-Nothing.is ∙ c.choose.ensures))
+    λ text size.
+    rw (instant-within a.d a.m (omega arith) (omega arith), none_found _ e (sym c.in-None.is ∙ c.choose.ensures))
 
-pub returns-in-At : goal.returns-in-At
+pub returns-in-Some : goal.returns-in-Some
 unfolding read_value
-returns-in-At c =
+returns-in-Some c =
     let a = c.args in
-    let e = sought-exact _ _ c.instant_sought.ensures in
-    λ digits text.
-    rw (instant-within a.d a.m (omega arith) (omega arith), value_reading)
-    (some-found _ e _ (sym c.in-At.is ∙ c.choose.ensures) (λ why g. c.instant_in.ensures digits text why g))
+    let z = c.section.ensures in
+    λ text.
+    rw (instant-within a.d a.m (omega arith) (omega arith), value_reading, ← z.table)
+    (some-found c.section.result (sought-exact _ _ c.instant_sought.ensures) (rw (z.place, z.table) (sym c.in-Some.is ∙ c.choose.ensures))
+    (λ why g. c.instant_in.ensures text why g))

@@ -5,9 +5,7 @@ use Rattle.planning.proofs.Places.{argument_is}
 use Rattle.planning.proofs.integer_places.Goals as goal
 
 pub overflow_sub-result : goal.overflow_sub-result
-overflow_sub-result c =
-    let p = c.requires in omega (arith, argument_is _ _ p.0 p.1 p.2 c.items_of.ensures c.first_argument.ensures)
+overflow_sub-result c = omega (arith, argument_is c.args.section c.requires c.items.ensures c.first_argument.ensures)
 
 pub returns : goal.returns
-returns c =
-    let p = c.requires in omega (arith, argument_is _ _ p.0 p.1 p.2 c.items_of.ensures c.first_argument.ensures)
+returns c = omega (arith, argument_is c.args.section c.requires c.items.ensures c.first_argument.ensures)

@@ -6,14 +6,14 @@ use Rattle.planning.proofs.number_digits.Goals as goal
 pub round-requires : goal.round-requires
 round-requires c =
     let p = c.requires in
-    number-roundable (number-words _ _ p.0 p.1 p.4 c.head_of-h.ensures.words) p.2 c.excess-up.ensures
+    number-roundable (number-words c.args.section p.2 c.head-h.ensures.words) p.0 c.saturating_sub-up.ensures
 
 pub returns-clause-digits : goal.returns-clause-digits
 returns-clause-digits c =
     let p = c.requires in
-    let w = number-words _ _ p.0 p.1 p.4 c.head_of-h.ensures.words in λ n ev. number_digits w p.4 _ n ev c.excess-up.ensures c.excess.ensures c.round.ensures.digits
+    λ n ev. number_digits (number-words c.args.section p.2 c.head-h.ensures.words) p.2 _ n ev c.saturating_sub-up.ensures c.saturating_sub.ensures c.round.ensures.digits
 
 pub returns-clause-exact : goal.returns-clause-exact
 returns-clause-exact c =
     let p = c.requires in
-    let w = number-words _ _ p.0 p.1 p.4 c.head_of-h.ensures.words in λ n ev. number-exactly w p.4 _ n ev c.excess-up.ensures c.excess.ensures c.round.ensures.exact
+    λ n ev. number-exactly (number-words c.args.section p.2 c.head-h.ensures.words) p.2 _ n ev c.saturating_sub-up.ensures c.saturating_sub.ensures c.round.ensures.exact

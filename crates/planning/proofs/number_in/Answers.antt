@@ -1,64 +1,53 @@
 -- `planning::number_in` meets its contract.
 -- Assumes nothing.
 use native.Mathlib.Omega.{arith}
+use Rattle.std.proofs.Common.{rules}
 use mathlib.Core.Path.{sym}
 use Rattle.formats.proofs.Exactness.{exactly-literal}
 use Rattle.planning.proofs.Subjects.{literal-subject}
 use Rattle.planning.proofs.Numbers.{literal-takes, number-section, scientific-reads, fraction-reads}
 use Rattle.planning.proofs.Sections.{scientific-takes, fraction-takes}
-use Rattle.planning.proofs.KindWords.{kind-with, told-general, date-refused}
+use Rattle.planning.proofs.Sorts.{date-refused, general-sort}
 use Rattle.planning.proofs.number_in.Goals as goal
 
-pub figures_plan-requires : goal.figures_plan-requires
-figures_plan-requires c =
-    let p = c.requires in
-    (p.0, p.1, p.2, p.3, kind-with _ _ c.head_of-h.ensures.words 2 c.in-2.is)
-
 pub general_plan-requires : goal.general_plan-requires
-general_plan-requires c =
-    let p = c.requires in
-    let o = c.in_default.in_default-own.rest in
-    (p.0, p.1, p.2, told-general _ _ c.head_of-h.ensures.words (o.0.0.0.0.1, o.0.0.0.1, o.0.0.1, o.0.1, o.1))
+general_plan-requires c = (c.requires.0, general-sort c.kind.result c.kind.ensures (search rules))
 
-pub returns-in-0 : goal.returns-in-0
-returns-in-0 c =
-    let p = c.requires in
-    let e = kind-with _ _ c.head_of-h.ensures.words 0 c.in-0.is in
+pub returns-in-Literal : goal.returns-in-Literal
+returns-in-Literal c =
+    let e = sym c.in-Literal.ensures in
     λ text x why ev eo.
-    rw (c.without_digits.ensures.0, c.without_digits.ensures.1, c.bare.ensures, c.added_minus.ensures)
-    (number-section _ _ _ x why ev eo (literal-takes _ x e) (sym (exactly-literal _ x e)) p.1 (omega arith) (literal-subject _ e))
+    rw (c.without_digits.ensures.0, c.without_digits.ensures.1, c.bare.ensures, c.added_minus-minus.ensures)
+    (number-section c.args.section _ x why ev eo (literal-takes _ x e) (sym (exactly-literal _ x e)) (omega arith) (literal-subject _ e))
 
-pub returns-in-4 : goal.returns-in-4
-returns-in-4 c =
-    λ text x why ev eo.
-    rw (c.without_digits-in-4.ensures.0, eo) (date-refused _ _ _ why x (kind-with _ _ c.head_of-h.ensures.words 4 c.in-4.is))
+pub returns-in-DateTime : goal.returns-in-DateTime
+returns-in-DateTime c =
+    λ text x why ev eo. rw eo (date-refused _ _ _ why x (sym c.in-DateTime.ensures))
 
-pub returns-in-5 : goal.returns-in-5
-returns-in-5 c =
+pub returns-in-Scientific : goal.returns-in-Scientific
+returns-in-Scientific c =
     let p = c.requires in
-    let e = kind-with _ _ c.head_of-h.ensures.words 5 (omega (arith, c.in-5.is)) in
+    let e = sym c.in-Scientific.ensures in
     λ text x why ev eo.
-    rw c.without_digits-in-5.ensures.0
+    rw c.without_digits-in-Scientific.ensures.0
     (record {
-      inside = p.1;
       kind = e;
-      small = p.2;
-      scale = p.3;
+      small = p.0;
+      scale = p.1;
       number = record { number = x; is = ev };
-      reads = scientific-reads _ _ _ x why ev eo (scientific-takes _ x e) e;
+      reads = scientific-reads c.args.section _ x why ev eo (scientific-takes _ x e) e;
     })
 
-pub returns-in-6 : goal.returns-in-6
-returns-in-6 c =
+pub returns-in-Fraction : goal.returns-in-Fraction
+returns-in-Fraction c =
     let p = c.requires in
-    let e = kind-with _ _ c.head_of-h.ensures.words 6 (omega (arith, c.in-6.is)) in
+    let e = sym c.in-Fraction.ensures in
     λ text x why ev eo.
-    rw c.without_digits-in-6.ensures.0
+    rw c.without_digits-in-Fraction.ensures.0
     (record {
-      inside = p.1;
       kind = e;
-      small = p.2;
-      scale = p.3;
+      small = p.0;
+      scale = p.1;
       number = record { number = x; is = ev };
-      reads = fraction-reads _ _ _ x why ev eo (fraction-takes _ x e) e;
+      reads = fraction-reads c.args.section _ x why ev eo (fraction-takes _ x e) e;
     })

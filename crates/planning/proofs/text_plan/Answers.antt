@@ -2,15 +2,20 @@
 -- Assumes nothing.
 use native.Mathlib.Omega.{arith}
 use mathlib.Core.Path.{sym, ◌∙◌}
+use Rattle.choosing.proofs.Finding.{text_at}
 use Rattle.planning.proofs.Texts.{text-section, itself-reads}
 use Rattle.planning.proofs.text_plan.Goals as goal
 
-pub returns-in-Itself : goal.returns-in-Itself
-returns-in-Itself c =
-    let a = c.args in
-    λ digits. (omega arith, itself-reads _ a.text.now (omega arith) (sym c.in-Itself.is ∙ c.choose_text.ensures))
+pub section-requires : goal.section-requires
+section-requires c = (text_at _ _ (sym c.in-Some.is ∙ c.choose_text.ensures)).1
 
-pub returns-in-At : goal.returns-in-At
-returns-in-At c =
-    let p = c.requires in
-    λ digits. rw c.bare.ensures (text-section _ _ p (sym c.in-At.is ∙ c.choose_text.ensures) (omega arith) (omega arith))
+pub returns-in-None : goal.returns-in-None
+returns-in-None c =
+    λ digits. (omega arith, itself-reads _ c.args.text.now (omega arith) (sym c.in-None.is ∙ c.choose_text.ensures))
+
+pub returns-in-Some : goal.returns-in-Some
+returns-in-Some c =
+    let z = c.section.ensures in
+    λ digits.
+    rw (c.bare.ensures, ← z.table)
+    (text-section c.section.result (rw (z.place, z.table) (sym c.in-Some.is ∙ c.choose_text.ensures)) (omega arith) (omega arith))
