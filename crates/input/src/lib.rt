@@ -1,11 +1,32 @@
-// Reads the input of a program into a lent buffer.
+// What programs need: rooms, their input read into a lent buffer, and its lines.
 #![tactic(auto)]
 
-ghost use Rattle.std.specs.Prelude.{◌≤◌, ◌<◌, IfOk, length, take};
+ghost use Rattle.std.specs.Prelude.{◌≡◌, ◌≤◌, ◌<◌, IfOk, length, take};
 ghost use Rattle.std.specs.Io.KnownBytes.{Consumes, IsAtEnd};
 
 use std::io;
 use std::io::{ErrorKind, Read};
+
+// A room for N values. Only its length matters to proofs, and they would compute a literal of this size out.
+pub fn room<T: Copy, const N: usize>(value: T) -> [T; N]
+    ensures { length result ≡ N }
+{
+    [value; N]
+}
+
+// The place behind the line that starts at `at`, with its line feed where it has one.
+pub fn line_end<T: Copy + PartialEq>(input: &[T], at: usize, line_feed: T) -> usize
+    requires { at ≤ length input.now }
+    ensures within { (at ≤ result) × (result ≤ length input.now) }
+    ensures further { at < length input.now → at < result }
+{
+    for (k, x) in input[at..].iter().enumerate() {
+        if *x == line_feed {
+            return at + k + 1;
+        }
+    }
+    input.len()
+}
 
 // Reads until `buf` is full or the input ends, and returns how many bytes stand in front of `buf`. A read that was interrupted is
 // tried again.

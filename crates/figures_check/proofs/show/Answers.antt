@@ -7,5 +7,5 @@ use Rattle.figures_check.proofs.show.Goals as goal
 
 pub round-digits-requires : goal.round-digits-requires
 round-digits-requires g c =
-    let l = in-says _ _ (sym c.take_number.ensures ∙ c.in-In.is) in
-    roundable (rw l.1 (range-says _ l.0).0) c.requires.0 c.requires.1
+    let l = in-says _ _ (sym c.take_number.ensures ∙ c.in-Some.is) in
+    roundable (rw l.1 (range-says _ l.0).0) c.args.r.within.0 c.args.r.within.1
