@@ -1,26 +1,23 @@
 -- What the tests on drafts say of the sections: the verdicts 4, 5 and 6.
 -- Assumes nothing.
-use Prim.Native.Nat.{ℕ, suc, ◌+◌}
-use native.Mathlib.Numerals.{add-one}
+use Prim.Native.Nat.{ℕ, suc, ◌≤◌}
+use native.Mathlib.Omega.{arith}
 use mathlib.Core.Path.{◌≡◌, refl, sym, ◌∙◌}
-use mathlib.Core.Bool.{Bool, cond}
+use mathlib.Core.Bool.{Bool}
 use mathlib.Core.List.{List, [], ◌∷◌, map}
-use lib.ListN.{length, length-map}
-use lib.Dec.{ltb}
-use Rattle.answers.specs.declared.Answer.{Answer}
-use Rattle.answers.specs.declared.Answer.TheVariants as answer
+use lib.ListN.{length, take, length-map}
+use lib.Seq.{length-take-le}
 use Rattle.lists.specs.Lists.{first_failing}
-use Rattle.lists.proofs.Bools.{by_cases}
 use Rattle.formats.specs.Kinds.{Parts, fits, condition_of, section_of}
 use Rattle.formats.specs.Where.{has_condition, stands_at}
 use Rattle.formats.specs.Limits.{within_limits}
-use Rattle.formats.specs.Accept.{fine, refused, section_verdict, kind_verdict, where_verdict, limit_verdict}
+use Rattle.formats.specs.Accept.{or_else, section_verdict, kind_verdict, where_verdict, limit_verdict}
 use Rattle.tables.specs.Standing.{head_stands}
 use Rattle.tables.proofs.MadeHeads.{operator-some}
 use Rattle.tables.proofs.Standing.{head-stands}
 use Rattle.drafting.specs.declared.Draft.{Draft}
-use Rattle.drafting.specs.Draft.{drafts_in, DraftOf, Drafted, has_condition_by}
-use Rattle.examining.specs.Examine.{passes_by, found_below}
+use Rattle.drafting.specs.Draft.{DraftOf, Drafted, has_condition_by}
+use Rattle.examining.specs.Examine.{fits_by, stands_by, within_by, drafts_verdict}
 
 -- ---- one section
 module _ (p : Parts) (d : Draft) (h : DraftOf p d) where
@@ -32,52 +29,44 @@ module _ (p : Parts) (d : Draft) (h : DraftOf p d) where
   unfolding section_of
   colour-same = h.colour
 
-  stands_same : (n i : ℕ) → head_stands n i d.body.kind d.colour (has_condition_by d) ≡ stands_at n i (section_of p)
+  stands_same : (n i : ℕ) → stands_by n i d ≡ stands_at n i (section_of p)
   stands_same n i = rw (h.body.kind, colour-same, condition-same) (sym (head-stands n i (section_of p)))
 
 -- ---- the first section that fails
+pub drafted-enough : (ps : List Parts) (ds : List Draft) → Drafted ps ds → length ps ≤ length ds
+drafted-enough [] ds h = omega arith
+drafted-enough (p ∷ ps) [] h = absurd h
+drafted-enough (p ∷ ps) (d ∷ ds) h = omega (arith, drafted-enough ps ds h.1)
+
 module _ (g : ℕ → Parts → Bool) (f : ℕ → Draft → Bool) (same : (i : ℕ) (p : Parts) (d : Draft) → DraftOf p d → f i d ≡ g i p) where
-  failing-same : (k : ℕ) (ps : List Parts) (ws : List ℕ) → Drafted ps k ws → first_failing g k ps ≡ first_failing f k (drafts_in (length ps) k ws)
-  unfolding first_failing drafts_in
-  failing-same k [] ws h = refl
-  failing-same k (p ∷ ps) ws h = rw (same k p _ h.0, ← (add-one k), failing-same (k + 1) ps ws h.1)
+  failing-same : (k : ℕ) (ps : List Parts) (ds : List Draft) → Drafted ps ds → first_failing g k ps ≡ first_failing f k (take (length ps) ds)
+  unfolding first_failing
+  failing-same k [] ds h = refl
+  failing-same k (p ∷ ps) [] h = absurd h
+  failing-same k (p ∷ ps) (d ∷ ds) h = rw (same k p d h.0, failing-same (suc k) ps ds h.1)
 
-  told : (a : Answer) (ps : List Parts) (ws : List ℕ) (n r : ℕ) → Drafted ps 0 ws → n ≡ length ps
-      → first_failing f 0 (drafts_in n 0 ws) ≡ found_below n r → section_verdict a (first_failing g 0 ps) ≡ cond (ltb r n) (refused a r) fine
-  unfolding section_verdict
-  told a ps ws n r h many e =
-      let s : first_failing g 0 ps ≡ found_below n r = rw (← many) at (failing-same 0 ps ws h) ∙ e in
-      rw s (by_cases (ltb r n) (λ t. rw t) (λ t. rw t))
-
--- ---- the verdicts
 stands-map : (n k : ℕ) (ps : List Parts) → first_failing (stands_at n) k (map section_of ps) ≡ first_failing (λ (i : ℕ) (p : Parts). stands_at n i (section_of p)) k ps
 unfolding first_failing
 stands-map n k [] = refl
 stands-map n k (p ∷ ps) = rw (stands-map n (suc k) ps)
 
-module _ (ps : List Parts) (ws : List ℕ) (h : Drafted ps 0 ws) (n r : ℕ) (many : n ≡ length ps) where
-  fits_by : (i : ℕ) (p : Parts) (d : Draft) → DraftOf p d → passes_by 4 n i d ≡ fits p
-  unfolding passes_by
-  fits_by i p d x = x.body.fits
+-- ---- the verdicts
+module _ (ps : List Parts) (ds : List Draft) (h : Drafted ps ds) where
+  abbrev few : List Draft
+  few = take (length ps) ds
 
-  stands_by_lem : (i : ℕ) (p : Parts) (d : Draft) → DraftOf p d → passes_by 5 n i d ≡ stands_at n i (section_of p)
-  unfolding passes_by
-  stands_by_lem i p d x = stands_same p d x n i
+  kinds-told : first_failing (λ (i : ℕ) (p : Parts). fits p) 0 ps ≡ first_failing fits_by 0 few
+  kinds-told = failing-same (λ (i : ℕ) (p : Parts). fits p) fits_by (λ i p d x. x.body.fits) 0 ps ds h
 
-  within_by : (i : ℕ) (p : Parts) (d : Draft) → DraftOf p d → passes_by 6 n i d ≡ within_limits p
-  unfolding passes_by
-  within_by i p d x = x.within
+  stand-told : first_failing (stands_at (length ps)) 0 (map section_of ps) ≡ first_failing (stands_by (length ps)) 0 few
+  stand-told =
+      stands-map (length ps) 0 ps
+      ∙ failing-same (λ (i : ℕ) (p : Parts). stands_at (length ps) i (section_of p)) (stands_by (length ps)) (λ i p d x. stands_same p d x (length ps) i) 0 ps ds h
 
-  pub kind-told : first_failing (passes_by 4 n) 0 (drafts_in n 0 ws) ≡ found_below n r → kind_verdict ps ≡ cond (ltb r n) (refused answer.Kind r) fine
-  unfolding kind_verdict
-  kind-told = told (λ (i : ℕ) (p : Parts). fits p) (passes_by 4 n) fits_by answer.Kind ps ws n r h many
+  limits-told : first_failing (λ (i : ℕ) (p : Parts). within_limits p) 0 ps ≡ first_failing within_by 0 few
+  limits-told = failing-same (λ (i : ℕ) (p : Parts). within_limits p) within_by (λ i p d x. x.within) 0 ps ds h
 
-  pub where-told : first_failing (passes_by 5 n) 0 (drafts_in n 0 ws) ≡ found_below n r → where_verdict (map section_of ps) ≡ cond (ltb r n) (refused answer.Standing r) fine
-  unfolding where_verdict
-  where-told e =
-      let size : length (map section_of ps) ≡ n = length-map ps section_of ∙ sym many in
-      rw (size, stands-map n 0 ps) (told (λ (i : ℕ) (p : Parts). stands_at n i (section_of p)) (passes_by 5 n) stands_by_lem answer.Standing ps ws n r h many e)
-
-  pub limit-told : first_failing (passes_by 6 n) 0 (drafts_in n 0 ws) ≡ found_below n r → limit_verdict ps ≡ cond (ltb r n) (refused answer.Limit r) fine
-  unfolding limit_verdict
-  limit-told = told (λ (i : ℕ) (p : Parts). within_limits p) (passes_by 6 n) within_by answer.Limit ps ws n r h many
+  pub drafts-told : drafts_verdict few ≡ or_else (kind_verdict ps) (or_else (where_verdict (map section_of ps)) (limit_verdict ps))
+  unfolding drafts_verdict kind_verdict where_verdict limit_verdict
+  drafts-told =
+      rw (length-take-le (length ps) ds (drafted-enough ps ds h), length-map ps section_of, kinds-told, stand-told, limits-told)

@@ -1,47 +1,53 @@
--- The drafts in a room, one by one, and the loop for the first that fails a test.
+-- The searches for the first draft that fails a test.
 -- Assumes nothing.
-use Prim.Native.Nat.{ℕ, suc, ◌+◌, ◌-◌, ◌≤◌, ◌<◌}
+use Prim.Native.Nat.{ℕ, suc, ◌+◌, ◌≤◌, ◌<◌}
 use native.Mathlib.Omega.{arith}
 use native.Mathlib.Numerals.{add-one}
-use mathlib.Core.Path.{◌≡◌, ◌∙◌}
-use mathlib.Core.Bool.{Bool, true, false}
+use mathlib.Core.Path.{◌≡◌, refl, sym, ◌∙◌}
+use mathlib.Core.Bool.{Bool, true, false, not}
 use mathlib.Core.List.{List, [], ◌∷◌}
-use borrow.Author.Tests.{lt-ltb, le-ltb}
+use mathlib.Core.Option.{none, some}
+use lib.ListN.{length, drop, get_or, drop_of_length-le}
+use lib.Seq.{drop-cons}
+use Rattle.std.proofs.Common.{Option as Found, Some, None}
+use Rattle.std.proofs.lemmas.Iterator.Adapters.{position_from-zero}
+use Rattle.std.specs.List.{position, position_from}
 use Rattle.lists.specs.Lists.{first_failing}
-use Rattle.drafting.specs.declared.Draft.{Draft}
-use Rattle.drafting.specs.Draft.{draft_in, drafts_in}
-use Rattle.examining.specs.Examine.{found_below}
+use Rattle.lists.proofs.Bools.{by_cases}
+use Rattle.lists.proofs.First.{FirstFailing, first-exactly}
+use Rattle.examining.specs.Examine.{found}
 
-module _ (ws : List ℕ) (n i : ℕ) where
-  pub all_left : i ≡ 0 → drafts_in (n - i) i ws ≡ drafts_in n 0 ws
-  all_left z = let e : n - i ≡ n = omega arith in rw (e, z)
+-- ---- by a chain
+module _ {A : Type 0} (g : A → Bool) where
+  failing-from : (k : ℕ) (xs : List A) → found (position_from (λ (x : A). not (g x)) k xs) ≡ first_failing (λ (i : ℕ) (x : A). g x) k xs
+  unfolding first_failing found
+  failing-from k [] = refl
+  failing-from k (x ∷ xs) = by_cases (g x) (λ e. rw (e, add-one k) (failing-from (suc k) xs)) (λ e. rw e)
 
-  pub front : i < n → drafts_in (n - i) i ws ≡ draft_in ws i ∷ drafts_in (n - (i + 1)) (i + 1) ws
-  unfolding drafts_in
-  front h = let e : n - i ≡ suc (n - (i + 1)) = omega arith in rw e
+  pub position-failing : (xs : List A) (o : Found ℕ) → o ≡ position (λ (x : A). not (g x)) xs → found o ≡ first_failing (λ (i : ℕ) (x : A). g x) 0 xs
+  position-failing xs o e =
+      let f : o ≡ position_from (λ (x : A). not (g x)) 0 xs = e ∙ position_from-zero (λ (x : A). not (g x)) xs in
+      rw f (failing-from 0 xs)
 
-  pub none_left : n ≤ i → drafts_in (n - i) i ws ≡ []
-  unfolding drafts_in
-  none_left h = let e : n - i ≡ 0 = omega arith in rw e
+-- ---- by a loop: nothing before place i fails
+abbrev pub Seeking : {A : Type 0} → (ℕ → A → Bool) → List A → ℕ → Type 0
+Seeking f xs i = first_failing f 0 xs ≡ first_failing f i (drop i xs)
 
--- ---- the first that fails
-pub record Seeking (f : ℕ → Draft → Bool) (ws : List ℕ) (n i : ℕ) : Type 0 where
-  pub few : n ≤ 4
-  pub same : first_failing f 0 (drafts_in n 0 ws) ≡ first_failing f i (drafts_in (n - i) i ws)
+module _ {A : Type 0} (f : ℕ → A → Bool) (xs : List A) (i : ℕ) (inv : Seeking f xs i) where
+  pub seeking-end : length xs ≤ i → found None ≡ first_failing f 0 xs
+  unfolding first_failing found
+  seeking-end h = sym (inv ∙ rw (drop_of_length-le xs h))
 
-pub seeking-start : (f : ℕ → Draft → Bool) (ws : List ℕ) (n i : ℕ) → i ≡ 0 → n ≤ 4 → Seeking f ws n i
-seeking-start f ws n i z h = record { few = h; same = rw (all_left ws n i z, z) }
+  module _ (d : A) (h : i < length xs) where
+    pub seeking-fail : f i (get_or xs i d) ≡ false → found (Some i) ≡ first_failing f 0 xs
+    unfolding first_failing found
+    seeking-fail e = sym (inv ∙ rw (drop-cons xs i d h, e))
 
-module _ {f : ℕ → Draft → Bool} {ws : List ℕ} {n i : ℕ} (inv : Seeking f ws n i) where
-  pub seeking-end : n ≤ i → first_failing f 0 (drafts_in n 0 ws) ≡ found_below n n
-  unfolding first_failing
-  seeking-end h = inv.same ∙ rw (none_left ws n i h, le-ltb n n (omega arith))
-
-  module _ (h : i < n) (d : Draft) (read : d ≡ draft_in ws i) where
-    pub seeking-fail : f i d ≡ false → first_failing f 0 (drafts_in n 0 ws) ≡ found_below n i
+    pub seeking-step : f i (get_or xs i d) ≡ true → Seeking f xs (i + 1)
     unfolding first_failing
-    seeking-fail e = inv.same ∙ rw (front ws n i h, ← read, e, lt-ltb i n h)
+    seeking-step e = inv ∙ rw (drop-cons xs i d h, e, add-one i)
 
-    pub seeking-step : f i d ≡ true → Seeking f ws n (i + 1)
-    unfolding first_failing
-    seeking-step e = record { few = inv.few; same = inv.same ∙ rw (front ws n i h, ← read, e, add-one i) }
+-- what is found stands in the list
+pub found_within : {A : Type 0} (f : ℕ → A → Bool) (xs : List A) (i : ℕ) → found (Some i) ≡ first_failing f 0 xs → i < length xs
+unfolding found
+found_within f xs i e = ((first-exactly f xs i).0 (sym e)).within

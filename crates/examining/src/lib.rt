@@ -3,113 +3,82 @@
 
 mod verdicts;
 
-ghost use Rattle.std.specs.Prelude.{◌≡◌, ◌*◌, ◌≤◌, length, take};
-ghost use Rattle.formats.specs.Accept.{verdict};
-ghost use Rattle.lexing.specs.Buffer.{semicolons_in};
-ghost use Rattle.drafting.specs.Draft.{Lexes};
-ghost use Rattle.examining.specs.Examine.{sections_verdict, Buffered, ExaminedAs};
+ghost use Rattle.std.specs.Prelude.{◌≡◌, ◌<◌, ◌^◌};
+ghost use Rattle.examining.specs.Examine.{ExaminedAs};
 
-use answers::Answer;
+use answers::{Refusal, Refused};
 use drafting::sections::draft_all;
-use lexing::buffer::{Filled, fill, semicolon_place};
-use verdicts::{KIND, LIMIT, STANDING, first_failing};
+use drafting::{Draft, EMPTY};
+use lexing::buffer::{fill, semicolon_place};
+use marks::Mark;
+use verdicts::judge;
 
-// An answer and its place; where it is `Done`, how many tokens and sections there are, and how many words the items have.
+// The longest code.
+const LONGEST: usize = 254;
+
+const NO_MARK: Mark = Mark {
+    form: 0,
+    argument: 0,
+    start: 0,
+};
+
+// What is written while a code is examined: its tokens, the words of its items, the drafts of its sections.
+#[derive(Clone, Copy)]
+pub struct Room {
+    pub tokens: [Mark; 254],
+    pub items: [u16; 508],
+    pub drafts: [Draft; 4],
+}
+
+impl Room {
+    pub fn new() -> Self {
+        Room {
+            tokens: [NO_MARK; 254],
+            items: [0; 508],
+            drafts: [EMPTY; 4],
+        }
+    }
+}
+
+// How many tokens and sections a code has that is not refused, and how many words the items have.
 #[derive(Clone, Copy)]
 pub struct Examined {
-    pub answer: Answer,
-    pub place: u32,
     pub tokens: usize,
     pub sections: usize,
     pub words: usize,
 }
 
-fn refused(answer: Answer, place: u32) -> Examined
-    ensures { (result.answer ≡ answer) × (result.place ≡ place) }
+fn refused(refusal: Refusal, place: usize) -> Refused
+    requires { place < 2 ^ 32 }
+    ensures { result ≡ record { refusal = refusal; place = place } }
 {
-    Examined {
-        answer,
-        place,
-        tokens: 0,
-        sections: 0,
-        words: 0,
+    Refused {
+        refusal,
+        place: place as u32,
     }
 }
 
-// The tests 4, 5 and 6 of a code of n sections whose `count` tokens these are.
-fn examine_sections(
-    code: &[u16],
-    tokens: &[u16],
-    count: usize,
-    n: usize,
-    items: &mut [u16],
-    drafts: &mut [u16],
-) -> Examined
-    requires len { (length items.old ≡ 508) × (length drafts.old ≡ 64) × (n ≤ 4) }
-    requires buffered { Buffered code.now tokens.now count }
-    requires lexes { Lexes code.now tokens.now n }
-    requires code_value { verdict code.now ≡ sections_verdict code.now }
-    ensures { ExaminedAs code.now tokens.now result items.new drafts.new }
+// Examines a code. The room then holds its tokens, its items and its drafts.
+pub fn examine(code: &[u16], room: &mut Room) -> Result<Examined, Refused>
+    ensures { ExaminedAs code.now room.new.tokens result room.new.items room.new.drafts }
 {
-    let words = draft_all(code, tokens, n, items, drafts);
-    let unfit = first_failing(drafts, n, KIND);
-    if unfit < n {
-        return refused(Answer::Kind, unfit as u32);
+    if !(1..=LONGEST).contains(&code.len()) {
+        return Err(refused(Refusal::CodeLength, 0));
     }
-    let misplaced = first_failing(drafts, n, STANDING);
-    if misplaced < n {
-        return refused(Answer::Standing, misplaced as u32);
+    let filled = match fill(code, &mut room.tokens) {
+        Ok(filled) => filled,
+        Err(place) => return Err(refused(Refusal::Token, place)),
+    };
+    let tokens = &room.tokens[..filled.tokens];
+    if 3 < filled.semicolons {
+        return Err(refused(Refusal::SectionCount, semicolon_place(tokens, 3)));
     }
-    let beyond = first_failing(drafts, n, LIMIT);
-    if beyond < n {
-        return refused(Answer::Limit, beyond as u32);
-    }
-    Examined {
-        answer: Answer::Done,
-        place: 0,
-        tokens: count,
-        sections: n,
+    let sections = filled.semicolons + 1;
+    let words = draft_all(code, tokens, sections, &mut room.items, &mut room.drafts);
+    judge(&room.drafts[..sections])?;
+    Ok(Examined {
+        tokens: filled.tokens,
+        sections,
         words,
-    }
-}
-
-// The tests from 3 on of a code whose `count` tokens these are, `semicolons` of them semicolons.
-fn examine_tokens(
-    code: &[u16],
-    tokens: &[u16],
-    count: usize,
-    semicolons: usize,
-    items: &mut [u16],
-    drafts: &mut [u16],
-) -> Examined
-    requires len { (length items.old ≡ 508) × (length drafts.old ≡ 64) }
-    requires buffered { Buffered code.now tokens.now count }
-    requires semicolons_value { semicolons ≡ length (semicolons_in (take (3 * count) tokens.now)) }
-    ensures { ExaminedAs code.now tokens.now result items.new drafts.new }
-{
-    if 3 < semicolons {
-        let place = semicolon_place(tokens, count, 3);
-        return refused(Answer::SectionCount, place as u32);
-    }
-    examine_sections(code, tokens, count, semicolons + 1, items, drafts)
-}
-
-// Examines a code, with 762 words of room for its tokens, 508 for its items and 64 for its drafts.
-pub fn examine(code: &[u16], tokens: &mut [u16], items: &mut [u16], drafts: &mut [u16]) -> Examined
-    requires { (length tokens.old ≡ 762) × (length items.old ≡ 508) × (length drafts.old ≡ 64) }
-    ensures { ExaminedAs code.now tokens.new result items.new drafts.new }
-{
-    if code.len() == 0 {
-        return refused(Answer::CodeLength, 0);
-    }
-    if 254 < code.len() {
-        return refused(Answer::CodeLength, 0);
-    }
-    match fill(code, tokens) {
-        Filled::All(count, semicolons) => {
-            let end = 3 * count;
-            examine_tokens(code, &tokens[..end], count, semicolons, items, drafts)
-        }
-        Filled::Bad(k) => refused(Answer::Token, k as u32),
-    }
+    })
 }

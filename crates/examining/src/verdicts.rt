@@ -1,30 +1,23 @@
 // The tests on the drafts of a code's sections.
-ghost use Rattle.std.specs.Prelude.{◌≡◌, ◌+◌, ◌≤◌, length};
+ghost use Rattle.std.specs.Prelude.{◌≡◌, ◌≤◌, length};
 ghost use Rattle.lists.specs.Lists.{first_failing};
 ghost use Rattle.tables.specs.Standing.{head_stands};
-ghost use Rattle.drafting.specs.Draft.{drafts_in, has_condition_by};
-ghost use Rattle.examining.specs.Examine.{passes_by, found_below};
+ghost use Rattle.drafting.specs.Draft.{has_condition_by};
+ghost use Rattle.examining.specs.Examine.{found, fits_by, stands_by, within_by, verdict_of, drafts_verdict};
 
-use drafting::words::draft_at;
+use super::refused;
+use answers::{Refusal, Refused};
 use drafting::{Draft, has_condition};
 use tables::kinds;
-
-// The tests of a section, by the numbers of their answers.
-pub const KIND: u16 = 4;
-
-pub const STANDING: u16 = 5;
-
-pub const LIMIT: u16 = 6;
 
 // Section i of n may stand where it does.
 fn stands(d: Draft, n: usize, i: usize) -> bool
     requires { i ≤ 4 }
     ensures { result ≡ head_stands n i d.body.kind d.colour (has_condition_by d) }
 {
-    let body = d.body;
-    let text = body.kind == kinds::TEXT;
-    let general = body.kind == kinds::GENERAL;
-    let literal = body.kind == kinds::LITERAL;
+    let text = d.body.kind == kinds::TEXT;
+    let general = d.body.kind == kinds::GENERAL;
+    let literal = d.body.kind == kinds::LITERAL;
     let has = has_condition(d);
     let fourth = i == 3;
     (!text | (i + 1 == n))
@@ -35,32 +28,47 @@ fn stands(d: Draft, n: usize, i: usize) -> bool
         & (!fourth | ((d.colour == 0) & !has))
 }
 
-// Section i of n passes the test of the answer of this number.
-fn passes(d: Draft, test: u16, n: usize, i: usize) -> bool
-    requires { i ≤ 4 }
-    ensures { result ≡ passes_by test n i d }
+// The first section that fits no kind.
+fn first_unfit(drafts: &[Draft]) -> Option<usize>
+    ensures { found result ≡ first_failing fits_by 0 drafts.now }
 {
-    if test == KIND {
-        let body = d.body;
-        return body.fits;
-    }
-    if test == STANDING {
-        return stands(d, n, i);
-    }
-    d.within
+    drafts.iter().position(|d| !d.body.fits)
 }
 
-// The place of the first of n sections that fails a test, or n.
-pub fn first_failing(drafts: &[u16], n: usize, test: u16) -> usize
-    requires { (n ≤ 4) × (length drafts.now ≡ 64) }
-    ensures { first_failing (passes_by test n) 0 (drafts_in n 0 drafts.now) ≡ found_below n result }
+// The first section that stands where it may not.
+fn first_misplaced(drafts: &[Draft]) -> Option<usize>
+    requires { length drafts.now ≤ 4 }
+    ensures { found result ≡ first_failing (stands_by (length drafts.now)) 0 drafts.now }
 {
-    let mut place: usize = 0;
-    while place < n {
-        if !passes(draft_at(drafts, place), test, n, place) {
-            return place;
+    for (i, d) in drafts.iter().enumerate() {
+        if !stands(*d, drafts.len(), i) {
+            return Some(i);
         }
-        place += 1;
     }
-    n
+    None
+}
+
+// The first section beyond a limit.
+fn first_beyond(drafts: &[Draft]) -> Option<usize>
+    ensures { found result ≡ first_failing within_by 0 drafts.now }
+{
+    drafts.iter().position(|d| !d.within)
+}
+
+// The tests 4, 5 and 6 over the drafts of all sections.
+#[tactic(auto, using(crate::proofs::Testing::found_within), unfolding(crate::specs::Examine::verdict_of, crate::specs::Examine::drafts_verdict, crate::specs::Examine::found, formats::specs::Accept::or_else, formats::specs::Accept::section_verdict))]
+pub fn judge(drafts: &[Draft]) -> Result<(), Refused>
+    requires { length drafts.now ≤ 4 }
+    ensures { verdict_of result ≡ drafts_verdict drafts.now }
+{
+    if let Some(unfit) = first_unfit(drafts) {
+        return Err(refused(Refusal::Kind, unfit));
+    }
+    if let Some(misplaced) = first_misplaced(drafts) {
+        return Err(refused(Refusal::Standing, misplaced));
+    }
+    if let Some(beyond) = first_beyond(drafts) {
+        return Err(refused(Refusal::Limit, beyond));
+    }
+    Ok(())
 }

@@ -1,33 +1,63 @@
 -- `examining::examine` meets its contract.
 -- Assumes nothing.
+use Prim.Native.Nat.{◌≤◌}
 use native.Mathlib.Omega.{arith}
-use mathlib.Core.Path.{refl, sym}
-use Rattle.examining.proofs.Answering.{examined-refused, length_none, length_over, length-fair, filled-few, filled-count, filled-all, filled-bad, token-inside}
+use borrow.Author.Rules.{rules}
+use borrow.Author.Tests.{tests}
+use lib.ListN.{length}
+use Rattle.std.proofs.lemmas.Result.{err_from_is_err_and}
+use Rattle.examining.proofs.Answering.{examined-refused, filled-few, filled-count, filled-all, filled-bad, token-inside, count-inside, verdict-count, verdict-sections, lexes-all, examined-drafts, examined-done, length-wrong}
 use Rattle.examining.proofs.examine.Goals as goal
 
-pub returns-then-code-eq0 : goal.returns-then-code-eq0
-returns-then-code-eq0 c = examined-refused _ _ _ _ _ _ _ c.refused.ensures refl (length_none _ c.if-code-eq0.true)
+pub returns-then-not-contains : goal.returns-then-not-contains
+returns-then-not-contains c =
+    let w : 1 ≤ length c.args.code.now → length c.args.code.now ≤ 254 → ⊥ = search (rules, tests) in
+    examined-refused _ _ _ _ _ _ _ c.refused.ensures (length-wrong _ w)
 
-pub returns-then-code-gt254 : goal.returns-then-code-gt254
-returns-then-code-gt254 c = examined-refused _ _ _ _ _ _ _ c.refused-then-code-gt254.ensures refl (length_over _ c.if-code-gt254.true)
+pub refused-requires-in-Err : goal.refused-requires-in-Err
+refused-requires-in-Err c =
+    let short : length c.args.code.now ≤ 254 = search (rules, tests) in
+    let v = filled-bad c.args.code.now _ _ c.in-Err.place c.in-Err.ensures (search (rules, tests)) short in
+    omega (arith, token-inside c.args.code.now c.in-Err.place v)
 
-pub overflow_mul-end : goal.overflow_mul-end
-overflow_mul-end c = omega (arith, filled-few _ _ _ _ c.fill.ensures _ _ c.in-All.is)
+pub returns-in-Err : goal.returns-in-Err
+returns-in-Err c =
+    examined-refused _ _ _ _ _ _ _ c.refused-in-Err.ensures (filled-bad _ _ _ _ c.in-Err.ensures (search (rules, tests)) (search (rules, tests)))
 
-pub slice_bounds-examine_tokens-end : goal.slice_bounds-examine_tokens-end
-slice_bounds-examine_tokens-end c = omega (arith, filled-few _ _ _ _ c.fill.ensures _ _ c.in-All.is, c.fill.ensures.size)
+pub shared_ref_as_front-tokens : goal.shared_ref_as_front-tokens
+shared_ref_as_front-tokens c =
+    let short : length c.args.code.now ≤ 254 = search (rules, tests) in
+    omega (arith, filled-few c.args.code.now _ _ c.in-Ok.filled c.in-Ok.ensures)
 
-pub slice_bounds-examine_tokens-end-in-All : goal.slice_bounds-examine_tokens-end-in-All
-slice_bounds-examine_tokens-end-in-All c = sym (filled-all _ _ _ _ c.fill.ensures _ _ c.in-All.is c.if-code-gt254.false c.requires.0 (length-fair _ c.if-code-eq0.false c.if-code-gt254.false)).size
+pub refused-requires-then-filled-gt3 : goal.refused-requires-then-filled-gt3
+refused-requires-then-filled-gt3 c =
+    let short : length c.args.code.now ≤ 254 = search (rules, tests) in
+    let b = filled-all c.args.code.now _ _ c.in-Ok.filled c.in-Ok.ensures (search (rules, tests)) short (search rules) in
+    let v = verdict-count c.args.code.now _ b _ (filled-count c.args.code.now _ _ _ c.in-Ok.ensures) c.semicolon_place.result c.semicolon_place.ensures c.if-filled-gt3.true in
+    omega (arith, count-inside c.args.code.now c.semicolon_place.result v)
 
-pub examine_tokens-requires-clause-buffered : goal.examine_tokens-requires-clause-buffered
-examine_tokens-requires-clause-buffered c = filled-all _ _ _ _ c.fill.ensures _ _ c.in-All.is c.if-code-gt254.false c.requires.0 (length-fair _ c.if-code-eq0.false c.if-code-gt254.false)
+pub returns-then-filled-gt3 : goal.returns-then-filled-gt3
+returns-then-filled-gt3 c =
+    let b = filled-all c.args.code.now _ _ c.in-Ok.filled c.in-Ok.ensures (search (rules, tests)) (search (rules, tests)) (search rules) in
+    examined-refused _ _ _ _ _ _ _ c.refused-then-filled-gt3.ensures
+    (verdict-count _ _ b _ (filled-count _ _ _ _ c.in-Ok.ensures) _ c.semicolon_place.ensures c.if-filled-gt3.true)
 
-pub examine_tokens-requires-clause-semicolons_value : goal.examine_tokens-requires-clause-semicolons_value
-examine_tokens-requires-clause-semicolons_value c = filled-count _ _ _ _ c.fill.ensures _ _ c.in-All.is
+pub draft_all-words-requires-clause-lexes : goal.draft_all-words-requires-clause-lexes
+draft_all-words-requires-clause-lexes c =
+    let b = filled-all c.args.code.now _ _ c.in-Ok.filled c.in-Ok.ensures (search (rules, tests)) (search (rules, tests)) (search rules) in
+    lexes-all _ _ b _ (filled-count _ _ _ _ c.in-Ok.ensures)
 
-pub overflow_cast-k : goal.overflow_cast-k
-overflow_cast-k c = omega (arith, token-inside _ _ (filled-bad _ _ _ _ c.fill.ensures _ c.in-Bad.is (length-fair _ c.if-code-eq0.false c.if-code-gt254.false)))
+pub returns-in_err-judge : goal.returns-in_err-judge
+returns-in_err-judge c =
+    let b = filled-all c.args.code.now _ _ c.in-Ok.filled c.in-Ok.ensures (search (rules, tests)) (search (rules, tests)) (search rules) in
+    let told = filled-count c.args.code.now _ _ _ c.in-Ok.ensures in
+    let p = err_from_is_err_and c.from_residual.result c.from_residual.ensures.1 in
+    rw (p.1, p.2)
+    (examined-drafts _ (verdict-sections _ _ b _ told c.if-filled-gt3.false) _ c.draft_all-words.ensures _ (lexes-all _ _ b _ told).many _ c.in_err-judge.ensures _)
 
-pub returns-in-Bad : goal.returns-in-Bad
-returns-in-Bad c = examined-refused _ _ _ _ _ _ _ c.refused-in-Bad.ensures refl (filled-bad _ _ _ _ c.fill.ensures _ c.in-Bad.is (length-fair _ c.if-code-eq0.false c.if-code-gt254.false))
+pub returns : goal.returns
+returns c =
+    let b = filled-all c.args.code.now _ _ c.in-Ok.filled c.in-Ok.ensures (search (rules, tests)) (search (rules, tests)) (search rules) in
+    let told = filled-count c.args.code.now _ _ _ c.in-Ok.ensures in
+    examined-done _ (verdict-sections _ _ b _ told c.if-filled-gt3.false) _ c.draft_all-words.ensures _ (lexes-all _ _ b _ told).many
+    c.in_ok-judge.ensures (omega arith) (search rules) _ _ (omega (arith, filled-few c.args.code.now _ _ c.in-Ok.filled c.in-Ok.ensures, c.fill.ensures.size)) b
