@@ -65,8 +65,8 @@ module _ {from : List ℕ} (b : Below from) where
   pub below-behind : Behind rest
   below-behind = rw (rest_all 2 from) b.behind
 
-  pub below-few : (k : ℕ) → length (take (length rest - k) (drop k rest)) ≤ 508
-  below-few k = rw (rest_all k rest) (omega (arith, length-drop k rest, below-behind.few))
+  pub below-few : (k : ℕ) → length (drop k rest) ≤ 508
+  below-few k = omega (arith, length-drop k rest, below-behind.few)
 
   below-items : items_in from ≡ solidus ∷ items_in rest
   below-items = b.items ∙ ap (λ (ws : List ℕ). solidus ∷ items_in ws) (sym (rest_all 2 from))
@@ -76,11 +76,11 @@ module _ {from : List ℕ} (b : Below from) where
   below-held = rw below-items (every-cons (item_allowed fraction_kind) solidus (items_in rest) tt below-behind.allowed)
 
   pub below-text : {e : ℕ} (d : ℕ) → CutAt rest e (start_places (items_in rest)) (behind_start (items_in rest))
-      → below_units d (items_in from) ≡ (47 ∷ []) ++ (denominator_units d (items_in (take e rest)) ++ loose_text false (items_in (take (length rest - e) (drop e rest))))
+      → below_units d (items_in from) ≡ (47 ∷ []) ++ (denominator_units d (items_in (take e rest)) ++ loose_text false (items_in (drop e rest)))
   unfolding below_units section_units items_units along flatten item_units units
   below-text {e} d x =
       ap (below_units d) below-items
-      ∙ rw (rest_all e rest, x.before, x.from) (ap (λ (us : List ℕ). 47 ∷ (denominator_units d (start_places (items_in rest)) ++ us)) (behind-text below-behind))
+      ∙ rw (x.before, x.from) (ap (λ (us : List ℕ). 47 ∷ (denominator_units d (start_places (items_in rest)) ++ us)) (behind-text below-behind))
 
   -- how long it can be
   pub below-short : (d : ℕ) → length (below_units d (items_in from)) ≤ 82 * (length from / 2)

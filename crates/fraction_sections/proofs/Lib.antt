@@ -1,5 +1,4 @@
 pub mod Segments
-pub mod FixedNumbers
 pub mod Loose
 pub mod Denominators
 pub mod Spaces

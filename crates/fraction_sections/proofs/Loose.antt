@@ -1,33 +1,33 @@
--- The items of a fraction that show no digit: their text, and the loop over their words.
+-- The items of a fraction that show no digit: their text, and how long it is.
 -- Assumes nothing.
-use Prim.Native.Nat.{ℕ, zero, suc, ◌+◌, ◌-◌, ◌*◌, ◌/◌, ◌≤◌, ◌<◌}
-use native.Mathlib.Nat.{mul-suc, sub-zero}
+use Prim.Native.Nat.{ℕ, zero, suc, ◌*◌, ◌/◌, ◌≤◌, max}
+use native.Mathlib.Nat.{mul-suc}
 use native.Mathlib.Omega.{arith}
 use mathlib.Core.Path.{◌≡◌, refl, sym, ap, ◌∙◌}
 use mathlib.Core.Bool.{Bool, true, false, true≢false, ◌||◌}
 use mathlib.Core.List.{List, [], ◌∷◌, ◌++◌, map, flatten, append_assoc}
 use lib.Dec.{T, eqb}
-use lib.ListN.{length, get_or, replicate, length-append, length-replicate}
+use lib.ListN.{length, replicate, length-append, length-replicate}
 use borrow.Author.Tests.{ne_eqb}
 use Rattle.lists.specs.Lists.{any, every}
 use Rattle.lists.proofs.Bools.{by_cases, cond_both, or-false, every-head, every-tail}
-use Rattle.figures.specs.Digits.{width}
-use Rattle.figures.proofs.Digits.{width-most}
+use Rattle.figures.specs.Digits.{width, digit_units, numeral}
+use Rattle.figures.proofs.Digits.{width-most, width-least}
 use Rattle.formats.specs.Tokens.{Place}
 use Rattle.formats.specs.Items.{Item, item_row, literal, blank, fill, place, solidus, fixed, half, fraction_kind, item_allowed, is_literal, is_fill, is_place, is_solidus, is_fixed}
 use Rattle.formats.specs.Text.{Context, item_units, items_units, digit_after, along}
 use Rattle.formats.specs.Reading.{blanked}
 use Rattle.formats.proofs.Each.{by-item}
 use Rattle.formats.proofs.ByNumber.{by_number}
-use Rattle.tables.specs.Words.{entries_at, entries_in}
+use Rattle.tables.specs.Words.{Entry, entries_in}
 use Rattle.tables.specs.Encode.{entry}
 use Rattle.tables.specs.Decode.{half_at, item_at, items_at, items_by_tag}
-use Rattle.tables.proofs.Words.{entries_left, entries-front, entries_at-length}
+use Rattle.tables.proofs.Words.{entries_at-length}
 use Rattle.tables.proofs.BackEntries.{items-length}
-use Rattle.writing.specs.Put.{Put, Rest}
-use Rattle.writing.proofs.Laws.{rest-start, rest_put, rest-done}
+use Rattle.writing.specs.Put.{Put}
 use Rattle.writing.proofs.Numerals.{numeral-short}
 use Rattle.table_words.specs.Runs.{items_in}
+use Rattle.section_text.specs.Walk.{PutsFirst, HasText}
 use Rattle.fraction_sections.specs.Fraction.{loose_units, loose_text}
 
 -- the items that a fraction holds
@@ -118,37 +118,26 @@ loose-other b t a x y z =
     let rest = or-false (is_fill i) (is_fixed i) none.1 in
     rw (none.0, rest.0, rest.1)
 
--- ---- the loop: after k of n items
-pub record Loosely (b : Bool) (old : List ℕ) (start : ℕ) (words : List ℕ) (n k : ℕ) (room : List ℕ) (at : ℕ) : Type 0 where
-  pub items : n ≡ length words / 2
-  pub inside : k ≤ n
-  pub short : length (loose_text b (items_in words)) ≤ 6350
-  pub rest : Rest old start (loose_text b (items_in words)) room at (loose_text b (items_at (entries_left words n k)))
-
-pub loosely-start : (b : Bool) (old : List ℕ) (start : ℕ) (words : List ℕ) (n : ℕ) → n ≡ length words / 2 → length words ≤ 508
-    → Loosely b old start words n 0 old start
-unfolding entries_in
-loosely-start b old start words n e h = record {
-  items = e;
-  inside = omega arith;
-  short = omega (arith, loose-short b (items_in words), items-counted words);
-  rest = rw (sub-zero n, ← e) (rest-start old start _);
+-- ---- an item that is put is the first of such items, and their text is there and short
+pub loose-first : (b : Bool) (e : Entry) {old out : List ℕ} {at r : ℕ} → Put old at (loose_units b (item_at e)) r out
+    → PutsFirst (λ es us. us ≡ loose_text b (items_at es)) e old at r out
+unfolding loose_text items_at flatten
+loose-first b e p es us t = record {
+  piece = loose_units b (item_at e);
+  rest = loose_text b (items_at es);
+  joined = t;
+  put = p;
+  left = refl;
 }
 
-module _ {b : Bool} {old : List ℕ} {start : ℕ} {words : List ℕ} {n k : ℕ} {room : List ℕ} {at : ℕ} (s : Loosely b old start words n k room at) where
-  pub loosely-step : {r : ℕ} {out : List ℕ} → k < n → Put room at (loose_units b (item_at (entry (get_or words (2 * k) 0) (get_or words (2 * k + 1) 0)))) r out
-      → Loosely b old start words n (k + 1) out r
-  unfolding loose_text items_at flatten
-  loosely-step h p = record {
-    items = s.items;
-    inside = omega arith;
-    short = s.short;
-    rest = rest_put (rw (entries-front words n k h) at s.rest) p;
-  }
+pub loose-has : (b : Bool) (words : List ℕ) → length words ≤ 508 → HasText (λ es us. us ≡ loose_text b (items_at es)) (entries_in words)
+loose-has b words h = record {
+  units = loose_text b (items_in words);
+  has = refl;
+  short = omega (arith, loose-short b (items_in words), items-counted words);
+}
 
-  pub loosely-end : n ≤ k → Put old start (loose_text b (items_in words)) at room
-  unfolding loose_text items_at entries_at flatten
-  loosely-end h = let none : n - k ≡ 0 = omega arith in rest-done (rw none at s.rest)
-
-  pub loosely-within : at ≤ start + 6350
-  loosely-within = omega (arith, s.rest.ends, s.short)
+-- a fixed number's digits
+pub fixed-digits : (n : ℕ) → digit_units (width n) n ≡ numeral 1 n
+unfolding numeral
+fixed-digits n = let w : max 1 (width n) ≡ width n = omega (arith, width-least n) in ap (λ (m : ℕ). digit_units m n) (sym w)

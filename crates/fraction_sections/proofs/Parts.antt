@@ -1,14 +1,16 @@
 -- The item words of a fraction section, cut at its solidus and before its numerator, are those of its parts.
 -- Assumes nothing.
-use Prim.Native.Nat.{ℕ, suc, ◌-◌, ◌/◌, ◌≤◌, ◌<◌}
+use Prim.Native.Nat.{ℕ, suc, ◌+◌, ◌/◌, ◌≤◌, ◌<◌}
 use native.Mathlib.Omega.{arith}
 use mathlib.Core.Path.{◌≡◌, refl, sym, ap, ◌∙◌}
 use mathlib.Core.Bool.{Bool, true, false, true≢false, cond, not, ◌&&◌, ◌||◌}
 use mathlib.Core.List.{List, [], ◌∷◌, ◌++◌, append_assoc, head-eq_of_cons-eq, tail-eq_of_cons-eq}
 use lib.Dec.{T, eqb→eq}
 use lib.ListN.{length, get_or, take, drop, length-take, length-drop}
-use lib.Seq.{length-take-le, take-append_seam, drop-append_seam}
+use lib.Seq.{take-append_seam, drop-append_seam}
 use borrow.Author.Tests.{eqb-true}
+use Rattle.std.specs.Prelude.{Result}
+use Rattle.answers.specs.declared.Refusal.{Refusal}
 use Rattle.answers.specs.declared.Shown.{Shown}
 use Rattle.lists.specs.Lists.{any, every, count}
 use Rattle.lists.proofs.Bools.{by_cases, and_left, and_right, and_in, carry, or-false, or_right, implied, not_so, true-T, T_true, every-head, every-tail}
@@ -32,7 +34,7 @@ use Rattle.table_words.proofs.Bodies.{section-fraction}
 use Rattle.table_words.specs.Runs.{items_in, CutAt}
 use Rattle.fraction_sections.specs.Fraction.{Segment, Behind, FractionReady, mixed_text}
 use Rattle.section_text.specs.Show.{sign_text, fraction_reading, Shows}
-use Rattle.table_words.proofs.Cuts.{rest_all, items-append}
+use Rattle.table_words.proofs.Cuts.{items-append}
 use Rattle.section_text.proofs.Cuts.{powers-anew, powers-front, powers-behind, plain-allowed}
 use Rattle.fraction_sections.proofs.Denominators.{places-held, places-counted}
 use Rattle.fraction_sections.proofs.Loose.{held-case, items-counted}
@@ -125,25 +127,10 @@ unfolding powers_from along all_of digit_after
 solidus-powers a p e es h t = rw h at (and_right (power_fits p e) (powers_from a (digit_after a p (item_at e)) es) t)
 
 -- ---- of a section's words
-pub parts-few : {words : List ℕ} {s n : ℕ} {a b c d : List Item} → CutAt words s a b → CutAt (take s words) n c d → length words ≤ 508 → n ≤ 508
-parts-few {words} {s} x y h = omega (arith, y.inside, length-take-le s words x.inside, x.inside)
-
 module _ {z : Section} {words : List ℕ} {s n : ℕ} (o : ItemsOf z words) (k : kind_of z ≡ fraction_kind) (r : FractionRules z.items) (l : Within z)
     (x : CutAt words s (before_cut (items_in words)) (from_cut (items_in words)))
-    (y : CutAt (take s words) n (before_end (items_in (take s words))) (end_places (items_in (take s words)))) where
-  -- the parts as the code takes them
-  abbrev before : List ℕ
-  before = take s words
-
-  abbrev whole : List ℕ
-  whole = take n before
-
-  abbrev numerator : List ℕ
-  numerator = take (length before - n) (drop n before)
-
-  abbrev from : List ℕ
-  from = take (length words - s) (drop s words)
-
+    {before from whole numerator : List ℕ} (eb : before ≡ take s words) (ef : from ≡ drop s words)
+    (y : CutAt before n (before_end (items_in before)) (end_places (items_in before))) (ew : whole ≡ take n before) (en : numerator ≡ drop n before) where
   abbrev is : List Item
   is = z.items
 
@@ -158,18 +145,18 @@ module _ {z : Section} {words : List ℕ} {s n : ℕ} (o : ItemsOf z words) (k :
 
   -- their items
   before-items : items_in before ≡ before_cut is
-  before-items = x.before ∙ ap before_cut (sym o.items)
+  before-items = ap items_in eb ∙ x.before ∙ ap before_cut (sym o.items)
 
   whole-items : items_in whole ≡ whole_items is
   unfolding whole_items
-  whole-items = rw some (y.before ∙ ap before_end before-items)
+  whole-items = rw some (ap items_in ew ∙ y.before ∙ ap before_end before-items)
 
   numerator-items : items_in numerator ≡ numerator_items is
   unfolding numerator_items
-  numerator-items = ap items_in (rest_all n before) ∙ y.from ∙ ap end_places before-items
+  numerator-items = ap items_in en ∙ y.from ∙ ap end_places before-items
 
   from-items : items_in from ≡ from_cut is
-  from-items = ap items_in (rest_all s words) ∙ x.from ∙ ap from_cut (sym o.items)
+  from-items = ap items_in ef ∙ x.from ∙ ap from_cut (sym o.items)
 
   main-items : items_in numerator ++ items_in from ≡ main_items is
   unfolding main_items
@@ -178,8 +165,16 @@ module _ {z : Section} {words : List ℕ} {s n : ℕ} (o : ItemsOf z words) (k :
   -- their entries
   joined : entries_in words ≡ entries_in whole ++ (entries_in numerator ++ entries_in from)
   joined =
-      rw (rest_all n before, rest_all s words)
-      (x.joins ∙ ap (λ (es : List Entry). es ++ entries_in (drop s words)) y.joins ∙ append_assoc (entries_in whole) (entries_in (drop n before)) (entries_in (drop s words)))
+      rw (ew, en, ef)
+      (x.joins ∙ ap (λ (es : List Entry). es ++ entries_in (drop s words)) (ap entries_in (sym eb) ∙ y.joins)
+      ∙ append_assoc (entries_in (take n before)) (entries_in (drop n before)) (entries_in (drop s words)))
+
+  -- how many words they have
+  before-size : length before + length from ≡ length words
+  before-size = omega (arith, ap length eb, length-take s words, ap length ef, length-drop s words, x.inside)
+
+  whole-size : length whole + length numerator ≡ length before
+  whole-size = omega (arith, ap length ew, length-take n before, ap length en, length-drop n before, y.inside)
 
   in-range : T (every entry_in_range (entries_in whole) && (every entry_in_range (entries_in numerator) && every entry_in_range (entries_in from)))
   in-range =
@@ -219,7 +214,7 @@ module _ {z : Section} {words : List ℕ} {s n : ℕ} (o : ItemsOf z words) (k :
       carry (sym (every-and (item_allowed fraction_kind) (λ (i : Item). not (is_fixed i)) (whole_items is)))
       (and_in (every (item_allowed fraction_kind) (whole_items is)) (every (λ (i : Item). not (is_fixed i)) (whole_items is)) whole-held (none-every is_fixed (whole_items is) whole-unfixed)) in
       record {
-        few = rw (length-take n before, length-take s words) (omega (arith, o.few));
+        few = omega (arith, before-size, whole-size, o.few);
         in_range = and_left (every entry_in_range (entries_in whole)) _ in-range;
         allowed = rw whole-items (plain-allowed (λ (i : Item). item_allowed fraction_kind i && not (is_fixed i)) (λ i. or_right (item_allowed scientific_kind i) _) (whole_items is) (whole-bare is) plain);
         places = rw whole-items (sym (places-integers (whole_items is) (pointless (whole_items is) whole-held) (whole-bare is)));
@@ -249,7 +244,7 @@ module _ {z : Section} {words : List ℕ} {s n : ℕ} (o : ItemsOf z words) (k :
   numerator-segment =
       let allowed = places-held (items_in numerator) run in
       record {
-        few = rw (rest_all n before, length-drop n before, length-take s words) (omega (arith, o.few));
+        few = omega (arith, before-size, whole-size, o.few);
         in_range = and_left (every entry_in_range (entries_in numerator)) _ behind-range;
         allowed = allowed;
         places = places-counted (items_in numerator) run;
@@ -294,7 +289,7 @@ module _ {z : Section} {words : List ℕ} {s n : ℕ} (o : ItemsOf z words) (k :
       let bare : any is_cut (items_in (drop 2 from)) ≡ false =
       any-either is_exponent is_solidus (items_in (drop 2 from)) ∙ rw (no-exponent fraction_kind (items_in (drop 2 from)) refl behind-held, behind-single) in
       record {
-        few = rw (length-drop 2 from, rest_all s words, length-drop s words) (omega (arith, o.few));
+        few = omega (arith, length-drop 2 from, before-size, o.few);
         in_range = every-tail entry_in_range first (entries_in (drop 2 from)) (carry (ap (every entry_in_range) (entries-first from two)) (and_right (every entry_in_range (entries_in numerator)) _ behind-range));
         allowed = behind-held;
         single = behind-single;
@@ -309,9 +304,12 @@ module _ {z : Section} {words : List ℕ} {s n : ℕ} (o : ItemsOf z words) (k :
       carry (sym (ap (every (item_allowed fraction_kind)) (end-joins (before_cut is))) ∙ every-both (item_allowed fraction_kind) (before_end (before_cut is)) (end_places (before_cut is)))
       (every-before (item_allowed fraction_kind) is held)
 
+  pub parts-few : length whole + length numerator + length from ≤ 508
+  parts-few = omega (arith, before-size, whole-size, o.few)
+
   pub fraction-ready : FractionReady whole numerator from
   fraction-ready = record {
-    few = rw (length-take n before, rest_all n before, length-drop n before, length-take s words, rest_all s words, length-drop s words) (omega (arith, o.few, x.inside, y.inside, length-take s words));
+    few = parts-few;
     integer = whole-segment;
     above = numerator-segment;
     held = rw numerator-items (and_right (every (item_allowed fraction_kind) (before_end (before_cut is))) (every (item_allowed fraction_kind) (numerator_items is)) ended);
@@ -323,7 +321,7 @@ module _ {z : Section} {words : List ℕ} {s n : ℕ} (o : ItemsOf z words) (k :
   shown-text f = rw (← whole-items, ← main-items, ← numerator-items, ← from-items)
 
   -- what is shown of the words is what is shown of the section
-  pub fraction-shows : {old out : List ℕ} {t : Shown} {colour : ℕ} (size i : ℕ) (minus exact : Bool) (f : Mixed) → colour ≡ z.colour
+  pub fraction-shows : {old out : List ℕ} {t : Result Shown Refusal} {colour : ℕ} (size i : ℕ) (minus exact : Bool) (f : Mixed) → colour ≡ z.colour
       → Shows (within size (look_of (sign_text minus ++ mixed_text f (items_in whole) (items_in numerator) (items_in from)) colour i exact)) old t out
       → Shows (fraction_reading size z i minus exact f) old t out
   unfolding fraction_reading

@@ -5,7 +5,7 @@ use native.Mathlib.Nat.{lt_of_lt_of_le, mul-one}
 use native.Mathlib.Omega.{arith}
 use mathlib.Core.Path.{◌≡◌, refl, ap, ◌∙◌}
 use mathlib.Core.Bool.{false}
-use mathlib.Core.List.{List, []}
+use mathlib.Core.List.{List}
 use lib.ListN.{length}
 use Rattle.lists.specs.Lists.{count}
 use Rattle.lists.proofs.Bools.{carry}
@@ -14,7 +14,7 @@ use Rattle.figures.specs.Rounding.{rounded}
 use Rattle.figures.specs.Powers.{powered}
 use Rattle.figures.specs.Rounder.{Roundable}
 use Rattle.figures.proofs.Rounding.{rounded-within, rounded-exact}
-use Rattle.formats.specs.Items.{number_kind, item_allowed, is_place, integer_places}
+use Rattle.formats.specs.Items.{Kind, number_kind, item_allowed, is_place, integer_places}
 use Rattle.formats.specs.Text.{Context, section_units, first_of}
 use Rattle.formats.specs.Reading.{whole_context, whole_text}
 use Rattle.formats.proofs.Cutting.{held-bare}
@@ -24,7 +24,7 @@ use Rattle.figure_text.specs.Shown.{figures_with}
 use Rattle.figure_text.proofs.Digits.{figures-are}
 use Rattle.section_text.specs.Subject.{SubjectIs}
 use Rattle.table_words.specs.Runs.{items_in}
-use Rattle.section_text.specs.Walk.{EntriesFit, Ready}
+use Rattle.section_text.specs.Walk.{EntriesFit, TextOf}
 use Rattle.fraction_sections.specs.Fraction.{Segment}
 use Rattle.section_text.proofs.Lengths.{words-short}
 use Rattle.section_text.proofs.Cuts.{powers-anew}
@@ -46,10 +46,10 @@ module _ {words : List ℕ} (g : Segment words) where
   }
 
   pub segment-subject : (n : ℕ) {digits : List ℕ} {f : Figures} {places : ℕ} → n < 2 ^ 64 → digits ≡ figures (rounded (powered n 0 0) 0)
-      → places ≡ count is_place (items_in words) → f ≡ figures_with digits places false
-      → SubjectIs number_kind digits (record { figures = f; lent = false }) [] (shown_of n)
+      → places ≡ count is_place (items_in words) → f ≡ figures_with digits places false → (text : List ℕ)
+      → SubjectIs number_kind digits (record { figures = f; lent = false }) text (shown_of n)
   unfolding whole_context
-  segment-subject n {digits} h ed ep ef =
+  segment-subject n {digits} h ed ep ef text =
       let exact : rounded (powered n 0 0) 0 ≡ n * 10 ^ 15 = rounded-exact n 0 0 0 (omega arith) (omega arith) in
       record {
         numeric = λ t. figures-are digits (shown_of n) (ef ∙ ap (λ (k : ℕ). figures_with digits k false) (ep ∙ g.places))
@@ -61,15 +61,17 @@ module _ {words : List ℕ} (g : Segment words) where
         unfractional = refl;
       }
 
-  pub segment-ready : (n : ℕ) {digits : List ℕ} {f : Figures} {places : ℕ} → n < 2 ^ 64 → digits ≡ figures (rounded (powered n 0 0) 0)
-      → places ≡ count is_place (items_in words) → f ≡ figures_with digits places false
-      → Ready (λ k. SubjectIs k digits (record { figures = f; lent = false }) []) words
-  segment-ready n h ed ep ef = record {
+  -- the text of n
+  pub segment-text : {P : Kind → Context → Type 0} (n : ℕ) → P number_kind (shown_of n)
+      → TextOf P (entries_in words) (whole_text n (items_in words))
+  unfolding section_units whole_context
+  segment-text n p = record {
     context = shown_of n;
     kind = number_kind;
     power = first_of (integer_places (items_in words));
-    subject = segment-subject n h ed ep ef;
+    subject = p;
     fit = segment-fit n;
+    is = refl;
   }
 
   -- how long its text can be

@@ -18,10 +18,11 @@ spacing-start old at count =
     let all : at + count - at ≡ count = omega arith in record { most = omega arith; rest = rw all (rest-start old at (replicate count 32)) }
 
 module _ {old : List ℕ} {at count : ℕ} {room : List ℕ} {o : ℕ} (s : Spacing old at count room o) where
-  pub spacing-step : {r : ℕ} {out : List ℕ} → o < at + count → Put room o (32 ∷ []) r out → Spacing old at count out r
+  pub spacing-step : {r : ℕ} {out : List ℕ} → o < at + count → Put room o (32 ∷ []) r out → Spacing old at count out (o + 1)
   spacing-step {r} h p =
       let next : at + count - o ≡ suc (at + count - r) = omega (arith, p.next) in
-      record { most = omega (arith, p.next); rest = rest_put {p = 32 ∷ []} (rw next at s.rest) p }
+      let one : o + 1 ≡ r = omega (arith, p.next) in
+      rw one (record { most = omega (arith, p.next); rest = rest_put {p = 32 ∷ []} (rw next at s.rest) p })
 
   pub spacing-end : at + count ≤ o → Put old at (replicate count 32) o room
   spacing-end h = let none : at + count - o ≡ 0 = omega arith in rest-done (rw none at s.rest)

@@ -9,6 +9,7 @@ use Rattle.formats.specs.Items.{Item, item_row, number_kind, fraction_kind, item
 use Rattle.formats.specs.Text.{first_of}
 use Rattle.formats.specs.Reading.{whole_text, below_units, blanked}
 use Rattle.tables.specs.Words.{entries_in}
+use Rattle.tables.specs.Decode.{items_at}
 use Rattle.tables.specs.Rules.{entry_in_range, powers_from}
 use Rattle.table_words.specs.Runs.{items_in}
 
@@ -61,6 +62,11 @@ loose_units blank i =
 
 unfoldable pub loose_text : Bool → List Item → List ℕ
 loose_text blank is = flatten (map (loose_units blank) is)
+
+-- of no item none
+pub loose-ends : (blank : Bool) {us : List ℕ} → us ≡ loose_text blank (items_at []) → us ≡ []
+unfolding loose_text items_at flatten
+loose-ends blank e = e
 
 -- `?` is shown as `#`
 unfoldable pub shown_tag : ℕ → ℕ

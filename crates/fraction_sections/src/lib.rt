@@ -1,28 +1,25 @@
 // The text of a fraction section: its whole number, its numerator and its denominator, each shown in the places of its own part.
 #![tactic(auto)]
 
-ghost use Rattle.std.specs.Prelude.{◌≡◌, true, cond, ◌&&◌, ◌++◌, ◌+◌, ◌≤◌, ◌<◌, ◌^◌, T, leb, eqb, length, get_or, replicate};
+ghost use Rattle.std.specs.Prelude.{◌≡◌, cond, ◌&&◌, List, ◌++◌, ℕ, ◌+◌, ◌≤◌, ◌<◌, ◌^◌, eqb, length, get_or, replicate};
 ghost use Rattle.lists.specs.Lists.{any, count};
 ghost use Rattle.figures.specs.Digits.{width, numeral};
 ghost use Rattle.formats.specs.Items.{fraction_kind, kind_of, is_place, is_space};
-ghost use Rattle.formats.specs.Reading.{look_of, within, whole_text, spare_places, denominator_units, below_units};
-ghost use Rattle.tables.specs.Encode.{entry};
-ghost use Rattle.tables.specs.Decode.{item_at};
-ghost use Rattle.tables.specs.Rules.{passes};
-ghost use Rattle.table_words.specs.Sections.{section_in};
+ghost use Rattle.formats.specs.Reading.{whole_text, spare_places, denominator_units, below_units};
+ghost use Rattle.tables.specs.Decode.{items_at};
+ghost use Rattle.table_words.specs.Tabled.{section_of};
 ghost use Rattle.writing.specs.Put.{Put};
 ghost use Rattle.table_words.specs.Runs.{items_in};
-ghost use Rattle.fraction_sections.specs.Fraction.{Segment, Below, FractionReady, mixed_text, loose_units, loose_text, shown_tag, shown_words};
+ghost use Rattle.fraction_sections.specs.Fraction.{Segment, Below, FractionReady, mixed_text, loose_text, loose-ends, shown_tag, shown_words};
 ghost use Rattle.section_text.specs.Show.{sign_text, fraction_reading, Shows};
 
-use answers::{Answer, Shown, done_shown, refused_shown};
+use answers::{Refusal, Shown};
 use fractions::Mixed;
 use scans::{count_between, cut_start};
-use section_text::{Subject, is_roomy, put_segment, put_sign};
+use section_text::{ShowsItems, Source, Subject, is_roomy, put_items, put_sign, show_whole};
+use table_words::TableSection;
 use table_words::runs::{run_end, run_start};
-use table_words::{head_of, items_of};
 use tables::tags;
-use values::integers;
 use writing::{put_unit, units};
 
 const SOLIDUS: u16 = 47;
@@ -36,49 +33,60 @@ fn put_whole(room: &mut [u16], at: usize, items: &[u16], n: u64) -> usize
     let mut exact = true;
     let digits = figures::round([0; 40], n, 0, 0, 0, &mut exact);
     let places = count_between(items, tags::ZERO_PLACE, tags::SPACE_PLACE);
-    let s = Subject {
-        figures: figure_text::figures_of(digits, places as u32, false),
-        lent: false,
+    let source = Source {
+        subject: Subject {
+            figures: figure_text::figures_of(digits, places as u32, false),
+            lent: false,
+        },
+        digits: &digits,
+        text: &items[..0],
     };
-    put_segment(room, at, items, &digits, s, &items[..0])
+    put_items(room, at, items, &source)
 }
 
 // Puts so many spaces.
 fn put_spaces(room: &mut [u16], at: usize, count: usize) -> usize
-    requires { (at ≤ 2 ^ 41) × (count ≤ 254) }
+    requires { (at ≤ 2 ^ 62) × (count ≤ 254) }
     ensures { Put room.old at (replicate count 32) result room.new }
 {
     let end = at + count;
-    let mut o = at;
-    while o < end {
-        o = put_unit(room, o, units::SPACE);
+    for k in at..end {
+        put_unit(room, k, units::SPACE);
     }
-    o
+    end
 }
 
 // Puts a fixed number, of a blank fraction a space for each of its digits.
 fn put_fixed(room: &mut [u16], at: usize, n: u16, blank: bool) -> usize
-    requires { at ≤ 2 ^ 40 }
+    requires { at < 2 ^ 61 }
     ensures { Put room.old at (cond blank (replicate (width n) 32) (numeral 1 n)) result room.new }
 {
+    let number = u64::from(n);
+    let digits = figures::width_of(number);
     if blank {
-        return put_spaces(room, at, figures::width_of(n as u64) as usize);
+        return put_spaces(room, at, digits as usize);
     }
-    // one place, for the last integer digit
-    let place = [tags::ZERO_PLACE, 16];
-    put_whole(room, at, &place[..], n as u64)
+    writing::put_digits(room, at, digits, number)
 }
 
-// Puts the text of an item that shows no digit.
-fn put_loose_item(room: &mut [u16], at: usize, tag: u16, argument: u16, blank: bool) -> usize
-    requires { at ≤ 2 ^ 40 }
-    ensures { Put room.old at (loose_units blank (item_at (entry tag argument))) result room.new }
-{
-    match tag {
-        tags::LITERAL => put_unit(room, at, argument),
-        tags::FILL => at,
-        tags::FIXED => put_fixed(room, at, argument, blank),
-        _ => put_unit(room, at, units::SPACE),
+// Items that show no digit: those of a blank fraction, or those behind a denominator.
+#[derive(Clone, Copy)]
+struct LooseItems {
+    blank: bool,
+}
+
+impl ShowsItems for LooseItems {
+    ghost text = { λ l es us. us ≡ loose_text l.blank (items_at es) };
+
+    ghost ends = { λ l us e. loose-ends l.blank e };
+
+    fn put_item(&self, room: &mut [u16], at: usize, tag: u16, argument: u16) -> usize {
+        match tag {
+            tags::LITERAL => put_unit(room, at, argument),
+            tags::FILL => at,
+            tags::FIXED => put_fixed(room, at, argument, self.blank),
+            _ => put_unit(room, at, units::SPACE),
+        }
     }
 }
 
@@ -88,26 +96,14 @@ fn put_loose(room: &mut [u16], at: usize, items: &[u16], blank: bool) -> usize
     ensures within { result ≤ at + 6350 }
     ensures put { Put room.old at (loose_text blank (items_in items.now)) result room.new }
 {
-    let n = items.len() / 2;
-    let mut k: usize = 0;
-    let mut o = at;
-    while k < n {
-        let i = 2 * k;
-        let j = i + 1;
-        o = put_loose_item(room, o, items[i], items[j], blank);
-        k += 1;
-    }
-    o
+    put_items(room, at, items, &LooseItems { blank })
 }
 
 // A word, or 0 behind the last.
 fn word_at(words: &[u16], k: usize) -> u16
     ensures { result ≡ get_or words.now k 0 }
 {
-    if k < words.len() {
-        return words[k];
-    }
-    0
+    words.get(k).copied().unwrap_or(0)
 }
 
 // The tag of a place as the denominator shows it: its spare `?` show their spaces behind the digits.
@@ -115,9 +111,10 @@ fn shown_tag(tag: u16) -> u16
     ensures { result ≡ shown_tag tag }
 {
     if tag == tags::SPACE_PLACE {
-        return tags::HASH_PLACE;
+        tags::HASH_PLACE
+    } else {
+        tag
     }
-    tag
 }
 
 // The words of up to three places, as the denominator shows them.
@@ -140,7 +137,7 @@ fn spare_spaces(places: &[u16], d: u64) -> usize
     ensures { (result ≡ count is_space (spare_places d (items_in places.now))) × (result ≤ 3) }
 {
     let n = places.len() / 2;
-    let shown = integers::least(figures::width_of(d) as usize, n);
+    let shown = (figures::width_of(d) as usize).min(n);
     let spare = n - shown;
     count_between(&places[..2 * spare], tags::SPACE_PLACE, tags::SPACE_PLACE)
 }
@@ -164,9 +161,9 @@ fn put_below(room: &mut [u16], at: usize, from: &[u16], d: u64) -> usize
 {
     let a = put_unit(room, at, SOLIDUS);
     let behind = &from[2..];
-    let end = run_end(behind);
-    let b = put_denominator(room, a, &behind[..end], d);
-    put_loose(room, b, &behind[end..], false)
+    let (places, others) = behind.split_at(run_end(behind));
+    let b = put_denominator(room, a, places, d);
+    put_loose(room, b, others, false)
 }
 
 // Whether the fraction is left blank: its numerator is 0, and integer places stand before it.
@@ -201,80 +198,30 @@ fn put_mixed(
     put_below(room, c, from, f.below)
 }
 
-// Whether a room of this size takes a fraction section's text.
-fn takes_mixed(
-    size: usize,
-    minus: bool,
-    whole: &[u16],
-    numerator: &[u16],
-    from: &[u16],
-    f: Mixed,
-) -> bool
-    requires { FractionReady whole.now numerator.now from.now }
-    ensures { result ≡ leb (length (sign_text minus
-        ++ mixed_text f (items_in whole.now) (items_in numerator.now) (items_in from.now))) size }
-{
-    if is_roomy(size, whole.len() + numerator.len() + from.len(), false) {
-        return true;
-    }
-    let mut none = [0; 1];
-    put_mixed(&mut none[..0], minus, whole, numerator, from, f) <= size
-}
-
-// Shows a fraction section's text where the room takes it.
-fn show_mixed(
-    room: &mut [u16],
-    size: usize,
-    minus: bool,
-    whole: &[u16],
-    numerator: &[u16],
-    from: &[u16],
-    f: Mixed,
-    exact: bool,
-    colour: u16,
-    section: u16,
-) -> Shown
-    requires { FractionReady whole.now numerator.now from.now }
-    ensures { Shows (within size (look_of (sign_text minus
-        ++ mixed_text f (items_in whole.now) (items_in numerator.now) (items_in from.now)) colour section exact))
-        room.old result room.new }
-{
-    if takes_mixed(size, minus, whole, numerator, from, f) {
-        let n = put_mixed(room, minus, whole, numerator, from, f);
-        return done_shown(n as u32, colour, section, exact);
-    }
-    refused_shown(Answer::TextRoom)
-}
-
-// Shows section i, which is a fraction section; `exact`: the fraction is the number itself.
+// Shows a fraction section; `exact`: the fraction is the number itself.
 pub fn show_fraction_section(
     room: &mut [u16],
     size: usize,
-    table: &[u16],
-    i: u16,
+    section: TableSection,
     minus: bool,
     f: Mixed,
     exact: bool,
-) -> Shown
-    requires { T (passes table.now) × (i < get_or table.now 0 0) × (kind_of (section_in table.now i) ≡ fraction_kind)
-        × (f.whole ≤ 10 ^ 15) × (f.above < 10 ^ 19) × (1 ≤ f.below) × (f.below ≤ 999) }
-    ensures { Shows (fraction_reading size (section_in table.now i) i minus exact f) room.old result room.new }
+) -> Result<Shown, Refusal>
+    requires { (kind_of (section_of section) ≡ fraction_kind) × (f.whole ≤ 10 ^ 15) × (f.above < 10 ^ 19) × (1 ≤ f.below) × (f.below ≤ 999) }
+    ensures { Shows (fraction_reading size (section_of section.entry) section.entry.place minus exact f) room.old result room.new }
 {
-    let h = head_of(table, i as usize);
-    let items = items_of(table, i as usize);
-    let start = cut_start(items);
-    let before = &items[..start];
-    let above = run_start(before);
-    show_mixed(
-        room,
-        size,
-        minus,
-        &before[..above],
-        &before[above..],
-        &items[start..],
-        f,
-        exact,
-        h.colour,
-        i,
-    )
+    let colour = section.head().colour;
+    let items = section.items();
+    let (before, from) = items.split_at(cut_start(items));
+    let (whole, numerator) = before.split_at(run_start(before));
+    let roomy = is_roomy(size, items.len(), false);
+    show_whole(room, size, roomy, |room| {
+        let length = put_mixed(room, minus, whole, numerator, from, f) as u32;
+        Shown {
+            length,
+            colour,
+            section: section.place,
+            exact,
+        }
+    })
 }

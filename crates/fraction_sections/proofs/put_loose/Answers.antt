@@ -1,15 +1,16 @@
--- `fraction_sections::put_loose` meets its contract. The invariant, `Loosely`: the text of the entries that are left is what is left to put.
+-- `fraction_sections::put_loose` meets its contract.
 -- Assumes nothing.
+use native.Mathlib.Omega.{arith}
 use mathlib.Core.Path.{refl}
-use Rattle.fraction_sections.proofs.Loose.{loosely-start, loosely-step, loosely-end}
+use Rattle.fraction_sections.proofs.Loose.{loose-short, loose-has, items-counted}
+use Rattle.table_words.specs.Runs.{items_in}
 use Rattle.fraction_sections.proofs.put_loose.Goals as goal
 
-pub loop-k-init : goal.loop-k-init
-loop-k-init c = loosely-start _ _ _ _ _ refl c.requires.1
+pub put_items-requires : goal.put_items-requires
+put_items-requires c = (omega (arith, c.requires.0), loose-has _ _ c.requires.1)
 
-pub loop-k-preserved : goal.loop-k-preserved
-loop-k-preserved c =
-    loosely-step c.loop-k.invariant c.loop-k-test.true c.put_loose_item-o.ensures
-
-pub returns-clause-put : goal.returns-clause-put
-returns-clause-put c = let w = c.loop-k.invariant in loosely-end w c.loop-k-test.false
+pub returns : goal.returns
+returns c =
+    let put = c.put_items.ensures.put _ refl in
+    let items = c.args.items.now in
+    record { within = omega (arith, put.next, loose-short c.args.blank (items_in items), items-counted items, c.requires.1); put = put }

@@ -8,6 +8,6 @@ pub returns-then-tag-eq-SPACE_PLACE : goal.returns-then-tag-eq-SPACE_PLACE
 unfolding shown_tag
 returns-then-tag-eq-SPACE_PLACE c = rw c.if-tag-eq-SPACE_PLACE.true
 
-pub returns : goal.returns
+pub returns-else-tag-eq-SPACE_PLACE : goal.returns-else-tag-eq-SPACE_PLACE
 unfolding shown_tag
-returns c = rw (ne_eqb _ 6 c.if-tag-eq-SPACE_PLACE.false)
+returns-else-tag-eq-SPACE_PLACE c = rw (ne_eqb _ 6 c.if-tag-eq-SPACE_PLACE.false)
