@@ -46,6 +46,7 @@ use Rattle.tallies.specs.declared.Tally.{Tally}
 use Rattle.tallies.specs.Tally.{tally_of, has_exponent, has_solidus, Uncut, Cut, kind_told, items_fit_told, within_told, fraction_told}
 use Rattle.tallies.proofs.Told.{percents-are, half-told, uncut-told, within-told, fraction-within-told, decimals-told, section-kind-told}
 use Rattle.drafting.specs.declared.Body.{Body}
+use Rattle.drafting.specs.declared.drafts.Read.{Read}
 use Rattle.drafting.specs.declared.Draft.{Draft}
 use Rattle.drafting.specs.Draft.{body_words, settled_words, AmountAs, ConditionAs, thousands_by, commas_fit_by, body_by, bare_body, kept_by, Parted, BodyRead, BodyOf, Drafts, DraftOf, shift_told}
 use Rattle.drafting.proofs.Settled.{body-size, words-bare, put-read, put-over}
@@ -149,21 +150,21 @@ module _ (ts : List Token) {t : Tally} (e : t ≡ tally_of (entries ts)) where
   solidus-there h = solidus-some ts (rw e at h)
 
 -- ---- the body by what the passes over it gave
-module _ (ts : List Token) {f : Facts} {c : Commas} {t : Tally} {n : ℕ} (read : BodyRead ts f c t n) where
-  pub uncut-read : (has_exponent t || has_solidus t) ≡ false → Uncut t
+module _ (ts : List Token) {r : Read} (read : BodyRead ts r) where
+  pub uncut-read : (has_exponent r.tally || has_solidus r.tally) ≡ false → Uncut r.tally
   uncut-read h =
-      let none = or-false (has_exponent t) (has_solidus t) h in
-      rw read.tally (uncut-told (entries ts) (rw read.tally at (ltb-false 0 t.exponents none.0)) (rw read.tally at (ltb-false 0 t.solidi none.1)))
+      let none = or-false (has_exponent r.tally) (has_solidus r.tally) h in
+      rw read.tally (uncut-told (entries ts) (rw read.tally at (ltb-false 0 r.tally.exponents none.0)) (rw read.tally at (ltb-false 0 r.tally.solidi none.1)))
 
   -- with an E or a solidus, and with neither
-  pub cut-drafted : (b : Body) (kept : Bool) {r : Numbered} {out : List ℕ} → Parted ts r out → kept ≡ kept_by ts f t
-      → b ≡ body_by f c t (kept && items_fit_told t) (fraction_told t (thousands_by f c) r.wholes r.numerators) n → Drafts ts b
+  pub cut-drafted : (b : Body) (kept : Bool) {n : Numbered} {out : List ℕ} → Parted ts n out → kept ≡ kept_by ts r.facts r.tally
+      → b ≡ body_by r.facts r.commas r.tally (kept && items_fit_told r.tally) (fraction_told r.tally (thousands_by r.facts r.commas) n.wholes n.numerators) r.items → Drafts ts b
   cut-drafted b kept parted k e p q =
       rw (e, k, read.facts, read.commas, read.tally, read.items, parted.wholes, parted.numerators, ← q)
       (body-drafted p _ _ (unfold facts_of in cut_fits p.body)
       (rw (thousands-same p) (rw (entries-back p.body) at (fraction-within-told (entries p.body) (section_of p) (section-items p)))))
 
-  pub bare-drafted : t.solidi ≤ 0 → (b : Body) → b ≡ bare_body f c t n → Drafts ts b
+  pub bare-drafted : r.tally.solidi ≤ 0 → (b : Body) → b ≡ bare_body r.facts r.commas r.tally r.items → Drafts ts b
   bare-drafted h b e p q =
       rw (e, read.facts, read.commas, read.tally, read.items, ← q)
       (body-drafted p _ _ (bare-fits p.body (rw (read.tally, ← q) at h))
@@ -181,7 +182,7 @@ facts-commas f ts e = ap (λ (g : Facts). g.commas) e
 -- ---- the words that were put
 module _ (ts : List Token) {old out : List ℕ} {at end : ℕ} (put : Put old at (settled_words ts) end out) (room : at + length (settled_words ts) ≤ length old) where
   pub body-read : {f : Facts} {c : Commas} {t : Tally} → T (every has_units ts) → f ≡ facts_of ts → c ≡ commas_of ts
-      → t ≡ tally_of (entries_in (take (end - at) (drop at out))) → BodyRead ts f c t ((end - at) / 2)
+      → t ≡ tally_of (entries_in (take (end - at) (drop at out))) → BodyRead ts (record { facts = f; commas = c; tally = t; items = (end - at) / 2 })
   body-read u f c t = record {
     units = u;
     facts = f;

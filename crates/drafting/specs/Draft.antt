@@ -18,6 +18,7 @@ use Rattle.bodies.specs.declared.conditions.Amount.{Amount}
 use Rattle.bodies.specs.declared.conditions.Compared.{Compared}
 use Rattle.drafting.specs.declared.Draft.{Draft}
 use Rattle.drafting.specs.declared.Body.{Body}
+use Rattle.drafting.specs.declared.drafts.Read.{Read}
 use Rattle.writing.specs.Put.{Put}
 use Rattle.bodies.specs.declared.facts.Facts.{Facts}
 use Rattle.bodies.specs.declared.commas.Commas.{Commas}
@@ -78,13 +79,13 @@ body_by f c t fit within items =
 abbrev pub bare_body : Facts → Commas → Tally → ℕ → Body
 bare_body f c t items = body_by f c t (items_fit_told t) (within_told t (thousands_by f c)) items
 
--- the facts and the commas of a body, the tally of its items and their count
-pub record BodyRead (ts : List Token) (f : Facts) (c : Commas) (t : Tally) (n : ℕ) : Type 0 where
+-- what the passes over a body gave is its facts, its commas, the tally of its items and their count
+pub record BodyRead (ts : List Token) (r : Read) : Type 0 where
   pub units : T (every has_units ts)
-  pub facts : f ≡ facts_of ts
-  pub commas : c ≡ commas_of ts
-  pub tally : t ≡ tally_of (run_entries (settled (last_fill (body_items ts))))
-  pub items : n ≡ length (settled (last_fill (body_items ts)))
+  pub facts : r.facts ≡ facts_of ts
+  pub commas : r.commas ≡ commas_of ts
+  pub tally : r.tally ≡ tally_of (run_entries (settled (last_fill (body_items ts))))
+  pub items : r.items ≡ length (settled (last_fill (body_items ts)))
 
 -- the rules for a solidus are told by a fraction's tokens; any other kind may have none
 abbrev pub kept_by : List Token → Facts → Tally → Bool

@@ -53,82 +53,96 @@ fn heading_condition(code: &[u16], h: Heading) -> Compared
     }
 }
 
-// How many commas divide: only those of a number do.
-fn thousands_of(f: Facts, c: Commas) -> u16
-    ensures { result ≡ thousands_by f c }
-{
-    if f.number { c.thousands } else { 0 }
+// What the passes over a body gave: its facts, its commas, the tally of its items and how many these are.
+#[derive(Clone, Copy)]
+struct Read {
+    facts: Facts,
+    commas: Commas,
+    tally: Tally,
+    items: u16,
 }
 
-// The head's shift, of a section within the limits.
-fn shift_of(t: Tally, thousands: u16) -> u16
-    requires { Uncut t }
-    ensures { result ≡ shift_told t (within_told t thousands) thousands }
-{
-    if !within(t, thousands) {
-        return 0;
+impl Read {
+    // How many commas divide: only those of a number do.
+    fn thousands(self) -> u16
+        ensures { result ≡ thousands_by self.facts self.commas }
+    {
+        if self.facts.number {
+            self.commas.thousands
+        } else {
+            0
+        }
     }
-    if kind(t) != kinds::NUMBER {
-        return 0;
+
+    // The head's shift, of a section within the limits.
+    fn shift(self) -> u16
+        requires { Uncut self.tally }
+        ensures { result ≡ shift_told self.tally (within_told self.tally (thousands_by self.facts self.commas)) (thousands_by self.facts self.commas) }
+    {
+        let thousands = self.thousands();
+        if !within(self.tally, thousands) {
+            return 0;
+        }
+        if kind(self.tally) != kinds::NUMBER {
+            return 0;
+        }
+        15 + 2 * self.tally.percents - 3 * thousands
     }
-    15 + 2 * t.percents - 3 * thousands
-}
 
-// A scientific section or a fraction has no comma, a date any; elsewhere none is misplaced.
-fn commas_fit(f: Facts, c: Commas) -> bool
-    ensures { result ≡ commas_fit_by f c }
-{
-    if f.scientific | f.fraction {
-        return !f.commas;
+    // A scientific section or a fraction has no comma, a date any; elsewhere none is misplaced.
+    fn commas_fit(self) -> bool
+        ensures { result ≡ commas_fit_by self.facts self.commas }
+    {
+        if self.facts.scientific | self.facts.fraction {
+            return !self.facts.commas;
+        }
+        self.facts.date | !self.commas.misplaced
     }
-    f.date | !c.misplaced
-}
 
-// Whether a body fits whose items do, or do not.
-fn fits(f: Facts, c: Commas, items: bool) -> bool
-    ensures { result ≡ (f.plain && commas_fit_by f c && items) }
-{
-    f.plain & commas_fit(f, c) & items
-}
-
-// A body with neither E nor solidus among its items, by what its tokens and its items say.
-fn body_of(f: Facts, c: Commas, t: Tally, items: u16) -> Body
-    requires { Uncut t }
-    ensures { result ≡ bare_body f c t items }
-{
-    let thousands = thousands_of(f, c);
-    Body {
-        fits: fits(f, c, items_fit(t)),
-        within: within(t, thousands),
-        kind: kind(t),
-        shift: shift_of(t, thousands),
-        grouped: f.number & c.grouped,
-        twelve: t.halves,
-        decimals: decimals_word(t),
-        items,
+    // Whether the body fits whose items do, or do not.
+    fn fits(self, items: bool) -> bool
+        ensures { result ≡ (self.facts.plain && commas_fit_by self.facts self.commas && items) }
+    {
+        self.facts.plain & self.commas_fit() & items
     }
-}
 
-// A body with an E or a solidus among its items: whether the rules for a solidus are kept, and whether it is within the limits.
-fn cut_body(f: Facts, c: Commas, t: Tally, kept: bool, within: bool, items: u16) -> Body
-    requires { Cut t }
-    ensures { result ≡ body_by f c t (kept && items_fit_told t) within items }
-{
-    Body {
-        fits: fits(f, c, kept & cut_items_fit(t)),
-        within,
-        kind: cut_kind(t),
-        shift: 0,
-        grouped: f.number & c.grouped,
-        twelve: t.halves,
-        decimals: cut_decimals(t),
-        items,
+    // The body, which has neither E nor solidus among its items.
+    fn bare_body(self) -> Body
+        requires { Uncut self.tally }
+        ensures { result ≡ bare_body self.facts self.commas self.tally self.items }
+    {
+        Body {
+            fits: self.fits(items_fit(self.tally)),
+            within: within(self.tally, self.thousands()),
+            kind: kind(self.tally),
+            shift: self.shift(),
+            grouped: self.facts.number & self.commas.grouped,
+            twelve: self.tally.halves,
+            decimals: decimals_word(self.tally),
+            items: self.items,
+        }
+    }
+
+    // The body, which has an E or a solidus among its items: whether the rules for a solidus are kept, and whether it is within the limits.
+    fn cut_body(self, kept: bool, within: bool) -> Body
+        requires { Cut self.tally }
+        ensures { result ≡ body_by self.facts self.commas self.tally (kept && items_fit_told self.tally) within self.items }
+    {
+        Body {
+            fits: self.fits(kept & cut_items_fit(self.tally)),
+            within,
+            kind: cut_kind(self.tally),
+            shift: 0,
+            grouped: self.facts.number & self.commas.grouped,
+            twelve: self.tally.halves,
+            decimals: cut_decimals(self.tally),
+            items: self.items,
+        }
     }
 }
 
 // Whether the rules for a solidus are kept.
 fn solidus_kept(body: &[Mark], f: Facts, t: Tally) -> bool
-    requires { length body.now ≤ 254 }
     ensures { (code : List ℕ) → T (every has_units (tokens_in code body.now)) → f ≡ facts_of (tokens_in code body.now)
         → result ≡ kept_by (tokens_in code body.now) f t }
 {
@@ -154,14 +168,19 @@ fn part_places(t: Tally, words: &mut [u16]) -> Numbered
 }
 
 // Drafts a body with an E or a solidus among its items, which have these words.
-fn draft_cut(body: &[Mark], f: Facts, c: Commas, t: Tally, words: &mut [u16], items: u16) -> Body
-    requires { (length body.now ≤ 254) × (length words.old ≤ 508) × Cut t }
-    ensures { (code : List ℕ) → BodyRead (tokens_in code body.now) f c t items → words.old ≡ settled_words (tokens_in code body.now)
+fn draft_cut(body: &[Mark], read: Read, words: &mut [u16]) -> Body
+    requires { (length words.old ≤ 508) × Cut read.tally }
+    ensures { (code : List ℕ) → BodyRead (tokens_in code body.now) read → words.old ≡ settled_words (tokens_in code body.now)
         → Drafts (tokens_in code body.now) result × (words.new ≡ body_words (tokens_in code body.now)) }
 {
-    let places = part_places(t, words);
-    let within = fraction_within(t, thousands_of(f, c), places.wholes, places.numerators);
-    cut_body(f, c, t, solidus_kept(body, f, t), within, items)
+    let places = part_places(read.tally, words);
+    let within = fraction_within(
+        read.tally,
+        read.thousands(),
+        places.wholes,
+        places.numerators,
+    );
+    read.cut_body(solidus_kept(body, read.facts, read.tally), within)
 }
 
 // Puts the words of a body's items at `at`, all places being of one run, and settles the runs of m among them.
@@ -182,17 +201,21 @@ fn draft_body(code: &[u16], body: &[Mark], items: &mut [u16], at: usize) -> Body
     ensures draft { Drafts (tokens_in code.now body.now) result }
     ensures put { Put items.old at (body_words (tokens_in code.now body.now)) (at + 2 * result.items) items.new }
 {
-    let f = facts_of(body);
-    let c = commas_of(body, f.commas);
-    let told = told_of(body, f);
-    let end = put_settled(code, body, told, items, at);
-    let t = tally_words(&items[at..end]);
+    let facts = facts_of(body);
+    let commas = commas_of(body, facts.commas);
+    let end = put_settled(code, body, told_of(body, facts), items, at);
+    let tally = tally_words(&items[at..end]);
     let size = end - at;
-    let n = (size / 2) as u16;
-    if (0 < t.exponents) | (0 < t.solidi) {
-        return draft_cut(body, f, c, t, &mut items[at..end], n);
+    let read = Read {
+        facts,
+        commas,
+        tally,
+        items: (size / 2) as u16,
+    };
+    if (0 < tally.exponents) | (0 < tally.solidi) {
+        return draft_cut(body, read, &mut items[at..end]);
     }
-    body_of(f, c, t, n)
+    read.bare_body()
 }
 
 // Drafts the section of these tokens, and puts the words of its items at `at`.

@@ -9,6 +9,6 @@ returns c code read words =
     let ts = tokens_in code c.args.body.now in
     let parted = c.part_places-places.ensures ts read.tally words in (
       cut-drafted ts read _ _ parted (c.solidus_kept.ensures code read.units read.facts)
-          (rw (c.fraction_within-within.ensures, c.thousands_of.ensures) at c.cut_body.ensures),
+          (rw (c.fraction_within-within.ensures, c.thousands.ensures) at c.cut_body.ensures),
       parted.words,
     )
