@@ -1,12 +1,12 @@
 -- The words of a table, from the drafts of a code's sections.
 -- Assumes nothing.
-use Rattle.std.specs.Prelude.{ℕ, ◌+◌, Bool, List, [], ◌∷◌, ◌++◌, map}
+use Rattle.std.specs.Prelude.{ℕ, ◌+◌, Bool, false, List, [], ◌∷◌, ◌++◌, map, length}
 use Rattle.formats.specs.Minus.{exception_a}
 use Rattle.tables.specs.Words.{Head, head_words}
 use Rattle.tables.specs.Encode.{bit, flags_word}
 use Rattle.tables.specs.Standing.{counted_kinds}
 use Rattle.drafting.specs.declared.Draft.{Draft}
-use Rattle.drafting.specs.Draft.{draft_in, drafts_in, has_condition_by}
+use Rattle.drafting.specs.Draft.{has_condition_by}
 
 abbrev pub draft_kind : Draft → ℕ
 draft_kind d = d.body.kind
@@ -37,6 +37,11 @@ unfoldable pub heads_by : ℕ → Bool → ℕ → List Draft → List ℕ
 heads_by n first_has i [] = []
 heads_by n first_has i (d ∷ ds) = head_words (head_by n i first_has d) [] ++ heads_by n first_has (i + 1) ds
 
--- the table of n drafts in a room whose items have these words
-unfoldable pub table_by : ℕ → List ℕ → List ℕ → List ℕ
-table_by n ws words = n ∷ (heads_by (counted_by 0 (drafts_in n 0 ws)) (has_condition_by (draft_in ws 0)) 0 (drafts_in n 0 ws) ++ words)
+-- the first of these drafts has a condition
+unfoldable pub first_has_by : List Draft → Bool
+first_has_by [] = false
+first_has_by (d ∷ ds) = has_condition_by d
+
+-- the table of drafts whose items have these words
+unfoldable pub table_by : List Draft → List ℕ → List ℕ
+table_by ds words = length ds ∷ (heads_by (counted_by 0 ds) (first_has_by ds) 0 ds ++ words)

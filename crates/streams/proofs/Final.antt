@@ -5,11 +5,11 @@ use mathlib.Core.Path.{◌≡◌, refl, sym}
 use mathlib.Core.Bool.{false}
 use mathlib.Core.List.{List}
 use Prim.Native.Nat.{ℕ}
-use Rattle.answers.specs.declared.Answer.TheVariants as answer
-use Rattle.answers.specs.Number.{refused_prepared}
+use Rattle.std.proofs.Common.{Err}
+use Rattle.answers.specs.declared.Refusal.TheVariants as answer
 use Rattle.lists.proofs.Bools.{by_cases}
 use Rattle.streams.specs.declared.Stream.{Stream}
-use Rattle.streams.specs.Streams.{runs, feeding, closed, ending, ending_room}
+use Rattle.streams.specs.Streams.{refused_first, runs, feeding, closed, ending, ending_room}
 use Rattle.streams.proofs.Steps.{fed-again, end-again, room-again}
 
 module _ (s : Stream) (size : ℕ) where
@@ -20,10 +20,10 @@ module _ (s : Stream) (size : ℕ) where
   unfolding ending closed
   end-final = by_cases (runs s) (λ e. rw (e, over)) (λ e. rw (e, over) e)
 
-  pub fed-over : (part : List ℕ) → feeding over part ≡ record { stream = over; answer = answer.Ended; place = 0 }
+  pub fed-over : (part : List ℕ) → feeding over part ≡ record { stream = over; fed = Err (refused_first answer.Ended) }
   fed-over part = sym (fed-again over end-final part)
 
-  pub ended-over : (larger : ℕ) → ending over larger ≡ record { stream = over; prepared = refused_prepared answer.Ended 0 }
+  pub ended-over : (larger : ℕ) → ending over larger ≡ record { stream = over; prepared = Err (refused_first answer.Ended) }
   ended-over larger = sym (end-again over end-final larger refl)
 
   pub room-over : (old : List ℕ) → ending_room over old ≡ old

@@ -11,7 +11,7 @@ use lib.ListN.{length, drop, take, replicate, length-append, length-replicate}
 use lib.Seq.{sets, length-sets, take_at}
 use lib.Dec.{ltb}
 use borrow.Author.Tests.{ltb-true, ltb-false}
-use Rattle.answers.specs.declared.Answer.TheVariants as answer
+use Rattle.std.proofs.Common.{Ok}
 use Rattle.lists.specs.Lists.{overlay}
 use Rattle.lists.proofs.Bools.{by_cases}
 use Rattle.writing.proofs.Laws.{sets-append, sets-out, sets-overlay}
@@ -104,9 +104,9 @@ module _ (parts : List (List ℕ)) where
   held = holds-all parts holds-start
 
   -- "Feeding answers 0, however long the code grows."
-  pub feeding-done : (part : List ℕ) → ((feeding (fed_all parts started) part).answer ≡ answer.Done) × ((feeding (fed_all parts started) part).place ≡ 0)
+  pub feeding-done : (part : List ℕ) → (feeding (fed_all parts started) part).fed ≡ Ok tt
   unfolding feeding
-  feeding-done part = rw held.running (refl, refl)
+  feeding-done part = rw held.running
 
   -- the end gives what preparing the joined code gives, and leaves the room so
   pub joined-prepared : (size : ℕ) → (ending (fed_all parts started) size).prepared ≡ prepared (flatten parts) size

@@ -7,26 +7,25 @@ use Prim.Native.Nat.{ℕ, ◌+◌, ◌≤◌, ◌<◌, min}
 use native.Mathlib.Omega.{arith}
 use lib.ListN.{length, take}
 use borrow.Author.Tests.{le-leb, lt-leb}
-use Rattle.answers.specs.declared.Answer.{Answer}
-use Rattle.answers.specs.declared.Answer.TheVariants as answer
-use Rattle.answers.specs.declared.Prepared.{Prepared}
-use Rattle.answers.specs.Number.{refused_prepared}
+use Rattle.std.proofs.Common.{Result, Ok, Err}
+use Rattle.answers.specs.declared.Refusal.TheVariants as answer
+use Rattle.answers.specs.declared.Refused.{Refused}
 use Rattle.writing.specs.Put.{Put}
 use Rattle.streams.specs.declared.Stream.{Stream}
 use Rattle.streams.specs.declared.Fed.{Fed}
 use Rattle.streams.specs.declared.Finished.{Finished}
-use Rattle.streams.specs.Streams.{grown, runs, feeding, Joined, joined, too_long, stands_for, joined_prepared, joined_table, closed, ending, ending_room}
+use Rattle.streams.specs.Streams.{refused_first, grown, runs, feeding, Joined, joined, too_long, stands_for, joined_prepared, joined_table, closed, ending, ending_room}
 
-abbrev pub fed_as : Stream → Answer → Fed
-fed_as s a = record { stream = s; answer = a; place = 0 }
+abbrev pub fed_as : Stream → Result (Unit {0}) Refused → Fed
+fed_as s r = record { stream = s; fed = r }
 
-abbrev pub finished_as : Stream → Prepared → Finished
+abbrev pub finished_as : Stream → Result ℕ Refused → Finished
 finished_as s p = record { stream = s; prepared = p }
 
 -- ---- while it runs
 pub fed-open : (s : Stream) (part : List ℕ) {at next count : ℕ} {units : List ℕ} → runs s ≡ true
     → Put s.units at part next units → at ≡ s.count → count ≡ min next 255
-    → fed_as (record { units = units; count = count; ended = s.ended }) answer.Done ≡ feeding s part
+    → fed_as (record { units = units; count = count; ended = s.ended }) (Ok tt) ≡ feeding s part
 unfolding feeding grown
 fed-open s part {at} {next} {count} {units} r p behind e =
     let size : count ≡ min (s.count + length part) 255 = omega (arith, behind, e, p.next) in
@@ -42,7 +41,7 @@ module _ (s : Stream) where
   stands-long h = rw (lt-leb s.count 254 h)
 
 module _ (s : Stream) (r : runs s ≡ true) {j : Joined} (e : stands_for s ≡ j) where
-  pub end-as : {t : Stream} {p : Prepared} (size : ℕ) → t ≡ closed s → p ≡ joined_prepared j size → finished_as t p ≡ ending s size
+  pub end-as : {t : Stream} {p : Result ℕ Refused} (size : ℕ) → t ≡ closed s → p ≡ joined_prepared j size → finished_as t p ≡ ending s size
   unfolding ending
   end-as size g f = rw (g, f, ← e, r)
 
@@ -52,11 +51,11 @@ module _ (s : Stream) (r : runs s ≡ true) {j : Joined} (e : stands_for s ≡ j
 
 -- ---- when it has ended
 module _ (s : Stream) (over : runs s ≡ false) where
-  pub fed-again : (part : List ℕ) → fed_as s answer.Ended ≡ feeding s part
+  pub fed-again : (part : List ℕ) → fed_as s (Err (refused_first answer.Ended)) ≡ feeding s part
   unfolding feeding
   fed-again part = rw over
 
-  pub end-again : {p : Prepared} (size : ℕ) → p ≡ refused_prepared answer.Ended 0 → finished_as s p ≡ ending s size
+  pub end-again : {p : Result ℕ Refused} (size : ℕ) → p ≡ Err (refused_first answer.Ended) → finished_as s p ≡ ending s size
   unfolding ending
   end-again size e = rw (over, e)
 

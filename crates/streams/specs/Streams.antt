@@ -1,14 +1,18 @@
 -- "Codes that arrive over the slow link" (R153 to R156): what a stream stands for, and what feeding it and ending it give.
 -- Assumes nothing.
-use Rattle.std.specs.Prelude.{ℕ, ◌+◌, min, Bool, cond, List, [], ◌∷◌, length, take, replicate, leb, eqb}
+use Rattle.std.specs.Prelude.{ℕ, ◌+◌, min, Bool, cond, List, [], ◌∷◌, length, take, replicate, leb, eqb, Result, Ok, Err}
 use Rattle.std.proofs.lemmas.List.Edits.{sets}
-use Rattle.answers.specs.declared.Answer.TheVariants as answer
-use Rattle.answers.specs.declared.Prepared.{Prepared}
-use Rattle.answers.specs.Number.{refused_prepared}
+use Rattle.answers.specs.declared.Refusal.{Refusal}
+use Rattle.answers.specs.declared.Refusal.TheVariants as answer
+use Rattle.answers.specs.declared.Refused.{Refused}
 use Rattle.tables.specs.Calls.{prepared, table_after}
 use Rattle.streams.specs.declared.Stream.{Stream}
 use Rattle.streams.specs.declared.Fed.{Fed}
 use Rattle.streams.specs.declared.Finished.{Finished}
+
+-- a refusal at place 0
+abbrev pub refused_first : Refusal → Refused
+refused_first a = record { refusal = a; place = 0 }
 
 -- "After a start": nothing has come (R153)
 unfoldable pub started : Stream
@@ -28,8 +32,8 @@ runs s = eqb s.ended 0
 unfoldable pub feeding : Stream → List ℕ → Fed
 feeding s part =
     cond (runs s)
-    (record { stream = grown s part; answer = answer.Done; place = 0 })
-    (record { stream = s; answer = answer.Ended; place = 0 })
+    (record { stream = grown s part; fed = Ok tt })
+    (record { stream = s; fed = Err (refused_first answer.Ended) })
 
 -- what a stream stands for: the joined code, or one that is too long, whatever it holds
 pub data Joined : Type 0 where
@@ -40,9 +44,9 @@ unfoldable pub stands_for : Stream → Joined
 stands_for s = cond (leb s.count 254) (joined (take s.count s.units)) too_long
 
 -- "exactly the answer, place, words written and table of the joined code in that room" (R155)
-unfoldable pub joined_prepared : Joined → ℕ → Prepared
+unfoldable pub joined_prepared : Joined → ℕ → Result ℕ Refused
 joined_prepared (joined code) size = prepared code size
-joined_prepared too_long size = refused_prepared answer.CodeLength 0
+joined_prepared too_long size = Err (refused_first answer.CodeLength)
 
 unfoldable pub joined_table : Joined → List ℕ → List ℕ
 joined_table (joined code) old = table_after code old
@@ -57,7 +61,7 @@ unfoldable pub ending : Stream → ℕ → Finished
 ending s size =
     cond (runs s)
     (record { stream = closed s; prepared = joined_prepared (stands_for s) size })
-    (record { stream = s; prepared = refused_prepared answer.Ended 0 })
+    (record { stream = s; prepared = Err (refused_first answer.Ended) })
 
 -- what ending leaves in the table room
 unfoldable pub ending_room : Stream → List ℕ → List ℕ

@@ -4,13 +4,23 @@
 ghost use Rattle.std.specs.Prelude.{◌≡◌, length};
 ghost use Rattle.streams.specs.Streams.{started, feeding, ending, ending_room};
 
-use answers::{Answer, Prepared, refused_prepared};
+use answers::{Refusal, Refused};
 use preparing::prepare;
-use values::integers;
 use writing::put_units;
 
 // The longest code that is not refused for its length: no more units are kept.
 const MOST: usize = 254;
+
+// What feeding and ending are refused with after the end.
+const AFTER_THE_END: Refused = Refused {
+    refusal: Refusal::Ended,
+    place: 0,
+};
+
+const TOO_LONG: Refused = Refused {
+    refusal: Refusal::CodeLength,
+    place: 0,
+};
 
 // What has come of a code: `count` units, of which `units` begins with those that are kept; more than 254 are counted as 255. The stream
 // has ended where `ended` is not 0. (A number and no bool: C lends streams too, and there it may be any.)
@@ -26,15 +36,14 @@ pub struct Stream {
 #[derive(Clone, Copy)]
 pub struct Fed {
     pub stream: Stream,
-    pub answer: Answer,
-    pub place: u32,
+    pub fed: Result<(), Refused>,
 }
 
 // What ending returns.
 #[derive(Clone, Copy)]
 pub struct Finished {
     pub stream: Stream,
-    pub prepared: Prepared,
+    pub prepared: Result<u32, Refused>,
 }
 
 impl Stream {
@@ -56,18 +65,15 @@ impl Stream {
         if self.ended != 0 {
             return Fed {
                 stream: self,
-                answer: Answer::Ended,
-                place: 0,
+                fed: Err(AFTER_THE_END),
             };
         }
-        let mut units = self.units;
-        let next = put_units(&mut units, self.count as usize, part);
-        self.units = units;
-        self.count = integers::least(next, MOST + 1) as u16;
+        let count = usize::from(self.count);
+        let next = put_units(&mut self.units, count, part);
+        self.count = next.min(MOST + 1) as u16;
         Fed {
             stream: self,
-            answer: Answer::Done,
-            place: 0,
+            fed: Ok(()),
         }
     }
 
@@ -79,21 +85,21 @@ impl Stream {
         if self.ended != 0 {
             return Finished {
                 stream: self,
-                prepared: refused_prepared(Answer::Ended, 0),
+                prepared: Err(AFTER_THE_END),
             };
         }
         self.ended = 1;
-        let count = self.count as usize;
+        let count = usize::from(self.count);
         if MOST < count {
             return Finished {
                 stream: self,
-                prepared: refused_prepared(Answer::CodeLength, 0),
+                prepared: Err(TOO_LONG),
             };
         }
-        let units = self.units;
+        let prepared = prepare(&self.units[..count], table);
         Finished {
             stream: self,
-            prepared: prepare(&units[..count], table),
+            prepared,
         }
     }
 }

@@ -1,11 +1,7 @@
 -- `preparing::heads::counted_of` meets its contract.
 -- Assumes nothing.
-use Prim.Native.Nat.{◌-◌}
 use Rattle.preparing.proofs.Counting.{Counting}
 use Rattle.preparing.proofs.heads.counted_of.Given as goal
 
 abbrev pub invariant-loop-i : goal.invariant-loop-i
-invariant-loop-i l = Counting l.drafts l.n l.i l.counted
-
-abbrev pub decreases-loop-i : goal.decreases-loop-i
-decreases-loop-i l = l.n - l.i
+invariant-loop-i l = Counting l.drafts l.i l.counted

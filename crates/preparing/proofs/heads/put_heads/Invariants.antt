@@ -1,11 +1,7 @@
 -- `preparing::heads::put_heads` meets its contract.
 -- Assumes nothing.
-use Prim.Native.Nat.{◌-◌}
 use Rattle.preparing.proofs.Tabling.{Heading}
 use Rattle.preparing.proofs.heads.put_heads.Given as goal
 
 abbrev pub invariant-loop-i : goal.invariant-loop-i
-invariant-loop-i l = Heading l.counted l.first l.initial.room l.at l.drafts l.n l.room l.o l.i
-
-abbrev pub decreases-loop-i : goal.decreases-loop-i
-decreases-loop-i l = l.n - l.i
+invariant-loop-i l = Heading l.counted l.first l.initial.room l.at l.drafts l.room l.o l.i

@@ -11,7 +11,7 @@ pub returns-then-self-ne0 : goal.returns-then-self-ne0
 returns-then-self-ne0 c =
     let s = c.args.self in
     let over = ne_eqb _ _ c.if-self-ne0.true in
-    record { result = end-again s over _ c.refused_prepared.ensures; table = room-again s over _ }
+    record { result = end-again s over _ refl; table = room-again s over _ }
 
 pub returns-then-count-gt-MOST : goal.returns-then-count-gt-MOST
 unfolding closed joined_prepared joined_table
@@ -19,7 +19,7 @@ returns-then-count-gt-MOST c =
     let s = c.args.self in
     let r = eq-eqb _ _ c.if-self-ne0.false in
     let h = stands-long s (omega arith) in
-    record { result = end-as s r h _ refl c.refused_prepared-then-count-gt-MOST.ensures; table = room_as s r h _ refl }
+    record { result = end-as s r h _ refl refl; table = room_as s r h _ refl }
 
 pub returns : goal.returns
 unfolding closed joined_prepared joined_table
@@ -27,4 +27,4 @@ returns c =
     let s = c.args.self in
     let r = eq-eqb _ _ c.if-self-ne0.false in
     let h = stands-kept s (omega arith) in
-    record { result = end-as s r h _ refl c.prepare.ensures.answer; table = room_as s r h _ c.prepare.ensures.table }
+    record { result = end-as s r h _ refl (rw c.from-count.ensures at c.prepare-prepared.ensures.answer); table = room_as s r h _ (rw c.from-count.ensures at c.prepare-prepared.ensures.table) }

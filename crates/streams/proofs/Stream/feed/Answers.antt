@@ -10,4 +10,4 @@ returns-then-self-ne0 c = fed-again c.args.self (ne_eqb _ _ c.if-self-ne0.true) 
 
 pub returns : goal.returns
 returns c =
-    fed-open c.args.self _ (eq-eqb _ _ c.if-self-ne0.false) c.put_units-next.ensures (omega arith) c.least.ensures
+    fed-open c.args.self _ (eq-eqb _ _ c.if-self-ne0.false) c.put_units-next.ensures (omega arith) c.min.ensures
