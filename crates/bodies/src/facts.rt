@@ -15,25 +15,25 @@ use marks::forms::{
 // fraction, a scientific section, a date, General or a text, to its brackets, its fills or its commas.
 const NUMBERS: u64 = 1;
 
-const FRACTIONS: u64 = 256;
+const FRACTIONS: u64 = 1 << 8;
 
-const EXPONENTS: u64 = 65536;
+const EXPONENTS: u64 = 1 << 16;
 
-const DATES: u64 = 16777216;
+const DATES: u64 = 1 << 24;
 
-const GENERALS: u64 = 4294967296;
+const GENERALS: u64 = 1 << 32;
 
-const BRACKETS: u64 = 1099511627776;
+const BRACKETS: u64 = 1 << 40;
 
-const FILLS: u64 = 281474976710656;
+const FILLS: u64 = 1 << 48;
 
-const COMMAS: u64 = 72057594037927936;
+const COMMAS: u64 = 1 << 56;
 
 // What a place adds to the places, digits of base 65536: to the integer places up to the first point, E or solidus, and to the places
 // behind the first E or solidus.
 const INTEGER_PLACES: u64 = 1;
 
-const LATER_PLACES: u64 = 65536;
+const LATER_PLACES: u64 = 1 << 16;
 
 // What a body's tokens say of it: whether it is a date, scientific, a fraction or a number, whether it holds no colour and no condition,
 // how many fills it holds, whether it holds a comma, how many places before its first point, E or solidus, and how many behind its first

@@ -218,7 +218,7 @@ module _ (f : Facts) (ms : List Mark) (same : (code : List ℕ) → f ≡ facts_
 -- ---- the pass over a date's tokens
 -- the places met on one side of the cut
 abbrev aside : Bool → Parting → ℕ
-aside behind_cut s = cond behind_cut s.exponents s.integers
+aside behind_cut s = cond behind_cut s.places.exponents s.places.integers
 
 -- those, and those of the tokens behind
 abbrev total : Bool → Parting → List Token → ℕ
@@ -241,10 +241,10 @@ part_step : (b : Bool) (s : Parting) (f a : ℕ) (us : List ℕ) (ts : List Toke
 unfolding date_places
 part_step b s f a us ts =
     rw (zero-form f a us, seconds-form f a us, point-form f a us, cut-form f a us, place-form f a us, over-form f a us)
-    (by_cases (eqb f 4 && ltb 0 s.left) (λ e. rw e) (λ e. rw e (step-more b s.cut (has_place_form f) s.integers s.exponents _)))
+    (by_cases (eqb f 4 && ltb 0 s.left) (λ e. rw e) (λ e. rw e (step-more b s.cut (has_place_form f) s.places.integers s.places.exponents _)))
 
-part-few : (s : Parting) (f : ℕ) → (part_form s f).integers + (part_form s f).exponents ≤ s.integers + s.exponents + 1
-part-few s f = by_cases (eqb f 4 && ltb 0 s.left) (λ e. rw e (omega arith)) (λ e. rw e (go (has_place_form f) s.cut s.integers s.exponents))
+part-few : (s : Parting) (f : ℕ) → (part_form s f).places.integers + (part_form s f).places.exponents ≤ s.places.integers + s.places.exponents + 1
+part-few s f = by_cases (eqb f 4 && ltb 0 s.left) (λ e. rw e (omega arith)) (λ e. rw e (go (has_place_form f) s.cut s.places.integers s.places.exponents))
   where
     go : (p met : Bool) (i e : ℕ) → cond (p && not met) (i + 1) i + cond (p && met) (e + 1) e ≤ i + e + 1
     go true true i e = omega arith
@@ -252,12 +252,12 @@ part-few s f = by_cases (eqb f 4 && ltb 0 s.left) (λ e. rw e (omega arith)) (λ
     go false met i e = omega arith
 
 abbrev pub nothing_parted : Parting
-nothing_parted = record { behind = false; left = 0; cut = false; integers = 0; exponents = 0 }
+nothing_parted = record { behind = false; left = 0; cut = false; places = record { integers = 0; exponents = 0 } }
 
 abbrev pub part_marks : Parting → List Mark → Parting
 part_marks s ms = fold (λ t m. part_form t m.form) s ms
 
-marks-few : (s : Parting) (ms : List Mark) → (part_marks s ms).integers + (part_marks s ms).exponents ≤ s.integers + s.exponents + length ms
+marks-few : (s : Parting) (ms : List Mark) → (part_marks s ms).places.integers + (part_marks s ms).places.exponents ≤ s.places.integers + s.places.exponents + length ms
 marks-few s [] = omega arith
 marks-few s (m ∷ ms) = omega (arith, marks-few (part_form s m.form) ms, part-few s m.form)
 
@@ -274,11 +274,11 @@ marks-aside false code ms = omega (arith, marks-total false code nothing_parted 
 
 -- what the loop of `date_places` needs, and what it gives
 module _ (ms : List Mark) (k : ℕ) (s : Parting) (e : s ≡ part_marks nothing_parted (take k ms)) where
-  pub part-room : s.integers + s.exponents ≤ k
+  pub part-room : s.places.integers + s.places.exponents ≤ k
   part-room = rw e (omega (arith, marks-few nothing_parted (take k ms), length-take k ms))
 
 pub parting-end : (ms : List Mark) (s : Parting) → s ≡ part_marks nothing_parted (take (length ms) ms)
-    → (code : List ℕ) → record { integers = s.integers; exponents = s.exponents } ≡ date_places_of (tokens_in code ms)
+    → (code : List ℕ) → s.places ≡ date_places_of (tokens_in code ms)
 parting-end ms s e code =
     let all : s ≡ part_marks nothing_parted ms = e ∙ ap (λ (l : List Mark). part_marks nothing_parted l) (take_all (length ms) ms (omega arith)) in
-    rw (all, marks-aside false code ms, marks-aside true code ms)
+    rw (all, ← (marks-aside false code ms), ← (marks-aside true code ms))

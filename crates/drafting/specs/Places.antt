@@ -36,15 +36,22 @@ date_places_of ts = record { integers = date_places false false false 0 ts; expo
 abbrev pub has_place_form : ℕ → Bool
 has_place_form f = place_form f || over_form f
 
+-- the places with one more, if there is one: behind the E or solidus, where one was passed
+abbrev pub places_with : Places → Bool → Bool → Places
+places_with p place cut =
+    record {
+      integers = cond (place && not cut) (p.integers + 1) p.integers;
+      exponents = cond (place && cut) (p.exponents + 1) p.exponents;
+    }
+
 -- the places met with one token more, by its form
 abbrev pub part_form : Parting → ℕ → Parting
 part_form s f =
     cond (eqb f 4 && ltb 0 s.left)
-    (record { behind = false; left = s.left - 1; cut = s.cut; integers = s.integers; exponents = s.exponents })
+    (record { behind = false; left = s.left - 1; cut = s.cut; places = s.places })
     (record {
       behind = eqb f 19 || eqb f 22;
       left = cond (s.behind && eqb f 7) 3 0;
       cut = s.cut || cut_form f;
-      integers = cond (has_place_form f && not s.cut) (s.integers + 1) s.integers;
-      exponents = cond (has_place_form f && s.cut) (s.exponents + 1) s.exponents;
+      places = places_with s.places (has_place_form f) s.cut;
     })

@@ -4,7 +4,7 @@ ghost use Rattle.formats.specs.Kinds.{body_items};
 ghost use Rattle.emitting.specs.Emit.{ToldOf};
 ghost use Rattle.marks.specs.Marks.{tokens_in};
 ghost use Rattle.bodies.specs.Bodies.{facts_of};
-ghost use Rattle.drafting.specs.Places.{places_of, part_form, date_places_of};
+ghost use Rattle.drafting.specs.Places.{places_of, places_with, part_form, date_places_of};
 
 use bodies::facts::Facts;
 use emitting::Told;
@@ -13,19 +13,31 @@ use marks::{Mark, forms};
 // The places before the point and the E or solidus, and those behind the E or solidus.
 #[derive(Clone, Copy)]
 struct Places {
-    pub integers: u16,
-    pub exponents: u16,
+    integers: u16,
+    exponents: u16,
+}
+
+impl Places {
+    // With a place more, if there is one: behind the E or solidus, where one was passed.
+    fn with(self, place: bool, cut: bool) -> Places
+        requires { (self.integers ≤ 254) × (self.exponents ≤ 254) }
+        ensures { result ≡ places_with self place cut }
+    {
+        Places {
+            integers: self.integers + u16::from(place & !cut),
+            exponents: self.exponents + u16::from(place & cut),
+        }
+    }
 }
 
 // The places among the tokens of a date that were passed, and whether an E or solidus is among these (`cut`): whether the last token is s,
 // ss or an elapsed s, and how many zeros may still belong to a part of a second.
 #[derive(Clone, Copy)]
-pub struct Parting {
-    pub behind: bool,
-    pub left: u16,
-    pub cut: bool,
-    pub integers: u16,
-    pub exponents: u16,
+struct Parting {
+    behind: bool,
+    left: u16,
+    cut: bool,
+    places: Places,
 }
 
 // A part of a second has up to three zeros.
@@ -35,16 +47,9 @@ fn zeros_with(starts: bool) -> u16
     if starts { 3 } else { 0 }
 }
 
-fn places_with(n: u16, place: bool) -> u16
-    requires { n ≤ 254 }
-    ensures { result ≡ cond place (n + 1) n }
-{
-    n + u16::from(place)
-}
-
 // The places with an E more, or with a place and its solidus. (Told apart from the others: few dates hold one.)
 fn part_cut(s: Parting, form: u16) -> Parting
-    requires { (25 ≤ form) × (s.integers ≤ 254) × (s.exponents ≤ 254) }
+    requires { (25 ≤ form) × (s.places.integers ≤ 254) × (s.places.exponents ≤ 254) }
     ensures { result ≡ part_form s form }
 {
     let place = (forms::ZERO_OVER..=forms::SPACE_OVER_FIXED).contains(&form);
@@ -52,14 +57,13 @@ fn part_cut(s: Parting, form: u16) -> Parting
         behind: false,
         left: 0,
         cut: s.cut | (form <= forms::SPACE_OVER_FIXED),
-        integers: places_with(s.integers, place & !s.cut),
-        exponents: places_with(s.exponents, place & s.cut),
+        places: s.places.with(place, s.cut),
     }
 }
 
 // The places with one token more.
 fn part_token(s: Parting, form: u16) -> Parting
-    requires { (s.integers ≤ 254) × (s.exponents ≤ 254) }
+    requires { (s.places.integers ≤ 254) × (s.places.exponents ≤ 254) }
     ensures { result ≡ part_form s form }
 {
     if (form == forms::ZERO_PLACE) & (0 < s.left) {
@@ -67,8 +71,7 @@ fn part_token(s: Parting, form: u16) -> Parting
             behind: false,
             left: s.left - 1,
             cut: s.cut,
-            integers: s.integers,
-            exponents: s.exponents,
+            places: s.places,
         };
     }
     if forms::EXPONENT_PLUS <= form {
@@ -79,8 +82,7 @@ fn part_token(s: Parting, form: u16) -> Parting
         behind: (form == forms::SECONDS) | (form == forms::ELAPSED_SECONDS),
         left: zeros_with(s.behind & (form == forms::POINT)),
         cut: s.cut,
-        integers: places_with(s.integers, place & !s.cut),
-        exponents: places_with(s.exponents, place & s.cut),
+        places: s.places.with(place, s.cut),
     }
 }
 
@@ -93,16 +95,15 @@ fn date_places(body: &[Mark]) -> Places
         behind: false,
         left: 0,
         cut: false,
-        integers: 0,
-        exponents: 0,
+        places: Places {
+            integers: 0,
+            exponents: 0,
+        },
     };
     for mark in body {
         s = part_token(s, mark.form);
     }
-    Places {
-        integers: s.integers,
-        exponents: s.exponents,
-    }
+    s.places
 }
 
 // The places of a body whose facts these are.
