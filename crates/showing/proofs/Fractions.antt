@@ -1,12 +1,12 @@
 -- A number in a fraction section: what its item words say of the fraction.
 -- Assumes nothing.
-use Prim.Native.Nat.{ℕ, zero, suc, ◌+◌, ◌-◌, ◌/◌, ◌^◌, ◌≤◌, ◌<◌}
+use Prim.Native.Nat.{ℕ, zero, suc, ◌/◌, ◌^◌, ◌≤◌, ◌<◌}
 use native.Mathlib.Omega.{arith}
 use mathlib.Core.Path.{◌≡◌, refl, sym, ap, subst, ◌∙◌}
 use mathlib.Core.Bool.{Bool, true, false, ◌&&◌, true≢false}
 use mathlib.Core.List.{List, [], ◌∷◌, ◌++◌}
 use lib.Dec.{T, eqb}
-use lib.ListN.{length, get_or, take, drop, length-drop}
+use lib.ListN.{length, get_or, take, drop}
 use lib.Seq.{get_or-drop}
 use borrow.Author.Tests.{ne_eqb}
 use Rattle.values.specs.declared.Number.{Number}
@@ -26,14 +26,14 @@ use Rattle.formats.proofs.Cutting.{cut-joins, cut-any, every-from, no-exponent, 
 use Rattle.tables.specs.Words.{entries_at, entries_in}
 use Rattle.tables.specs.Encode.{entry}
 use Rattle.tables.specs.Decode.{half_at, item_at, items_at, items_by_tag}
-use Rattle.tables.specs.Rules.{passes}
 use Rattle.tables.proofs.BackEntries.{between-facts, items-ranged}
-use Rattle.table_words.specs.Sections.{section_in, ItemsOf}
+use Rattle.table_words.specs.declared.TableSection.{TableSection}
+use Rattle.table_words.specs.Tabled.{section_of}
+use Rattle.table_words.specs.Sections.{ItemsOf}
 use Rattle.table_words.proofs.Bodies.{section-allowed, section-limits}
 use Rattle.table_words.specs.Runs.{items_in, CutAt}
 use Rattle.formats.proofs.Exactness.{exactly-fraction}
 use Rattle.section_text.specs.Show.{fraction_reading}
-use Rattle.table_words.proofs.Cuts.{rest_all}
 use Rattle.fraction_sections.proofs.Parts.{section-rules}
 use Rattle.planning.specs.Minus.{minus_in}
 use Rattle.planning.specs.Plan.{fraction_shown}
@@ -90,41 +90,45 @@ module _ {is : List Item} (b : Below is) where
 abbrev Fixes : List Item → ℕ → Type 0
 Fixes is a = (any is_fixed is ≡ true) × (fixed_in is ≡ a) × (1 ≤ a) × (a ≤ 999)
 
-pub record FractionWords (s : Section) (words : List ℕ) (start : ℕ) : Type 0 where
-  pub inside : start + 4 ≤ length words
-  pub parted : any is_place (before_end (items_in (take start words))) ≡ is_parted s.items
-  pub fixed : get_or words (start + 2) 0 ≡ 25 → Fixes s.items (get_or words (start + 3) 0)
-  pub unfixed : (get_or words (start + 2) 0 ≡ 25 → ⊥) → (any is_fixed s.items ≡ false) × (1 ≤ places_behind s.items)
-  pub places : count is_place (items_in (take (length words - start) (drop start words))) ≡ places_behind s.items
+pub record FractionWords (s : Section) (before from : List ℕ) : Type 0 where
+  pub inside : 4 ≤ length from
+  pub parted : any is_place (before_end (items_in before)) ≡ is_parted s.items
+  pub fixed : get_or from 2 0 ≡ 25 → Fixes s.items (get_or from 3 0)
+  pub unfixed : (get_or from 2 0 ≡ 25 → ⊥) → (any is_fixed s.items ≡ false) × (1 ≤ places_behind s.items)
+  pub places : count is_place (items_in from) ≡ places_behind s.items
   pub few : places_behind s.items ≤ 3
 
-module _ (ws : List ℕ) (i : ℕ) (t : T (passes ws)) (l : i < get_or ws 0 0) (k : kind_of (section_in ws i) ≡ fraction_kind) where
-  has-solidus : any is_solidus (section_in ws i).items ≡ true
-  has-solidus = sym (positive-count is_solidus (section_in ws i).items) ∙ rw (section-rules ws i t l k).one
+module _ (z : TableSection) (k : kind_of (section_of z) ≡ fraction_kind) where
+  has-solidus : any is_solidus (section_of z).items ≡ true
+  has-solidus = sym (positive-count is_solidus (section_of z).items) ∙ rw (section-rules _ _ z.table.passes z.there k).one
 
-  section-below : Below (section_in ws i).items
+  section-below : Below (section_of z).items
   section-below =
-      let is : List Item = (section_in ws i).items in
-      let rules = section-rules ws i t l k in
-      let c = solidus-cut is (no-exponent (kind_of (section_in ws i)) is (rw k) (section-allowed ws i t l)) has-solidus in
+      let is : List Item = (section_of z).items in
+      let rules = section-rules _ _ z.table.passes z.there k in
+      let c = solidus-cut is (no-exponent (kind_of (section_of z)) is (rw k) (section-allowed _ _ z.table.passes z.there)) has-solidus in
       below is c.behind rules.no_fixed c.from (rw c.from at rules.denominator)
 
-  module _ {words : List ℕ} (o : ItemsOf (section_in ws i) words) {start : ℕ}
-      (c : CutAt words start (before_cut (items_in words)) (from_cut (items_in words))) where
+  module _ {words : List ℕ} (o : ItemsOf (section_of z) words) {start : ℕ}
+      (c : CutAt words start (before_cut (items_in words)) (from_cut (items_in words)))
+      {before from : List ℕ} (eb : before ≡ take start words) (ef : from ≡ drop start words) where
     words-below : Below (items_in words)
     words-below = subst Below o.items section-below
 
     abbrev tag : ℕ
-    tag = get_or words (start + 2) 0
+    tag = get_or from 2 0
 
     abbrev argument : ℕ
-    argument = get_or words (start + 3) 0
+    argument = get_or from 3 0
 
-    first-words : (start + 4 ≤ length words) × (item_at (entry tag argument) ≡ words-below.first)
+    from-items : items_in from ≡ from_cut (items_in words)
+    from-items = ap items_in ef ∙ c.from
+
+    first-words : (4 ≤ length from) × (item_at (entry tag argument) ≡ words-below.first)
     unfolding entries_in
     first-words =
-        let z = second-entry (length (drop start words) / 2) (drop start words) solidus words-below.first words-below.rest (c.from ∙ words-below.from) in
-        (omega (arith, z.0, length-drop start words, c.inside), rw (get_or-drop start words 2 0, get_or-drop start words 3 0) at z.1)
+        let e = second-entry (length from / 2) from solidus words-below.first words-below.rest (from-items ∙ words-below.from) in
+        (omega (arith, e.0), e.1)
 
     first-fixed : tag ≡ 25 → words-below.first ≡ fixed argument
     unfolding item_at
@@ -138,20 +142,20 @@ module _ (ws : List ℕ) (i : ℕ) (t : T (passes ws)) (l : i < get_or ws 0 0) (
         let one = every-head item_in_range b.first b.rest (every-tail item_in_range solidus (b.first ∷ b.rest) all) in
         between-facts 1 999 argument (rw (first-fixed f) at one)
 
-    pub fraction_words : FractionWords (section_in ws i) words start
+    pub fraction_words : FractionWords (section_of z) before from
     unfolding is_parted whole_items places_behind
     fraction_words =
         record {
           inside = first-words.0;
-          parted = rw (c.before, has-solidus, o.items);
+          parted = rw (eb, c.before, has-solidus, o.items);
           fixed = λ f. let b = rw (← o.items) at (below-fixed words-below argument (first-fixed f)) in (b.0, b.1, (first_range f).0, (first_range f).1);
           unfixed = λ f. rw o.items (below-places words-below (sym (ap is_fixed first-words.1) ∙ fixed-tag tag argument ∙ ne_eqb tag 25 f));
-          places = rw (rest_all start words, c.from, o.items);
-          few = (section-limits ws i t l).exponents-most;
+          places = rw (from-items, o.items);
+          few = (section-limits _ _ z.table.passes z.there).exponents-most;
         }
 
-pub places-range : {s : Section} {words : List ℕ} {start places : ℕ} → FractionWords s words start → (get_or words (start + 2) 0 ≡ 25 → ⊥)
-    → places ≡ count is_place (items_in (take (length words - start) (drop start words))) → (1 ≤ places) × (places ≤ 3)
+pub places-range : {s : Section} {before from : List ℕ} {places : ℕ} → FractionWords s before from → (get_or from 2 0 ≡ 25 → ⊥)
+    → places ≡ count is_place (items_in from) → (1 ≤ places) × (places ≤ 3)
 places-range w f e = omega (arith, e, w.places, (w.unfixed f).1, w.few)
 
 -- how large the fraction is
@@ -162,18 +166,18 @@ tells-small : {r q : Mixed} → r ≡ q → TellsSmall q → Small r
 tells-small e s = rw e (s.whole, omega (arith, s.above), s.from, s.up_to)
 
 -- the fraction that the code finds
-module _ {s : Section} {words : List ℕ} {start : ℕ} (w : FractionWords s words start) (v : Signed) (h : v.magnitude < 10 ^ 15) {r : Mixed} {parted : Bool}
-    (ep : parted ≡ any is_place (before_end (items_in (take start words)))) where
-  pub fixed-is : get_or words (start + 2) 0 ≡ 25 → r ≡ fraction_of parted (over (get_or words (start + 3) 0)) (decimal v.magnitude v.scale)
+module _ {s : Section} {before from : List ℕ} (w : FractionWords s before from) (v : Signed) (h : v.magnitude < 10 ^ 15) {r : Mixed} {parted : Bool}
+    (ep : parted ≡ any is_place (before_end (items_in before))) where
+  pub fixed-is : get_or from 2 0 ≡ 25 → r ≡ fraction_of parted (over (get_or from 3 0)) (decimal v.magnitude v.scale)
       → ((x : Number) → v ≡ signed_of x → r ≡ section_fraction s x) × Small r
   unfolding section_fraction fraction_for fraction_of
   fixed-is f er =
       let b = w.fixed f in (
-        λ x ev. er ∙ ap (fraction_of parted (over (get_or words (start + 3) 0))) (exact v x ev) ∙ rw (ep ∙ w.parted, b.0, b.1),
-        tells-small er (over-tells-small parted v.magnitude v.scale h (get_or words (start + 3) 0) b.2 b.3),
+        λ x ev. er ∙ ap (fraction_of parted (over (get_or from 3 0))) (exact v x ev) ∙ rw (ep ∙ w.parted, b.0, b.1),
+        tells-small er (over-tells-small parted v.magnitude v.scale h (get_or from 3 0) b.2 b.3),
       )
 
-  pub places_is : {places : ℕ} → (get_or words (start + 2) 0 ≡ 25 → ⊥) → places ≡ count is_place (items_in (take (length words - start) (drop start words)))
+  pub places_is : {places : ℕ} → (get_or from 2 0 ≡ 25 → ⊥) → places ≡ count is_place (items_in from)
       → r ≡ fraction_of parted (nearest_fraction places) (decimal v.magnitude v.scale)
       → ((x : Number) → v ≡ signed_of x → r ≡ section_fraction s x) × Small r
   unfolding section_fraction fraction_for fraction_of
@@ -189,9 +193,9 @@ pub fraction-exactly : {f : Mixed} {b : Bool} (s : Section) (v : Signed) (x : Nu
 fraction-exactly s v x ev k ef e = e ∙ rw (exact v x ev, ef) (sym (exactly-fraction s x k))
 
 -- the reading, with the minus as the code finds it: what is shown is nought where the whole number and the numerator are
-pub fraction-minus : (ws : List ℕ) (i : ℕ) (negative : Bool) (x : Number) {minus b : Bool} {f : Mixed}
-    → minus ≡ minus_in ws i negative (eqb f.whole 0 && eqb f.above 0) → kind_of (section_in ws i) ≡ fraction_kind
-    → f ≡ section_fraction (section_in ws i) x → b ≡ number_exactly (section_in ws i) x → (size : ℕ)
-    → fraction_shown ws i negative x size ≡ fraction_reading size (section_in ws i) i minus b f
+pub fraction-minus : (z : TableSection) (negative : Bool) (x : Number) {minus b : Bool} {f : Mixed}
+    → minus ≡ minus_in z negative (eqb f.whole 0 && eqb f.above 0) → kind_of (section_of z) ≡ fraction_kind
+    → f ≡ section_fraction (section_of z) x → b ≡ number_exactly (section_of z) x → (size : ℕ)
+    → fraction_shown z negative x size ≡ fraction_reading size (section_of z) z.place minus b f
 unfolding places_nought
-fraction-minus ws i negative x em k ef ee size = rw (em, ee, ef, k)
+fraction-minus z negative x em k ef ee size = rw (em, ee, ef, k)

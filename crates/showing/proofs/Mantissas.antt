@@ -5,9 +5,8 @@ use native.Mathlib.Nat.{lt_of_lt_of_le}
 use native.Mathlib.Omega.{arith}
 use mathlib.Core.Path.{◌≡◌, refl, sym, ap, ◌∙◌}
 use mathlib.Core.Bool.{Bool, false}
-use mathlib.Core.List.{List, []}
+use mathlib.Core.List.{List}
 use lib.Dec.{T, eqb}
-use lib.ListN.{get_or}
 use Rattle.values.specs.declared.Number.{Number}
 use Rattle.lists.proofs.Bools.{by_cases}
 use Rattle.figures.specs.declared.Signed.{Signed}
@@ -24,8 +23,9 @@ use Rattle.formats.proofs.Cutting.{scientific-some}
 use Rattle.formats.proofs.Exactness.{exactly-scientific}
 use Rattle.tables.specs.Words.{Head}
 use Rattle.tables.specs.Encode.{decimals_word, head_of}
-use Rattle.tables.specs.Rules.{passes}
-use Rattle.table_words.specs.Sections.{section_in, head_in}
+use Rattle.table_words.specs.declared.TableSection.{TableSection}
+use Rattle.table_words.specs.Tabled.{section_of}
+use Rattle.table_words.specs.Sections.{head_in}
 use Rattle.table_words.proofs.Bodies.{section-limits, section-exponent, section-grouping}
 use Rattle.figure_text.specs.declared.Figures.{Figures}
 use Rattle.figure_text.specs.Shown.{FiguresAre, figures_with}
@@ -53,17 +53,21 @@ no-grouping : (z : Section) → kind_of z ≡ scientific_kind → T (grouping_fi
 unfolding grouping_fits
 no-grouping z k t = by_cases z.grouped (λ g. absurd (rw (k, g) at t)) (λ g. g)
 
-pub scientific-words : (ws : List ℕ) (i : ℕ) {h : Head} {integers : ℕ} → T (passes ws) → i < get_or ws 0 0
-    → kind_of (section_in ws i) ≡ scientific_kind → h ≡ head_in ws i → integers ≡ integer_places (section_in ws i).items
-    → ScientificWords integers h.decimals (section_in ws i)
+pub scientific-words : (z : TableSection) {h : Head} {integers decimals : ℕ} → kind_of (section_of z) ≡ scientific_kind
+    → h ≡ head_in z.table.words.now z.place → decimals ≡ h.decimals → integers ≡ integer_places (section_of z).items
+    → ScientificWords integers decimals (section_of z)
 unfolding head_of decimals_word kind_of
-scientific-words ws i {h} t l k eh ei =
-    let s : Section = section_in ws i in
+scientific-words z {h} {decimals = n} k eh ed ei =
+    let ws : List ℕ = z.table.words.now in
+    let i : ℕ = z.place in
+    let t = z.table.passes in
+    let l = z.there in
+    let s : Section = section_of z in
     let w = section-limits ws i t l in
-    let decimals : h.decimals ≡ decimal_places s.items = ap (λ (x : Head). x.decimals) eh ∙ rw k in
+    let decimals : n ≡ decimal_places s.items = ed ∙ ap (λ (x : Head). x.decimals) eh ∙ rw k in
     record {
       least = omega (arith, ei, (section-exponent ws i t l (scientific-some s.items k)).integer);
-      most = omega (arith, ei, integers-most ws i t l (rw k));
+      most = omega (arith, ei, integers-most z (rw k));
       decimals_most = omega (arith, decimals, w.decimals-most);
       places = ei;
       decimals-are = decimals;
@@ -86,8 +90,8 @@ module _ {integers decimals : ℕ} {s : Section} (w : ScientificWords integers d
         figures-are digits (number_context s x) (ef ∙ rw (w.places, w.ungrouped)) (ed ∙ ap figures mantissa-is) (rw mantissa-is at small)
         (omega (arith, w.places, w.most))
 
-    pub mantissa-subject : SubjectIs number_kind digits (record { figures = f; lent = false }) [] (number_context s x)
-    mantissa-subject = number-subject (number_context s x) refl mantissa-figures
+    pub mantissa-subject : (text : List ℕ) → SubjectIs number_kind digits (record { figures = f; lent = false }) text (number_context s x)
+    mantissa-subject text = number-subject (number_context s x) refl mantissa-figures
 
     -- it is nought where no place is used
     pub mantissa-nought : eqb f.used 0 ≡ eqb (section_rounded s x) 0
@@ -112,7 +116,8 @@ pub exponent-most : {integers decimals m scale size : ℕ} {s : Section} → Sci
 exponent-most {integers} {decimals} {m} {scale} w hm hs e = rw e (exponent_small m scale integers decimals hm hs w.least w.most w.decimals_most)
 
 -- the reading, with the minus as the code finds it, and exact where it finds that
-pub scientific-minus : (ws : List ℕ) (i : ℕ) (negative : Bool) (x : Number) {minus held b : Bool} → minus ≡ minus_in ws i negative held
-    → held ≡ eqb (section_rounded (section_in ws i) x) 0 → b ≡ number_exactly (section_in ws i) x → (size : ℕ)
-    → scientific_of ws i negative x size ≡ scientific_reading size (section_in ws i) i minus b (number_context (section_in ws i) x) (exponent_context (section_in ws i) x)
-scientific-minus ws i negative x em eh ee size = rw (em, eh, ee)
+pub scientific-minus : (z : TableSection) (negative : Bool) (x : Number) {minus held b : Bool} → minus ≡ minus_in z negative held
+    → held ≡ eqb (section_rounded (section_of z) x) 0 → b ≡ number_exactly (section_of z) x → (size : ℕ)
+    → scientific_of z negative x size
+    ≡ scientific_reading size (section_of z) z.place minus b (number_context (section_of z) x) (exponent_context (section_of z) x)
+scientific-minus z negative x em eh ee size = rw (em, eh, ee)

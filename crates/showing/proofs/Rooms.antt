@@ -7,7 +7,8 @@ use mathlib.Core.Bool.{not, ◌&&◌}
 use mathlib.Core.List.{List}
 use lib.ListN.{length}
 use lib.Dec.{leb, leb→le}
-use Rattle.answers.specs.declared.Answer.{Answer}
+use Rattle.std.specs.Prelude.{Result}
+use Rattle.answers.specs.declared.Refusal.{Refusal}
 use Rattle.answers.specs.declared.Shown.{Shown}
 use Rattle.values.specs.declared.Number.{Number}
 use Rattle.values.specs.declared.Day.{Day}
@@ -31,7 +32,7 @@ module _ (size : ℕ) where
   abbrev Fits : Reading → Type 0
   Fits r = length (text_as r) ≤ size
 
-  refused-fits : (a : Answer) → Fits (refused a)
+  refused-fits : (a : Refusal) → Fits (refused a)
   unfolding text_as
   refused-fits a = omega arith
 
@@ -68,13 +69,13 @@ module _ (size : ℕ) where
       cond_both Fits (passes ws) (cond_both Fits (in_range ask text) (value-fits (decode ws) ask.value text) (refused-fits _)) (refused-fits _)
 
 -- what is shown in a room of which all is lent
-pub lent-shows : {old out : List ℕ} {r : Shown} (ws : List ℕ) (ask : Ask) (text : List ℕ) → Shows (table_reading ws ask text (length old)) old r out
+pub lent-shows : {old out : List ℕ} {r : Result Shown Refusal} (ws : List ℕ) (ask : Ask) (text : List ℕ) → Shows (table_reading ws ask text (length old)) old r out
     → (r ≡ showing ws ask text (length old)) × (out ≡ room_after ws ask text old)
 unfolding showing room_after
 lent-shows {old} ws ask text y = (y.result, y.room ∙ sets-overlay old _ (table_fits (length old) ws ask text))
 
--- and the answer, whatever is lent
-pub answer-shows : {old out : List ℕ} {r : Shown} (ws : List ℕ) (ask : Ask) (text : List ℕ) (size : ℕ) → Shows (table_reading ws ask text size) old r out
-    → r.answer ≡ (showing ws ask text size).answer
+-- and what is answered, whatever is lent
+pub answer-shows : {old out : List ℕ} {r : Result Shown Refusal} (ws : List ℕ) (ask : Ask) (text : List ℕ) (size : ℕ) → Shows (table_reading ws ask text size) old r out
+    → r ≡ showing ws ask text size
 unfolding showing
-answer-shows ws ask text size y = rw y.result
+answer-shows ws ask text size y = y.result

@@ -10,4 +10,4 @@ use Rattle.showing.proofs.is_parted.Goals as goal
 
 pub returns : goal.returns
 returns c =
-    ap (ltb 0) (c.count_between-places.ensures is_place place-tag ∙ ap (count is_place) c.run_start-end.ensures.before) ∙ positive-count is_place _
+    ap (ltb 0) (c.count_between.ensures is_place place-tag ∙ ap (count is_place) c.run_start-end.ensures.before) ∙ positive-count is_place _

@@ -6,5 +6,6 @@ use Rattle.showing.proofs.show_fraction.Goals as goal
 
 pub returns : goal.returns
 returns c =
-    let p = c.requires in
-    λ x ev. shows-as (fraction-minus _ _ _ x c.added_minus-minus.ensures p.2 (c.section_fraction-x.ensures.is x ev) (c.section_fraction-x.ensures.exact x ev) _) c.show_fraction_section.ensures
+    λ x ev.
+    shows-as (fraction-minus c.args.section _ x c.added_minus-minus.ensures c.requires.0 (c.section_fraction-x.ensures.is x ev) (c.section_fraction-x.ensures.exact x ev) _)
+    c.show_fraction_section.ensures

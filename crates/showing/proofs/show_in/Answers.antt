@@ -4,8 +4,7 @@ use Rattle.showing.proofs.Checked.{table-shows, table-refused}
 use Rattle.showing.proofs.show_in.Goals as goal
 
 pub returns-then-check : goal.returns-then-check
-returns-then-check c =
-    table-shows _ _ _ _ c.check.ensures c.if-check.true c.show_value.ensures
+returns-then-check c = table-shows _ _ _ _ c.check.ensures c.if-check.true c.show_value.ensures
 
 pub returns : goal.returns
-returns c = rw c.refused_shown.ensures (table-refused _ _ _ _ c.check.ensures _ c.if-check.false)
+returns c = table-refused _ _ _ _ c.check.ensures _ c.if-check.false
