@@ -12,7 +12,7 @@ use Rattle.formats.specs.Items.{Section}
 use Rattle.formats.specs.Where.{has_condition}
 use Rattle.formats.specs.Choice.{Exact, zero_exact, smaller, less_than, fallback, reason_for, condition_holds, reason_holds}
 use Rattle.formats.specs.Minus.{is_own}
-use Rattle.choosing.specs.declared.Sought.{Sought}
+use Rattle.choosing.specs.declared.sought.Sought.{Sought}
 use Rattle.choosing.specs.Seeking.{parts_of_one, exact_of, takes}
 
 -- a number is below 0 where its sign says so

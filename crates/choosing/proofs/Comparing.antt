@@ -15,7 +15,7 @@ use Rattle.formats.specs.Choice.{Exact, smaller, less_than, compared}
 use Rattle.std.specs.Ordering.{is_eq, is_ne, is_lt, is_gt, is_le, is_ge, ordering_reverse, nat_cmp}
 use Rattle.std.specs.declared.cmp.Ordering.{Ordering}
 use Rattle.std.specs.declared.cmp.Ordering.TheVariants.{Less, Equal, Greater}
-use Rattle.choosing.specs.declared.Sought.{Sought}
+use Rattle.choosing.specs.declared.sought.Sought.{Sought}
 use Rattle.choosing.specs.Seeking.{parts_of_one, exact_of}
 use Rattle.choosing.specs.Comparing.{order_of, parts_order, fraction, millionths_size, signed_order, holds_for}
 

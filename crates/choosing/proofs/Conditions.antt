@@ -13,7 +13,7 @@ use Rattle.tables.specs.Encode.{head_of}
 use Rattle.tables.specs.Decode.{comparison_at, whole_at, millionths_at, condition_at}
 use Rattle.tables.proofs.MadeHeads.{operator-some, says, condition-back}
 use Rattle.std.specs.declared.cmp.Ordering.{Ordering}
-use Rattle.choosing.specs.declared.Sought.{Sought}
+use Rattle.choosing.specs.declared.sought.Sought.{Sought}
 use Rattle.choosing.specs.Comparing.{order_of, millionths_size, signed_order, holds_for}
 use Rattle.choosing.specs.Seeking.{exact_of}
 use Rattle.choosing.proofs.Comparing.{exact_order, compared-order}

@@ -1,12 +1,12 @@
 -- What the chooser is asked, and what it answers.
 -- Assumes nothing.
-use Rattle.std.specs.Prelude.{ℕ, ◌^◌, Bool, true, false, cond, Option, Some, None}
+use Rattle.std.specs.Prelude.{◌≡◌, ℕ, ◌^◌, Bool, true, false, cond, Option, Some, None}
 use Rattle.values.specs.declared.Day.{Day}
 use Rattle.values.specs.declared.Millisecond.{Millisecond}
 use Rattle.calendar.specs.Clock.{since_day_zero}
 use Rattle.formats.specs.Items.{Section}
 use Rattle.formats.specs.Choice.{Exact, Choice, nothing, chosen, TextChoice, itself, text_in, reason_for, reason_holds}
-use Rattle.choosing.specs.declared.Sought.{Sought}
+use Rattle.choosing.specs.declared.sought.Sought.{Sought}
 
 -- in how many parts one is divided
 unfoldable pub parts_of_one : Sought → ℕ
@@ -16,9 +16,12 @@ parts_of_one v = cond v.instant 86400000 (10 ^ v.scale)
 unfoldable pub exact_of : Sought → Exact
 exact_of v = record { negative = v.negative; size = record { above = v.above; below = parts_of_one v } }
 
--- what is asked for an instant
-unfoldable pub instant_sought : Day → Millisecond → Sought
-instant_sought d m = record { negative = false; instant = true; above = since_day_zero d.0 m.0; scale = 0 }
+-- this is asked for an instant
+pub record AsksInstant (d : Day) (m : Millisecond) (v : Sought) : Type 0 where
+  pub negative : v.negative ≡ false
+  pub instant : v.instant ≡ true
+  pub above : v.above ≡ since_day_zero d.0 m.0
+  pub scale : v.scale ≡ 0
 
 -- the place of the section that is chosen
 unfoldable pub found_of : Choice → Option ℕ

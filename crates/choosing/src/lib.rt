@@ -1,6 +1,8 @@
 // The section of a table that a number, an instant or a text goes to, read off the table's words.
 #![tactic(auto)]
 
+pub mod sought;
+
 ghost use Rattle.std.specs.Prelude.{◌≡◌, ◌^◌, ◌≤◌, true, get_or};
 ghost use Rattle.choosing.specs.Comparing.{order_of, parts_order, fraction, millionths_size, signed_order, holds_for};
 ghost use Rattle.table_words.specs.Sections.{section_in};
@@ -12,17 +14,9 @@ ghost use Rattle.formats.specs.Choice.{less_than, zero_exact, counted, fallback,
 ghost use Rattle.tables.specs.Decode.{comparison_at};
 
 use figures::power;
+pub use sought::Sought;
 use std::cmp::Ordering;
 use table_words::{Table, TableSection, number};
-
-// A number or an instant, exactly: above / 10^scale, or above / 86,400,000 of a day. The sign stands apart.
-#[derive(Clone, Copy)]
-pub struct Sought {
-    pub negative: bool,
-    pub instant: bool,
-    pub above: u64,
-    pub scale: u32,
-}
 
 // By the whole parts, and by the rests where these are the same.
 fn compare_parts(whole: u64, rest: u64, limit: u64, over: u64) -> Ordering
@@ -71,7 +65,7 @@ fn compare_instant(above: u64, whole: u32, millionths: u32) -> Ordering
 
 // The magnitude of what is sought against a whole number and millionths.
 fn compare(v: Sought, whole: u32, millionths: u32) -> Ordering
-    requires { (v.scale ≤ 15) × (millionths ≤ 999999) }
+    requires { millionths ≤ 999999 }
     ensures { result ≡ order_of (exact_of v).size (millionths_size whole millionths) }
 {
     if v.instant {
@@ -108,7 +102,7 @@ fn holds(operator: u16, order: Ordering) -> bool
 
 // Whether the section's condition holds; it has one.
 fn condition_holds(section: TableSection, v: Sought) -> bool
-    requires { (has_condition (section_of section) ≡ true) × (v.scale ≤ 15) }
+    requires { has_condition (section_of section) ≡ true }
     ensures { result ≡ condition_holds (section_of section.entry).condition (exact_of v) }
 {
     let h = section.head();
@@ -152,7 +146,6 @@ fn fallback_holds(counted: u16, i: u16, v: Sought) -> bool
 
 // Whether the section takes the value, where N sections count.
 fn takes(section: TableSection, counted: u16, v: Sought) -> bool
-    requires { v.scale ≤ 15 }
     ensures { result ≡ takes counted section.entry.place (section_of section.entry) (exact_of v) }
 {
     if section.has_condition() {
@@ -178,7 +171,7 @@ pub fn counted(table: Table) -> u16
 
 // The section among several, or of one with a condition. The first N count, and only the first two may have a condition.
 fn choose_among(table: Table, v: Sought) -> Option<u16>
-    requires { (v.scale ≤ 15) × (get_or table.words.now 0 0 ≡ 1 → has_condition (section_in table.words.now 0) ≡ true) }
+    requires { get_or table.words.now 0 0 ≡ 1 → has_condition (section_in table.words.now 0) ≡ true }
     ensures { result ≡ found_of (choose (sections_of table.entry) (exact_of v)) }
 {
     let counted = counted(table);
@@ -200,7 +193,6 @@ fn choose_among(table: Table, v: Sought) -> Option<u16>
 // The place of the section that a number or an instant goes to. A section that stands alone without a condition, as in most tables,
 // takes every value.
 pub fn choose(table: Table, v: Sought) -> Option<u16>
-    requires { v.scale ≤ 15 }
     ensures { result ≡ found_of (choose (sections_of table.entry) (exact_of v)) }
 {
     if table.section(0).has_condition() {

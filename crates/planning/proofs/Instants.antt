@@ -1,6 +1,6 @@
 -- An instant in the section that takes it.
 -- Assumes nothing.
-use Prim.Native.Nat.{ℕ, ◌+◌, ◌*◌, ◌≤◌}
+use Prim.Native.Nat.{ℕ, ◌≤◌}
 use mathlib.Core.Path.{◌≡◌, refl, sym, ap, ◌∙◌}
 use mathlib.Core.Bool.{Bool, true, false, true≢false}
 use mathlib.Core.List.{List}
@@ -8,12 +8,10 @@ use Rattle.answers.specs.declared.Refusal.TheVariants as answer
 use Rattle.values.specs.declared.Day.{Day}
 use Rattle.values.specs.declared.Millisecond.{Millisecond}
 use Rattle.formats.specs.Items.{Section, Kind, date_kind, literal_kind, shows_places, kind_of, integer_places}
-use Rattle.calendar.specs.Clock.{since_day_zero}
 use Rattle.formats.specs.Choice.{instant_exact, Reason, chosen, choose}
 use Rattle.formats.specs.Reading.{refused, takes_instant, instant_context, instant_exactly, read_instant}
 use Rattle.table_words.specs.declared.TableSection.{TableSection}
 use Rattle.table_words.specs.Tabled.{sections_of, section_of}
-use Rattle.choosing.specs.Seeking.{instant_sought}
 use Rattle.figure_text.specs.declared.Figures.{Figures}
 use Rattle.section_text.specs.Show.{sign_text, section_reading}
 use Rattle.planning.specs.Plan.{SectionIs}
@@ -63,8 +61,3 @@ module _ (z : TableSection) (d : Day) (m : Millisecond) where
           places = instant-places k;
           reads = λ size. instant-reads k size ∙ ap (λ (b : Bool). section_reading size (section_of z) z.place false b (instant_context (section_of z) d m)) (literal-exactly (section_of z) m e);
         }
-
-pub sought-instant : (d : Day) (m : Millisecond)
-    → record { negative = false; instant = true; above = d.0 * 86400000 + m.0; scale = 0 } ≡ instant_sought d m
-unfolding instant_sought since_day_zero
-sought-instant d m = refl

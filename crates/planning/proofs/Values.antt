@@ -2,7 +2,7 @@
 -- Assumes nothing.
 use Prim.Native.Nat.{ℕ, ◌<◌, ◌≤◌, ◌^◌}
 use native.Mathlib.Omega.{arith}
-use mathlib.Core.Path.{◌≡◌, sym, ap, ◌∙◌}
+use mathlib.Core.Path.{◌≡◌, ap, ◌∙◌}
 use mathlib.Core.Bool.{true, false}
 use mathlib.Core.List.{List}
 use lib.ListN.{get_or}
@@ -21,13 +21,13 @@ use Rattle.formats.specs.Reading.{Reading, reading}
 use Rattle.tables.specs.Decode.{decode}
 use Rattle.table_words.specs.declared.TableSection.{TableSection}
 use Rattle.table_words.specs.Tabled.{sections_of, section_of}
-use Rattle.choosing.specs.declared.Sought.{Sought}
+use Rattle.choosing.specs.declared.sought.Sought.{Sought}
 use Rattle.std.specs.Prelude.{Some, None}
-use Rattle.choosing.specs.Seeking.{parts_of_one, exact_of, instant_sought, found_of}
+use Rattle.choosing.specs.Seeking.{parts_of_one, exact_of, AsksInstant, found_of}
 use Rattle.choosing.proofs.Asking.{instant-exact}
 use Rattle.choosing.proofs.Finding.{found_nothing, found_at}
 use Rattle.planning.specs.Plan.{value_reading}
-use Rattle.planning.specs.Number.{signed_sought}
+use Rattle.planning.specs.Number.{AsksNumber}
 
 -- what is asked for is read by its value
 pub value-reading : (ws text : List ℕ) (v : Value) (ask : Ask) → ask.value ≡ v → reading (decode ws) ask text ≡ value_reading ws v text
@@ -57,15 +57,16 @@ pub some-found : {P : Type 0} (z : TableSection) {x y : Exact} → x ≡ y → S
     → ((why : Reason) → choose (sections_of z.table) x ≡ chosen z.place (section_of z) why → P) → P
 some-found z e h f = found_at _ _ z.place h (λ why g l. f why (ap (choose (sections_of z.table)) e ∙ g))
 
-pub number-exact : {s : Sought} (v : Signed) (x : Number) → s ≡ signed_sought v → v ≡ signed_of x → number_exact x ≡ exact_of s
+pub number-exact : {s : Sought} (v : Signed) (x : Number) → AsksNumber v s → v ≡ signed_of x → number_exact x ≡ exact_of s
 unfolding number_exact exact_of parts_of_one signed_of
-number-exact v x es ev = sym (ap (λ (w : Signed). exact_of (signed_sought w)) ev) ∙ sym (ap exact_of es)
+number-exact v x a ev =
+    let n : v.negative ≡ (signed_of x).negative = ap (λ (w : Signed). w.negative) ev in
+    let m : v.magnitude ≡ (signed_of x).magnitude = ap (λ (w : Signed). w.magnitude) ev in
+    let k : v.scale ≡ (signed_of x).scale = ap (λ (w : Signed). w.scale) ev in
+    rw (a.negative, a.instant, a.above, a.scale, n, m, k)
 
-pub sought-exact : {s : Sought} (d : Day) (m : Millisecond) → s ≡ instant_sought d m → instant_exact d m ≡ exact_of s
-sought-exact d m es = instant-exact d m ∙ ap exact_of (sym es)
-
-pub sought-scale : {s : Sought} (v : Signed) → s ≡ signed_sought v → v.scale ≤ 15 → s.scale ≤ 15
-sought-scale v e h = rw e h
+pub sought-exact : {s : Sought} (d : Day) (m : Millisecond) → AsksInstant d m s → instant_exact d m ≡ exact_of s
+sought-exact d m a = instant-exact d m a
 
 pub taken-small : (x : Number) (v : Signed) → taken_of x ≡ Some v → (v.magnitude < 10 ^ 15) × (v.scale ≤ 15)
 taken-small x v e = let s = in-says x v e in rw s.1 (range-says x s.0)

@@ -12,10 +12,10 @@ ghost use Rattle.values.specs.declared.Number.{Number};
 ghost use Rattle.values.specs.declared.Value.TheVariants as value;
 ghost use Rattle.tables.specs.Words.{entries_in};
 ghost use Rattle.table_words.specs.Tabled.{sections_of, section_of};
-ghost use Rattle.choosing.specs.Seeking.{instant_sought};
+ghost use Rattle.choosing.specs.Seeking.{AsksInstant};
 ghost use Rattle.figure_text.specs.Shown.{figures_with};
 ghost use Rattle.planning.specs.Minus.{minus_told, minus_in};
-ghost use Rattle.planning.specs.Number.{signed_sought, first_argument};
+ghost use Rattle.planning.specs.Number.{AsksNumber, first_argument};
 ghost use Rattle.planning.specs.Plan.{BareIs, PlannedIs, PlansNumber, value_reading, bare_plan, digits_plan};
 
 use answers::Refusal;
@@ -91,7 +91,7 @@ fn instant_in<'a>(section: TableSection<'a>, d: Day, m: Millisecond) -> Result<P
 
 // An instant as the chooser is asked for it.
 pub fn instant_sought(d: Day, m: Millisecond) -> Sought
-    ensures { result ≡ instant_sought d m }
+    ensures { AsksInstant d m result }
 {
     Sought {
         negative: false,
@@ -263,7 +263,8 @@ fn number_in<'a>(section: TableSection<'a>, v: Signed) -> Result<Planned<'a>, Re
 
 // A number as the chooser is asked for it.
 pub fn number_sought(v: Signed) -> Sought
-    ensures { result ≡ signed_sought v }
+    requires { v.scale ≤ 15 }
+    ensures { AsksNumber v result }
 {
     Sought {
         negative: v.negative,

@@ -19,27 +19,27 @@ pub section-requires : goal.section-requires
 section-requires c = (long _ c.args.table.passes).least
 
 pub returns-then-takes : goal.returns-then-takes
-returns-then-takes c = found_first _ c.args.table.passes c.requires.1 c.counted-counted.ensures _ (first (goal.at.returns-then-takes c).After-takes) c.if-takes.true
+returns-then-takes c = found_first _ c.args.table.passes c.requires c.counted-counted.ensures _ (first (goal.at.returns-then-takes c).After-takes) c.if-takes.true
 
 pub returns-then-counted-eq1 : goal.returns-then-counted-eq1
 returns-then-counted-eq1 c =
-    found-none-of-one _ c.args.table.passes c.requires.1 c.counted-counted.ensures _ (first (goal.at.returns-then-counted-eq1 c).After-takes)
+    found-none-of-one _ c.args.table.passes c.requires c.counted-counted.ensures _ (first (goal.at.returns-then-counted-eq1 c).After-takes)
     c.if-takes.false c.if-counted-eq1.true
 
 pub section-requires-2 : goal.section-requires-2
-section-requires-2 c = second-there _ c.args.table.passes c.requires.1 c.counted-counted.ensures c.if-counted-eq1.false
+section-requires-2 c = second-there _ c.args.table.passes c.requires c.counted-counted.ensures c.if-counted-eq1.false
 
 pub returns-then-takes-2 : goal.returns-then-takes-2
 returns-then-takes-2 c =
-    found-second _ c.args.table.passes c.requires.1 c.counted-counted.ensures _ (first (goal.at.returns-then-takes-2 c).After-takes)
+    found-second _ c.args.table.passes c.requires c.counted-counted.ensures _ (first (goal.at.returns-then-takes-2 c).After-takes)
     c.if-takes.false c.if-counted-eq1.false (second (goal.at.returns-then-takes-2 c).After-takes-2) c.if-takes-2.true
 
 pub returns-then-counted-eq2 : goal.returns-then-counted-eq2
 returns-then-counted-eq2 c =
-    found-none-of-two _ c.args.table.passes c.requires.1 c.counted-counted.ensures _ (first (goal.at.returns-then-counted-eq2 c).After-takes)
+    found-none-of-two _ c.args.table.passes c.requires c.counted-counted.ensures _ (first (goal.at.returns-then-counted-eq2 c).After-takes)
     c.if-takes.false c.if-counted-eq1.false (second (goal.at.returns-then-counted-eq2 c).After-takes-2) c.if-takes-2.false c.if-counted-eq2.true
 
 pub returns : goal.returns
 returns c =
-    found-third _ c.args.table.passes c.requires.1 c.counted-counted.ensures _ (first (goal.at.returns c).After-takes)
+    found-third _ c.args.table.passes c.requires c.counted-counted.ensures _ (first (goal.at.returns c).After-takes)
     c.if-takes.false c.if-counted-eq1.false (second (goal.at.returns c).After-takes-2) c.if-takes-2.false c.if-counted-eq2.false

@@ -8,10 +8,10 @@ use Rattle.choosing.proofs.condition_holds.Goals as goal
 pub compare-order-requires : goal.compare-order-requires
 unfolding millionths_at
 compare-order-requires c =
-    (c.requires.1, rw c.number-millionths.ensures (head-ranges _ c.head-h.ensures.range).millionths)
+    rw c.number-millionths.ensures (head-ranges _ c.head-h.ensures.range).millionths
 
 pub returns : goal.returns
 unfolding whole_at millionths_at
 returns c =
-    condition-read _ _ _ _ _ _ c.head-h.ensures.words c.requires.0
+    condition-read _ _ _ _ _ _ c.head-h.ensures.words c.requires
     (rw (c.number-whole.ensures, c.number-millionths.ensures) at c.compare-order.ensures) c.signed.ensures c.holds.ensures

@@ -3,13 +3,9 @@
 use native.Mathlib.Omega.{arith}
 use mathlib.Core.Path.{sym, ◌∙◌}
 use Rattle.formats.specs.Reading.{read_value, read_instant}
-use Rattle.choosing.proofs.Asking.{instant-scale}
 use Rattle.planning.specs.Plan.{value_reading}
 use Rattle.planning.proofs.Values.{instant-within, found_within, none_found, some-found, sought-exact}
 use Rattle.planning.proofs.instant_plan.Goals as goal
-
-pub choose-requires : goal.choose-requires
-choose-requires c = rw c.instant_sought.ensures (instant-scale _ _)
 
 pub section-requires : goal.section-requires
 section-requires c = found_within _ _ _ (sym c.in-Some.is ∙ c.choose.ensures)

@@ -1,7 +1,9 @@
 -- `planning::instant_sought` meets its contract.
 -- Assumes nothing.
-use Rattle.planning.proofs.Instants.{sought-instant}
+use mathlib.Core.Path.{refl}
+use Rattle.calendar.specs.Clock.{since_day_zero}
 use Rattle.planning.proofs.instant_sought.Goals as goal
 
 pub returns : goal.returns
-returns c = sought-instant _ _
+unfolding since_day_zero
+returns c = record { negative = refl; instant = refl; above = refl; scale = refl }
