@@ -1,12 +1,13 @@
 -- Item words cut at the first E or solidus, and the items among them with a tag in a range.
 -- Assumes nothing.
-use Prim.Native.Nat.{ℕ}
+use Prim.Native.Nat.{ℕ, zero, suc, ◌+◌, ◌*◌, ◌/◌}
 use native.Mathlib.Omega.{arith}
-use mathlib.Core.Path.{◌≡◌, refl, sym}
+use mathlib.Core.Path.{◌≡◌, refl, sym, ap}
 use mathlib.Core.Bool.{Bool, not}
-use mathlib.Core.List.{List, [], ◌∷◌}
-use Rattle.std.specs.List.{filter}
-use lib.ListN.{length}
+use mathlib.Core.List.{List}
+use Rattle.std.specs.List.{filter, range_with_len}
+use lib.ListN.{length, get_or, drop}
+use lib.Seq.{drop-drop, get_or-drop}
 use borrow.Author.Tests.{le-leb, lt-leb}
 use Rattle.values.specs.Ranges.{between}
 use Rattle.lists.specs.Lists.{count}
@@ -14,9 +15,10 @@ use Rattle.lists.proofs.Bools.{by_cases, not_so, true-T, not-false}
 use Rattle.formats.specs.Items.{Item, half, is_cut, before_cut, from_cut}
 use Rattle.formats.proofs.ByNumber.{by_number}
 use Rattle.formats.proofs.Cutting.{cut-joins}
-use Rattle.tables.specs.Words.{Entry}
+use Rattle.tables.specs.Words.{entries_at, entries_in}
 use Rattle.tables.specs.Encode.{entry}
 use Rattle.tables.specs.Decode.{half_at, item_at, items_at, items_by_tag}
+use Rattle.table_words.specs.Runs.{items_in}
 use Rattle.table_words.proofs.Cuts.{Finds}
 
 cut-tag : (t a : ℕ) → is_cut (item_at (entry t a)) ≡ between 22 24 t
@@ -34,11 +36,21 @@ finds-cut = record {
   passed = λ e is t. rw (cut-tag e.tag e.argument, not_so (between 22 24 e.tag) (true-T t));
 }
 
--- the entries with a tag in between are as many as the items that pass a test of such tags
-pub filtered : (low high : ℕ) (f : Item → Bool) → ((t a : ℕ) → f (item_at (entry t a)) ≡ between low high t) → (es : List Entry)
-    → length (filter (λ (e : Entry). between low high e.tag) es) ≡ count f (items_at es)
-unfolding count items_at
-filtered low high f g [] = refl
-filtered low high f g (e ∷ es) =
-    let one = filtered low high f g es in
-    by_cases (between low high e.tag) (λ t. rw (g e.tag e.argument, t) (omega (arith, one))) (λ t. rw (g e.tag e.argument, t) one)
+-- the items with a tag in between, as they are counted by their numbers from k on
+counted_from : (low high : ℕ) (f : Item → Bool) → ((t a : ℕ) → f (item_at (entry t a)) ≡ between low high t) → (words : List ℕ) (n k : ℕ)
+    → length (filter (λ (j : ℕ). between low high (get_or words (2 * j) 0)) (range_with_len k n)) ≡ count f (items_at (entries_at n (drop (2 * k) words)))
+unfolding count items_at entries_at
+counted_from low high f g words zero k = refl
+counted_from low high f g words (suc n) k =
+    let two : 2 * (k + 1) ≡ 2 * k + 2 = omega arith in
+    let nought : 2 * k + 0 ≡ 2 * k = omega arith in
+    let rest : length (filter (λ (j : ℕ). between low high (get_or words (2 * j) 0)) (range_with_len (k + 1) n)) ≡ count f (items_at (entries_at n (drop 2 (drop (2 * k) words)))) =
+    rw (drop-drop 2 (2 * k) words, ← two) (counted_from low high f g words n (k + 1)) in
+    by_cases (between low high (get_or words (2 * k) 0))
+    (λ t. rw (get_or-drop (2 * k) words 0 0, nought, g (get_or words (2 * k) 0) (get_or (drop (2 * k) words) 1 0), t) (ap suc rest))
+    (λ t. rw (get_or-drop (2 * k) words 0 0, nought, g (get_or words (2 * k) 0) (get_or (drop (2 * k) words) 1 0), t) rest)
+
+pub all-counted : (low high : ℕ) (f : Item → Bool) → ((t a : ℕ) → f (item_at (entry t a)) ≡ between low high t) → (words : List ℕ)
+    → length (filter (λ (j : ℕ). between low high (get_or words (2 * j) 0)) (range_with_len 0 (length words / 2))) ≡ count f (items_in words)
+unfolding entries_in
+all-counted low high f g words = counted_from low high f g words (length words / 2) 0

@@ -17,10 +17,8 @@ use tables::tags;
 pub fn find_tag(words: &[u16], tag: u16) -> usize
     ensures { FoundAt words.now tag result }
 {
-    words
-        .chunks_exact(2)
-        .take_while(|entry| entry[0] != tag)
-        .count()
+    let n = words.len() / 2;
+    (0..n).find(|&k| words[2 * k] == tag).unwrap_or(n)
 }
 
 pub fn has_tag(words: &[u16], tag: u16) -> bool
@@ -33,18 +31,16 @@ pub fn has_tag(words: &[u16], tag: u16) -> bool
 pub fn cut_start(items: &[u16]) -> usize
     ensures { CutAt items.now result (before_cut (items_in items.now)) (from_cut (items_in items.now)) }
 {
-    let before = items.chunks_exact(2).take_while(
-        |entry| !(tags::EXPONENT_PLUS..=tags::SOLIDUS).contains(&entry[0]),
-    );
-    2 * before.count()
+    let n = items.len() / 2;
+    let cut = (0..n).find(|&k| (tags::EXPONENT_PLUS..=tags::SOLIDUS).contains(&items[2 * k]));
+    2 * cut.unwrap_or(n)
 }
 
 // How many items there are among item words with a tag from `low` to `high`.
 pub fn count_between(items: &[u16], low: u16, high: u16) -> usize
     ensures { (f : Item → Bool) → ((t a : ℕ) → f (item_at (entry t a)) ≡ between low high t) → result ≡ count f (items_in items.now) }
 {
-    items
-        .chunks_exact(2)
-        .filter(|entry| (low..=high).contains(&entry[0]))
+    (0..items.len() / 2)
+        .filter(|&k| (low..=high).contains(&items[2 * k]))
         .count()
 }

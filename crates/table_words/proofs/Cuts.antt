@@ -1,32 +1,30 @@
 -- Item words cut in two between items.
 -- Assumes nothing.
-use Prim.Native.Nat.{ℕ, zero, suc, ◌+◌, ◌-◌, ◌*◌, ◌/◌, ◌≤◌}
+use Prim.Native.Nat.{ℕ, zero, suc, ◌+◌, ◌-◌, ◌*◌, ◌/◌, ◌≤◌, ◌<◌}
 use native.Mathlib.Nat.{sub-zero}
 use native.Mathlib.Omega.{arith}
 use mathlib.Core.Path.{◌≡◌, refl, sym, ap, ◌∙◌}
 use mathlib.Core.Bool.{Bool, true, false}
 use mathlib.Core.List.{List, [], ◌∷◌, ◌++◌, append_cancel_right}
 use lib.ListN.{length, get_or, take, drop, length-drop}
-use lib.Seq.{take_all, drop-drop}
+use lib.Seq.{take_all, drop-drop, get_or-drop}
 use Rattle.formats.specs.Items.{Item}
 use Rattle.tables.specs.Words.{Entry, entries_at, entries_in}
 use Rattle.tables.specs.Encode.{entry}
 use Rattle.tables.specs.Decode.{item_at, items_at}
 use Rattle.tables.proofs.Words.{entries_left, entries-part, entries_at-length}
 use Rattle.std.specs.List.{prefix_len}
-use Rattle.std.proofs.lemmas.List.Sums.{prefix_len-le-length}
-use Rattle.std.proofs.lemmas.List.Folds.{length-prefix_len}
-use Rattle.std.proofs.lemmas.Iterator.Consumers.{count_from_yields_List}
-use Rattle.std.proofs.lemmas.Iterator.Search.{YieldsList-from_take_while}
+use Rattle.std.proofs.lemmas.List.Sums.{prefix_len-le-length, prefix_len_is}
 use Rattle.std.specs.Borrow.{Bor}
+use Rattle.std.specs.Prelude.{⊤, Option, Some, None, MatchOption}
+use Rattle.std.specs.Option.{unwrap_or}
 use Rattle.std.specs.Fn.{CalledAt}
+use Rattle.std.specs.Iterator.{YieldsThen}
+use Rattle.std.specs.List.{FoldsTo}
+use Rattle.std.specs.declared.ops.Range.{Range}
+use Rattle.std.proofs.iter.Yields.{nat_range_steps}
+use Rattle.std.proofs.lemmas.Iterator.{first_from_Range}
 use denote.Param.Members.{Mut}
-use Rattle.std.specs.Iterator.{Drains}
-use Rattle.std.specs.Iterator.Adapters.{take_while_source, take_while_done, take_while_callee, take_while_steps}
-use Rattle.std.specs.Slice.Iter.{chunks_exact_rest, chunks_exact_size, chunks_exact_steps}
-use Rattle.std.specs.declared.iter.TakeWhile.{TakeWhile}
-use Rattle.std.specs.declared.slice.ChunksExact.{ChunksExact}
-use Rattle.table_words.proofs.Pairs.{YieldsList-from_entries}
 use Rattle.lists.proofs.Bools.{by_cases}
 use Rattle.table_words.specs.Runs.{items_in, CutAt}
 
@@ -91,15 +89,51 @@ drop-entries (suc k) (suc n) ws h =
     let less : suc n - suc k ≡ n - k = omega arith in
     rw (two, less, ← drop-drop (2 * k) 2 ws) (drop-entries k n (drop 2 ws) (omega arith))
 
--- as the code counts them
-pub passing-counted : {F : Type 0} (g : Mut F (Bor (Bor (List ℕ)) × Unit {0}) Bool) (passes : ℕ → Bool) (words : List ℕ) (s : TakeWhile (ChunksExact ℕ) F) {f : F} {r : ℕ}
-    → ((xs : List (Bor (List ℕ))) × Drains (take_while_steps (chunks_exact_steps {A = ℕ}) g) s xs × (r ≡ length xs))
-    → chunks_exact_rest (take_while_source s) ≡ words → chunks_exact_size (take_while_source s) ≡ 2 → take_while_callee s ≡ f → take_while_done s ≡ false
-    → ((x : Bor (List ℕ)) (b : Bool) (q : F) → CalledAt g f x b q → (q ≡ f) × (b ≡ passes (get_or x.now 0 0))) → r ≡ passing_len passes (entries_in words)
-passing-counted g passes words s ran rest size callee done told =
-    let es = entries_in words in
-    count_from_yields_List s _ ran (YieldsList-from_take_while g (λ (e : Entry). passes e.tag) (YieldsList-from_entries words rest size) callee done told)
-    ∙ length-prefix_len (λ (e : Entry). passes e.tag) es
+entry-tag : (n : ℕ) (ws : List ℕ) (k : ℕ) (d : Entry) → k < n → (get_or (entries_at n ws) k d).tag ≡ get_or ws (2 * k) 0
+unfolding entries_at
+entry-tag zero ws k d h = absurd (omega arith)
+entry-tag (suc n) ws zero d h = refl
+entry-tag (suc n) ws (suc k) d h =
+    let two : 2 * suc k ≡ 2 + 2 * k = omega arith in
+    entry-tag n (drop 2 ws) k d (omega arith) ∙ rw (two, get_or-drop 2 ws (2 * k) 0)
+
+-- a place before which all tags pass, and at which one fails unless it is behind them all
+passing_is : (passes : ℕ → Bool) (words : List ℕ) (k : ℕ) → k ≤ length words / 2 → ((j : ℕ) → j < k → passes (get_or words (2 * j) 0) ≡ true)
+    → (k < length words / 2 → passes (get_or words (2 * k) 0) ≡ false) → k ≡ passing_len passes (entries_in words)
+unfolding entries_in
+passing_is passes words k most before at =
+    let n = length words / 2 in
+    let es : List Entry = entries_at n words in
+    let d : Entry = entry 0 0 in
+    let size : length es ≡ n = entries_at-length n words in
+    sym (prefix_len_is (λ (e : Entry). passes e.tag) es k d (omega (arith, size))
+    (λ j h. ap passes (entry-tag n words j d (omega arith)) ∙ before j h)
+    (λ h. let l : k < n = omega (arith, size) in ap passes (entry-tag n words k d l) ∙ at l))
+
+pub passing-most : (passes : ℕ → Bool) (words : List ℕ) → passing_len passes (entries_in words) ≤ length words / 2
+unfolding entries_in
+passing-most passes words =
+    let es : List Entry = entries_at (length words / 2) words in
+    omega (arith, prefix_len-le-length (λ (e : Entry). passes e.tag) es, entries_at-length (length words / 2) words)
+
+-- as the code finds it
+pub passing-found : {F : Type 0} (g : Mut F (Bor ℕ × Unit {0}) Bool) (passes : ℕ → Bool) (words : List ℕ) (u : Range ℕ) (f : F) (o : Option ℕ)
+    → ((xs : List ℕ) × (j : F) × YieldsThen nat_range_steps (record { start = 0; end = length words / 2 }) xs o u
+    × FoldsTo (λ p x q. CalledAt g p x false q) f xs j × MatchOption o ⊤ (λ x. (h : F) × CalledAt g j x true h))
+    → ((x : ℕ) (q : F) → CalledAt g f x true q → passes (get_or words (2 * x) 0) ≡ false)
+    → ((x : ℕ) (q : F) → CalledAt g f x false q → (q ≡ f) × (passes (get_or words (2 * x) 0) ≡ true))
+    → unwrap_or o (length words / 2) ≡ passing_len passes (entries_in words)
+passing-found g passes words u f o ran met passed =
+    told o
+    (first_from_Range (record { start = 0; end = length words / 2 }) u f o
+    (λ k. passes (get_or words (2 * k) 0) ≡ false) (λ k. passes (get_or words (2 * k) 0) ≡ true) ran met passed)
+  where
+    told : (o : Option ℕ)
+        → MatchOption o ((k : ℕ) → 0 ≤ k → k < length words / 2 → passes (get_or words (2 * k) 0) ≡ true)
+        (λ i. (0 ≤ i) × (i < length words / 2) × (passes (get_or words (2 * i) 0) ≡ false) × ((k : ℕ) → 0 ≤ k → k < i → passes (get_or words (2 * k) 0) ≡ true))
+        → unwrap_or o (length words / 2) ≡ passing_len passes (entries_in words)
+    told None m = passing_is passes words (length words / 2) (omega arith) (λ j h. m j (omega arith) h) (λ h. absurd (omega arith))
+    told (Some i) m = passing_is passes words i (omega (arith, m.1)) (λ j h. m.3 j (omega arith) h) (λ h. m.2)
 
 module _ {passes : ℕ → Bool} {front back : List Item → List Item} (d : Finds passes front back) where
   back-left : (es : List Entry) → back (items_at es) ≡ items_at (drop (passing_len passes es) es)

@@ -29,6 +29,7 @@ pub fn run_start(items: &[u16]) -> usize
 pub fn run_end(items: &[u16]) -> usize
     ensures { CutAt items.now result (start_places (items_in items.now)) (behind_start (items_in items.now)) }
 {
-    let run = items.chunks_exact(2).take_while(|entry| is_place(entry[0]));
-    2 * run.count()
+    let n = items.len() / 2;
+    let end = (0..n).find(|&k| !is_place(items[2 * k]));
+    2 * end.unwrap_or(n)
 }
