@@ -35,7 +35,8 @@ pub struct Draft {
     pub body: Body,
 }
 
-// What a room for drafts is filled with.
+// What a room for drafts is filled with: a section of nothing, which fits and is within the limits. (Were all its words 0, a room that
+// holds it would be cleared in one piece with what stands beside it, which takes 2,000 instructions more.)
 pub const EMPTY: Draft = Draft {
     colour: 0,
     operator: 0,
@@ -44,10 +45,10 @@ pub const EMPTY: Draft = Draft {
     whole_high: 0,
     millionths_low: 0,
     millionths_high: 0,
-    within: false,
+    within: true,
     body: Body {
-        fits: false,
-        within: false,
+        fits: true,
+        within: true,
         kind: 0,
         shift: 0,
         grouped: false,
