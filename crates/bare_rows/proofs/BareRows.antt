@@ -1,24 +1,23 @@
 -- The items of a literal, General or text section by their words.
 -- Assumes nothing.
-use Prim.Native.Nat.{ℕ, zero, suc, ◌+◌, ◌-◌, ◌*◌, ◌/◌, ◌≤◌, ◌<◌}
+use Prim.Native.Nat.{ℕ, zero, suc, ◌+◌, ◌≤◌, ◌<◌}
 use native.Mathlib.Omega.{arith}
-use native.Mathlib.Nat.{sub-zero}
 use mathlib.Core.Path.{◌≡◌, refl, sym, ◌∙◌, ap}
 use mathlib.Core.Bool.{Bool, true, false, cond, ◌&&◌, and-false}
-use mathlib.Core.List.{List, [], ◌∷◌}
-use lib.ListN.{length, get_or}
+use mathlib.Core.List.{List, [], ◌∷◌, ◌++◌}
+use lib.ListN.{length, get_or, length-append}
 use lib.Dec.{T, leb, ltb, eqb, leb→le, le→leb, ltb→lt, eqb→eq}
+use Rattle.std.specs.Int.{from_bool}
 use borrow.Author.Tests.{eq-eqb, ne_eqb, lt-ltb, lt-leb, leb-true, leb-false, eqb-true, eqb-false}
 use Rattle.lists.specs.Lists.{every, any, count}
 use Rattle.lists.proofs.Bools.{no, and_left, and_right, and_in, by_cases, same_test, carry, true-T}
 use Rattle.lists.proofs.Counts.{every_map, every-same, every-and, positive-count}
 use Rattle.formats.specs.Items.{Item, Kind, text_kind, general_kind, date_kind, scientific_kind, fraction_kind, literal_kind, same_kind, shows_places, item_makes, items_kind, item_allowed, is_fill, is_general}
 use Rattle.formats.proofs.ByNumber.{numbered}
-use Rattle.tables.specs.Words.{Entry, entries_at, entries_in}
-use Rattle.tables.specs.Encode.{entry, bit, kind_word}
+use Rattle.tables.specs.Words.{Entry, entries_in}
+use Rattle.tables.specs.Encode.{entry, kind_word}
 use Rattle.tables.specs.Decode.{item_at, items_at}
 use Rattle.tables.specs.Rules.{entry_in_range}
-use Rattle.tables.proofs.Words.{entries_left, entries-front}
 use Rattle.tables.proofs.BackEntries.{Span, span-at, late-tag}
 use Rattle.tables.proofs.Standing.{kind-most}
 use Rattle.tallies.specs.Tally.{makes_text, sound_entries, items_of}
@@ -26,6 +25,7 @@ use Rattle.scans.specs.Scans.{tagged}
 use Rattle.bare_rows.specs.BareRows.{own_tag, bare_entry, owns_fit}
 use Rattle.scans.proofs.Scanned.{tag_is, count-tagged}
 use Rattle.tallies.proofs.Held.{is_made, holds, holds-back}
+use Rattle.tallies.proofs.Pairs.{entries-pair, entries-none}
 
 abbrev pub bare_test : ℕ → List Entry → Bool
 bare_test kind es =
@@ -144,49 +144,46 @@ module _ (es : List Entry) where
       none-such : (kind : ℕ) → (kind ≡ 0 → ⊥) → (kind ≡ 1 → ⊥) → (kind ≡ 3 → ⊥) → (kind ≡ 2 → ⊥) → (kind ≡ 4 → ⊥) → (kind ≡ 5 → ⊥) → (kind ≡ 6 → ⊥) → 6 < kind
       none-such kind n₀ n₁ n₃ n₂ n₄ n₅ n₆ = let late = five kind n₀ n₁ n₃ n₂ n₄ n₅ in six kind late n₆
 
--- ---- the loop, before the k-th of n items: how many fills were met, and how many of the section's own items
-pub record Baring (words : List ℕ) (own n fills owns k : ℕ) : Type 0 where
-  pub items : n ≡ length words / 2
-  pub inside : k ≤ n
-  pub few : (fills ≤ k) × (owns ≤ k)
-  pub same : every (bare_entry own) (entries_in words) ≡ every (bare_entry own) (entries_left words n k)
-  pub fill : count (tagged 3) (entries_in words) ≡ fills + count (tagged 3) (entries_left words n k)
-  pub owned : count (tagged own) (entries_in words) ≡ owns + count (tagged own) (entries_left words n k)
+-- ---- the loop, with these words left: how many fills were met, and how many of the section's own items
+pub record Baring (words : List ℕ) (own fills owns : ℕ) (left : List ℕ) : Type 0 where
+  pub few : (fills + length left ≤ length words) × (owns + length left ≤ length words)
+  pub same : every (bare_entry own) (entries_in words) ≡ every (bare_entry own) (entries_in left)
+  pub fill : count (tagged 3) (entries_in words) ≡ fills + count (tagged 3) (entries_in left)
+  pub owned : count (tagged own) (entries_in words) ≡ owns + count (tagged own) (entries_in left)
 
-pub baring-start : (words : List ℕ) (own n : ℕ) → n ≡ length words / 2 → Baring words own n 0 0 0
-baring-start words own n e =
-    let whole : entries_left words n 0 ≡ entries_in words = unfold entries_in in rw (sub-zero n, e) in
-    record { items = e; inside = omega arith; few = (omega arith, omega arith); same = rw whole; fill = rw whole (omega arith); owned = rw whole (omega arith) }
+pub baring-start : (words : List ℕ) (own : ℕ) → Baring words own 0 0 words
+baring-start words own = record { few = (omega arith, omega arith); same = refl; fill = omega arith; owned = omega arith }
 
-count-front : (p : Entry → Bool) (e : Entry) (es : List Entry) → count p (e ∷ es) ≡ bit (p e) + count p es
-unfolding count bit
+count-front : (p : Entry → Bool) (e : Entry) (es : List Entry) → count p (e ∷ es) ≡ from_bool (p e) + count p es
+unfolding count
 count-front p e es = by_cases (p e) (λ h. rw h (omega arith)) (λ h. rw h (omega arith))
 
-bit-most : (b : Bool) → bit b ≤ 1
-unfolding bit
-bit-most true = omega arith
-bit-most false = omega arith
+bool-most : (b : Bool) → from_bool b ≤ 1
+bool-most true = omega arith
+bool-most false = omega arith
 
-module _ {words : List ℕ} {own n fills owns k : ℕ} (inv : Baring words own n fills owns k) where
-  abbrev here : Entry
-  here = entry (get_or words (2 * k) 0) (get_or words (2 * k + 1) 0)
+module _ {words : List ℕ} {own fills owns : ℕ} {left : List ℕ} (inv : Baring words own fills owns left) where
+  module _ (pair rest : List ℕ) (front : left ≡ pair ++ rest) (two : length pair ≡ 2) where
+    abbrev here : Entry
+    here = entry (get_or pair 0 0) (get_or pair 1 0)
 
-  module _ (h : k < n) where
-    front : every (bare_entry own) (entries_in words) ≡ cond (bare_entry own here) (every (bare_entry own) (entries_left words n (k + 1))) false
+    first : entries_in left ≡ here ∷ entries_in rest
+    first = ap entries_in front ∙ entries-pair pair rest two
+
+    every_front : every (bare_entry own) (entries_in words) ≡ cond (bare_entry own here) (every (bare_entry own) (entries_in rest)) false
     unfolding every
-    front = inv.same ∙ ap (every (bare_entry own)) (entries-front words n k h)
+    every_front = inv.same ∙ ap (every (bare_entry own)) first
 
-    counted : (t : ℕ) → count (tagged t) (entries_left words n k) ≡ bit (tagged t here) + count (tagged t) (entries_left words n (k + 1))
-    counted t = ap (count (tagged t)) (entries-front words n k h) ∙ count-front (tagged t) here (entries_left words n (k + 1))
+    counted : (t : ℕ) → count (tagged t) (entries_in left) ≡ from_bool (tagged t here) + count (tagged t) (entries_in rest)
+    counted t = ap (count (tagged t)) first ∙ count-front (tagged t) here (entries_in rest)
 
-    pub baring-step : bare_entry own here ≡ true → Baring words own n (fills + bit (tagged 3 here)) (owns + bit (tagged own here)) (k + 1)
+    pub baring-step : bare_entry own here ≡ true → Baring words own (fills + from_bool (tagged 3 here)) (owns + from_bool (tagged own here)) rest
     baring-step b =
         let f = inv.few in
+        let l : length left ≡ 2 + length rest = ap length front ∙ length-append pair rest ∙ ap (λ (n : ℕ). n + length rest) two in
         record {
-          items = inv.items;
-          inside = omega arith;
-          few = (omega (arith, bit-most (tagged 3 here)), omega (arith, bit-most (tagged own here)));
-          same = front ∙ rw b;
+          few = (omega (arith, bool-most (tagged 3 here)), omega (arith, bool-most (tagged own here)));
+          same = every_front ∙ rw b;
           fill = omega (arith, inv.fill, counted 3);
           owned = omega (arith, inv.owned, counted own);
         }
@@ -194,14 +191,14 @@ module _ {words : List ℕ} {own n fills owns k : ℕ} (inv : Baring words own n
     pub baring-fault : (kind : ℕ) → own ≡ own_tag kind → bare_entry own here ≡ false
         → (kind ≡ 2 → ⊥) → (kind ≡ 4 → ⊥) → (kind ≡ 5 → ⊥) → (kind ≡ 6 → ⊥) → false ≡ items_of kind (entries_in words)
     baring-fault kind e b n₂ n₄ n₅ n₆ =
-        let none : every (bare_entry own) (entries_in words) ≡ false = front ∙ rw b in
+        let none : every (bare_entry own) (entries_in words) ≡ false = every_front ∙ rw b in
         rw (rw e at none) at (bare-told (entries_in words) kind n₂ n₄ n₅ n₆)
 
-  pub baring-end : (kind : ℕ) → own ≡ own_tag kind → n ≤ k → (kind ≡ 2 → ⊥) → (kind ≡ 4 → ⊥) → (kind ≡ 5 → ⊥) → (kind ≡ 6 → ⊥)
+  pub baring-end : (kind : ℕ) → own ≡ own_tag kind → length left < 2 → (kind ≡ 2 → ⊥) → (kind ≡ 4 → ⊥) → (kind ≡ 5 → ⊥) → (kind ≡ 6 → ⊥)
       → (leb fills 1 && owns_fit kind owns) ≡ items_of kind (entries_in words)
-  unfolding every count entries_at
+  unfolding every count
   baring-end kind e h n₂ n₄ n₅ n₆ =
-      let none : entries_left words n k ≡ [] = let z : n - k ≡ 0 = omega arith in rw z in
+      let none : entries_in left ≡ [] = entries-none left h in
       let all : every (bare_entry own) (entries_in words) ≡ true = inv.same ∙ rw none in
       let fill : count (tagged 3) (entries_in words) ≡ fills = inv.fill ∙ rw none (omega arith) in
       let owned : count (tagged own) (entries_in words) ≡ owns = inv.owned ∙ rw none (omega arith) in

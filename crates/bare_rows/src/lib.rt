@@ -1,14 +1,13 @@
 // The items of a literal, General or text section: literals, blanks, one fill, and what makes the section.
 #![tactic(auto)]
 
-ghost use Rattle.std.specs.Prelude.{◌≡◌, ◌≤◌};
+ghost use Rattle.std.specs.Prelude.{◌≡◌};
 ghost use Rattle.tables.specs.Words.{entries_in};
-ghost use Rattle.tables.specs.Encode.{entry, bit};
+ghost use Rattle.tables.specs.Encode.{entry};
 ghost use Rattle.tallies.specs.Tally.{items_of};
 ghost use Rattle.bare_rows.specs.BareRows.{own_tag, bare_entry, owns_fit};
 
 use tables::{kinds, tags};
-use values::integers::is_between;
 
 // The tag of the item that makes the section. A literal section has none of its own.
 fn own_tag(kind: u16) -> u16
@@ -21,19 +20,14 @@ fn own_tag(kind: u16) -> u16
     }
 }
 
+#[tactic(auto, using(std::proofs::lemmas::Bool::Decides::nat_tests), unfolding(crate::specs::BareRows::bare_entry))]
 fn is_bare(own: u16, tag: u16, a: u16) -> bool
     ensures { result ≡ bare_entry own (entry tag a) }
 {
-    if is_between(tags::LITERAL, tags::FILL, tag) {
+    if (tags::LITERAL..=tags::FILL).contains(&tag) {
         return true;
     }
     (tag == own) & (a == 0)
-}
-
-fn one(b: bool) -> usize
-    ensures { (result ≡ bit b) × (result ≤ 1) }
-{
-    if b { 1 } else { 0 }
 }
 
 // General stands once, `@` at least once.
@@ -53,20 +47,15 @@ pub fn bare_fits(words: &[u16], kind: u16) -> bool
     ensures { (kind ≡ 2 → ⊥) → (kind ≡ 4 → ⊥) → (kind ≡ 5 → ⊥) → (kind ≡ 6 → ⊥) → result ≡ items_of kind (entries_in words.now) }
 {
     let own = own_tag(kind);
-    let n = words.len() / 2;
     let mut fills: usize = 0;
     let mut owns: usize = 0;
-    let mut k: usize = 0;
-    while k < n {
-        let i = 2 * k;
-        let j = i + 1;
-        let tag = words[i];
-        if !is_bare(own, tag, words[j]) {
+    for pair in words.chunks_exact(2) {
+        let tag = pair[0];
+        if !is_bare(own, tag, pair[1]) {
             return false;
         }
-        fills += one(tag == tags::FILL);
-        owns += one(tag == own);
-        k += 1;
+        fills += usize::from(tag == tags::FILL);
+        owns += usize::from(tag == own);
     }
     (fills <= 1) & owns_fit(kind, owns)
 }

@@ -1,11 +1,11 @@
 -- The walk over a number section's items: what is left to be asked of the entries behind each, and how many places there are in all.
 -- Assumes nothing.
-use Prim.Native.Nat.{ℕ, zero, suc, ◌+◌, ◌-◌, ◌*◌, ◌/◌, ◌≤◌, ◌<◌}
+use Prim.Native.Nat.{ℕ, zero, suc, ◌+◌, ◌-◌, ◌≤◌, ◌<◌}
+use Rattle.std.specs.Prelude.{Option, None, Some, MatchOption}
 use native.Mathlib.Omega.{arith}
-use native.Mathlib.Nat.{sub-zero}
-use mathlib.Core.Path.{◌≡◌, refl, sym, ◌∙◌, subst}
+use mathlib.Core.Path.{◌≡◌, refl, sym, ◌∙◌, ap, subst}
 use mathlib.Core.Bool.{Bool, true, false, cond, not, ◌&&◌}
-use mathlib.Core.List.{List, [], ◌∷◌}
+use mathlib.Core.List.{List, [], ◌∷◌, ◌++◌}
 use lib.ListN.{length, get_or}
 use lib.Dec.{T, leb, ltb, eqb, leb→le, le→leb, eqb→eq, eqb-suc-zero}
 use borrow.Author.Tests.{eqb-true, eqb-false, eq-eqb, leb-true, leb-false, ltb-true, ltb-false, lt-ltb, le-leb, lt-leb, not-true, not-false}
@@ -16,18 +16,18 @@ use Rattle.lists.proofs.Counts.{any-count, positive-count}
 use Rattle.formats.specs.Items.{Item, half, number_kind, item_allowed, is_fill, is_place, is_point, is_percent, before_cut, integer_places, decimal_places}
 use Rattle.formats.proofs.ByNumber.{by_number}
 use Rattle.formats.specs.Text.{digit_after, along, first_of}
-use Rattle.tables.specs.Words.{Entry, entries_at, entries_in}
+use Rattle.tables.specs.Words.{Entry, entries_in}
 use Rattle.tables.specs.Encode.{entry, kind_word}
 use Rattle.tables.specs.Decode.{half_at, item_at, items_at, items_by_tag}
 use Rattle.tables.specs.Rules.{entry_in_range, all_of, powers_from, run_powers}
-use Rattle.tables.proofs.Words.{entries_left, entries-front}
 use Rattle.tables.proofs.BackEntries.{between-facts, span-at}
+use Rattle.tallies.proofs.Pairs.{entries-pair, entries-none}
 use Rattle.tallies.proofs.Steps.{no-place-beyond}
 use Rattle.number_rows.specs.declared.NumberWalk.{NumberWalk}
 use Rattle.tallies.specs.Tally.{items_of}
 use Rattle.tallies.proofs.Places.{places-bare}
 use Rattle.tallies.proofs.Held.{apart, uncut, no-solidi, holds, holds-back, powers-one, powers-bare}
-use Rattle.number_rows.specs.NumberRows.{number_items, greatest_power, NumberTold, no_row, no_number, counted_at, place_taken, point_taken, percent_taken, fill_taken, number_after}
+use Rattle.number_rows.specs.NumberRows.{number_items, greatest_power, NumberTold, place_taken, point_taken, percent_taken, fill_taken, number_after}
 
 -- the power and 15 that the next place must have, with n integer places left: before the first place it is theirs
 abbrev digit_left : ℕ → ℕ → ℕ → ℕ
@@ -84,11 +84,15 @@ pub record Within (i d p : ℕ) : Type 0 where
   pub decimals : d ≤ 15
   pub percents : p ≤ 5
 
--- r is what s becomes by an entry
-pub record Turned (i d p : ℕ) (s : NumberWalk) (e : Entry) (es : List Entry) (r : NumberWalk) : Type 0 where
-  pub goes : T r.fits → Known i d p r es
-  pub back : T r.fits → Left r es → Left s (e ∷ es)
-  pub out : Within i d p → Left s (e ∷ es) → T r.fits × Left r es
+-- s becomes r by an entry
+pub record Went (i d p : ℕ) (s : NumberWalk) (e : Entry) (es : List Entry) (r : NumberWalk) : Type 0 where
+  pub goes : Known i d p r es
+  pub back : Left r es → Left s (e ∷ es)
+  pub out : Within i d p → Left s (e ∷ es) → Left r es
+
+-- r is what s becomes by an entry; nothing where it is at fault
+abbrev pub Turned : ℕ → ℕ → ℕ → NumberWalk → Entry → List Entry → Option NumberWalk → Type 0
+Turned i d p s e es r = MatchOption r (Within i d p → Left s (e ∷ es) → ⊥) (Went i d p s e es)
 
 -- opens all that an entry with a known tag computes by
 unfoldable computed : Entry → Item
@@ -96,25 +100,21 @@ unfolding item_at items_at every count before_cut integer_places decimal_places 
 computed e = item_at e
 
 module _ (i d p : ℕ) (s : NumberWalk) (a : ℕ) (es : List Entry) where
-  -- nothing follows a fault
-  refuted : (t : ℕ) → (Within i d p → Left s (entry t a ∷ es) → ⊥) → Turned i d p s (entry t a) es no_number
-  refuted t f = record { goes = λ t. absurd t; back = λ t. absurd t; out = λ w l. absurd (f w l) }
-
-  literal-turn : a < 65536 → Known i d p s (entry 1 a ∷ es) → Turned i d p s (entry 1 a) es (counted_at s s.percents s.fills)
+  literal-turn : a < 65536 → Known i d p s (entry 1 a ∷ es) → Turned i d p s (entry 1 a) es (Some s)
   unfolding computed
-  literal-turn h k = record { goes = λ t. k; back = λ t l. rw (lt-ltb a 65536 h) l; out = λ w l. (tt, rw (lt-ltb a 65536 h) at l) }
+  literal-turn h k = record { goes = k; back = λ l. rw (lt-ltb a 65536 h) l; out = λ w l. rw (lt-ltb a 65536 h) at l }
 
-  blank_turn : a < 65536 → Known i d p s (entry 2 a ∷ es) → Turned i d p s (entry 2 a) es (counted_at s s.percents s.fills)
+  blank_turn : a < 65536 → Known i d p s (entry 2 a ∷ es) → Turned i d p s (entry 2 a) es (Some s)
   unfolding computed
-  blank_turn h k = record { goes = λ t. k; back = λ t l. rw (lt-ltb a 65536 h) l; out = λ w l. (tt, rw (lt-ltb a 65536 h) at l) }
+  blank_turn h k = record { goes = k; back = λ l. rw (lt-ltb a 65536 h) l; out = λ w l. rw (lt-ltb a 65536 h) at l }
 
-  one-fill : a < 65536 → s.fills ≡ 0 → Known i d p s (entry 3 a ∷ es) → Turned i d p s (entry 3 a) es (counted_at s s.percents 1)
+  one-fill : a < 65536 → s.fills ≡ 0 → Known i d p s (entry 3 a ∷ es) → Turned i d p s (entry 3 a) es (Some (record s { fills = 1 }))
   unfolding computed
   one-fill h e k =
       record {
-        goes = λ t. record { places = k.places; percents = k.percents; few = k.few; fill = omega arith };
-        back = λ t l. record { items = l.items; ranges = rw (lt-ltb a 65536 h) l.ranges; fill = omega (arith, l.fill); points = l.points; powers = l.powers; ends = l.ends };
-        out = λ w l. (tt, record { items = l.items; ranges = rw (lt-ltb a 65536 h) at l.ranges; fill = omega (arith, l.fill); points = l.points; powers = l.powers; ends = l.ends });
+        goes = record { places = k.places; percents = k.percents; few = k.few; fill = omega arith };
+        back = λ l. record { items = l.items; ranges = rw (lt-ltb a 65536 h) l.ranges; fill = omega (arith, l.fill); points = l.points; powers = l.powers; ends = l.ends };
+        out = λ w l. record { items = l.items; ranges = rw (lt-ltb a 65536 h) at l.ranges; fill = omega (arith, l.fill); points = l.points; powers = l.powers; ends = l.ends };
       }
 
   fill-turn : a < 65536 → Known i d p s (entry 3 a ∷ es) → Turned i d p s (entry 3 a) es (fill_taken s)
@@ -122,29 +122,30 @@ module _ (i d p : ℕ) (s : NumberWalk) (a : ℕ) (es : List Entry) where
   fill-turn h k =
       cond-case (Turned i d p s (entry 3 a) es) (eqb s.fills 0)
       (λ e. one-fill h (eqb-true s.fills 0 e) k)
-      (λ e. let some = eqb-false s.fills 0 e in refuted 3 (λ w l. let f = l.fill in omega arith))
+      (λ e w l. let some = eqb-false s.fills 0 e in let f = l.fill in omega arith)
 
-  few-percents : eqb a 0 ≡ true → s.percents < 5 → Known i d p s (entry 8 a ∷ es) → Turned i d p s (entry 8 a) es (counted_at s (s.percents + 1) s.fills)
+  few-percents : eqb a 0 ≡ true → s.percents < 5 → Known i d p s (entry 8 a ∷ es) → Turned i d p s (entry 8 a) es (Some (record s { percents = s.percents + 1 }))
   unfolding computed
   few-percents z h k =
       record {
-        goes = λ t. record { places = k.places; percents = omega (arith, k.percents); few = omega arith; fill = k.fill };
-        back = λ t l. rw z l;
-        out = λ w l. (tt, rw z at l);
+        goes = record { places = k.places; percents = omega (arith, k.percents); few = omega arith; fill = k.fill };
+        back = λ l. rw z l;
+        out = λ w l. rw z at l;
       }
 
   percent-turn : Known i d p s (entry 8 a ∷ es) → Turned i d p s (entry 8 a) es (percent_taken s a)
   unfolding computed percent_taken
   percent-turn k =
-      cond-case (Turned i d p s (entry 8 a) es) (eqb a 0)
-      (λ z. cond-case (Turned i d p s (entry 8 a) es) (ltb s.percents 5)
+      let P : Option NumberWalk → Type 0 = Turned i d p s (entry 8 a) es in
+      cond-case P (eqb a 0)
+      (λ z. cond-case P (ltb s.percents 5)
       (λ e. few-percents z (ltb-true s.percents 5 e) k)
-      (λ e. let most = ltb-false s.percents 5 e in refuted 8 (λ w l. let q = k.percents in let m = w.percents in omega arith)))
-      (λ z. refuted 8 (λ w l. rw z at l.ranges))
+      (λ e w l. let most = ltb-false s.percents 5 e in let q = k.percents in let m = w.percents in omega arith))
+      (λ z w l. rw z at l.ranges)
 
-abbrev walk_with : Bool → Bool → ℕ → ℕ → ℕ → ℕ → NumberWalk
-walk_with fits point first next percents fills =
-    record { fits = fits; point = point; first = first; next = next; percents = percents; fills = fills }
+abbrev walk_with : Bool → ℕ → ℕ → ℕ → ℕ → NumberWalk
+walk_with point first next percents fills =
+    record { point = point; first = first; next = next; percents = percents; fills = fills }
 
 -- a place's range and power, as the rules ask for them
 place-asked : (a q : ℕ) (es : List Entry) → T (every entry_in_range (entry 4 a ∷ es)) → T (bare_powers q (entry 4 a ∷ es))
@@ -172,15 +173,15 @@ power-ends : (f : ℕ) (point : Bool) (a b n : ℕ) → suc b ≡ a
 power-ends f true a b n z = (λ e. tt, λ e. tt)
 power-ends f false a b n z = (λ e. omega arith, λ e. omega arith)
 
-module _ (i d p : ℕ) (es : List Entry) (fits : Bool) (percents fills : ℕ) where
+module _ (i d p : ℕ) (es : List Entry) (percents fills : ℕ) where
   abbrev walk : Bool → ℕ → ℕ → NumberWalk
-  walk point first next = walk_with fits point first next percents fills
+  walk point first next = walk_with point first next percents fills
 
-  abbrev Placed : Bool → ℕ → ℕ → ℕ → NumberWalk → Type 0
+  abbrev Placed : Bool → ℕ → ℕ → ℕ → Option NumberWalk → Type 0
   Placed point first next a r = Known i d p (walk point first next) (entry 4 a ∷ es) → Turned i d p (walk point first next) (entry 4 a) es r
 
   -- a place with the power expected; b is the power below
-  power-turn : (point : Bool) (first a b : ℕ) → suc b ≡ a → Placed point first a a (walk_with true point first b percents fills)
+  power-turn : (point : Bool) (first a b : ℕ) → suc b ≡ a → Placed point first a a (Some (walk point first b))
   unfolding computed
   power-turn point zero a b e k = absurd (omega (arith, k.places))
   power-turn point (suc f) a b e k =
@@ -188,8 +189,8 @@ module _ (i d p : ℕ) (es : List Entry) (fits : Bool) (percents fills : ℕ) wh
       let ends = power-ends f point a b (integer_places (items_at es)) e in
       let below : b - 1 ≡ a - 1 - 1 = omega arith in
       record {
-        goes = λ t. record { places = q.1; percents = k.percents; few = k.few; fill = k.fill };
-        back = λ t l. record {
+        goes = record { places = q.1; percents = k.percents; few = k.few; fill = k.fill };
+        back = λ l. record {
           items = l.items;
           ranges = place-ranged a es (omega arith) q.0 l.ranges;
           fill = l.fill;
@@ -198,17 +199,17 @@ module _ (i d p : ℕ) (es : List Entry) (fits : Bool) (percents fills : ℕ) wh
           ends = ends.1 l.ends;
         };
         out = λ w l. let h = place-asked a (a - 1) es l.ranges l.powers in
-            (tt, record { items = l.items; ranges = h.3; fill = l.fill; points = l.points; powers = rw below h.4; ends = ends.0 l.ends });
+            record { items = l.items; ranges = h.3; fill = l.fill; points = l.points; powers = rw below h.4; ends = ends.0 l.ends };
       }
 
   -- the first place
-  first-turn : (point : Bool) (next b : ℕ) → b ≤ 34 → Placed point zero next (suc b) (walk_with true false (suc b) b percents fills)
+  first-turn : (point : Bool) (next b : ℕ) → b ≤ 34 → Placed point zero next (suc b) (Some (walk false (suc b) b))
   unfolding computed
   first-turn point next b m k =
       let q = k.places in
       record {
-        goes = λ t. record { places = (omega arith, m, omega arith, q.3); percents = k.percents; few = k.few; fill = k.fill };
-        back = λ t l. let e = l.ends in
+        goes = record { places = (omega arith, m, omega arith, q.3); percents = k.percents; few = k.few; fill = k.fill };
+        back = λ l. let e = l.ends in
             let same : b - 1 ≡ 14 + suc (integer_places (items_at es)) - 1 = omega arith in
             record {
               items = l.items;
@@ -220,82 +221,79 @@ module _ (i d p : ℕ) (es : List Entry) (fits : Bool) (percents fills : ℕ) wh
             };
         out = λ w l. let h = place-asked (suc b) (14 + suc (integer_places (items_at es))) es l.ranges l.powers in
             let same : b - 1 ≡ 14 + suc (integer_places (items_at es)) - 1 = omega arith in
-            (tt, record { items = l.items; ranges = h.3; fill = l.fill; points = rw q.0 at l.points; powers = rw same h.4; ends = omega arith });
+            record { items = l.items; ranges = h.3; fill = l.fill; points = rw q.0 at l.points; powers = rw same h.4; ends = omega arith };
       }
 
   -- a place with another power
-  wrong-turn : (point : Bool) (f next a : ℕ) → (next ≡ a → ⊥) → Placed point (suc f) next a no_number
+  wrong-turn : (point : Bool) (f next a : ℕ) → (next ≡ a → ⊥) → Placed point (suc f) next a None
   unfolding computed
-  wrong-turn false f next a n k =
-      refuted i d p (walk false (suc f) next) a es 4 (λ w l. let h = place-asked a (next - 1) es l.ranges l.powers in let x = l.ends in n (omega arith))
-  wrong-turn true f next a n k =
-      refuted i d p (walk true (suc f) next) a es 4
-      (λ w l. let h = place-asked a (next - 1) es l.ranges l.powers in let q = k.places in let m = w.decimals in n (omega arith))
+  wrong-turn false f next a n k w l = let h = place-asked a (next - 1) es l.ranges l.powers in let x = l.ends in n (omega arith)
+  wrong-turn true f next a n k w l =
+      let h = place-asked a (next - 1) es l.ranges l.powers in let q = k.places in let m = w.decimals in n (omega arith)
 
   -- a place where none was expected
   open_turn : (point : Bool) (first next a : ℕ) → (a ≡ 0 → ⊥) → (next ≡ a → ⊥)
-      → Placed point first next a (cond (eqb first 0) (cond (leb a greatest_power) (walk_with true false a (a - 1) percents fills) no_number) no_number)
+      → Placed point first next a (cond (eqb first 0) (cond (leb a greatest_power) (Some (walk false a (a - 1))) None) None)
   open_turn point (suc f) next a z n k = rw (eqb-suc-zero f) (wrong-turn point f next a n k)
   open_turn point zero next zero z n k = absurd (z refl)
   open_turn point zero next (suc b) z n k =
       let below : suc b - 1 ≡ b = omega arith in
       cond-case (Turned i d p (walk point zero next) (entry 4 (suc b)) es) (leb (suc b) greatest_power)
       (λ e. rw below (first-turn point next b (omega (arith, leb-true (suc b) greatest_power e)) k))
-      (λ e. refuted i d p (walk point zero next) (suc b) es 4
-      (λ w l. let h = place-asked (suc b) _ es l.ranges l.powers in let m = leb-false (suc b) greatest_power e in omega arith))
+      (λ e w l. let h = place-asked (suc b) _ es l.ranges l.powers in let m = leb-false (suc b) greatest_power e in omega arith)
 
   place-turn : (point : Bool) (first next a : ℕ) → Placed point first next a (place_taken (walk point first next) a)
   unfolding place_taken
   place-turn point first next a k =
-      let P : NumberWalk → Type 0 = Turned i d p (walk point first next) (entry 4 a) es in
+      let P : Option NumberWalk → Type 0 = Turned i d p (walk point first next) (entry 4 a) es in
       cond-case P (eqb a 0)
-      (λ z. refuted i d p (walk point first next) a es 4 (λ w l. let h = place-asked a _ es l.ranges l.powers in let e = eqb-true a 0 z in omega arith))
+      (λ z w l. let h = place-asked a _ es l.ranges l.powers in let e = eqb-true a 0 z in omega arith)
       (λ z. let some = eqb-false a 0 z in
       cond-case P (eqb next a)
-      (λ e. subst (λ (m : ℕ). Placed point first m a (walk_with true point first (a - 1) percents fills)) (sym (eqb-true next a e)) (power-turn point first a (a - 1) (omega arith)) k)
+      (λ e. subst (λ (m : ℕ). Placed point first m a (Some (walk point first (a - 1)))) (sym (eqb-true next a e)) (power-turn point first a (a - 1) (omega arith)) k)
       (λ e. open_turn point first next a some (eqb-false next a e) k))
 
   -- the point
-  abbrev Pointed : Bool → ℕ → ℕ → ℕ → NumberWalk → Type 0
+  abbrev Pointed : Bool → ℕ → ℕ → ℕ → Option NumberWalk → Type 0
   Pointed point first next a r = Known i d p (walk point first next) (entry 7 a ∷ es) → Turned i d p (walk point first next) (entry 7 a) es r
 
   -- the first that is met
-  early-turn : (next a : ℕ) → eqb a 0 ≡ true → Pointed false zero next a (walk_with true true 15 15 percents fills)
+  early-turn : (next a : ℕ) → eqb a 0 ≡ true → Pointed false zero next a (Some (walk true 15 15))
   unfolding computed
   early-turn next a e k =
       let q = k.places in
       record {
-        goes = λ t. record { places = (omega arith, omega arith, omega arith, omega arith); percents = k.percents; few = k.few; fill = k.fill };
-        back = λ t l. record { items = l.items; ranges = rw e l.ranges; fill = l.fill; points = omega (arith, l.points); powers = l.powers; ends = tt };
-        out = λ w l. (tt, record { items = l.items; ranges = rw e at l.ranges; fill = l.fill; points = omega (arith, l.points); powers = l.powers; ends = tt });
+        goes = record { places = (omega arith, omega arith, omega arith, omega arith); percents = k.percents; few = k.few; fill = k.fill };
+        back = λ l. record { items = l.items; ranges = rw e l.ranges; fill = l.fill; points = omega (arith, l.points); powers = l.powers; ends = tt };
+        out = λ w l. record { items = l.items; ranges = rw e at l.ranges; fill = l.fill; points = omega (arith, l.points); powers = l.powers; ends = tt };
       }
 
   -- behind the place of power 0
-  late-turn : (f a : ℕ) → eqb a 0 ≡ true → Pointed false (suc f) 15 a (walk_with true true (suc f) 15 percents fills)
+  late-turn : (f a : ℕ) → eqb a 0 ≡ true → Pointed false (suc f) 15 a (Some (walk true (suc f) 15))
   unfolding computed
   late-turn f a e k =
       let q = k.places in
       record {
-        goes = λ t. record { places = (omega arith, omega arith, omega arith, omega arith); percents = k.percents; few = k.few; fill = k.fill };
-        back = λ t l. record { items = l.items; ranges = rw e l.ranges; fill = l.fill; points = omega (arith, l.points); powers = l.powers; ends = omega arith };
-        out = λ w l. (tt, record { items = l.items; ranges = rw e at l.ranges; fill = l.fill; points = omega (arith, l.points); powers = l.powers; ends = tt });
+        goes = record { places = (omega arith, omega arith, omega arith, omega arith); percents = k.percents; few = k.few; fill = k.fill };
+        back = λ l. record { items = l.items; ranges = rw e l.ranges; fill = l.fill; points = omega (arith, l.points); powers = l.powers; ends = omega arith };
+        out = λ w l. record { items = l.items; ranges = rw e at l.ranges; fill = l.fill; points = omega (arith, l.points); powers = l.powers; ends = tt };
       }
 
   point-turn : (point : Bool) (first next a : ℕ) → Pointed point first next a (point_taken (walk point first next) a)
   unfolding computed point_taken
-  point-turn true first next a k = refuted i d p (walk true first next) a es 7 (λ w l. let e = l.points in omega arith)
+  point-turn true first next a k = λ w l. let e = l.points in omega arith
   point-turn false zero next a k =
       cond-case (Turned i d p (walk false zero next) (entry 7 a) es) (not (eqb a 0))
-      (λ e. refuted i d p (walk false zero next) a es 7 (λ w l. rw (not-true (eqb a 0) e) at l.ranges))
+      (λ e w l. rw (not-true (eqb a 0) e) at l.ranges)
       (λ e. early-turn next a (not-false (eqb a 0) e) k)
   point-turn false (suc f) next a k =
-      let P : NumberWalk → Type 0 = Turned i d p (walk false (suc f) next) (entry 7 a) es in
+      let P : Option NumberWalk → Type 0 = Turned i d p (walk false (suc f) next) (entry 7 a) es in
       rw (eqb-suc-zero f)
       (cond-case P (not (eqb a 0))
-      (λ e. refuted i d p (walk false (suc f) next) a es 7 (λ w l. rw (not-true (eqb a 0) e) at l.ranges))
+      (λ e w l. rw (not-true (eqb a 0) e) at l.ranges)
       (λ e. cond-case P (eqb next 15)
-      (λ g. subst (λ (m : ℕ). Pointed false (suc f) m a (walk_with true true (suc f) 15 percents fills)) (sym (eqb-true next 15 g)) (late-turn f a (not-false (eqb a 0) e)) k)
-      (λ g. refuted i d p (walk false (suc f) next) a es 7 (λ w l. let h = l.ends in eqb-false next 15 g (omega arith)))))
+      (λ g. subst (λ (m : ℕ). Pointed false (suc f) m a (Some (walk true (suc f) m))) (sym (eqb-true next 15 g)) (late-turn f a (not-false (eqb a 0) e)) k)
+      (λ g w l. let h = l.ends in eqb-false next 15 g (omega arith))))
 
 -- an item of another kind
 foreign-tag : (t a : ℕ) → item_allowed number_kind (item_at (entry t a)) ≡ between 1 8 t
@@ -313,38 +311,43 @@ no-figure t e n₁ n₂ n₃ n₇ n₈ =
     (λ b. b)
 
 module _ (i d p : ℕ) (s : NumberWalk) (a : ℕ) (es : List Entry) where
-  foreign-turn : (t : ℕ) → between 1 8 t ≡ false → Turned i d p s (entry t a) es no_number
+  foreign-turn : (t : ℕ) → between 1 8 t ≡ false → Turned i d p s (entry t a) es None
   unfolding every items_at
-  foreign-turn t e = refuted i d p s a es t (λ w l. rw (foreign-tag t a ∙ e) at l.items)
+  foreign-turn t e w l = rw (foreign-tag t a ∙ e) at l.items
 
   -- the three places differ in nothing that is asked
   abbrev Alike : ℕ → Type 0
-  Alike t = (Known i d p s (entry t a ∷ es) → Known i d p s (entry 4 a ∷ es)) × ((r : NumberWalk) → Turned i d p s (entry 4 a) es r → Turned i d p s (entry t a) es r)
+  Alike t = (Known i d p s (entry t a ∷ es) → Known i d p s (entry 4 a ∷ es)) × ((r : Option NumberWalk) → Turned i d p s (entry 4 a) es r → Turned i d p s (entry t a) es r)
+
+  alike : (t : ℕ) → (Known i d p s (entry t a ∷ es) → Known i d p s (entry 4 a ∷ es))
+      → (Left s (entry 4 a ∷ es) → Left s (entry t a ∷ es)) → (Left s (entry t a ∷ es) → Left s (entry 4 a ∷ es)) → Alike t
+  alike t known back out = (known, by)
+    where
+      by : (r : Option NumberWalk) → Turned i d p s (entry 4 a) es r → Turned i d p s (entry t a) es r
+      by None f = λ w l. f w (out l)
+      by (Some r) t = record { goes = t.goes; back = λ l. back (t.back l); out = λ w l. t.out w (out l) }
 
   places-alike : (t : ℕ) → between 4 6 t ≡ true → Alike t
   unfolding computed
   places-alike t h =
       let f = between-facts 4 6 t (true-T h) in
       span-at Alike 4 3 t (
-        (λ k. k, λ r t. t),
-        (
-          (λ k. k, λ r t. record { goes = t.goes; back = t.back; out = t.out }),
-          ((λ k. k, λ r t. record { goes = t.goes; back = t.back; out = t.out }), tt),
-        ),
+        alike 4 (λ k. k) (λ l. l) (λ l. l),
+        (alike 5 (λ k. k) (λ l. l) (λ l. l), (alike 6 (λ k. k) (λ l. l) (λ l. l), tt)),
       ) f.0 (omega arith)
 
   number-turn : (t : ℕ) → a < 65536 → Known i d p s (entry t a ∷ es) → Turned i d p s (entry t a) es (number_after s t a)
   unfolding number_after
   number-turn t h k =
-      let P : NumberWalk → Type 0 = Turned i d p s (entry t a) es in
-      let at : (n : ℕ) (r : NumberWalk) → eqb t n ≡ true → (Known i d p s (entry n a ∷ es) → Turned i d p s (entry n a) es r) → P r =
+      let P : Option NumberWalk → Type 0 = Turned i d p s (entry t a) es in
+      let at : (n : ℕ) (r : Option NumberWalk) → eqb t n ≡ true → (Known i d p s (entry n a ∷ es) → Turned i d p s (entry n a) es r) → P r =
       λ n r e f. subst (λ (m : ℕ). Known i d p s (entry m a ∷ es) → Turned i d p s (entry m a) es r) (sym (eqb-true t n e)) f k in
       cond-case P (between 4 6 t)
-      (λ e. let alike = places-alike t e in alike.1 _ (place-turn i d p es s.fits s.percents s.fills s.point s.first s.next a (alike.0 k)))
-      (λ e₄. cond-case P (eqb t 1) (λ e. at 1 _ e (literal-turn i d p s a es h))
-      (λ e₁. cond-case P (eqb t 2) (λ e. at 2 _ e (blank_turn i d p s a es h))
+      (λ e. let alike = places-alike t e in alike.1 _ (place-turn i d p es s.percents s.fills s.point s.first s.next a (alike.0 k)))
+      (λ e₄. cond-case P (eqb t 1) (λ e. at 1 (Some s) e (literal-turn i d p s a es h))
+      (λ e₁. cond-case P (eqb t 2) (λ e. at 2 (Some s) e (blank_turn i d p s a es h))
       (λ e₂. cond-case P (eqb t 3) (λ e. at 3 _ e (fill-turn i d p s a es h))
-      (λ e₃. cond-case P (eqb t 7) (λ e. at 7 _ e (point-turn i d p es s.fits s.percents s.fills s.point s.first s.next a))
+      (λ e₃. cond-case P (eqb t 7) (λ e. at 7 _ e (point-turn i d p es s.percents s.fills s.point s.first s.next a))
       (λ e₇. cond-case P (eqb t 8) (λ e. at 8 _ e (percent-turn i d p s a es))
       (λ e₈. foreign-turn t (no-figure t e₄ (eqb-false t 1 e₁) (eqb-false t 2 e₂) (eqb-false t 3 e₃) (eqb-false t 7 e₇) (eqb-false t 8 e₈))))))))
 
@@ -357,7 +360,7 @@ module _ (es : List Entry) where
   Limits = Within (integer_places is) (decimal_places is) (count is_percent is)
 
   abbrev begun : NumberWalk
-  begun = counted_at no_number 0 0
+  begun = walk_with false 0 0 0 0
 
   number-known : Known (integer_places is) (decimal_places is) (count is_percent is) begun es
   number-known = record { places = (refl, refl, refl, refl); percents = omega arith; few = omega arith; fill = omega arith }
@@ -394,14 +397,8 @@ module _ (es : List Entry) where
       }) in
       search (and_in, le→leb) depth 6
 
-  refused-told : (T (number_items es) → ⊥) → NumberTold es no_row
-  refused-told f =
-      record {
-        fits = by_cases (number_items es) (λ e. absurd (f (true-T e))) (λ e. sym e);
-        integers = λ e. no e;
-        decimals = λ e. no e;
-        percents = λ e. no e;
-      }
+  refused-told : (T (number_items es) → ⊥) → NumberTold es None
+  refused-told f = by_cases (number_items es) (λ e. absurd (f (true-T e))) (λ e. e)
 
 -- ---- the end, where no place is left
 record Ended (first next i d : ℕ) : Type 0 where
@@ -434,75 +431,58 @@ open-end zero point next i d q n e h = n (sym q.1)
 open-end (suc f) true next i d q n e h = no e
 open-end (suc f) false next i d q n e h = eqb-false next 15 (not-true (eqb next 15) e) (omega arith)
 
--- ---- the loop, before the k-th of n items
-pub record Counting (words : List ℕ) (n k : ℕ) (s : NumberWalk) : Type 0 where
-  pub items : n ≡ length words / 2
-  pub inside : k ≤ n
-  pub known : Known (integer_places (items_at (entries_in words))) (decimal_places (items_at (entries_in words))) (count is_percent (items_at (entries_in words))) s (entries_left words n k)
-  pub out : T (number_items (entries_in words)) → Limits (entries_in words) × Left s (entries_left words n k)
-  pub back : Limits (entries_in words) → Left s (entries_left words n k) → T (number_items (entries_in words))
+-- ---- the loop, with these words left
+pub record Counting (words left : List ℕ) (s : NumberWalk) : Type 0 where
+  pub known : Known (integer_places (items_at (entries_in words))) (decimal_places (items_at (entries_in words))) (count is_percent (items_at (entries_in words))) s (entries_in left)
+  pub out : T (number_items (entries_in words)) → Limits (entries_in words) × Left s (entries_in left)
+  pub back : Limits (entries_in words) → Left s (entries_in left) → T (number_items (entries_in words))
 
-pub counting-start : (words : List ℕ) (n : ℕ) (s : NumberWalk) → n ≡ length words / 2 → s ≡ begun (entries_in words) → Counting words n 0 s
-counting-start words n s e b =
-    let whole : entries_left words n 0 ≡ entries_in words = unfold entries_in in rw (sub-zero n, e) in
-    rw b (record {
-      items = e;
-      inside = omega arith;
-      known = rw whole (number-known (entries_in words));
-      out = rw whole (number-out (entries_in words));
-      back = rw whole (number-back (entries_in words));
-    })
+pub counting-start : (words : List ℕ) → Counting words words (begun (entries_in words))
+counting-start words =
+    record { known = number-known (entries_in words); out = number-out (entries_in words); back = number-back (entries_in words) }
 
-module _ (words : List ℕ) (n k : ℕ) (s : NumberWalk) (inv : Counting words n k s) where
+module _ {words left : List ℕ} {s : NumberWalk} (inv : Counting words left s) where
   abbrev whole : List Entry
   whole = entries_in words
 
   abbrev all : List Item
   all = items_at (entries_in words)
 
-  abbrev TurnedBy : NumberWalk → Type 0
-  TurnedBy r =
-      Turned (integer_places all) (decimal_places all) (count is_percent all) s (entry (get_or words (2 * k) 0) (get_or words (2 * k + 1) 0)) (entries_left words n (k + 1)) r
+  module _ (pair rest : List ℕ) (front : left ≡ pair ++ rest) (two : length pair ≡ 2) (small : get_or pair 1 0 < 65536) where
+    abbrev here : Entry
+    here = entry (get_or pair 0 0) (get_or pair 1 0)
 
-  turned : (r : NumberWalk) → k < n → get_or words (2 * k + 1) 0 < 65536 → r ≡ number_after s (get_or words (2 * k) 0) (get_or words (2 * k + 1) 0) → TurnedBy r
-  turned r h m e =
-      rw e (number-turn _ _ _ s (get_or words (2 * k + 1) 0) (entries_left words n (k + 1)) (get_or words (2 * k) 0) m
-      (rw (entries-front words n k h) at inv.known))
+    first : entries_in left ≡ here ∷ entries_in rest
+    first = ap entries_in front ∙ entries-pair pair rest two
 
-  pub counting-step : (r : NumberWalk) → k < n → get_or words (2 * k + 1) 0 < 65536 → r ≡ number_after s (get_or words (2 * k) 0) (get_or words (2 * k + 1) 0)
-      → r.fits ≡ true → Counting words n (k + 1) r
-  counting-step r h m e f =
-      let t = turned r h m e in
-      let front = entries-front words n k h in
-      record {
-        items = inv.items;
-        inside = omega arith;
-        known = t.goes (true-T f);
-        out = λ b. let o = inv.out b in (o.0, (t.out o.0 (rw front at o.1)).1);
-        back = λ w l. inv.back w (rw front (t.back (true-T f) l));
-      }
+    turned : (r : Option NumberWalk) → number_after s (get_or pair 0 0) (get_or pair 1 0) ≡ r
+        → Turned (integer_places all) (decimal_places all) (count is_percent all) s here (entries_in rest) r
+    turned r e = rw (← e) (number-turn _ _ _ s (get_or pair 1 0) (entries_in rest) (get_or pair 0 0) small (rw first at inv.known))
 
-  pub counting-fault : (r : NumberWalk) → k < n → get_or words (2 * k + 1) 0 < 65536 → r ≡ number_after s (get_or words (2 * k) 0) (get_or words (2 * k + 1) 0)
-      → r.fits ≡ false → NumberTold whole no_row
-  counting-fault r h m e f =
-      refused-told whole
-      (λ b. let o = inv.out b in
-      let fits = ((turned r h m e).out o.0 (rw (entries-front words n k h) at o.1)).0 in
-      rw f at fits)
+    pub counting-step : {r : NumberWalk} → number_after s (get_or pair 0 0) (get_or pair 1 0) ≡ Some r → Counting words rest r
+    counting-step {r} e =
+        let t = turned (Some r) e in
+        record {
+          known = t.goes;
+          out = λ b. let o = inv.out b in (o.0, t.out o.0 (rw first at o.1));
+          back = λ w l. inv.back w (rw first (t.back l));
+        }
 
-  module _ (h : n ≤ k) where
-    none : entries_left words n k ≡ []
-    unfolding entries_at
-    none = let z : n - k ≡ 0 = omega (arith, h) in rw z
+    pub counting-fault : number_after s (get_or pair 0 0) (get_or pair 1 0) ≡ None → NumberTold whole None
+    counting-fault e = refused-told whole (λ b. let o = inv.out b in turned None e o.0 (rw first at o.1))
+
+  module _ (h : length left < 2) where
+    none : entries_in left ≡ []
+    none = entries-none left h
 
     places : Places s.first s.point s.next (integer_places all) (decimal_places all) 0 0 0
     unfolding items_at before_cut integer_places decimal_places count
     places = rw none at inv.known.places
 
-    pub counting-none : s.first ≡ s.next → NumberTold whole no_row
+    pub counting-none : s.first ≡ s.next → NumberTold whole None
     counting-none e = refused-told whole (λ b. no_place_lem s.first s.point s.next _ _ places e (inv.out b).0.some)
 
-    pub counting-open : (s.first ≡ s.next → ⊥) → open_end s.point s.next ≡ true → NumberTold whole no_row
+    pub counting-open : (s.first ≡ s.next → ⊥) → open_end s.point s.next ≡ true → NumberTold whole None
     unfolding items_at integer_places
     counting-open f e =
         refused-told whole (λ b. open-end s.first s.point s.next _ _ places f e (rw none at (inv.out b).1.ends))
@@ -524,12 +504,7 @@ module _ (words : List ℕ) (n k : ℕ) (s : NumberWalk) (inv : Counting words n
         (rw none (record { items = tt; ranges = tt; fill = omega (arith, k.fill); points = omega arith; powers = tt; ends = t.1 }))
 
     pub counting-told : (s.first ≡ s.next → ⊥) → open_end s.point s.next ≡ false
-        → NumberTold whole (record { fits = true; integers = s.first - 15; decimals = 15 - s.next; percents = s.percents })
+        → NumberTold whole (Some (record { integers = s.first - 15; decimals = 15 - s.next; percents = s.percents }))
     counting-told f e =
         let t = (ended s.first s.point s.next _ _ places f e).0 in
-        record {
-          fits = sym (T_true (number_items whole) (all-taken f e));
-          integers = λ b. t.integers;
-          decimals = λ b. t.decimals;
-          percents = λ b. percents-are;
-        }
+        record { fits = T_true (number_items whole) (all-taken f e); integers = t.integers; decimals = t.decimals; percents = percents-are }

@@ -1,4 +1,5 @@
 pub mod Places
+pub mod Pairs
 pub mod Packed
 pub mod Fold
 pub mod Steps

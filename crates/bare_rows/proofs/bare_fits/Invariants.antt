@@ -1,11 +1,9 @@
 -- `bare_rows::bare_fits` meets its contract. The invariant, `Baring`: what was met, and the entries that are left.
 -- Assumes nothing.
-use Prim.Native.Nat.{◌-◌}
+use mathlib.Core.Path.{◌≡◌}
+use Rattle.std.specs.Slice.Iter.{chunks_exact_rest, chunks_exact_size}
 use Rattle.bare_rows.proofs.BareRows.{Baring}
 use Rattle.bare_rows.proofs.bare_fits.Given as goal
 
-abbrev pub invariant-loop-k : goal.invariant-loop-k
-invariant-loop-k l = Baring l.words l.own l.n l.fills l.owns l.k
-
-abbrev pub decreases-loop-k : goal.decreases-loop-k
-decreases-loop-k l = l.n - l.k
+abbrev pub invariant-loop-pair : goal.invariant-loop-pair
+invariant-loop-pair l = (chunks_exact_size l.pair-iterator ≡ 2) × Baring l.words l.own l.fills l.owns (chunks_exact_rest l.pair-iterator)

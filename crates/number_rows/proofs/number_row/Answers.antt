@@ -1,34 +1,43 @@
 -- `number_rows::number_row` meets its contract. The invariant, `Counting`: what is left to be asked of the entries that are left.
 -- Assumes nothing.
-use Prim.Native.Nat.{◌+◌, ◌*◌}
+use Prim.Native.Nat.{◌<◌}
 use native.Mathlib.Omega.{arith}
-use mathlib.Core.Path.{refl}
-use borrow.Author.Tests.{not-true, not-false}
+use mathlib.Core.Path.{sym, ◌∙◌}
+use lib.ListN.{get_or}
 use Rattle.number_rows.proofs.NumberRows.{counting-start, counting-step, counting-fault, counting-none, counting-open, counting-told}
 use borrow.Author.Rules.{rules}
 use Rattle.number_rows.proofs.number_row.Goals as goal
 
-pub loop-k-init : goal.loop-k-init
-loop-k-init c = counting-start _ _ _ refl c.start-s.ensures
+pub loop-pair-init : goal.loop-pair-init
+loop-pair-init c =
+    let made = c.chunks_exact-pair-items.ensures in
+    rw (c.into_iter-pair-iterator.ensures.into_iter_gives, made.rest) (made.size, counting-start _)
 
-pub returns-then-not-s : goal.returns-then-not-s
-returns-then-not-s c =
-    let word = c.type_inv.words (2 * c.loop-k.k + 1) in
-    rw c.no_row.ensures (counting-fault _ _ _ _ c.loop-k.invariant _ (search rules) (omega (arith, word)) c.step-s.ensures (not-true _ c.if-not-s.true))
+pub returns-in_err-s : goal.returns-in_err-s
+returns-in_err-s c =
+    let turn = c.in-Some.ensures.steps in
+    let i = c.loop-pair.invariant in
+    let small : get_or c.in-Some.pair.now 1 0 < 65536 = search rules in
+    rw c.from_residual.ensures (counting-fault i.1 _ _ turn.1.0 (turn.1.1 ∙ i.0) small (sym c.in_err-s.ensures))
 
-pub loop-k-preserved : goal.loop-k-preserved
-loop-k-preserved c =
-    let word = c.type_inv.words (2 * c.loop-k.k + 1) in
-    counting-step _ _ _ _ c.loop-k.invariant _ (search rules) (omega (arith, word)) c.step-s.ensures (not-false _ c.if-not-s.false)
+pub loop-pair-preserved : goal.loop-pair-preserved
+loop-pair-preserved c =
+    let turn = c.in-Some.ensures.steps in
+    let i = c.loop-pair.invariant in
+    let small : get_or c.in-Some.pair.now 1 0 < 65536 = search rules in
+    (turn.0 ∙ i.0, counting-step i.1 _ _ turn.1.0 (turn.1.1 ∙ i.0) small (sym c.in_ok-s.ensures))
 
 pub returns-then-s : goal.returns-then-s
 returns-then-s c =
-    rw c.no_row-then-s.ensures (counting-none _ _ _ _ c.loop-k.invariant (search rules) c.if-s.true)
+    let i = c.loop-pair.invariant in
+    counting-none i.1 (omega (arith, i.0, c.in-None.ensures.steps.1.0)) c.if-s.true
 
 pub returns-then-s-2 : goal.returns-then-s-2
 returns-then-s-2 c =
-    rw c.no_row-then-s-2.ensures (counting-open _ _ _ _ c.loop-k.invariant (search rules) c.if-s.false c.if-s-2.true)
+    let i = c.loop-pair.invariant in
+    counting-open i.1 (omega (arith, i.0, c.in-None.ensures.steps.1.0)) c.if-s.false c.if-s-2.true
 
 pub returns : goal.returns
 returns c =
-    counting-told _ _ _ _ c.loop-k.invariant (search rules) c.if-s.false c.if-s-2.false
+    let i = c.loop-pair.invariant in
+    counting-told i.1 (omega (arith, i.0, c.in-None.ensures.steps.1.0)) c.if-s.false c.if-s-2.false

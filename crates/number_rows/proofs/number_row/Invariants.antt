@@ -1,11 +1,9 @@
 -- `number_rows::number_row` meets its contract. The invariant, `Counting`: what is left to be asked of the entries that are left.
 -- Assumes nothing.
-use Prim.Native.Nat.{◌-◌}
+use mathlib.Core.Path.{◌≡◌}
+use Rattle.std.specs.Slice.Iter.{chunks_exact_rest, chunks_exact_size}
 use Rattle.number_rows.proofs.NumberRows.{Counting}
 use Rattle.number_rows.proofs.number_row.Given as goal
 
-abbrev pub invariant-loop-k : goal.invariant-loop-k
-invariant-loop-k l = Counting l.words l.n l.k l.s
-
-abbrev pub decreases-loop-k : goal.decreases-loop-k
-decreases-loop-k l = l.n - l.k
+abbrev pub invariant-loop-pair : goal.invariant-loop-pair
+invariant-loop-pair l = (chunks_exact_size l.pair-iterator ≡ 2) × Counting l.words (chunks_exact_rest l.pair-iterator) l.s
