@@ -1,44 +1,34 @@
-// What an item leaves for the next one by the rule for m: the nearest earlier run, and whether the item just before is seconds.
-ghost use Rattle.std.specs.Prelude.{◌≡◌, cond};
-ghost use Rattle.date_rows.specs.Runs.{answered};
+// What an item leaves for the next one by the rule for m.
+ghost use Rattle.std.specs.Prelude.{◌≡◌, ◌||◌};
+ghost use Rattle.date_rows.specs.Runs.{is_nothing, minutes_wait, answered};
 
-// The nearest earlier run: none, hours, seconds or another. An m of 1 or 2 that nothing before it makes minutes waits for the next
-// run: said to be a month, it is wrong before seconds; said to be minutes, it is right before them alone.
-pub const NO_RUN: u64 = 0;
+// The nearest earlier run. An m of 1 or 2 that nothing before it makes minutes waits for the next run: said to be a month, it is
+// wrong before seconds; said to be minutes, it is right before them alone.
+#[derive(Clone, Copy, PartialEq)]
+pub enum Earlier {
+    Nothing,
+    Hours,
+    Seconds,
+    Other,
+    MonthWaits,
+    MinutesWait,
+}
 
-pub const HOUR_RUN: u64 = 1;
-
-pub const SECOND_RUN: u64 = 2;
-
-pub const OTHER_RUN: u64 = 3;
-
-pub const MONTH_WAITS: u64 = 4;
-
-pub const MINUTES_WAIT: u64 = 5;
-
-// Whether the item just before is seconds.
-pub const OTHER_BEFORE: u64 = 0;
-
-pub const SECONDS_BEFORE: u64 = 1;
-
-// Whether a run is right behind the nearest earlier one: an m that waits is what it is said to be.
-pub fn answers(earlier: u64, run: u64) -> bool
-    ensures { result ≡ answered earlier run }
-{
-    if run == SECOND_RUN {
-        return earlier != MONTH_WAITS;
+impl Earlier {
+    // Whether a run is right behind this one: an m that waits is what it is said to be.
+    pub fn answers(self, run: Earlier) -> bool
+        ensures { result ≡ answered self run }
+    {
+        if run == Earlier::Seconds {
+            return self != Earlier::MonthWaits;
+        }
+        self != Earlier::MinutesWait
     }
-    earlier != MINUTES_WAIT
-}
 
-pub fn month_run(short: bool) -> u64
-    ensures { result ≡ cond short 4 3 }
-{
-    if short { MONTH_WAITS } else { OTHER_RUN }
-}
-
-pub fn minutes_run(hours: bool) -> u64
-    ensures { result ≡ cond hours 3 5 }
-{
-    if hours { OTHER_RUN } else { MINUTES_WAIT }
+    // Whether the items may not end with it: no run was met, or minutes wait for one.
+    pub fn is_open(self) -> bool
+        ensures { result ≡ (is_nothing self || minutes_wait self) }
+    {
+        matches!(self, Earlier::Nothing | Earlier::MinutesWait)
+    }
 }

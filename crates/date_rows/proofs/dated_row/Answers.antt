@@ -1,26 +1,38 @@
 -- `date_rows::dated_row` meets its contract. The invariant, `Dating`: what is left to be asked of the entries that are left.
 -- Assumes nothing.
-use mathlib.Core.Path.{refl}
-use borrow.Author.Tests.{not-true, not-false}
-use Rattle.date_rows.proofs.DateRows.{dating-start, dating-step, dating-fault, dating-open, dating-told}
-use borrow.Author.Rules.{rules}
+use native.Mathlib.Omega.{arith}
+use mathlib.Core.Path.{sym, ◌∙◌}
+use Rattle.date_rows.proofs.DateRows.{dating-start, dating-step, dating-fault, dating-open, dating-beside, dating-told}
 use Rattle.date_rows.proofs.dated_row.Goals as goal
 
-pub loop-k-init : goal.loop-k-init
-loop-k-init c = dating-start _ _ _ refl c.start-s.ensures
+pub loop-pair-init : goal.loop-pair-init
+loop-pair-init c =
+    let made = c.chunks_exact-pair-items.ensures in
+    rw (c.into_iter-pair-iterator.ensures.into_iter_gives, made.rest) (made.size, dating-start _)
 
-pub returns-then-not-s : goal.returns-then-not-s
-returns-then-not-s c =
-    rw c.no_row.ensures (dating-fault _ _ _ _ c.loop-k.invariant _ (search rules) c.step-s.ensures (not-true _ c.if-not-s.true))
+pub returns-in_err-s : goal.returns-in_err-s
+returns-in_err-s c =
+    let turn = c.in-Some.ensures.steps in
+    let i = c.loop-pair.invariant in
+    rw c.from_residual.ensures (dating-fault i.1 _ _ turn.1.0 (turn.1.1 ∙ i.0) (sym c.in_err-s.ensures))
 
-pub loop-k-preserved : goal.loop-k-preserved
-loop-k-preserved c =
-    dating-step _ _ _ _ c.loop-k.invariant _ (search rules) c.step-s.ensures (not-false _ c.if-not-s.false)
+pub loop-pair-preserved : goal.loop-pair-preserved
+loop-pair-preserved c =
+    let turn = c.in-Some.ensures.steps in
+    let i = c.loop-pair.invariant in
+    (turn.0 ∙ i.0, dating-step i.1 _ _ turn.1.0 (turn.1.1 ∙ i.0) (sym c.in_ok-s.ensures))
 
-pub returns-then-s : goal.returns-then-s
-returns-then-s c =
-    rw c.no_row-then-s.ensures (dating-open _ _ _ _ c.loop-k.invariant (search rules) c.if-s.true)
+pub returns-then-is_open : goal.returns-then-is_open
+returns-then-is_open c =
+    let i = c.loop-pair.invariant in
+    dating-open i.1 (omega (arith, i.0, c.in-None.ensures.steps.1.0)) (sym c.is_open.ensures ∙ c.if-is_open.true)
+
+pub returns-then-has_plain : goal.returns-then-has_plain
+returns-then-has_plain c =
+    let i = c.loop-pair.invariant in
+    dating-beside i.1 (omega (arith, i.0, c.in-None.ensures.steps.1.0)) (sym c.is_open.ensures ∙ c.if-is_open.false) (sym c.has_plain.ensures ∙ c.if-has_plain.true)
 
 pub returns : goal.returns
 returns c =
-    dating-told _ _ _ _ c.loop-k.invariant (search rules) c.if-s.false _ c.has_plain.ensures
+    let i = c.loop-pair.invariant in
+    dating-told i.1 (omega (arith, i.0, c.in-None.ensures.steps.1.0)) (sym c.is_open.ensures ∙ c.if-is_open.false) (sym c.has_plain.ensures ∙ c.if-has_plain.false)
