@@ -4,8 +4,7 @@ use Prim.Native.Nat.{ℕ, zero, suc, ◌+◌, ◌≤◌, ◌<◌}
 use native.Mathlib.Omega.{arith}
 use mathlib.Core.Path.{◌≡◌, refl, sym, ◌∙◌, ap}
 use mathlib.Core.Bool.{Bool, true, false, cond, ◌&&◌, and-false}
-use mathlib.Core.List.{List, [], ◌∷◌, ◌++◌}
-use lib.ListN.{length, get_or, length-append}
+use mathlib.Core.List.{List, [], ◌∷◌}
 use lib.Dec.{T, leb, ltb, eqb, leb→le, le→leb, ltb→lt, eqb→eq}
 use Rattle.std.specs.Int.{from_bool}
 use borrow.Author.Tests.{eq-eqb, ne_eqb, lt-ltb, lt-leb, leb-true, leb-false, eqb-true, eqb-false}
@@ -25,7 +24,6 @@ use Rattle.scans.specs.Scans.{tagged}
 use Rattle.bare_rows.specs.BareRows.{own_tag, bare_entry, owns_fit}
 use Rattle.scans.proofs.Scanned.{tag_is, count-tagged}
 use Rattle.tallies.proofs.Held.{is_made, holds, holds-back}
-use Rattle.tallies.proofs.Pairs.{entries-pair, entries-none}
 
 abbrev pub bare_test : ℕ → List Entry → Bool
 bare_test kind es =
@@ -144,14 +142,14 @@ module _ (es : List Entry) where
       none-such : (kind : ℕ) → (kind ≡ 0 → ⊥) → (kind ≡ 1 → ⊥) → (kind ≡ 3 → ⊥) → (kind ≡ 2 → ⊥) → (kind ≡ 4 → ⊥) → (kind ≡ 5 → ⊥) → (kind ≡ 6 → ⊥) → 6 < kind
       none-such kind n₀ n₁ n₃ n₂ n₄ n₅ n₆ = let late = five kind n₀ n₁ n₃ n₂ n₄ n₅ in six kind late n₆
 
--- ---- the loop, with these words left: how many fills were met, and how many of the section's own items
-pub record Baring (words : List ℕ) (own fills owns : ℕ) (left : List ℕ) : Type 0 where
-  pub few : (fills + length left ≤ length words) × (owns + length left ≤ length words)
-  pub same : every (bare_entry own) (entries_in words) ≡ every (bare_entry own) (entries_in left)
-  pub fill : count (tagged 3) (entries_in words) ≡ fills + count (tagged 3) (entries_in left)
-  pub owned : count (tagged own) (entries_in words) ≡ owns + count (tagged own) (entries_in left)
+-- ---- the loop, behind k items with these entries left: how many fills were met, and how many of the section's own items
+pub record Baring (words : List ℕ) (own fills owns k : ℕ) (left : List Entry) : Type 0 where
+  pub few : (fills ≤ k) × (owns ≤ k)
+  pub same : every (bare_entry own) (entries_in words) ≡ every (bare_entry own) left
+  pub fill : count (tagged 3) (entries_in words) ≡ fills + count (tagged 3) left
+  pub owned : count (tagged own) (entries_in words) ≡ owns + count (tagged own) left
 
-pub baring-start : (words : List ℕ) (own : ℕ) → Baring words own 0 0 words
+pub baring-start : (words : List ℕ) (own : ℕ) → Baring words own 0 0 0 (entries_in words)
 baring-start words own = record { few = (omega arith, omega arith); same = refl; fill = omega arith; owned = omega arith }
 
 count-front : (p : Entry → Bool) (e : Entry) (es : List Entry) → count p (e ∷ es) ≡ from_bool (p e) + count p es
@@ -162,25 +160,18 @@ bool-most : (b : Bool) → from_bool b ≤ 1
 bool-most true = omega arith
 bool-most false = omega arith
 
-module _ {words : List ℕ} {own fills owns : ℕ} {left : List ℕ} (inv : Baring words own fills owns left) where
-  module _ (pair rest : List ℕ) (front : left ≡ pair ++ rest) (two : length pair ≡ 2) where
-    abbrev here : Entry
-    here = entry (get_or pair 0 0) (get_or pair 1 0)
-
-    first : entries_in left ≡ here ∷ entries_in rest
-    first = ap entries_in front ∙ entries-pair pair rest two
-
-    every_front : every (bare_entry own) (entries_in words) ≡ cond (bare_entry own here) (every (bare_entry own) (entries_in rest)) false
+module _ {words : List ℕ} {own fills owns k : ℕ} {left : List Entry} (inv : Baring words own fills owns k left) where
+  module _ (here : Entry) (rest : List Entry) (front : left ≡ here ∷ rest) where
+    every_front : every (bare_entry own) (entries_in words) ≡ cond (bare_entry own here) (every (bare_entry own) rest) false
     unfolding every
-    every_front = inv.same ∙ ap (every (bare_entry own)) first
+    every_front = inv.same ∙ ap (every (bare_entry own)) front
 
-    counted : (t : ℕ) → count (tagged t) (entries_in left) ≡ from_bool (tagged t here) + count (tagged t) (entries_in rest)
-    counted t = ap (count (tagged t)) first ∙ count-front (tagged t) here (entries_in rest)
+    counted : (t : ℕ) → count (tagged t) left ≡ from_bool (tagged t here) + count (tagged t) rest
+    counted t = ap (count (tagged t)) front ∙ count-front (tagged t) here rest
 
-    pub baring-step : bare_entry own here ≡ true → Baring words own (fills + from_bool (tagged 3 here)) (owns + from_bool (tagged own here)) rest
+    pub baring-step : bare_entry own here ≡ true → Baring words own (fills + from_bool (tagged 3 here)) (owns + from_bool (tagged own here)) (k + 1) rest
     baring-step b =
         let f = inv.few in
-        let l : length left ≡ 2 + length rest = ap length front ∙ length-append pair rest ∙ ap (λ (n : ℕ). n + length rest) two in
         record {
           few = (omega (arith, bool-most (tagged 3 here)), omega (arith, bool-most (tagged own here)));
           same = every_front ∙ rw b;
@@ -194,11 +185,10 @@ module _ {words : List ℕ} {own fills owns : ℕ} {left : List ℕ} (inv : Bari
         let none : every (bare_entry own) (entries_in words) ≡ false = every_front ∙ rw b in
         rw (rw e at none) at (bare-told (entries_in words) kind n₂ n₄ n₅ n₆)
 
-  pub baring-end : (kind : ℕ) → own ≡ own_tag kind → length left < 2 → (kind ≡ 2 → ⊥) → (kind ≡ 4 → ⊥) → (kind ≡ 5 → ⊥) → (kind ≡ 6 → ⊥)
+  pub baring-end : (kind : ℕ) → own ≡ own_tag kind → left ≡ [] → (kind ≡ 2 → ⊥) → (kind ≡ 4 → ⊥) → (kind ≡ 5 → ⊥) → (kind ≡ 6 → ⊥)
       → (leb fills 1 && owns_fit kind owns) ≡ items_of kind (entries_in words)
   unfolding every count
-  baring-end kind e h n₂ n₄ n₅ n₆ =
-      let none : entries_in left ≡ [] = entries-none left h in
+  baring-end kind e none n₂ n₄ n₅ n₆ =
       let all : every (bare_entry own) (entries_in words) ≡ true = inv.same ∙ rw none in
       let fill : count (tagged 3) (entries_in words) ≡ fills = inv.fill ∙ rw none (omega arith) in
       let owned : count (tagged own) (entries_in words) ≡ owns = inv.owned ∙ rw none (omega arith) in

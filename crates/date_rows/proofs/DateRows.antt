@@ -1,14 +1,13 @@
 -- The walk over a date-time section's items: what is left to be asked of the entries behind each, and what was met in all.
 -- Assumes nothing.
-use Prim.Native.Nat.{ℕ, suc, ◌+◌, ◌-◌, ◌≤◌, ◌<◌}
+use Prim.Native.Nat.{ℕ, suc, ◌+◌, ◌-◌, ◌≤◌}
 use Rattle.std.specs.Prelude.{Option, None, Some, MatchOption}
 use Rattle.std.specs.Option.{is_some}
 use Rattle.std.proofs.lemmas.Option.{cond_some}
 use native.Mathlib.Omega.{arith}
 use mathlib.Core.Path.{◌≡◌, refl, sym, ◌∙◌, ap}
 use mathlib.Core.Bool.{Bool, true, false, true≢false, cond, not, ◌&&◌, ◌||◌, and-true}
-use mathlib.Core.List.{List, [], ◌∷◌, ◌++◌}
-use lib.ListN.{length, get_or}
+use mathlib.Core.List.{List, [], ◌∷◌}
 use lib.Dec.{T, leb, eqb}
 use borrow.Author.Tests.{eqb-true, eqb-false, eq-eqb, ne_eqb, le-leb, lt-leb, not-true}
 use Rattle.values.specs.Ranges.{between}
@@ -34,7 +33,6 @@ use Rattle.date_rows.specs.DateRows.{DateTold, date_sound, date_after, date_next
 use Rattle.date_rows.proofs.Runs.{runs_from, runs-front, runs-end, runs-start}
 use Rattle.tallies.proofs.Told.{no-plain-every}
 use Rattle.tallies.proofs.Held.{holds, holds-back}
-use Rattle.tallies.proofs.Pairs.{entries-pair, entries-none}
 use Rattle.scans.proofs.Scanned.{tag_is, any-tagged}
 use Rattle.scans.specs.Scans.{has_tag}
 
@@ -265,13 +263,13 @@ or_nothing : (b : Bool) → (b || false) ≡ b
 or_nothing true = refl
 or_nothing false = refl
 
--- ---- the loop, with these words left
-pub record Dating (words left : List ℕ) (s : DateWalk) : Type 0 where
-  pub known : Known (items_at (entries_in words)) s (entries_in left)
-  pub out : T (items_of 4 (entries_in words)) → Rules (entries_in words) × Left s (entries_in left)
-  pub back : Rules (entries_in words) → Left s (entries_in left) → T (items_of 4 (entries_in words))
+-- ---- the loop, with these entries left
+pub record Dating (words : List ℕ) (left : List Entry) (s : DateWalk) : Type 0 where
+  pub known : Known (items_at (entries_in words)) s left
+  pub out : T (items_of 4 (entries_in words)) → Rules (entries_in words) × Left s left
+  pub back : Rules (entries_in words) → Left s left → T (items_of 4 (entries_in words))
 
-pub dating-start : (words : List ℕ) → Dating words words (begun (entries_in words))
+pub dating-start : (words : List ℕ) → Dating words (entries_in words) (begun (entries_in words))
 dating-start words =
     record { known = known_start (entries_in words); out = dates-out (entries_in words); back = dates-back (entries_in words) }
 
@@ -284,34 +282,24 @@ next-none : (s : DateWalk) (e : Entry) → date_next s e ≡ None → T (date_so
 unfolding date_next
 next-none s e n t = let n : Some (date_after s e) ≡ None = rw (T_true (date_sound s e) t) at n in cc
 
-module _ {words left : List ℕ} {s : DateWalk} (inv : Dating words left s) where
+module _ {words : List ℕ} {left : List Entry} {s : DateWalk} (inv : Dating words left s) where
   abbrev whole : List Entry
   whole = entries_in words
 
-  module _ (pair rest : List ℕ) (front : left ≡ pair ++ rest) (two : length pair ≡ 2) where
-    abbrev here : Entry
-    here = entry (get_or pair 0 0) (get_or pair 1 0)
-
-    first : entries_in left ≡ here ∷ entries_in rest
-    first = ap entries_in front ∙ entries-pair pair rest two
-
+  module _ (here : Entry) (rest : List Entry) (front : left ≡ here ∷ rest) where
     pub dating-step : {r : DateWalk} → date_next s here ≡ Some r → Dating words rest r
     dating-step {r} e =
         let t = next-some s r here e in
         rw (← t.1) (record {
-          known = known_step s here t.0 (items_at whole) (entries_in rest) (rw first at inv.known);
-          out = λ b. let o = inv.out b in (o.0, (left_out s here (entries_in rest) (rw first at o.1)).1);
-          back = λ w l. inv.back w (rw first (left_back s here (entries_in rest) t.0 l));
+          known = known_step s here t.0 (items_at whole) rest (rw front at inv.known);
+          out = λ b. let o = inv.out b in (o.0, (left_out s here rest (rw front at o.1)).1);
+          back = λ w l. inv.back w (rw front (left_back s here rest t.0 l));
         })
 
     pub dating-fault : date_next s here ≡ None → DateTold whole None
-    dating-fault e =
-        refused-told whole (λ b. next-none s here e (left_out s here (entries_in rest) (rw first at (inv.out b).1)).0)
+    dating-fault e = refused-told whole (λ b. next-none s here e (left_out s here rest (rw front at (inv.out b).1)).0)
 
-  module _ (h : length left < 2) where
-    none : entries_in left ≡ []
-    none = entries-none left h
-
+  module _ (none : left ≡ []) where
     last : Known (items_at whole) s []
     last = rw none at inv.known
 
@@ -334,7 +322,7 @@ module _ {words left : List ℕ} {s : DateWalk} (inv : Dating words left s) wher
       dated = last.dating ∙ rw (or-false (is_nothing s.earlier) (minutes_wait s.earlier) e).0
 
       -- all items were taken
-      taken : Left s (entries_in left)
+      taken : Left s left
       unfolding items_at every count parts_from
       taken =
           rw none (record {

@@ -186,8 +186,8 @@ pub fn dated_row(words: &[u16]) -> Option<DatedRow>
         plain: None,
         halves: false,
     };
-    for pair in words.chunks_exact(2) {
-        s = step(s, pair[0], pair[1])?;
+    for &[tag, a] in words.as_chunks::<2>().0 {
+        s = step(s, tag, a)?;
     }
     if s.earlier.is_open() {
         return None;

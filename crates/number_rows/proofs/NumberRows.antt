@@ -3,10 +3,9 @@
 use Prim.Native.Nat.{ℕ, zero, suc, ◌+◌, ◌-◌, ◌≤◌, ◌<◌}
 use Rattle.std.specs.Prelude.{Option, None, Some, MatchOption}
 use native.Mathlib.Omega.{arith}
-use mathlib.Core.Path.{◌≡◌, refl, sym, ◌∙◌, ap, subst}
+use mathlib.Core.Path.{◌≡◌, refl, sym, ◌∙◌, subst}
 use mathlib.Core.Bool.{Bool, true, false, cond, not, ◌&&◌}
-use mathlib.Core.List.{List, [], ◌∷◌, ◌++◌}
-use lib.ListN.{length, get_or}
+use mathlib.Core.List.{List, [], ◌∷◌}
 use lib.Dec.{T, leb, ltb, eqb, leb→le, le→leb, eqb→eq, eqb-suc-zero}
 use borrow.Author.Tests.{eqb-true, eqb-false, eq-eqb, leb-true, leb-false, ltb-true, ltb-false, lt-ltb, le-leb, lt-leb, not-true, not-false}
 use Rattle.values.specs.Ranges.{between}
@@ -21,7 +20,6 @@ use Rattle.tables.specs.Encode.{entry, kind_word}
 use Rattle.tables.specs.Decode.{half_at, item_at, items_at, items_by_tag}
 use Rattle.tables.specs.Rules.{entry_in_range, all_of, powers_from, run_powers}
 use Rattle.tables.proofs.BackEntries.{between-facts, span-at}
-use Rattle.tallies.proofs.Pairs.{entries-pair, entries-none}
 use Rattle.tallies.proofs.Steps.{no-place-beyond}
 use Rattle.number_rows.specs.declared.NumberWalk.{NumberWalk}
 use Rattle.tallies.specs.Tally.{items_of}
@@ -431,50 +429,40 @@ open-end zero point next i d q n e h = n (sym q.1)
 open-end (suc f) true next i d q n e h = no e
 open-end (suc f) false next i d q n e h = eqb-false next 15 (not-true (eqb next 15) e) (omega arith)
 
--- ---- the loop, with these words left
-pub record Counting (words left : List ℕ) (s : NumberWalk) : Type 0 where
-  pub known : Known (integer_places (items_at (entries_in words))) (decimal_places (items_at (entries_in words))) (count is_percent (items_at (entries_in words))) s (entries_in left)
-  pub out : T (number_items (entries_in words)) → Limits (entries_in words) × Left s (entries_in left)
-  pub back : Limits (entries_in words) → Left s (entries_in left) → T (number_items (entries_in words))
+-- ---- the loop, with these entries left
+pub record Counting (words : List ℕ) (left : List Entry) (s : NumberWalk) : Type 0 where
+  pub known : Known (integer_places (items_at (entries_in words))) (decimal_places (items_at (entries_in words))) (count is_percent (items_at (entries_in words))) s left
+  pub out : T (number_items (entries_in words)) → Limits (entries_in words) × Left s left
+  pub back : Limits (entries_in words) → Left s left → T (number_items (entries_in words))
 
-pub counting-start : (words : List ℕ) → Counting words words (begun (entries_in words))
+pub counting-start : (words : List ℕ) → Counting words (entries_in words) (begun (entries_in words))
 counting-start words =
     record { known = number-known (entries_in words); out = number-out (entries_in words); back = number-back (entries_in words) }
 
-module _ {words left : List ℕ} {s : NumberWalk} (inv : Counting words left s) where
+module _ {words : List ℕ} {left : List Entry} {s : NumberWalk} (inv : Counting words left s) where
   abbrev whole : List Entry
   whole = entries_in words
 
   abbrev all : List Item
   all = items_at (entries_in words)
 
-  module _ (pair rest : List ℕ) (front : left ≡ pair ++ rest) (two : length pair ≡ 2) (small : get_or pair 1 0 < 65536) where
-    abbrev here : Entry
-    here = entry (get_or pair 0 0) (get_or pair 1 0)
+  module _ (t a : ℕ) (rest : List Entry) (front : left ≡ entry t a ∷ rest) (small : a < 65536) where
+    turned : (r : Option NumberWalk) → number_after s t a ≡ r → Turned (integer_places all) (decimal_places all) (count is_percent all) s (entry t a) rest r
+    turned r e = rw (← e) (number-turn _ _ _ s a rest t small (rw front at inv.known))
 
-    first : entries_in left ≡ here ∷ entries_in rest
-    first = ap entries_in front ∙ entries-pair pair rest two
-
-    turned : (r : Option NumberWalk) → number_after s (get_or pair 0 0) (get_or pair 1 0) ≡ r
-        → Turned (integer_places all) (decimal_places all) (count is_percent all) s here (entries_in rest) r
-    turned r e = rw (← e) (number-turn _ _ _ s (get_or pair 1 0) (entries_in rest) (get_or pair 0 0) small (rw first at inv.known))
-
-    pub counting-step : {r : NumberWalk} → number_after s (get_or pair 0 0) (get_or pair 1 0) ≡ Some r → Counting words rest r
+    pub counting-step : {r : NumberWalk} → number_after s t a ≡ Some r → Counting words rest r
     counting-step {r} e =
-        let t = turned (Some r) e in
+        let n = turned (Some r) e in
         record {
-          known = t.goes;
-          out = λ b. let o = inv.out b in (o.0, t.out o.0 (rw first at o.1));
-          back = λ w l. inv.back w (rw first (t.back l));
+          known = n.goes;
+          out = λ b. let o = inv.out b in (o.0, n.out o.0 (rw front at o.1));
+          back = λ w l. inv.back w (rw front (n.back l));
         }
 
-    pub counting-fault : number_after s (get_or pair 0 0) (get_or pair 1 0) ≡ None → NumberTold whole None
-    counting-fault e = refused-told whole (λ b. let o = inv.out b in turned None e o.0 (rw first at o.1))
+    pub counting-fault : number_after s t a ≡ None → NumberTold whole None
+    counting-fault e = refused-told whole (λ b. let o = inv.out b in turned None e o.0 (rw front at o.1))
 
-  module _ (h : length left < 2) where
-    none : entries_in left ≡ []
-    none = entries-none left h
-
+  module _ (none : left ≡ []) where
     places : Places s.first s.point s.next (integer_places all) (decimal_places all) 0 0 0
     unfolding items_at before_cut integer_places decimal_places count
     places = rw none at inv.known.places

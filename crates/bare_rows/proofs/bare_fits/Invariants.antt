@@ -1,9 +1,8 @@
 -- `bare_rows::bare_fits` meets its contract. The invariant, `Baring`: what was met, and the entries that are left.
 -- Assumes nothing.
-use mathlib.Core.Path.{◌≡◌}
-use Rattle.std.specs.Slice.Iter.{chunks_exact_rest, chunks_exact_size}
+use Rattle.tallies.proofs.Pairs.{pairs_left}
 use Rattle.bare_rows.proofs.BareRows.{Baring}
 use Rattle.bare_rows.proofs.bare_fits.Given as goal
 
-abbrev pub invariant-loop-pair : goal.invariant-loop-pair
-invariant-loop-pair l = (chunks_exact_size l.pair-iterator ≡ 2) × Baring l.words l.own l.fills l.owns (chunks_exact_rest l.pair-iterator)
+abbrev pub invariant-loop-tag : goal.invariant-loop-tag
+invariant-loop-tag l = Baring l.words l.own l.fills l.owns l.tag-index (pairs_left l.tag-items l.tag-index)
