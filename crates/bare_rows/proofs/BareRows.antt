@@ -142,25 +142,24 @@ module _ (es : List Entry) where
       none-such : (kind : ℕ) → (kind ≡ 0 → ⊥) → (kind ≡ 1 → ⊥) → (kind ≡ 3 → ⊥) → (kind ≡ 2 → ⊥) → (kind ≡ 4 → ⊥) → (kind ≡ 5 → ⊥) → (kind ≡ 6 → ⊥) → 6 < kind
       none-such kind n₀ n₁ n₃ n₂ n₄ n₅ n₆ = let late = five kind n₀ n₁ n₃ n₂ n₄ n₅ in six kind late n₆
 
--- ---- the loop, behind k items with these entries left: how many fills were met, and how many of the section's own items
-pub record Baring (words : List ℕ) (own fills owns k : ℕ) (left : List Entry) : Type 0 where
-  pub few : (fills ≤ k) × (owns ≤ k)
+-- ---- the loop, with these entries left: how many fills were met, and how many of the section's own items
+pub record Baring (words : List ℕ) (own fills owns : ℕ) (left : List Entry) : Type 0 where
   pub same : every (bare_entry own) (entries_in words) ≡ every (bare_entry own) left
   pub fill : count (tagged 3) (entries_in words) ≡ fills + count (tagged 3) left
   pub owned : count (tagged own) (entries_in words) ≡ owns + count (tagged own) left
 
-pub baring-start : (words : List ℕ) (own : ℕ) → Baring words own 0 0 0 (entries_in words)
-baring-start words own = record { few = (omega arith, omega arith); same = refl; fill = omega arith; owned = omega arith }
+pub baring-start : (words : List ℕ) (own : ℕ) → Baring words own 0 0 (entries_in words)
+baring-start words own = record { same = refl; fill = omega arith; owned = omega arith }
 
 count-front : (p : Entry → Bool) (e : Entry) (es : List Entry) → count p (e ∷ es) ≡ from_bool (p e) + count p es
 unfolding count
 count-front p e es = by_cases (p e) (λ h. rw h (omega arith)) (λ h. rw h (omega arith))
 
-bool-most : (b : Bool) → from_bool b ≤ 1
+pub bool-most : (b : Bool) → from_bool b ≤ 1
 bool-most true = omega arith
 bool-most false = omega arith
 
-module _ {words : List ℕ} {own fills owns k : ℕ} {left : List Entry} (inv : Baring words own fills owns k left) where
+module _ {words : List ℕ} {own fills owns : ℕ} {left : List Entry} (inv : Baring words own fills owns left) where
   module _ (here : Entry) (rest : List Entry) (front : left ≡ here ∷ rest) where
     every_front : every (bare_entry own) (entries_in words) ≡ cond (bare_entry own here) (every (bare_entry own) rest) false
     unfolding every
@@ -169,15 +168,9 @@ module _ {words : List ℕ} {own fills owns k : ℕ} {left : List Entry} (inv : 
     counted : (t : ℕ) → count (tagged t) left ≡ from_bool (tagged t here) + count (tagged t) rest
     counted t = ap (count (tagged t)) front ∙ count-front (tagged t) here rest
 
-    pub baring-step : bare_entry own here ≡ true → Baring words own (fills + from_bool (tagged 3 here)) (owns + from_bool (tagged own here)) (k + 1) rest
+    pub baring-step : bare_entry own here ≡ true → Baring words own (fills + from_bool (tagged 3 here)) (owns + from_bool (tagged own here)) rest
     baring-step b =
-        let f = inv.few in
-        record {
-          few = (omega (arith, bool-most (tagged 3 here)), omega (arith, bool-most (tagged own here)));
-          same = every_front ∙ rw b;
-          fill = omega (arith, inv.fill, counted 3);
-          owned = omega (arith, inv.owned, counted own);
-        }
+        record { same = every_front ∙ rw b; fill = omega (arith, inv.fill, counted 3); owned = omega (arith, inv.owned, counted own) }
 
     pub baring-fault : (kind : ℕ) → own ≡ own_tag kind → bare_entry own here ≡ false
         → (kind ≡ 2 → ⊥) → (kind ≡ 4 → ⊥) → (kind ≡ 5 → ⊥) → (kind ≡ 6 → ⊥) → false ≡ items_of kind (entries_in words)

@@ -49,8 +49,9 @@ pub fn bare_fits(words: &[u16], kind: u16) -> bool
     let own = own_tag(kind);
     let mut fills: usize = 0;
     let mut owns: usize = 0;
-    for &[tag, a] in words.as_chunks::<2>().0 {
-        if !is_bare(own, tag, a) {
+    for pair in words.chunks_exact(2) {
+        let tag = pair[0];
+        if !is_bare(own, tag, pair[1]) {
             return false;
         }
         fills += usize::from(tag == tags::FILL);

@@ -186,6 +186,7 @@ pub fn dated_row(words: &[u16]) -> Option<DatedRow>
         plain: None,
         halves: false,
     };
+    // of `chunks_exact` the walk takes an instruction an item more
     for &[tag, a] in words.as_chunks::<2>().0 {
         s = step(s, tag, a)?;
     }

@@ -133,8 +133,8 @@ pub fn number_row(words: &[u16]) -> Option<NumberRow>
         percents: 0,
         fills: 0,
     };
-    for &[tag, a] in words.as_chunks::<2>().0 {
-        s = step(s, tag, a)?;
+    for pair in words.chunks_exact(2) {
+        s = step(s, pair[0], pair[1])?;
     }
     if s.first == s.next {
         return None;
