@@ -5,11 +5,12 @@ use native.Mathlib.Omega.{arith}
 use mathlib.Core.Path.{◌≡◌, refl, sym, ◌∙◌, ap}
 use mathlib.Core.Bool.{Bool, true, false, not, ◌&&◌, ◌||◌, and-false}
 use mathlib.Core.List.{List, ◌∷◌, ◌++◌}
-use lib.Dec.{T, leb, eqb, leb→le, le→leb, eqb→eq}
-use borrow.Author.Tests.{eq-eqb, ne_eqb, eqb-true, lt-ltb, not-true, not-false}
+use Rattle.std.specs.Prelude.{Option, None, Some}
+use lib.Dec.{T, leb, ltb, eqb, leb→le, le→leb, eqb→eq}
+use borrow.Author.Tests.{eq-eqb, ne_eqb, eqb-true, eqb-false, leb-true, leb-false, lt-ltb, le-ltb, le-leb, not-false}
 use Rattle.values.specs.Ranges.{between}
 use Rattle.lists.specs.Lists.{every, any, count}
-use Rattle.lists.proofs.Bools.{no, and_left, and_right, and_in, or_right, by_cases, T_true, true-T, carry, same_test, not_so, and_parts}
+use Rattle.lists.proofs.Bools.{no, and_left, and_right, and_in, or_right, by_cases, T_true, true-T, carry, same_test, not_so, or-false}
 use Rattle.lists.proofs.Counts.{count-append, none-count, positive-count, any-map, any_same, any-either}
 use Rattle.formats.proofs.ByNumber.{by_number}
 use Rattle.formats.specs.Items.{Item, half, scientific_kind, item_allowed, item_number, is_fill, is_place, is_point, is_percent, is_space, is_exponent, is_cut, before_cut, from_cut, integer_places, decimal_places, places_behind, exponent_fits}
@@ -22,11 +23,11 @@ use Rattle.tables.specs.Rules.{entry_in_range, run_powers}
 use Rattle.tables.proofs.BackEntries.{between-facts, span-at}
 use Rattle.table_words.proofs.Cuts.{items-append}
 use Rattle.tallies.specs.Tally.{items_of}
-use Rattle.number_rows.specs.NumberRows.{number_items, NumberTold}
+use Rattle.number_rows.specs.NumberRows.{number_items, NumberCounts}
 use Rattle.number_rows.specs.declared.NumberRow.{NumberRow}
 use Rattle.scientific_rows.specs.declared.ScientificRow.{ScientificRow}
 use Rattle.scans.specs.Scans.{tagged, has_tag}
-use Rattle.scientific_rows.specs.ScientificRows.{scientific_items, ScientificTold, mantissa_items, MantissaTold, exponent_items, no_scientific}
+use Rattle.scientific_rows.specs.ScientificRows.{scientific_items, ScientificTold, mantissa_items, MantissaCounts, MantissaTold, exponent_items}
 use Rattle.scans.proofs.Scanned.{tag_is, any-tagged}
 use Rattle.tallies.proofs.Places.{places-counted}
 use Rattle.tallies.proofs.Held.{powers-bare, powers-one, no-solidi, uncut, apart, Holds, holds, holds-back}
@@ -43,9 +44,6 @@ exponent-tag t a h =
 
 scientific : Figures scientific_kind
 scientific = record { text = refl; general = refl; date = refl; number = refl; places = refl }
-
-refused : (es : List Entry) → scientific_items es ≡ false → ScientificTold es no_scientific
-refused es e = record { fits = sym e; decimals = λ f. no f }
 
 -- ---- the whole section
 module _ (fs gs : List Entry) (t a : ℕ) (x : T (between 22 23 t)) where
@@ -281,54 +279,75 @@ module _ (fs gs : List Entry) (t a : ℕ) (x : T (between 22 23 t)) where
   scientific-is : parts_test ≡ scientific_items es
   scientific-is = same_test parts_test (scientific_items es) (λ t. cut_in (tested-in t)) (λ t. tested-out (cut_out t))
 
-  pub no-argument : (a ≡ 0 → ⊥) → ScientificTold es no_scientific
-  no-argument n = refused es (rw (ne_eqb a 0 n) at (sym scientific-is))
+  pub no-argument : (a ≡ 0 → ⊥) → scientific_items es ≡ false
+  no-argument n = rw (ne_eqb a 0 n) at (sym scientific-is)
 
-  pub no-exponent : exponent_items gs ≡ false → ScientificTold es no_scientific
-  no-exponent n = refused es (rw (n, and-false (eqb a 0)) at (sym scientific-is))
+  pub no-exponent : exponent_items gs ≡ false → scientific_items es ≡ false
+  no-exponent n = rw (n, and-false (eqb a 0)) at (sym scientific-is)
 
-  pub both-filled : (has_tag fs 3 && has_tag gs 3) ≡ true → ScientificTold es no_scientific
-  both-filled n = refused es (rw (n, and-false (exponent_items gs), and-false (eqb a 0)) at (sym scientific-is))
+  pub both-filled : (has_tag fs 3 && has_tag gs 3) ≡ true → scientific_items es ≡ false
+  both-filled n = rw (n, and-false (exponent_items gs), and-false (eqb a 0)) at (sym scientific-is)
 
-  pub parts-told : a ≡ 0 → exponent_items gs ≡ true → (has_tag fs 3 && has_tag gs 3) ≡ false → (r : ScientificRow) → MantissaTold fs r → ScientificTold es r
-  parts-told z b n r m =
-      let fits : r.fits ≡ scientific_items es = m.fits ∙ rw (eq-eqb a 0 z, b, n) at scientific-is in
-      record {
-        fits = fits;
-        decimals = λ f. let p = cut_out (true-T (sym fits ∙ f)) in
-            m.decimals f ∙ sym (decimals-are (part-bare scientific_kind scientific fs (before-part p.mantissa p.percents.0)));
-      }
+  pub parts-told : a ≡ 0 → exponent_items gs ≡ true → (has_tag fs 3 && has_tag gs 3) ≡ false → (r : Option ScientificRow) → MantissaTold fs r → ScientificTold es r
+  parts-told z b n = told
+    where
+      mantissa-is : mantissa_items fs ≡ scientific_items es
+      mantissa-is = rw (eq-eqb a 0 z, b, n) at scientific-is
+
+      told : (r : Option ScientificRow) → MantissaTold fs r → ScientificTold es r
+      told None m = sym mantissa-is ∙ m
+      told (Some r) m =
+          let fits = sym mantissa-is ∙ m.fits in
+          let p = cut_out (true-T fits) in
+          record { fits = fits; decimals = m.decimals ∙ sym (decimals-are (part-bare scientific_kind scientific fs (before-part p.mantissa p.percents.0))) }
 
 -- ---- the walk over either part
-module _ (es : List Entry) (n : NumberRow) (t : NumberTold es n) where
-  abbrev all : List Item
-  all = items_at es
-
-  pub mantissa-told : MantissaTold es (record { fits = n.fits && eqb n.percents 0 && leb 1 n.integers; decimals = n.decimals })
+module _ (es : List Entry) where
+  pub no-mantissa : number_items es ≡ false → mantissa_items es ≡ false
   unfolding mantissa_items
-  mantissa-told =
-      record {
-        fits = by_cases n.fits (λ f. rw (← t.fits, t.percents f, t.integers f)) (λ f. rw (← t.fits, f));
-        decimals = λ f. t.decimals (and_parts n.fits _ (and_parts (n.fits && eqb n.percents 0) _ f).0).0;
-      }
+  no-mantissa f = rw f
+
+  pub exponent-none : number_items es ≡ false → false ≡ exponent_items es
+  unfolding exponent_items
+  exponent-none f = rw f
+
+module _ (es : List Entry) (n : NumberRow) (t : NumberCounts es n) where
+  pub mantissa-refused : (not (eqb n.percents 0) || eqb n.integers 0) ≡ true → mantissa_items es ≡ false
+  unfolding mantissa_items
+  mantissa-refused e = rw (t.fits, ← t.percents, ← t.integers) (none (eqb n.percents 0) n.integers e)
+    where
+      none : (p : Bool) (i : ℕ) → (not p || eqb i 0) ≡ true → (p && leb 1 i) ≡ false
+      none true i e = rw (eqb-true i 0 e)
+      none false i e = refl
+
+  pub mantissa-told : (not (eqb n.percents 0) || eqb n.integers 0) ≡ false → MantissaCounts es (record { decimals = n.decimals })
+  unfolding mantissa_items
+  mantissa-told e =
+      let f = or-false (not (eqb n.percents 0)) (eqb n.integers 0) e in
+      let some = eqb-false n.integers 0 f.1 in
+      record { fits = rw (t.fits, ← t.percents, ← t.integers, not-false (eqb n.percents 0) f.0, le-leb 1 n.integers (omega arith)); decimals = t.decimals }
 
   abbrev first_test : Bool
-  first_test = n.fits && eqb n.percents 0 && leb n.integers 3
+  first_test = not (eqb n.percents 0) || ltb 3 n.integers
 
-  exponent-told : (first_test && (not (has_tag es 7) && not (has_tag es 6))) ≡ exponent_items es
+  exponent-told : (not first_test && (not (has_tag es 7) && not (has_tag es 6))) ≡ exponent_items es
   unfolding exponent_items
   exponent-told =
-      rw (any-tagged is_point 7 (λ e. tag_is is_point 7 e refl (omega arith) refl) es, any-tagged is_space 6 (λ e. tag_is is_space 6 e refl (omega arith) refl) es)
-      (by_cases n.fits (λ f. rw (← t.fits, t.percents f, t.integers f)) (λ f. rw (← t.fits, f)))
+      rw (any-tagged is_point 7 (λ e. tag_is is_point 7 e refl (omega arith) refl) es, any-tagged is_space 6 (λ e. tag_is is_space 6 e refl (omega arith) refl) es, t.fits, ← t.percents, ← t.integers)
+      (ap (λ (b : Bool). b && (not (has_tag es 7) && not (has_tag es 6))) (first (eqb n.percents 0) n.integers))
+    where
+      first : (p : Bool) (i : ℕ) → not (not p || ltb 3 i) ≡ (p && leb i 3)
+      first true i = by_cases (leb i 3) (λ e. rw (e, le-ltb 3 i (leb-true i 3 e))) (λ e. rw (e, lt-ltb 3 i (leb-false i 3 e)))
+      first false i = refl
 
-  pub exponent-refused : not first_test ≡ true → false ≡ exponent_items es
-  exponent-refused e = rw (not-true first_test e) at exponent-told
+  pub exponent-refused : first_test ≡ true → false ≡ exponent_items es
+  exponent-refused e = rw e at exponent-told
 
   pub exponent-pointed : has_tag es 7 ≡ true → false ≡ exponent_items es
-  exponent-pointed e = rw (e, and-false first_test) at exponent-told
+  exponent-pointed e = rw (e, and-false (not first_test)) at exponent-told
 
-  pub exponent-spaced : not first_test ≡ false → has_tag es 7 ≡ false → not (has_tag es 6) ≡ exponent_items es
-  exponent-spaced e p = rw (not-false first_test e, p) at exponent-told
+  pub exponent-spaced : first_test ≡ false → has_tag es 7 ≡ false → not (has_tag es 6) ≡ exponent_items es
+  exponent-spaced e p = rw (e, p) at exponent-told
 
 -- ---- without an E
 exponent-tags : (e : Entry) → is_exponent (item_at e) ≡ (eqb e.tag 22 || eqb e.tag 23)
@@ -337,12 +356,12 @@ exponent-tags e =
     by_number is_exponent (λ (n : ℕ). eqb n 22 || eqb n 23) (items_by_tag e.argument) 26 (half (half_at e.argument)) refl
     (λ n h. sym (rw (ne_eqb n 22 (λ x. absurd (omega arith)), ne_eqb n 23 (λ x. absurd (omega arith))))) e.tag
 
-pub none_told : (es : List Entry) → has_tag es 22 ≡ false → has_tag es 23 ≡ false → ScientificTold es no_scientific
+pub none_told : (es : List Entry) → has_tag es 22 ≡ false → has_tag es 23 ≡ false → scientific_items es ≡ false
 unfolding scientific_items items_at kind_word
 none_told es p m =
     let none : any is_exponent (items_at es) ≡ false =
     any-map is_exponent item_at es ∙ any_same (λ (e : Entry). is_exponent (item_at e)) (λ (e : Entry). tagged 22 e || tagged 23 e) exponent-tags es
     ∙ any-either (tagged 22) (tagged 23) es ∙ rw (p, m) in
-    refused es (by_cases (scientific_items es)
+    by_cases (scientific_items es)
     (λ e. let made = (holds scientific_kind es (and_left (items_of 5 es) _ (true-T e))).made in absurd (carry none made))
-    (λ e. e))
+    (λ e. e)

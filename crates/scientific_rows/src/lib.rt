@@ -6,45 +6,39 @@ ghost use Rattle.values.specs.Ranges.{between};
 ghost use Rattle.tables.specs.Words.{entries_in};
 ghost use Rattle.tables.specs.Encode.{entry};
 ghost use Rattle.scans.specs.Scans.{has_tag};
-ghost use Rattle.scientific_rows.specs.ScientificRows.{ScientificTold, MantissaTold, exponent_items, no_scientific};
+ghost use Rattle.scientific_rows.specs.ScientificRows.{ScientificTold, MantissaTold, exponent_items};
 
 use number_rows::number_row;
 use scans::{find_tag, has_tag};
 use tables::tags;
 
-// Whether the items are those of a scientific section and within its limits; where they are, how many decimal places there are.
+// How many decimal places the items of a scientific section have.
 #[derive(Clone, Copy)]
 pub struct ScientificRow {
-    pub fits: bool,
     pub decimals: u16,
 }
 
-fn no_row() -> ScientificRow
-    ensures { result ≡ no_scientific }
-{
-    ScientificRow {
-        fits: false,
-        decimals: 0,
-    }
-}
-
 // The items before the E: an integer place, and no percent.
-fn mantissa_row(words: &[u16]) -> ScientificRow
+fn mantissa_row(words: &[u16]) -> Option<ScientificRow>
     ensures { MantissaTold (entries_in words.now) result }
 {
-    let row = number_row(words);
-    ScientificRow {
-        fits: row.fits & (row.percents == 0) & (1 <= row.integers),
-        decimals: row.decimals,
+    let row = number_row(words)?;
+    if (row.percents != 0) | (row.integers == 0) {
+        return None;
     }
+    Some(ScientificRow {
+        decimals: row.decimals,
+    })
 }
 
 // Those behind it: 1 to 3 places, and neither a percent, a point nor a place `?`.
 fn is_exponent(words: &[u16]) -> bool
     ensures { result ≡ exponent_items (entries_in words.now) }
 {
-    let row = number_row(words);
-    if !(row.fits & (row.percents == 0) & (row.integers <= 3)) {
+    let Some(row) = number_row(words) else {
+        return false;
+    };
+    if (row.percents != 0) | (3 < row.integers) {
         return false;
     }
     if has_tag(words, tags::POINT) {
@@ -56,30 +50,27 @@ fn is_exponent(words: &[u16]) -> bool
 fn are_filled(mantissa: &[u16], exponent: &[u16]) -> bool
     ensures { result ≡ (has_tag (entries_in mantissa.now) 3 && has_tag (entries_in exponent.now) 3) }
 {
-    if has_tag(mantissa, tags::FILL) {
-        return has_tag(exponent, tags::FILL);
-    }
-    false
+    has_tag(mantissa, tags::FILL) && has_tag(exponent, tags::FILL)
 }
 
 // The items before and behind an E with this argument. One fill stands in both.
-fn parts_row(mantissa: &[u16], a: u16, exponent: &[u16]) -> ScientificRow
+fn parts_row(mantissa: &[u16], a: u16, exponent: &[u16]) -> Option<ScientificRow>
     ensures { (t : ℕ) → T (between 22 23 t) → ScientificTold (entries_in mantissa.now ++ (entry t a ∷ entries_in exponent.now)) result }
 {
     if a != 0 {
-        return no_row();
+        return None;
     }
     if !is_exponent(exponent) {
-        return no_row();
+        return None;
     }
     if are_filled(mantissa, exponent) {
-        return no_row();
+        return None;
     }
     mantissa_row(mantissa)
 }
 
 // The items before and behind the one at this place, which is an E.
-fn row_at(words: &[u16], at: usize) -> ScientificRow
+fn row_at(words: &[u16], at: usize) -> Option<ScientificRow>
     requires { (at < length words.now / 2) × T (between 22 23 (get_or words.now (2 * at) 0)) }
     ensures { ScientificTold (entries_in words.now) result }
 {
@@ -90,8 +81,8 @@ fn row_at(words: &[u16], at: usize) -> ScientificRow
     parts_row(&words[..i], a, &words[from..])
 }
 
-// What the items of a scientific section tell, whose words these are.
-pub fn scientific_row(words: &[u16]) -> ScientificRow
+// What the items of a scientific section within its limits tell, whose words these are.
+pub fn scientific_row(words: &[u16]) -> Option<ScientificRow>
     ensures { ScientificTold (entries_in words.now) result }
 {
     let n = words.len() / 2;
@@ -103,5 +94,5 @@ pub fn scientific_row(words: &[u16]) -> ScientificRow
     if minus < n {
         return row_at(words, minus);
     }
-    no_row()
+    None
 }

@@ -6,21 +6,17 @@ use Rattle.scientific_rows.proofs.ScientificRows.{no-argument, no-exponent, both
 use Rattle.scientific_rows.proofs.parts_row.Goals as goal
 
 pub returns-then-a-ne0 : goal.returns-then-a-ne0
-returns-then-a-ne0 c t x =
-    let a = c.args in
-    rw c.no_row.ensures (no-argument (entries_in a.mantissa.now) (entries_in a.exponent.now) t a.a x c.if-a-ne0.true)
+returns-then-a-ne0 c t x = let a = c.args in no-argument (entries_in a.mantissa.now) (entries_in a.exponent.now) t a.a x c.if-a-ne0.true
 
 pub returns-then-not-is_exponent : goal.returns-then-not-is_exponent
 returns-then-not-is_exponent c t x =
     let a = c.args in
-    rw c.no_row-then-not-is_exponent.ensures
-    (no-exponent (entries_in a.mantissa.now) (entries_in a.exponent.now) t a.a x (sym c.is_exponent.ensures ∙ c.if-not-is_exponent.true))
+    no-exponent (entries_in a.mantissa.now) (entries_in a.exponent.now) t a.a x (sym c.is_exponent.ensures ∙ c.if-not-is_exponent.true)
 
 pub returns-then-are_filled : goal.returns-then-are_filled
 returns-then-are_filled c t x =
     let a = c.args in
-    rw c.no_row-then-are_filled.ensures
-    (both-filled (entries_in a.mantissa.now) (entries_in a.exponent.now) t a.a x (sym c.are_filled.ensures ∙ c.if-are_filled.true))
+    both-filled (entries_in a.mantissa.now) (entries_in a.exponent.now) t a.a x (sym c.are_filled.ensures ∙ c.if-are_filled.true)
 
 pub returns : goal.returns
 returns c t x =

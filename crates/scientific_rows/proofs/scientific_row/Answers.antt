@@ -7,5 +7,4 @@ use Rattle.scientific_rows.proofs.scientific_row.Goals as goal
 
 pub returns : goal.returns
 returns c =
-    rw c.no_row.ensures
-    (none_told _ (c.find_tag-plus.ensures.told ∙ le-ltb _ _ c.if-plus-n.false) (c.find_tag-minus.ensures.told ∙ le-ltb _ _ c.if-minus-n.false))
+    none_told _ (c.find_tag-plus.ensures.told ∙ le-ltb _ _ c.if-plus-n.false) (c.find_tag-minus.ensures.told ∙ le-ltb _ _ c.if-minus-n.false)
