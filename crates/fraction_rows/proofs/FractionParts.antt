@@ -6,8 +6,8 @@ use mathlib.Core.Path.{◌≡◌, refl, sym, ◌∙◌, ap, subst}
 use mathlib.Core.Bool.{Bool, true, false, true≢false, not, ◌&&◌, ◌||◌, and-false, or-true}
 use mathlib.Core.List.{List, [], ◌∷◌}
 use lib.ListN.{length, get_or, take, drop}
-use lib.Dec.{T, leb, eqb, leb→le, le→leb, eqb→eq}
-use borrow.Author.Tests.{eq-eqb, ne_eqb, eqb-true, not-true, not-false}
+use lib.Dec.{T, leb, ltb, eqb, leb→le, le→leb, eqb→eq}
+use borrow.Author.Tests.{eq-eqb, ne_eqb, eqb-true, leb-true, leb-false, lt-ltb, le-ltb, not-false}
 use Rattle.values.specs.Ranges.{between}
 use Rattle.lists.specs.Lists.{every, any, count}
 use Rattle.lists.proofs.Bools.{no, and_left, and_right, and_in, or_right, or-false, by_cases, T_true, true-T, carry, not_so, every-head, every-tail, every-cons}
@@ -20,7 +20,7 @@ use Rattle.tables.specs.Encode.{entry, kind_word}
 use Rattle.tables.specs.Decode.{item_at, items_at}
 use Rattle.tables.specs.Rules.{entry_in_range, powers_from, run_powers}
 use Rattle.tallies.specs.Tally.{makes_fraction, items_of}
-use Rattle.number_rows.specs.NumberRows.{number_items, NumberTold}
+use Rattle.number_rows.specs.NumberRows.{number_items, NumberCounts}
 use Rattle.number_rows.specs.declared.NumberRow.{NumberRow}
 use Rattle.scans.specs.Scans.{has_tag}
 use Rattle.fraction_rows.specs.FractionRows.{whole_fits, fixed_fits, run_fits}
@@ -329,49 +329,57 @@ unmarked true true l e = refl
 unmarked true false l e = absurd (true≢false (sym e))
 unmarked false p l e = refl
 
-module _ (es : List Entry) (n : NumberRow) (t : NumberTold es n) where
+module _ (es : List Entry) where
+  pub whole-none : items_of 0 es ≡ false → number_items es ≡ false → false ≡ whole_fits es
+  unfolding whole_fits
+  whole-none b f = rw (b, f)
+
+  pub run-none : number_items es ≡ false → false ≡ run_fits es
+  unfolding run_fits
+  run-none f = rw f
+
+module _ (es : List Entry) (n : NumberRow) (t : NumberCounts es n) where
   abbrev all : List Item
   all = items_at es
 
   points-are : any is_point all ≡ has_tag es 7
   points-are = any-tagged is_point 7 (λ e. tag_is is_point 7 e refl (omega arith) refl) es
 
-  abbrev whole_first : Bool
-  whole_first = n.fits && eqb n.percents 0
-
-  whole-told : (items_of 0 es || (whole_first && (not (has_tag es 7) && literal_follows all))) ≡ whole_fits es
+  whole-told : (items_of 0 es || (eqb n.percents 0 && (not (has_tag es 7) && literal_follows all))) ≡ whole_fits es
   unfolding whole_fits
-  whole-told = rw points-are (by_cases n.fits (λ f. rw (← t.fits, t.percents f)) (λ f. rw (← t.fits, f)))
+  whole-told = rw (points-are, t.fits, ← t.percents)
 
-  pub whole-refused : items_of 0 es ≡ false → (not whole_first || has_tag es 7) ≡ true → false ≡ whole_fits es
-  whole-refused b e = unmarked whole_first (has_tag es 7) (literal_follows all) e ∙ rw b at whole-told
+  pub whole-refused : items_of 0 es ≡ false → (not (eqb n.percents 0) || has_tag es 7) ≡ true → false ≡ whole_fits es
+  whole-refused b e = unmarked (eqb n.percents 0) (has_tag es 7) (literal_follows all) e ∙ rw b at whole-told
 
-  pub whole-literal : items_of 0 es ≡ false → (not whole_first || has_tag es 7) ≡ false → literal_follows all ≡ whole_fits es
-  whole-literal b e = let n = or-false (not whole_first) (has_tag es 7) e in rw (b, not-false whole_first n.0, n.1) at whole-told
+  pub whole-literal : items_of 0 es ≡ false → (not (eqb n.percents 0) || has_tag es 7) ≡ false → literal_follows all ≡ whole_fits es
+  whole-literal b e =
+      let n = or-false (not (eqb n.percents 0)) (has_tag es 7) e in
+      rw (b, not-false (eqb _ 0) n.0, n.1) at whole-told
 
   abbrev run_first : Bool
-  run_first = n.fits && eqb n.percents 0 && leb n.integers 3
+  run_first = eqb n.percents 0 && leb n.integers 3
 
   run-told : (run_first && (not (has_tag es 7) && eqb (length (start_places all)) n.integers)) ≡ run_fits es
   unfolding run_fits
-  run-told = rw points-are (by_cases n.fits (λ f. rw (← t.fits, t.percents f, t.integers f)) (λ f. rw (← t.fits, f)))
+  run-told = rw (points-are, t.fits, ← t.percents, ← t.integers)
 
-  pub run-refused : not run_first ≡ true → false ≡ run_fits es
-  run-refused e = rw (not-true run_first e) at run-told
+  many : (p : Bool) (i : ℕ) → (p && leb i 3) ≡ not (not p || ltb 3 i)
+  many true i = by_cases (leb i 3) (λ e. rw (e, le-ltb 3 i (leb-true i 3 e))) (λ e. rw (e, lt-ltb 3 i (leb-false i 3 e)))
+  many false i = refl
+
+  pub run-refused : (not (eqb n.percents 0) || ltb 3 n.integers) ≡ true → false ≡ run_fits es
+  run-refused e = rw (many (eqb n.percents 0) n.integers, e) at run-told
 
   pub run-pointed : has_tag es 7 ≡ true → false ≡ run_fits es
   run-pointed p = rw (p, and-false run_first) at run-told
 
-  pub run-counted : not run_first ≡ false → has_tag es 7 ≡ false → eqb (length (start_places all)) n.integers ≡ run_fits es
-  run-counted e p = rw (not-false run_first e, p) at run-told
+  pub run-counted : (not (eqb n.percents 0) || ltb 3 n.integers) ≡ false → has_tag es 7 ≡ false → eqb (length (start_places all)) n.integers ≡ run_fits es
+  run-counted e p = rw (many (eqb n.percents 0) n.integers, e, p) at run-told
 
 -- the items behind a solidus, by the first of them
 abbrev pub behind_test : List Entry → Bool
 behind_test es = fixed_fits es || run_fits es
-
-pub behind-none : behind_test [] ≡ false
-unfolding fixed_fits
-behind-none = by_cases (run_fits []) (λ e. absurd (unfold denominator_fits items_at in (run_in [] (true-T e)).fits)) (λ e. e)
 
 -- a fixed number is none of a number section's items
 run-unfixed : (t a : ℕ) (es : List Entry) → t ≡ 25 → run_fits (entry t a ∷ es) ≡ false
@@ -404,9 +412,9 @@ literal-told es f = f (λ e. omega (arith, e)) (λ e. omega (arith, e)) (λ e. o
 
 -- ---- by the words
 module _ (words : List ℕ) where
-  pub words-none : length words < 2 → false ≡ behind_test (entries_in words)
-  unfolding entries_in entries_at
-  words-none h = let none : length words / 2 ≡ 0 = omega arith in rw none (sym behind-none)
+  pub words-none : length words < 2 → run_fits (entries_in words) ≡ behind_test (entries_in words)
+  unfolding entries_in entries_at fixed_fits
+  words-none h = let none : length words / 2 ≡ 0 = omega arith in rw none
 
   module _ (h : 2 ≤ length words) where
     words-first : entries_in words ≡ entry (get_or words 0 0) (get_or words 1 0) ∷ entries_in (take (length words - 2) (drop 2 words))

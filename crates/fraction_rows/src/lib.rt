@@ -11,25 +11,21 @@ ghost use Rattle.fraction_rows.specs.FractionRows.{fraction_items, whole_fits, f
 use bare_rows::bare_fits;
 use number_rows::number_row;
 use scans::{find_tag, has_tag};
-use table_words::runs::{run_end, run_start};
+use table_words::runs::{is_place, run_end, run_start};
 use tables::{kinds, tags};
-use values::integers::is_between;
 
 // A literal stands behind the last place: it is met first, from the end.
 fn literal_follows(words: &[u16]) -> bool
     ensures { result ≡ literal_follows (items_at (entries_in words.now)) }
 {
-    let mut k = words.len() / 2;
-    while 0 < k {
-        let j = k - 1;
-        let tag = words[2 * j];
+    for k in (0..words.len() / 2).rev() {
+        let tag = words[2 * k];
         if tag == tags::LITERAL {
             return true;
         }
-        if (tags::ZERO_PLACE <= tag) & (tag <= tags::SPACE_PLACE) {
+        if is_place(tag) {
             return false;
         }
-        k = j;
     }
     true
 }
@@ -41,8 +37,10 @@ fn is_whole(words: &[u16]) -> bool
     if bare_fits(words, kinds::LITERAL) {
         return true;
     }
-    let row = number_row(words);
-    if !(row.fits & (row.percents == 0)) | has_tag(words, tags::POINT) {
+    let Some(row) = number_row(words) else {
+        return false;
+    };
+    if (row.percents != 0) | has_tag(words, tags::POINT) {
         return false;
     }
     literal_follows(words)
@@ -52,8 +50,10 @@ fn is_whole(words: &[u16]) -> bool
 fn is_run(words: &[u16]) -> bool
     ensures { result ≡ run_fits (entries_in words.now) }
 {
-    let row = number_row(words);
-    if !(row.fits & (row.percents == 0) & (row.integers <= 3)) {
+    let Some(row) = number_row(words) else {
+        return false;
+    };
+    if (row.percents != 0) | (3 < row.integers) {
         return false;
     }
     if has_tag(words, tags::POINT) {
@@ -66,39 +66,21 @@ fn is_run(words: &[u16]) -> bool
 fn is_denominator(words: &[u16]) -> bool
     ensures { result ≡ (fixed_fits (entries_in words.now) || run_fits (entries_in words.now)) }
 {
-    if words.len() < 2 {
-        return false;
+    match words {
+        [tags::FIXED, a, rest @ ..] => (1..=999).contains(a) && bare_fits(rest, kinds::LITERAL),
+        _ => is_run(words),
     }
-    if words[0] != tags::FIXED {
-        return is_run(words);
-    }
-    if !is_between(1, 999, words[1]) {
-        return false;
-    }
-    bare_fits(&words[2..], kinds::LITERAL)
 }
 
 // One fill stands in all parts.
 fn parts_fit(whole: &[u16], numerator: &[u16], a: u16, denominator: &[u16]) -> bool
     ensures { result ≡ parts_fit (entries_in whole.now) (entries_in numerator.now) a (entries_in denominator.now) }
 {
-    if a != 0 {
-        return false;
-    }
-    let row = number_row(numerator);
-    if !row.fits {
-        return false;
-    }
-    if !is_whole(whole) {
-        return false;
-    }
-    if !is_denominator(denominator) {
-        return false;
-    }
-    if has_tag(whole, tags::FILL) {
-        return !has_tag(denominator, tags::FILL);
-    }
-    true
+    a == 0
+        && number_row(numerator).is_some()
+        && is_whole(whole)
+        && is_denominator(denominator)
+        && !(has_tag(whole, tags::FILL) && has_tag(denominator, tags::FILL))
 }
 
 // The items before and behind a solidus with this argument.

@@ -1,6 +1,7 @@
 -- `fraction_rows::literal_follows` meets its contract. The invariant, `Bare`: behind stands neither place nor literal.
 -- Assumes nothing.
 use native.Mathlib.Omega.{arith}
+use mathlib.Core.Path.{sym, ◌∙◌}
 use borrow.Author.Tests.{ne_eqb}
 use Rattle.fraction_rows.proofs.FractionLoops.{bare-start, bare-literal, bare-place, bare_step, bare-end}
 use Rattle.fraction_rows.proofs.literal_follows.Goals as goal
@@ -13,12 +14,12 @@ returns-then-tag-eq-LITERAL c =
     let e = c.if-tag-eq-LITERAL.true in
     bare-literal c.loop-k.invariant c.loop-k-test.true (omega arith)
 
-pub returns-then-tag : goal.returns-then-tag
-returns-then-tag c = bare-place c.loop-k.invariant c.loop-k-test.true c.if-tag.true
+pub returns-then-is_place : goal.returns-then-is_place
+returns-then-is_place c = bare-place c.loop-k.invariant c.loop-k-test.true (sym c.is_place.ensures ∙ c.if-is_place.true)
 
 pub loop-k-preserved : goal.loop-k-preserved
 loop-k-preserved c =
-    bare_step c.loop-k.invariant c.loop-k-test.true (ne_eqb _ _ c.if-tag-eq-LITERAL.false) c.if-tag.false
+    bare_step c.loop-k.invariant c.loop-k-test.true (ne_eqb _ _ c.if-tag-eq-LITERAL.false) (sym c.is_place.ensures ∙ c.if-is_place.false)
 
 pub returns : goal.returns
 returns c = bare-end c.loop-k.invariant c.loop-k-test.false
