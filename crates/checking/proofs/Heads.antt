@@ -3,14 +3,14 @@
 use Prim.Native.Nat.{ℕ, ◌+◌, ◌-◌, ◌*◌, ◌/◌, ◌<◌}
 use native.Mathlib.Omega.{arith}
 use mathlib.Core.Path.{◌≡◌, refl, sym, ◌∙◌, ap}
-use mathlib.Core.Bool.{true, ◌&&◌}
+use mathlib.Core.Bool.{Bool, true, false, ◌&&◌, beq}
 use lib.Dec.{T, leb, eqb, eqb→eq}
 use borrow.Author.Tests.{eq-eqb}
 use Rattle.lists.proofs.Bools.{and_left, and_right, same_test, true-T}
 use Rattle.tables.specs.Words.{Head}
 use Rattle.tables.specs.Decode.{two_words, whole_at, millionths_at, thousands_at}
 use Rattle.tables.specs.Rules.{shift_tells}
-use Rattle.checking.specs.Checking.{compared_told, condition_told}
+use Rattle.checking.specs.Checking.{agree, compared_told, condition_told}
 
 -- no condition, and its words: their sum is 0 where each is
 none-compared : (negative a b c d : ℕ)
@@ -59,3 +59,10 @@ pub shift-told : (shift percents t : ℕ) → t ≡ thousands_at shift percents
     → (leb t 5 && eqb (shift + 3 * t) (15 + 2 * percents)) ≡ shift_tells shift percents
 unfolding shift_tells
 shift-told shift percents t e = rw e
+
+-- two answers that are equal
+pub agree-told : (a b : Bool) → beq a b ≡ agree a b
+agree-told true true = refl
+agree-told true false = refl
+agree-told false true = refl
+agree-told false false = refl

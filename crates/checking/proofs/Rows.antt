@@ -27,8 +27,8 @@ use Rattle.tables.proofs.Standing.{same_word, kind-most, number_word}
 use Rattle.date_rows.specs.declared.DatedRow.{DatedRow}
 use Rattle.number_rows.specs.declared.NumberRow.{NumberRow}
 use Rattle.tallies.specs.Tally.{makes_fraction, sound_entries, items_of}
-use Rattle.date_rows.specs.DateRows.{DateTold}
-use Rattle.number_rows.specs.NumberRows.{number_items, NumberTold}
+use Rattle.date_rows.specs.DateRows.{DateCounts}
+use Rattle.number_rows.specs.NumberRows.{number_items, NumberCounts}
 use Rattle.scientific_rows.specs.ScientificRows.{scientific_items}
 use Rattle.fraction_rows.specs.FractionRows.{fraction_items}
 use Rattle.tallies.proofs.Places.{places-counted}
@@ -493,22 +493,20 @@ module _ (h : Head) (es : List Entry) where
   other-answer k n front half same held = sym (and-true (other_told h half)) ∙ rw held at (row_other k n front half same)
 
   -- by what the items and the tests of the head answered
-  pub no_number_lem : h.kind ≡ 2 → Front h → (n : NumberRow) → NumberTold es n → n.fits ≡ false → false ≡ row_good row
-  no_number_lem k front n t e = rw (sym t.fits ∙ e) at (row_number k front)
+  pub no_number_lem : h.kind ≡ 2 → Front h → number_items es ≡ false → false ≡ row_good row
+  no_number_lem k front e = rw e at (row_number k front)
 
-  pub number-answer : h.kind ≡ 2 → Front h → (n : NumberRow) → NumberTold es n → n.fits ≡ true
+  pub number-answer : h.kind ≡ 2 → Front h → (n : NumberRow) → NumberCounts es n
       → (r : Bool) → r ≡ number_told h n.integers n.decimals n.percents → r ≡ row_good row
-  number-answer k front n t e r told =
-      told ∙ rw (t.integers e, t.decimals e, t.percents e) (rw (sym t.fits ∙ e) at (row_number k front))
+  number-answer k front n t r told = told ∙ rw (t.integers, t.decimals, t.percents) (rw t.fits at (row_number k front))
 
-  pub no-dated : h.kind ≡ 4 → (n : DatedRow) → DateTold es n → n.fits ≡ false → false ≡ row_good row
-  no-dated k n t e = refused (λ r c. carry (ap (λ (x : ℕ). items_of x es) k ∙ sym t.fits ∙ e) (items-out r))
+  pub no-dated : h.kind ≡ 4 → items_of 4 es ≡ false → false ≡ row_good row
+  no-dated k e = refused (λ r c. carry (ap (λ (x : ℕ). items_of x es) k ∙ e) (items-out r))
 
-  pub dated-answer : h.kind ≡ 4 → Front h → (n : DatedRow) → DateTold es n → n.fits ≡ true
-      → (r : Bool) → r ≡ other_told h n.halves → r ≡ row_good row
-  dated-answer k front n t f r e =
-      let held : other_items h.kind es ≡ true = unfold other_items in (ap (λ (x : ℕ). other_items x es) k ∙ sym t.fits ∙ f) in
-      e ∙ other-answer (λ x. absurd (omega (arith, k, x))) (λ x. absurd (omega (arith, k, x))) front n.halves (λ i. t.halves f) held
+  pub dated-answer : h.kind ≡ 4 → Front h → (n : DatedRow) → DateCounts es n → (r : Bool) → r ≡ other_told h n.halves → r ≡ row_good row
+  dated-answer k front n t r e =
+      let held : other_items h.kind es ≡ true = unfold other_items in (ap (λ (x : ℕ). other_items x es) k ∙ t.fits) in
+      e ∙ other-answer (λ x. absurd (omega (arith, k, x))) (λ x. absurd (omega (arith, k, x))) front n.halves (λ i. t.halves) held
 
   -- no kind has a number above 6
   no_kind : 6 < h.kind → items_of h.kind es ≡ false

@@ -1,7 +1,7 @@
 // Whether words are a table: every table rule, those for items by a walk for each sort of section.
 #![tactic(auto)]
 
-ghost use Rattle.std.specs.Prelude.{◌≡◌, false, ◌&&◌, ◌+◌, ◌*◌, ◌≤◌, ◌<◌, eqb, length, get_or, drop};
+ghost use Rattle.std.specs.Prelude.{◌≡◌, MatchOption, false, ◌&&◌, ◌+◌, ◌*◌, ◌≤◌, ◌<◌, eqb, length, get_or, drop};
 ghost use Rattle.formats.specs.Minus.{exception_a};
 ghost use Rattle.lists.specs.Lists.{every};
 ghost use Rattle.tables.specs.Words.{head_at, entries_in, heads_in, rows_in, items_said};
@@ -10,21 +10,15 @@ ghost use Rattle.tables.specs.Decode.{thousands_at};
 ghost use Rattle.tables.specs.Rules.{shift_tells, passes};
 ghost use Rattle.table_words.specs.Sections.{head_from};
 ghost use Rattle.fraction_rows.specs.FractionRows.{fraction_items};
-ghost use Rattle.checking.specs.Checking.{agree, sized, Sized, compared_told, condition_told, number_told, scientific_told, other_told, cut_told, row_with, row_good, compared_stands, plain_fits, place_fits, kinds_in, places_fit};
+ghost use Rattle.checking.specs.Checking.{sized, Sized, compared_told, condition_told, number_told, scientific_told, other_told, cut_told, row_with, row_good, compared_stands, plain_fits, place_fits, kinds_in, places_fit};
 
 use bare_rows::bare_fits;
 use date_rows::dated_row;
 use fraction_rows::fraction_row;
 use number_rows::{NumberRow, number_row};
 use scientific_rows::{ScientificRow, scientific_row};
-use table_words::{HeadWords, head_at, number, section_count};
+use table_words::{HeadWords, Table, head_at, number, section_count};
 use tables::{flags, heads, kinds};
-
-fn agree(a: bool, b: bool) -> bool
-    ensures { result ≡ agree a b }
-{
-    (a & b) | (!a & !b)
-}
 
 // No number without a comparison, no sign without a number.
 fn compared_fits(operator: u16, negative: u16, whole: u32, millionths: u32) -> bool
@@ -35,7 +29,7 @@ fn compared_fits(operator: u16, negative: u16, whole: u32, millionths: u32) -> b
         & (negative <= 1)
         & (whole <= 999999999)
         & (millionths <= 999999)
-        & (!(operator == 0) | ((negative == 0) & (whole == 0) & (millionths == 0)))
+        & ((operator != 0) | ((negative == 0) & (whole == 0) & (millionths == 0)))
         & (!nothing | (negative == 0))
 }
 
@@ -91,7 +85,7 @@ fn number_fits(h: HeadWords, items: NumberRow) -> bool
     }
     (h.decimals == items.decimals)
         & (h.flags < flags::TWELVE_HOUR)
-        & (!(h.flags % 2 == flags::GROUPING) | (2 <= items.integers))
+        & ((h.flags % 2 != flags::GROUPING) | (2 <= items.integers))
 }
 
 // Those of a scientific section's: nothing is shifted, and no digits are grouped.
@@ -110,18 +104,15 @@ fn other_fits(h: HeadWords, half: bool) -> bool
     (h.shift == 0)
         & (h.decimals == 0)
         & (h.flags <= flags::ALL)
-        & !(h.flags % 2 == flags::GROUPING)
-        & agree(flags::TWELVE_HOUR <= h.flags, half)
+        & (h.flags % 2 != flags::GROUPING)
+        & ((flags::TWELVE_HOUR <= h.flags) == half)
 }
 
 // The items of a fraction, where that is the kind.
 fn is_fraction(items: &[u16], kind: u16) -> bool
     ensures { result ≡ (eqb kind 6 && fraction_items (entries_in items.now)) }
 {
-    if kind == kinds::FRACTION {
-        return fraction_row(items);
-    }
-    false
+    kind == kinds::FRACTION && fraction_row(items)
 }
 
 // What is left to test of section i, which is scientific, a fraction or of no kind.
@@ -131,10 +122,9 @@ fn cut_fits(table: &[u16], i: usize, items: &[u16]) -> bool
 {
     let h = head_at(table, i);
     if h.kind == kinds::SCIENTIFIC {
-        let row = scientific_row(items);
-        if !row.fits {
+        let Some(row) = scientific_row(items) else {
             return false;
-        }
+        };
         return scientific_fits(h, row);
     }
     if !is_fraction(items, h.kind) {
@@ -157,17 +147,15 @@ fn row_fits(table: &[u16], i: usize, items: &[u16]) -> bool
         return false;
     }
     if h.kind == kinds::NUMBER {
-        let row = number_row(items);
-        if !row.fits {
+        let Some(row) = number_row(items) else {
             return false;
-        }
+        };
         return number_fits(head_at(table, i), row);
     }
     if h.kind == kinds::DATE_TIME {
-        let row = dated_row(items);
-        if !row.fits {
+        let Some(row) = dated_row(items) else {
             return false;
-        }
+        };
         return other_fits(head_at(table, i), row.halves);
     }
     if kinds::SCIENTIFIC <= h.kind {
@@ -185,11 +173,9 @@ fn items_said(table: &[u16], n: usize) -> usize
     ensures { (result ≡ items_said (heads_in table.now)) × (result ≤ 262140) }
 {
     let mut sum: usize = 0;
-    let mut i: usize = 0;
-    while i < n {
+    for i in 0..n {
         let h = head_at(table, i);
         sum += h.items as usize;
-        i += 1;
     }
     sum
 }
@@ -203,10 +189,7 @@ fn is_sized(table: &[u16]) -> bool
         return false;
     }
     let n = section_count(table);
-    if n == 0 {
-        return false;
-    }
-    if 4 < n {
+    if !(1..=4).contains(&n) {
         return false;
     }
     if length < 1 + heads::WORDS * n {
@@ -223,26 +206,22 @@ fn rows_fit(table: &[u16]) -> bool
 {
     let n = section_count(table);
     let mut at = 1 + heads::WORDS * n;
-    let mut i: usize = 0;
-    while i < n {
+    for i in 0..n {
         let h = head_at(table, i);
         let end = at + 2 * h.items as usize;
         if !row_fits(table, i, &table[at..end]) {
             return false;
         }
         at = end;
-        i += 1;
     }
     true
 }
 
+#[tactic(auto, using(std::proofs::lemmas::Bool::Decides::nat_tests), unfolding(tables::specs::Standing::counted_one))]
 fn counted_one(i: usize, kind: u16) -> u16
     ensures { result ≡ counted_one i kind }
 {
-    if (kind == kinds::TEXT) | (i == 3) {
-        return 0;
-    }
-    1
+    u16::from((kind != kinds::TEXT) & (i != 3))
 }
 
 // N, by the kind words.
@@ -251,11 +230,9 @@ fn counted(table: &[u16], n: usize) -> u16
     ensures { result ≡ counted_kinds 0 (kinds_in (heads_in table.now)) }
 {
     let mut count: u16 = 0;
-    let mut i: usize = 0;
-    while i < n {
+    for i in 0..n {
         let h = head_at(table, i);
         count += counted_one(i, h.kind);
-        i += 1;
     }
     count
 }
@@ -264,7 +241,7 @@ fn counted(table: &[u16], n: usize) -> u16
 fn compared_stands(n: usize, i: usize, kind: u16) -> bool
     ensures { result ≡ compared_stands n i kind }
 {
-    !(kind == kinds::TEXT) & ((!(n == 1) | (kind == kinds::GENERAL)) & (i < 2))
+    (kind != kinds::TEXT) & (((n != 1) | (kind == kinds::GENERAL)) & (i < 2))
 }
 
 // Exception (a) of the added minus, of the second section, which has no condition.
@@ -287,11 +264,11 @@ fn plain_fits(
     requires { i ≤ 3 }
     ensures { result ≡ plain_fits n counted first_has i kind colour flag }
 {
-    if (kind == kinds::TEXT) & !(i + 1 == n) {
+    if (kind == kinds::TEXT) & (i + 1 != n) {
         return false;
     }
     if i == 1 {
-        return agree(flag, excepted(counted, first_has));
+        return flag == excepted(counted, first_has);
     }
     if i == 3 {
         return !flag
@@ -326,14 +303,12 @@ fn places_fit(table: &[u16]) -> bool
     }
     let counted = counted(table, n);
     let first = head_at(table, 0);
-    let first_has = !(first.operator == 0);
-    let mut i: usize = 0;
-    while i < n {
+    let first_has = first.operator != 0;
+    for i in 0..n {
         let h = head_at(table, i);
         if !place_fits(n, counted, first_has, i, h) {
             return false;
         }
-        i += 1;
     }
     true
 }
@@ -349,4 +324,14 @@ pub fn check(table: &[u16]) -> bool
         return false;
     }
     places_fit(table)
+}
+
+// The words as a table, where they are one.
+pub fn table_of(words: &[u16]) -> Option<Table<'_>>
+    ensures { MatchOption result (passes words.now ≡ false) (λ t. t.words.now ≡ words.now) }
+{
+    if check(words) {
+        return Some(Table { words });
+    }
+    None
 }

@@ -5,7 +5,6 @@ use Prim.Native.Nat.{ℕ, ◌<◌}
 use mathlib.Core.Path.{◌≡◌, sym, ap, ◌∙◌}
 use mathlib.Core.Bool.{Bool, not}
 use mathlib.Core.List.{List}
-use borrow.Author.Tests.{not-true, not-false}
 use Rattle.tables.specs.Words.{Entry}
 use Rattle.tables.proofs.Ranges.{head-ranges}
 use Rattle.table_words.specs.Sections.{head_from}
@@ -28,32 +27,31 @@ returns-then-not-condition_fits c =
     rowed _ _ _ _ c.head_at-h.ensures
     (refused (head_from c.head_at-h.result) _ (λ r t. carry (sym c.condition_fits.ensures ∙ c.if-not-condition_fits.true) t))
 
-pub returns-then-not-row : goal.returns-then-not-row
-returns-then-not-row c =
+pub returns-in_default : goal.returns-in_default
+returns-in_default c =
     let h = c.head_at-h in
     let front : Front (head_from h.result) = front_of h.result _ h.ensures c.requires.2 (omega arith) (omega arith) (sym c.condition_fits.ensures ∙ c.if-not-condition_fits.false) in
-    rowed _ _ _ _ h.ensures
-    (no_number_lem (head_from h.result) _ c.if-h-eq-NUMBER.true front _ c.number_row-row.ensures (not-true _ c.if-not-row.true))
+    rowed _ _ _ _ h.ensures (no_number_lem (head_from h.result) _ c.if-h-eq-NUMBER.true front c.in_default.ensures)
 
 pub returns-then-h-eq-NUMBER : goal.returns-then-h-eq-NUMBER
 returns-then-h-eq-NUMBER c =
     let h = c.head_at-h in
     let front : Front (head_from h.result) = front_of h.result _ h.ensures c.requires.2 (omega arith) (omega arith) (sym c.condition_fits.ensures ∙ c.if-not-condition_fits.false) in
     rowed _ _ _ _ h.ensures
-    (number-answer (head_from h.result) _ c.if-h-eq-NUMBER.true front _ c.number_row-row.ensures (not-false _ c.if-not-row.false) _
+    (number-answer (head_from h.result) _ c.if-h-eq-NUMBER.true front _ c.in-Some.ensures _
     (number-again _ _ _ h.ensures c.head_at.ensures _ _ _ _ c.number_fits.ensures))
 
-pub returns-then-not-row-2 : goal.returns-then-not-row-2
-returns-then-not-row-2 c =
+pub returns-in_default-dated_row : goal.returns-in_default-dated_row
+returns-in_default-dated_row c =
     let h = c.head_at-h in
-    rowed _ _ _ _ h.ensures (no-dated (head_from h.result) _ c.if-h-eq-DATE_TIME.true _ c.dated_row-row.ensures (not-true _ c.if-not-row-2.true))
+    rowed _ _ _ _ h.ensures (no-dated (head_from h.result) _ c.if-h-eq-DATE_TIME.true c.in_default-dated_row.ensures)
 
 pub returns-then-h-eq-DATE_TIME : goal.returns-then-h-eq-DATE_TIME
 returns-then-h-eq-DATE_TIME c =
     let h = c.head_at-h in
     let front : Front (head_from h.result) = front_of h.result _ h.ensures c.requires.2 (omega arith) (omega arith) (sym c.condition_fits.ensures ∙ c.if-not-condition_fits.false) in
     rowed _ _ _ _ h.ensures
-    (dated-answer (head_from h.result) _ c.if-h-eq-DATE_TIME.true front _ c.dated_row-row.ensures (not-false _ c.if-not-row-2.false) _
+    (dated-answer (head_from h.result) _ c.if-h-eq-DATE_TIME.true front _ c.in-Some-dated_row.ensures _
     (other-again _ _ _ h.ensures c.head_at-then-h-eq-DATE_TIME.ensures _ _ c.other_fits.ensures))
 
 pub returns-then-h-ge-SCIENTIFIC : goal.returns-then-h-ge-SCIENTIFIC

@@ -12,9 +12,9 @@ returns-in_default c = whole-none _ (sym (literal-told _ c.bare_fits.ensures) �
 
 pub returns-then-row-has_tag : goal.returns-then-row-has_tag
 returns-then-row-has_tag c =
-    whole-refused _ _ c.in-Some.ensures (sym (literal-told _ c.bare_fits.ensures) ∙ c.if-bare_fits.false) (rw (← c.has_tag.ensures) c.if-row-has_tag.true)
+    whole-refused _ _ c.in-Some.ensures (sym (literal-told _ c.bare_fits.ensures) ∙ c.if-bare_fits.false) (rw c.has_tag.ensures at c.if-row-has_tag.true)
 
 pub returns : goal.returns
 returns c =
     c.literal_follows.ensures
-    ∙ whole-literal _ _ c.in-Some.ensures (sym (literal-told _ c.bare_fits.ensures) ∙ c.if-bare_fits.false) (rw (← c.has_tag.ensures) c.if-row-has_tag.false)
+    ∙ whole-literal _ _ c.in-Some.ensures (sym (literal-told _ c.bare_fits.ensures) ∙ c.if-bare_fits.false) (rw c.has_tag.ensures at c.if-row-has_tag.false)
