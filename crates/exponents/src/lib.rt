@@ -10,8 +10,6 @@ ghost use Rattle.figures.specs.Rounder.{Roundable};
 ghost use Rattle.exponents.specs.Exponent.{decimal, exponent_of, mantissa_of, mantissa_exactly};
 ghost use Rattle.exponents.specs.Leading.{MultipleBy, Leading, Next};
 
-use values::integers::excess;
-
 // The digits of the mantissa, whether it is exact, the exponent's distance from 0 and whether it is below 0.
 #[derive(Clone, Copy)]
 pub struct Scientific {
@@ -21,7 +19,8 @@ pub struct Scientific {
     pub below: bool,
 }
 
-// An exponent as its distance below 0 and its distance above 0, one of which is 0.
+// An exponent as its distance below 0 and its distance above 0, one of which is 0. (Both are kept, and no sign: the rounder takes one as a
+// power up and the other as a power down.)
 #[derive(Drop)]
 struct Power {
     under: u32,
@@ -53,17 +52,15 @@ fn next_multiple(e: Power, integers: u32) -> Power
     requires { (MultipleBy integers e.under e.over) × (integers ≤ 20) × (e.over ≤ 14) }
     ensures { Next integers e.under e.over result.under result.over }
 {
-    let under = e.under;
-    let over = e.over;
-    if 0 < under {
+    if 0 < e.under {
         return Power {
-            under: under - integers,
-            over,
+            under: e.under - integers,
+            ..e
         };
     }
     Power {
-        under,
-        over: over + integers,
+        over: e.over + integers,
+        ..e
     }
 }
 
@@ -76,8 +73,8 @@ fn rounded_by(m: u64, up: u32, down: u32, decimals: u32, exact: &mut bool) -> [u
     figures::round(
         [0; 40],
         m,
-        excess(up, down),
-        excess(down, up),
+        up.saturating_sub(down),
+        down.saturating_sub(up),
         decimals,
         exact,
     )
@@ -106,12 +103,11 @@ fn told(digits: [u8; 40], exact: bool, e: Power) -> Scientific
     requires { e.under + e.over ≤ 100 }
     ensures { (result.digits ≡ digits) × (result.exact ≡ exact) × (result.exponent ≡ e.under + e.over) × (result.below ≡ ltb 0 e.under) }
 {
-    let under = e.under;
     Scientific {
         digits,
         exact,
-        exponent: under + e.over,
-        below: 0 < under,
+        exponent: e.under + e.over,
+        below: 0 < e.under,
     }
 }
 

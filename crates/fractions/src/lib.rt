@@ -44,10 +44,7 @@ fn steps(wanted: u64, room: u64, step: u64) -> u64
     ensures { result ≡ min wanted (room / step) }
 {
     let length = wanted * step;
-    if length <= room {
-        return wanted;
-    }
-    room / step
+    if length <= room { wanted } else { room / step }
 }
 
 // The near side moved towards the far one.
@@ -55,17 +52,11 @@ fn moved(near: Side, far: Side, most: u64) -> Side
     requires { Movable near far most }
     ensures { result ≡ moved_to near far most }
 {
-    let above = near.above;
-    let below = near.below;
-    let rest = near.rest;
-    let far_above = far.above;
-    let far_below = far.below;
-    let far_rest = far.rest;
-    let k = steps(rest / far_rest, most - below, far_below);
+    let k = steps(near.rest / far.rest, most - near.below, far.below);
     Side {
-        above: above + k * far_above,
-        below: below + k * far_below,
-        rest: rest - k * far_rest,
+        above: near.above + k * far.above,
+        below: near.below + k * far.below,
+        rest: near.rest - k * far.rest,
     }
 }
 
@@ -85,16 +76,8 @@ fn preferred(low: Side, high: Side) -> Fraction
 {
     let to_low = low.rest * high.below;
     let to_high = high.rest * low.below;
-    if to_low < to_high {
-        return fraction_at(low);
-    }
-    if to_high < to_low {
-        return fraction_at(high);
-    }
-    if low.below < high.below {
-        return fraction_at(low);
-    }
-    fraction_at(high)
+    let order = to_low.cmp(&to_high).then(low.below.cmp(&high.below));
+    fraction_at(if order.is_lt() { low } else { high })
 }
 
 // The fraction nearest to rest / whole with a denominator up to most. Two neighbours close in on the number: no fraction between them has a denominator
@@ -127,30 +110,30 @@ fn nearest_part(rest: u64, whole: u64, most: u64) -> Fraction
 }
 
 // The whole number and the fraction of the part behind the point, or both as one fraction.
+#[tactic(auto, unfolding(crate::specs::Moves::told_of, crate::specs::Moves::shifted, crate::specs::Fractions::carried, crate::specs::Fractions::unparted))]
 fn told(whole: u64, part: Fraction, parted: bool) -> Mixed
     requires { (whole < 10 ^ 15) × (part.above ≤ 999) × (part.below ≤ 999) }
     ensures { result ≡ told_of parted whole part }
 {
-    let above = part.above;
-    let below = part.below;
-    if parted {
-        if above == below {
-            return Mixed {
-                whole: whole + 1,
-                above: 0,
-                below,
-            };
+    let Fraction { above, below } = part;
+    if !parted {
+        Mixed {
+            whole: 0,
+            above: above + whole * below,
+            below,
         }
-        return Mixed {
+    } else if above == below {
+        Mixed {
+            whole: whole + 1,
+            above: 0,
+            below,
+        }
+    } else {
+        Mixed {
             whole,
             above,
             below,
-        };
-    }
-    Mixed {
-        whole: 0,
-        above: above + whole * below,
-        below,
+        }
     }
 }
 
@@ -159,9 +142,7 @@ fn is_met(part: Fraction, rest: u64, whole: u64) -> bool
     requires { (part.above ≤ 999) × (part.below ≤ 999) × (rest < whole) × (whole ≤ 10 ^ 15) }
     ensures { result ≡ eqb (part.above * whole) (rest * part.below) }
 {
-    let above = part.above;
-    let below = part.below;
-    above * whole == rest * below
+    part.above * whole == rest * part.below
 }
 
 // The nearest fraction of m / 10^scale with a denominator of so many digits at most.
@@ -186,7 +167,7 @@ pub fn fixed_fraction(m: u64, scale: u32, parted: bool, fixed: u32) -> Nearest
     ensures exact { result.exact ≡ mixed_exactly (decimal m scale) result.mixed }
 {
     let unit = figures::power(scale);
-    let below = fixed as u64;
+    let below = u64::from(fixed);
     let q = figures::divided(m % unit * below, scale);
     let part = Fraction {
         above: q.nearest,

@@ -15,12 +15,12 @@ nonzero_div-m c = unit-pos c.args.m c.args.scale c.power-unit.ensures
 pub told-requires : goal.told-requires
 told-requires c =
     let a = c.args in
-    omega (arith, fixed-small a.m a.scale c.power-unit.ensures c.requires.3 c.divided-q.ensures.nearest, div-le_self a.m c.power-unit.result)
+    omega (arith, fixed-small a.m a.scale c.power-unit.ensures c.requires.3 (rw c.from-below.ensures at c.divided-q.ensures.nearest), div-le_self a.m c.power-unit.result)
 
 pub returns-clause-mixed : goal.returns-clause-mixed
 returns-clause-mixed c =
     let a = c.args in
-    let q = c.divided-q.ensures in told_over a.m a.scale c.power-unit.ensures _ _ c.told.ensures q.nearest
+    let q = c.divided-q.ensures in rw (← c.from-below.ensures) (told_over a.m a.scale c.power-unit.ensures _ _ c.told.ensures q.nearest)
 
 pub returns-clause-exact : goal.returns-clause-exact
 returns-clause-exact c =
