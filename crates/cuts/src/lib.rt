@@ -9,21 +9,17 @@ ghost use Rattle.figures.specs.General.{general_decimals, general_rounded};
 ghost use Rattle.exponents.specs.Exponent.{decimal};
 ghost use Rattle.cuts.specs.Cut.{decimals_cut, general_cut, mantissa_cut};
 
-use values::integers::excess;
-
 // Of m times 10^up / 10^down, where so many decimals are kept: the digits behind them, without the zeros at the end of m.
 pub fn decimals_cut(m: u64, up: u32, down: u32, kept: u32) -> u16
     requires { (up ≤ 100) × (down ≤ 30) × (kept ≤ 15) }
     ensures { result ≡ decimals_cut (powered m up down) kept }
 {
     let mut rest = m;
-    let mut k = excess(down, up + kept);
-    while 0 < k {
+    for k in (0..down.saturating_sub(up + kept)).rev() {
         if rest % 10 != 0 {
-            return k as u16;
+            return (k + 1) as u16;
         }
-        rest = rest / 10;
-        k -= 1;
+        rest /= 10;
     }
     0
 }
@@ -35,10 +31,10 @@ pub fn rounds_to_nought(m: u64, up: u32, down: u32, kept: u32) -> bool
 {
     let digits = up + kept;
     if digits < down {
-        let q = figures::divided(m, down - digits);
-        return q.nearest == 0;
+        figures::divided(m, down - digits).nearest == 0
+    } else {
+        m == 0
     }
-    m == 0
 }
 
 // To how many decimals General rounds m / 10^scale.
@@ -46,8 +42,7 @@ fn general_kept(m: u64, scale: u32) -> u32
     requires { scale ≤ 15 }
     ensures { (result ≤ 15) × (result ≡ general_decimals (powered m 0 scale)) }
 {
-    let n = figures::width_of(m / figures::power(scale));
-    excess(10, n)
+    10u32.saturating_sub(figures::width_of(m / figures::power(scale)))
 }
 
 // Of m / 10^scale, as General rounds it.
@@ -72,9 +67,9 @@ pub fn scientific_cut(m: u64, scale: u32, integers: u32, decimals: u32) -> u16
     ensures { result ≡ mantissa_cut (decimal m scale) integers decimals }
 {
     let x = exponents::round_scientific(m, scale, integers, decimals);
-    let e = x.exponent;
     if x.below {
-        return decimals_cut(m, e, scale, decimals);
+        decimals_cut(m, x.exponent, scale, decimals)
+    } else {
+        decimals_cut(m, 0, scale + x.exponent, decimals)
     }
-    decimals_cut(m, 0, scale + e, decimals)
 }

@@ -5,9 +5,9 @@ use mathlib.Core.Bool.{true, false}
 use Prim.Native.Nat.{ℕ, ◌+◌, ◌-◌, ◌*◌, ◌/◌, ◌%◌, ◌^◌, ◌≤◌, ◌<◌}
 use native.Mathlib.Nat.{div-add-mod', mod-lt, eq_of_mul-eq-mul_right, mul_assoc, mul_right_comm, zero-mul}
 use native.Mathlib.Omega.{arith}
-use borrow.Author.Tests.{eqb-true, eqb-false, eq-eqb, ne_eqb}
+use borrow.Author.Tests.{leb-true, leb-false, eqb-true, eqb-false, eq-eqb, ne_eqb}
 use lib.Pow.{pow-add}
-use lib.Dec.{eqb}
+use lib.Dec.{leb, eqb}
 use Rattle.lists.proofs.Bools.{by_cases}
 use Rattle.figures.specs.Rounding.{Magnitude, nearest, rounded, rounds_exactly}
 use Rattle.figures.specs.General.{general_decimals, general_rounded, general_exactly}
@@ -106,3 +106,12 @@ module _ (m p k : ℕ) (e : p ≡ 10 ^ k) where
       let whole = div-add-mod' m p in
       eqb_same {a = m % p} {b = 0} {c = m / p * p} {d = m} (λ f. omega (arith, whole)) (λ f. omega (arith, whole))
       ∙ exactly-by (m / p) (nearest-down m p h)
+
+  pub exactly_at : eqb (m % p) 0 ≡ eqb (nearest m (10 ^ k) * 10 ^ k) m
+  exactly_at =
+      by_cases (leb (p - m % p) (m % p))
+      (λ t.
+      let h = leb-true (p - m % p) (m % p) t in
+      let pos = power_pos m p k e in
+      ne_eqb (m % p) 0 (λ z. omega arith) ∙ up-exactly (omega arith))
+      (λ f. let h = leb-false (p - m % p) (m % p) f in down-exactly (omega arith))

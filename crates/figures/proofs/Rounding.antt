@@ -2,8 +2,12 @@
 -- Assumes nothing.
 use mathlib.Core.Path.{◌≡◌, sym, ap, ap₂, ◌∙◌}
 use Prim.Native.Nat.{ℕ, suc, ◌+◌, ◌-◌, ◌*◌, ◌/◌, ◌%◌, ◌^◌, ◌≤◌, ◌<◌}
-use native.Mathlib.Nat.{add_comm, div-eq_of_lt-le, div-add-mod', mod-lt, mul-le-mul_left, mul-le-mul_right, mul-lt-mul_of_pos_right, mul_left_comm, mul_right_comm, suc-mul, lt_of_lt_of_le, lt_of_le_of_lt, le_of_suc-le-suc, div-lt_iff_lt-mul, le-div_iff_mul-le, div-mul-le_self, lt-div-mul-add, mul_assoc, mul_comm, one-mul, add-mul, mul-mod_left, mul-div-mul_right, div-eq_of_lt}
+use native.Mathlib.Nat.{add-zero, add_comm, div-eq_of_lt-le, div-add-mod', mod-lt, mul-le-mul_left, mul-le-mul_right, mul-lt-mul_of_pos_right, mul_left_comm, mul_right_comm, suc-mul, lt_of_lt_of_le, lt_of_le_of_lt, le_of_suc-le-suc, div-lt_iff_lt-mul, le-div_iff_mul-le, div-mul-le_self, lt-div-mul-add, mul_assoc, mul_comm, one-mul, add-mul, mul-mod_left, mul-div-mul_right, div-eq_of_lt}
 use native.Mathlib.Omega.{arith}
+use lib.Dec.{leb}
+use borrow.Author.Tests.{leb-true, leb-false}
+use Rattle.lists.proofs.Bools.{by_cases}
+use Rattle.std.specs.Int.{from_bool}
 use lib.Pow.{pow-add}
 use Rattle.figures.specs.Rounder.{Roundable}
 use Rattle.figures.specs.Rounding.{Magnitude, scaled, nearest, rounded}
@@ -188,5 +192,12 @@ module _ (m p k : ℕ) (e : p ≡ 10 ^ k) where
   pub divided-down : 2 * (m % p) < p → m / p ≡ nearest m (10 ^ k)
   divided-down h = sym (nearest-down m p h) ∙ ap (nearest m) e
 
-  pub divided-fits : m < 2 ^ 64 → p ≤ 2 * (m % p) → m / p + 1 < 2 ^ 64
-  divided-fits fits h = rw (← nearest-up m p power_pos h) (lt_of_le_of_lt (nearest-le m p power_pos) fits)
+  -- in one step
+  pub divided_at : m / p + from_bool (leb (p - m % p) (m % p)) ≡ nearest m (10 ^ k)
+  divided_at =
+      by_cases (leb (p - m % p) (m % p))
+      (λ t. let h = leb-true (p - m % p) (m % p) t in rw t (divided-up (omega arith)))
+      (λ f. let h = leb-false (p - m % p) (m % p) f in rw (f, add-zero) (divided-down (omega arith)))
+
+  pub divided_fits : m < 2 ^ 64 → m / p + from_bool (leb (p - m % p) (m % p)) < 2 ^ 64
+  divided_fits fits = rw (divided_at, ← e) (lt_of_le_of_lt (nearest-le m p power_pos) fits)

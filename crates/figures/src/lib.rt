@@ -86,24 +86,18 @@ pub fn divided(m: u64, k: u32) -> Quotient
     let p = power(k);
     let q = m / p;
     let r = m % p;
-    if p - r <= r {
-        return Quotient {
-            nearest: q + 1,
-            exact: false,
-        };
-    }
     Quotient {
-        nearest: q,
+        nearest: q + u64::from(p - r <= r),
         exact: r == 0,
     }
 }
 
-// The digits of m times 10^z, put into forty zeros, two a turn.
-fn spread(zeros: [u8; 40], m: u64, z: u32) -> [u8; 40]
-    requires { (zeros ≡ figures 0) × (m * 10 ^ z < 10 ^ 40) }
+// The digits of m times 10^z, whatever the digits were: two a turn are put into zeros.
+fn spread(mut digits: [u8; 40], m: u64, z: u32) -> [u8; 40]
+    requires { m * 10 ^ z < 10 ^ 40 }
     ensures { result ≡ figures (m * 10 ^ z) }
 {
-    let mut digits = zeros;
+    digits.fill(0);
     let mut rest = m;
     let mut k = z as usize;
     while 9 < rest {
@@ -135,16 +129,14 @@ pub fn round(
     ensures digits { result ≡ figures (rounded (powered m up down) decimals) }
     ensures exact { exact.new ≡ rounds_exactly (powered m up down) decimals }
 {
-    let mut zeros = digits;
-    zeros.fill(0);
     let kept = up + decimals;
     if kept < down {
         let q = divided(m, down - kept);
         *exact = q.exact;
-        return spread(zeros, q.nearest, 15 - decimals);
+        return spread(digits, q.nearest, 15 - decimals);
     }
     *exact = true;
-    spread(zeros, m, up + 15 - down)
+    spread(digits, m, up + 15 - down)
 }
 
 // The four digits from k on as one word, so that one test tells four zeros.

@@ -5,11 +5,6 @@ use mathlib.Core.Logic.{◌⊎◌, inl, inr, ⊎_elim}
 use Prim.Native.Nat.{ℕ, ◌+◌, ◌*◌, ◌≤◌, ◌<◌}
 use native.Mathlib.Nat.{mul-le-mul_left, mul-le-mul_right, lt_of_mul-lt-mul_left, eq_of_mul-eq-mul_right}
 use native.Mathlib.Omega.{arith}
-use mathlib.Core.Bool.{true, false, true≢false}
-use Rattle.std.specs.declared.cmp.Ordering.{Ordering}
-use Rattle.std.specs.declared.cmp.Ordering.TheVariants.{Less, Equal, Greater}
-use Rattle.std.specs.Ordering.{MatchOrdering, is_lt, ordering_then, nat_cmp}
-use Rattle.std.specs.Cmp.{ranks}
 use Rattle.figures.specs.Rounding.{Magnitude}
 use Rattle.figures.proofs.Filling.{lt-or-le}
 use Rattle.fractions.specs.declared.Fraction.{Fraction}
@@ -131,26 +126,3 @@ module _ {x : Magnitude} {most : ℕ} {low high : Side} (b : Between x most low 
   pub high-stepped : (k : ℕ) → k * low.rest ≤ high.rest → high.below + k * low.below ≤ most → Between x most low (stepped high low k)
   unfolding stepped
   high-stepped k h up_to = omega (arith, ap (λ (z : ℕ). k * z) b.low_rest)
-
--- what an order by two numbers, the second at a tie of the first, says
-lex_lt : (p q : Ordering) {a b c d : ℕ} → MatchOrdering p (a < b) (a ≡ b) (b < a) → MatchOrdering q (c < d) (c ≡ d) (d < c)
-    → is_lt (ordering_then p q) ≡ true → (a ≤ b) × (a ≡ b → c ≤ d)
-lex_lt Less q h g e = (omega arith, λ f. absurd (omega arith))
-lex_lt Equal Less h g e = (omega arith, λ f. omega arith)
-lex_lt Equal Equal h g e = absurd (true≢false (sym e))
-lex_lt Equal Greater h g e = absurd (true≢false (sym e))
-lex_lt Greater q h g e = absurd (true≢false (sym e))
-
-lex_ge : (p q : Ordering) {a b c d : ℕ} → MatchOrdering p (a < b) (a ≡ b) (b < a) → MatchOrdering q (c < d) (c ≡ d) (d < c)
-    → is_lt (ordering_then p q) ≡ false → (b ≤ a) × (b ≡ a → d ≤ c)
-lex_ge Less q h g e = absurd (true≢false e)
-lex_ge Equal Less h g e = absurd (true≢false e)
-lex_ge Equal Equal h g e = (omega arith, λ f. omega arith)
-lex_ge Equal Greater h g e = (omega arith, λ f. omega arith)
-lex_ge Greater q h g e = (omega arith, λ f. absurd (omega arith))
-
-pub first_of : (a b c d : ℕ) → is_lt (ordering_then (nat_cmp a b) (nat_cmp c d)) ≡ true → (a ≤ b) × (a ≡ b → c ≤ d)
-first_of a b c d = lex_lt (nat_cmp a b) (nat_cmp c d) (ranks a b) (ranks c d)
-
-pub second_of : (a b c d : ℕ) → is_lt (ordering_then (nat_cmp a b) (nat_cmp c d)) ≡ false → (b ≤ a) × (b ≡ a → d ≤ c)
-second_of a b c d = lex_ge (nat_cmp a b) (nat_cmp c d) (ranks a b) (ranks c d)

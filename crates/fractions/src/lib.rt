@@ -69,15 +69,24 @@ fn fraction_at(s: Side) -> Fraction
     }
 }
 
-// The nearer of two neighbours, at a tie the one with the smaller denominator.
+// The nearer of two neighbours, at a tie the one with the smaller denominator. (By tests in a row: with `cmp` and `then` a fraction takes some
+// four instructions more.)
 fn preferred(low: Side, high: Side) -> Fraction
     requires { (low.rest * high.below ≤ 10 ^ 15) × (high.rest * low.below ≤ 10 ^ 15) }
     ensures { (x : Magnitude) (most : ℕ) → 0 < x.below → Between x most low high → most < low.below + high.below → NearestFraction x most result }
 {
     let to_low = low.rest * high.below;
     let to_high = high.rest * low.below;
-    let order = to_low.cmp(&to_high).then(low.below.cmp(&high.below));
-    fraction_at(if order.is_lt() { low } else { high })
+    if to_low < to_high {
+        return fraction_at(low);
+    }
+    if to_high < to_low {
+        return fraction_at(high);
+    }
+    if low.below < high.below {
+        return fraction_at(low);
+    }
+    fraction_at(high)
 }
 
 // The fraction nearest to rest / whole with a denominator up to most. Two neighbours close in on the number: no fraction between them has a denominator

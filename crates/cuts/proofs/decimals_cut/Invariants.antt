@@ -6,6 +6,3 @@ use Rattle.cuts.proofs.decimals_cut.Given as goal
 
 abbrev pub invariant-loop-k : goal.invariant-loop-k
 invariant-loop-k l = Counts (powered l.m l.up l.down) l.kept l.rest l.k
-
-abbrev pub decreases-loop-k : goal.decreases-loop-k
-decreases-loop-k l = l.k

@@ -8,4 +8,4 @@ pub nonzero_div-m : goal.nonzero_div-m
 nonzero_div-m c = rw c.power.ensures (ten-pos _)
 
 pub returns : goal.returns
-returns c = general-kept _ _ c.power.ensures c.width_of-n.ensures c.excess.ensures
+returns c = general-kept _ _ c.power.ensures c.width_of.ensures c.saturating_sub.ensures

@@ -5,7 +5,7 @@ use Rattle.cuts.proofs.rounds_to_nought.Goals as goal
 
 pub returns-then-digits-down : goal.returns-then-digits-down
 returns-then-digits-down c =
-    nought-divided _ _ _ _ c.requires.1 c.if-digits-down.true c.divided-q.ensures.nearest
+    nought-divided _ _ _ _ c.requires.1 c.if-digits-down.true c.divided.ensures.nearest
 
-pub returns : goal.returns
-returns c = nought-kept _ _ _ _ c.requires.1 c.if-digits-down.false
+pub returns-else-digits-down : goal.returns-else-digits-down
+returns-else-digits-down c = nought-kept _ _ _ _ c.requires.1 c.if-digits-down.false

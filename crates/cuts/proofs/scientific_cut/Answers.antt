@@ -22,14 +22,14 @@ overflow_add-scale c =
     let told = c.round_scientific-x.ensures in
     omega (arith, above_most _ _ _ _ told.size told.sign pre.0 pre.1 pre.2 pre.4 c.if-x.false)
 
-pub decimals_cut-requires-2 : goal.decimals_cut-requires-2
-decimals_cut-requires-2 c =
+pub decimals_cut-requires-else-x : goal.decimals_cut-requires-else-x
+decimals_cut-requires-else-x c =
     let pre = c.requires in
     let told = c.round_scientific-x.ensures in
     let most = above_most _ _ _ _ told.size told.sign pre.0 pre.1 pre.2 pre.4 c.if-x.false in
     (omega arith, omega arith, pre.4)
 
-pub returns : goal.returns
-returns c =
+pub returns-else-x : goal.returns-else-x
+returns-else-x c =
     let told = c.round_scientific-x.ensures in
-    above-counted _ _ _ _ told.size told.sign c.if-x.false c.decimals_cut-2.ensures
+    above-counted _ _ _ _ told.size told.sign c.if-x.false c.decimals_cut-else-x.ensures

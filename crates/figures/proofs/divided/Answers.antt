@@ -3,8 +3,8 @@
 use native.Mathlib.Omega.{arith}
 use native.Mathlib.Nat.{mod-lt}
 use Rattle.figures.proofs.Tens.{ten-pos}
-use Rattle.figures.proofs.Rounding.{nearest-far, divided-up, divided-down}
-use Rattle.figures.proofs.Exactly.{far-exactly, up-exactly, down-exactly}
+use Rattle.figures.proofs.Rounding.{nearest-far, divided_at, divided_fits}
+use Rattle.figures.proofs.Exactly.{far-exactly, exactly_at}
 use Rattle.figures.proofs.divided.Goals as goal
 
 -- `figures::divided` meets its contract.
@@ -30,26 +30,12 @@ nonzero_rem-r c = omega (arith, ten-pos c.args.k)
 pub overflow_sub-p : goal.overflow_sub-p
 overflow_sub-p c = omega (arith, ten-pos c.args.k, mod-lt c.args.m (nonzero_div-q c))
 
-pub returns-then-p-r-clause-nearest : goal.returns-then-p-r-clause-nearest
-returns-then-p-r-clause-nearest c =
-    let a = c.args in
-    let p = c.power-p in
-    divided-up a.m p.result a.k p.ensures (omega arith)
-
-pub returns-then-p-r-clause-exact : goal.returns-then-p-r-clause-exact
-returns-then-p-r-clause-exact c =
-    let a = c.args in
-    let p = c.power-p in
-    up-exactly a.m p.result a.k p.ensures (omega arith)
+pub overflow_add-result : goal.overflow_add-result
+overflow_add-result c =
+    omega (arith, c.from.ensures, divided_fits c.args.m c.power-p.result c.args.k c.power-p.ensures (omega arith))
 
 pub returns-clause-nearest : goal.returns-clause-nearest
-returns-clause-nearest c =
-    let a = c.args in
-    let p = c.power-p in
-    divided-down a.m p.result a.k p.ensures (omega arith)
+returns-clause-nearest c = rw c.from.ensures (divided_at c.args.m c.power-p.result c.args.k c.power-p.ensures)
 
 pub returns-clause-exact : goal.returns-clause-exact
-returns-clause-exact c =
-    let a = c.args in
-    let p = c.power-p in
-    down-exactly a.m p.result a.k p.ensures (omega arith)
+returns-clause-exact c = exactly_at c.args.m c.power-p.result c.args.k c.power-p.ensures

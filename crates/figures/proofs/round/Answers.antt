@@ -12,9 +12,8 @@ use Rattle.figures.proofs.round.Goals as goal
 
 pub spread-requires : goal.spread-requires
 spread-requires c =
-    let e : c.fill.new.self ≡ replicate 40 0 = search rules in
     let a = c.args in
-    (e ∙ zeros, rw (c.divided-q.ensures.nearest, ← rounded-divided a.m a.up a.down a.decimals (omega arith) (omega arith)) (rounded-within a.down c.requires))
+    rw (c.divided-q.ensures.nearest, ← rounded-divided a.m a.up a.down a.decimals (omega arith) (omega arith)) (rounded-within a.down c.requires)
 
 pub returns-then-kept-down-clause-digits : goal.returns-then-kept-down-clause-digits
 returns-then-kept-down-clause-digits c =
@@ -29,10 +28,8 @@ returns-then-kept-down-clause-exact c =
 
 pub spread-requires-2 : goal.spread-requires-2
 spread-requires-2 c =
-    let b = c in
-    let a = b.args in
-    let e : c.fill.new.self ≡ replicate 40 0 = search rules in
-    (e ∙ zeros, rw (← rounded-exact a.m a.up a.down a.decimals (omega arith) (omega arith)) (rounded-within a.down b.requires))
+    let a = c.args in
+    rw (← rounded-exact a.m a.up a.down a.decimals (omega arith) (omega arith)) (rounded-within a.down c.requires)
 
 pub returns-clause-digits : goal.returns-clause-digits
 returns-clause-digits c =

@@ -1,20 +1,17 @@
 -- `fractions::preferred` meets its contract.
 -- Assumes nothing.
-use mathlib.Core.Path.{sym}
-use Prim.Native.Nat.{◌*◌}
-use Rattle.fractions.proofs.Between.{first_of, second_of, low-wins, high-wins}
-use Rattle.fractions.proofs.preferred.Goals.{then-is_lt, else-is_lt}
+use native.Mathlib.Omega.{arith}
+use Rattle.fractions.proofs.Between.{low-wins, high-wins}
 use Rattle.fractions.proofs.preferred.Goals as goal
 
+pub returns-then-to_low-to_high : goal.returns-then-to_low-to_high
+returns-then-to_low-to_high c x most pos b far = rw c.fraction_at.ensures (low-wins b pos far (omega arith) (λ e. omega arith))
+
+pub returns-then-to_high-to_low : goal.returns-then-to_high-to_low
+returns-then-to_high-to_low c x most pos b far = rw c.fraction_at-then-to_high-to_low.ensures (high-wins b pos far (omega arith) (λ e. omega arith))
+
+pub returns-then-low-high : goal.returns-then-low-high
+returns-then-low-high c x most pos b far = rw c.fraction_at-then-low-high.ensures (low-wins b pos far (omega arith) (λ e. omega arith))
+
 pub returns : goal.returns
-returns c x most pos b far =
-    let l = c.args.low in
-    let h = c.args.high in
-    elim c.if-is_lt.branch [
-      | then-is_lt w ↦
-          let o = first_of (l.rest * h.below) (h.rest * l.below) l.below h.below (rw (c.then-order.ensures, c.cmp.ensures, c.cmp-2.ensures) at (sym w.if-is_lt.ensures)) in
-          rw (c.fraction_at.ensures, w.fraction_at-is) (low-wins b pos far o.0 o.1)
-      | else-is_lt w ↦
-          let o = second_of (l.rest * h.below) (h.rest * l.below) l.below h.below (rw (c.then-order.ensures, c.cmp.ensures, c.cmp-2.ensures) at (sym w.if-is_lt.ensures)) in
-          rw (c.fraction_at.ensures, w.fraction_at-is) (high-wins b pos far o.0 o.1)
-    ]
+returns c x most pos b far = rw c.fraction_at-2.ensures (high-wins b pos far (omega arith) (λ e. omega arith))
