@@ -8,7 +8,8 @@ use mathlib.Core.List.{List, [], ◌∷◌, ◌++◌}
 use lib.ListN.{length, get_or, drop}
 use lib.Dec.{leb}
 use borrow.Author.Tests.{leb-true}
-use Rattle.answers.specs.declared.Prepared.{Prepared}
+use Rattle.std.proofs.Common.{Result, Ok}
+use Rattle.answers.specs.declared.Refused.{Refused}
 use Rattle.lists.proofs.Bools.{cond-case}
 use Rattle.formats.specs.Accept.{Accepted, sections, refusal, accept}
 use Rattle.tables.specs.Encode.{encode}
@@ -23,15 +24,16 @@ unfolding spaced_all
 all_first ws i h = ap spaced_all (drop-first ws i h)
 
 -- ---- the words that preparing reports lie in the room
-words-as : (a : Accepted) (size : ℕ) → (prepared_as a size).words ≤ size
+words-as : (a : Accepted) (size n : ℕ) → Ok n ≡ prepared_as a size → n ≤ size
 unfolding prepared_as
-words-as (refusal a k) size = omega arith
-words-as (sections ss) size =
-    cond-case (λ (p : Prepared). p.words ≤ size) (leb (length (encode ss)) size) (λ e. leb-true (length (encode ss)) size e) (λ e. omega arith)
+words-as (refusal a k) size n = λ e. absurd (cc)
+words-as (sections ss) size n =
+    cond-case (λ (p : Result ℕ Refused). Ok n ≡ p → n ≤ size) (leb (length (encode ss)) size)
+    (λ l e. let s : n ≡ length (encode ss) = cc in omega (arith, leb-true (length (encode ss)) size l)) (λ l e. absurd (cc))
 
-pub words-within : (code : List ℕ) (size : ℕ) (p : Prepared) → p ≡ prepared code size → p.words ≤ size
+pub words-within : (code : List ℕ) (size n : ℕ) → Ok n ≡ prepared code size → n ≤ size
 unfolding prepared
-words-within code size p e = rw e (words-as (accept code) size)
+words-within code = words-as (accept code)
 
 -- ---- the mark
 pub mark-none : (l : List ℕ) (at : ℕ) (sound : Bool) → sound ≡ true → Put l at (mark sound) at l

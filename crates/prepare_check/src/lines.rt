@@ -6,11 +6,11 @@ ghost use Rattle.prepare_check.specs.Lines.{mark, spaced, spaced_all, line_of};
 
 use writing::{put_numeral, put_unit};
 
-const LINE_FEED: u16 = 10;
+const LINE_FEED: u16 = b'\n' as u16;
 
-const SPACE: u16 = 32;
+const SPACE: u16 = b' ' as u16;
 
-const EXCLAMATION: u16 = 33;
+const EXCLAMATION: u16 = b'!' as u16;
 
 // Puts `!` where something is not sound.
 fn put_mark(room: &mut [u16], at: usize, sound: bool) -> usize
@@ -19,9 +19,10 @@ fn put_mark(room: &mut [u16], at: usize, sound: bool) -> usize
     ensures put { Put room.old at (mark sound) result room.new }
 {
     if sound {
-        return at;
+        at
+    } else {
+        put_unit(room, at, EXCLAMATION)
     }
-    put_unit(room, at, EXCLAMATION)
 }
 
 // Puts a number.
@@ -50,10 +51,8 @@ fn put_words(room: &mut [u16], at: usize, words: &[u16]) -> usize
     ensures put { Put room.old at (spaced_all words.now) result room.new }
 {
     let mut o = at;
-    let mut i = 0;
-    while i < words.len() {
-        o = put_spaced(room, o, words[i] as u64);
-        i += 1;
+    for word in words {
+        o = put_spaced(room, o, u64::from(*word));
     }
     o
 }
@@ -65,8 +64,8 @@ pub fn put_line(room: &mut [u16], sound: bool, answer: u16, place: u32, words: &
     ensures put { Put room.old 0 (line_of sound answer place words.now) result room.new }
 {
     let a = put_mark(room, 0, sound);
-    let b = put_number(room, a, answer as u64);
-    let c = put_spaced(room, b, place as u64);
+    let b = put_number(room, a, u64::from(answer));
+    let c = put_spaced(room, b, u64::from(place));
     let d = put_spaced(room, c, words.len() as u64);
     let e = put_words(room, d, words);
     put_unit(room, e, LINE_FEED)

@@ -6,47 +6,22 @@
 mod lines;
 
 ghost use Rattle.std.specs.Prelude.{◌≡◌, ◌≤◌, length};
+ghost use Rattle.tables.specs.Calls.{prepared};
 
-use answers::{Prepared, number};
-use input::read_full;
-use lexing::scan::{Set, scan};
+use answers::{DONE, Refusal, Refused, number};
+use input::{line_end, read_full, room};
 use lines::put_line;
+use preparing::prepare;
 use requests::bytes::{narrow, put_bytes};
 use std::io;
+
+const LINE_FEED: u16 = b'\n' as u16;
 
 // What the table rooms are filled with, to see which words were written.
 const FILLING: u16 = 43690;
 
-// Rooms are made by functions of their own: only their lengths matter to the proofs.
-fn table_room() -> [u16; 557]
-    ensures { 557 ≡ length result }
-{
-    [FILLING; 557]
-}
-
-fn line_room() -> [u16; 16384]
-    ensures { 16384 ≡ length result }
-{
-    [0; 16384]
-}
-
-fn line_bytes() -> [u8; 16384]
-    ensures { 16384 ≡ length result }
-{
-    [0; 16384]
-}
-
-// One byte more than is taken, to see that there is no more.
-fn input_bytes() -> [u8; 65537]
-    ensures { 65537 ≡ length result }
-{
-    [0; 65537]
-}
-
-fn input_room() -> [u16; 65536]
-    ensures { 65536 ≡ length result }
-{
-    [0; 65536]
+fn is_filling(words: &[u16]) -> bool {
+    words.iter().all(|word| *word == FILLING)
 }
 
 fn write_line(
@@ -58,9 +33,9 @@ fn write_line(
 ) -> io::Result<()>
     requires { length words.now ≤ 557 }
 {
-    let mut line = line_room();
+    let mut line: [u16; 16384] = room(0);
     let n = put_line(&mut line, sound, answer, place, words);
-    let mut bytes = line_bytes();
+    let mut bytes: [u8; 16384] = room(0);
     narrow(&line[..n], &mut bytes);
     rt.write_all(&bytes[..n])
 }
@@ -72,48 +47,56 @@ fn refuses_short(code: &[u16], words: usize) -> bool
     if words == 0 {
         return true;
     }
-    let mut room = table_room();
-    let p = preparing::prepare(code, &mut room[..words - 1]);
-    let answer = p.answer;
-    let kept = scan(&room, Set::Only(FILLING)) == 557;
-    kept & (number(answer) == 7) & (p.place == 0) & (p.words == 0)
+    let mut table: [u16; 557] = room(FILLING);
+    let p = prepare(code, &mut table[..words - 1]);
+    let refused = Refused {
+        refusal: Refusal::TableRoom,
+        place: 0,
+    };
+    is_filling(&table) & (p == Err(refused))
 }
 
 // Writes what preparing a code returned and left in its table room.
-fn report(rt: &impl Print, code: &[u16], p: Prepared, table: &[u16]) -> io::Result<()>
-    requires { (p.words ≤ length table.now) × (length table.now ≡ 557) }
+fn report(rt: &impl Print, code: &[u16], p: Result<u32, Refused>, table: &[u16]) -> io::Result<()>
+    requires { (p ≡ prepared code.now (length table.now)) × (length table.now ≡ 557) }
 {
-    let answer = p.answer;
-    let n = p.words as usize;
-    let kept = scan(&table[n..], Set::Only(FILLING)) == table.len() - n;
-    let sound = kept & refuses_short(code, n);
-    write_line(rt, sound, number(answer), p.place, &table[..n])
+    match p {
+        Ok(n) => {
+            let (words, rest) = table.split_at(n as usize);
+            let sound = is_filling(rest) & refuses_short(code, words.len());
+            write_line(rt, sound, DONE, 0, words)
+        }
+        Err(r) => write_line(rt, is_filling(table), number(r.refusal), r.place, &[]),
+    }
 }
 
+// A code, without the line feed of its line.
 fn prepare_line(rt: &impl Print, code: &[u16]) -> io::Result<()> {
-    let mut table = table_room();
-    let p = preparing::prepare(code, &mut table);
+    let mut table: [u16; 557] = room(FILLING);
+    let p = prepare(code, &mut table);
     report(rt, code, p, &table)
 }
 
-// Each line of the input, without its line feed; units behind the last line feed are a line too.
+// Each line of the input; units behind the last line feed are a line too.
 fn prepare_lines(rt: &impl Print, input: &[u16]) -> io::Result<()> {
     let mut at = 0;
     while at < input.len() {
-        let n = scan(&input[at..], Set::But(10));
-        prepare_line(rt, &input[at..at + n])?;
-        at += n + 1;
+        let end = line_end(input, at, LINE_FEED);
+        let line = &input[at..end];
+        prepare_line(rt, line.strip_suffix(&[LINE_FEED]).unwrap_or(line))?;
+        at = end;
     }
     Ok(())
 }
 
 fn main(rt: HostRuntime) -> io::Result<()> {
-    let mut bytes = input_bytes();
+    // one byte more than is taken, to see that there is no more
+    let mut bytes: [u8; 65537] = room(0);
     let got = read_full(&mut rt.stdin(), &mut bytes)?;
     if 65536 < got {
-        return rt.write_all(b"input too long\n");
+        return println!(rt; "input too long");
     }
-    let mut input = input_room();
+    let mut input: [u16; 65536] = room(0);
     put_bytes(&mut input, 0, &bytes[..got]);
     prepare_lines(&rt, &input[..got])
 }

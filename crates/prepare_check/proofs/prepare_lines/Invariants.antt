@@ -1,11 +1,11 @@
--- `prepare_check::prepare_lines` is safe and ends: each turn passes a line and its line feed.
+-- `prepare_check::prepare_lines` is safe and ends: each turn passes a line.
 -- Assumes nothing.
-use Prim.Native.Nat.{◌+◌, ◌-◌, ◌≤◌}
+use Prim.Native.Nat.{◌-◌, ◌≤◌}
 use lib.ListN.{length}
 use Rattle.prepare_check.proofs.prepare_lines.Given as goal
 
 abbrev pub invariant-loop-at : goal.invariant-loop-at
-invariant-loop-at g l = l.at ≤ length l.input + 1
+invariant-loop-at g l = l.at ≤ length l.input
 
 abbrev pub decreases-loop-at : goal.decreases-loop-at
-decreases-loop-at g l = length l.input + 1 - l.at
+decreases-loop-at g l = length l.input - l.at

@@ -6,5 +6,5 @@ use Rattle.prepare_check.proofs.lines.put_mark.Goals as goal
 pub returns-then-sound-clause-put : goal.returns-then-sound-clause-put
 returns-then-sound-clause-put c = mark-none _ _ _ c.if-sound.true
 
-pub returns-clause-put : goal.returns-clause-put
-returns-clause-put c = mark-put _ c.if-sound.false c.put_unit.ensures
+pub returns-else-sound-clause-put : goal.returns-else-sound-clause-put
+returns-else-sound-clause-put c = mark-put _ c.if-sound.false c.put_unit.ensures

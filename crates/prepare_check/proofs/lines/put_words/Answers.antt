@@ -7,13 +7,13 @@ use Rattle.prepare_check.proofs.Laws.{all_first}
 use borrow.Author.Rules.{rules}
 use Rattle.prepare_check.proofs.lines.put_words.Goals as goal
 
-pub loop-i-preserved : goal.loop-i-preserved
-loop-i-preserved c =
-    let l = c.loop-i in
-    (rest_put (rw (all_first _ _ c.loop-i-test.true) at l.invariant.0) c.put_spaced-o.ensures.put, search rules, search rules)
+pub loop-word-preserved : goal.loop-word-preserved
+loop-word-preserved c =
+    let l = c.loop-word in
+    (rest_put (rw (all_first _ _ c.loop-word-test.true) at l.invariant.0) (rw c.from.ensures at c.put_spaced-o.ensures.put), search rules)
 
 pub returns-clause-put : goal.returns-clause-put
 unfolding spaced_all
 returns-clause-put c =
-    let l = c.loop-i in
-    rest-done (rw (drop_of_length-le _ c.loop-i-test.false) at l.invariant.0)
+    let l = c.loop-word in
+    rest-done (rw (drop_of_length-le _ c.loop-word-test.false) at l.invariant.0)
