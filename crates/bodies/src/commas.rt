@@ -5,6 +5,7 @@ ghost use Rattle.formats.specs.Kinds.{is_comma};
 ghost use Rattle.marks.specs.Marks.{tokens_in};
 ghost use Rattle.bodies.specs.Uses.{met, at_comma, at_point, at_place, scan_form, commas_of};
 
+use super::facts::Facts;
 use marks::Mark;
 use marks::forms::{COMMA, POINT, SPACE_PLACE, ZERO_PLACE};
 
@@ -108,12 +109,12 @@ fn scan_body(body: &[Mark]) -> Commas
     }
 }
 
-// The commas of a body; `some` says whether there is one at all, and without one nothing is looked at.
-pub fn commas_of(body: &[Mark], some: bool) -> Commas
-    requires { (length body.now ≤ 254) × ((code : List ℕ) → some ≡ any is_comma (tokens_in code body.now)) }
+// The commas of a body whose facts these are: without one nothing is looked at.
+pub fn commas_of(body: &[Mark], facts: Facts) -> Commas
+    requires { (length body.now ≤ 254) × ((code : List ℕ) → facts.commas ≡ any is_comma (tokens_in code body.now)) }
     ensures { (code : List ℕ) → result ≡ commas_of (tokens_in code body.now) }
 {
-    if some {
+    if facts.commas {
         return scan_body(body);
     }
     Commas {

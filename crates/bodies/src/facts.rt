@@ -163,10 +163,10 @@ pub fn facts_of(body: &[Mark]) -> Facts
     }
     let kinds = s.sum % BRACKETS;
     Facts {
-        date: (DATES <= kinds) & (kinds < GENERALS),
-        scientific: (EXPONENTS <= kinds) & (kinds < DATES),
-        fraction: (FRACTIONS <= kinds) & (kinds < EXPONENTS),
-        number: (NUMBERS <= kinds) & (kinds < FRACTIONS),
+        date: (DATES..GENERALS).contains(&kinds),
+        scientific: (EXPONENTS..DATES).contains(&kinds),
+        fraction: (FRACTIONS..EXPONENTS).contains(&kinds),
+        number: (NUMBERS..FRACTIONS).contains(&kinds),
         plain: s.sum / BRACKETS % 256 == 0,
         fills: (s.sum / FILLS % 256) as u16,
         commas: COMMAS <= s.sum,

@@ -202,7 +202,7 @@ fn draft_body(code: &[u16], body: &[Mark], items: &mut [u16], at: usize) -> Body
     ensures put { Put items.old at (body_words (tokens_in code.now body.now)) (at + 2 * result.items) items.new }
 {
     let facts = facts_of(body);
-    let commas = commas_of(body, facts.commas);
+    let commas = commas_of(body, facts);
     let end = put_settled(code, body, told_of(body, facts), items, at);
     let tally = tally_words(&items[at..end]);
     let size = end - at;

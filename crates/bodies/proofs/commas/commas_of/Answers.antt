@@ -5,4 +5,4 @@ use Rattle.bodies.proofs.Uses.{commas-none}
 use Rattle.bodies.proofs.commas.commas_of.Goals as goal
 
 pub returns : goal.returns
-returns c = λ code. commas-none _ (sym (c.requires.1 code) ∙ c.if-some.false)
+returns c = λ code. commas-none _ (sym (c.requires.1 code) ∙ c.if-facts.false)
