@@ -9,7 +9,9 @@ use lib.ListN.{length, take, drop, get_or, length-map}
 use lib.Dec.{ltb}
 use borrow.Author.Tests.{lt-ltb, le-ltb, ltb-true, ltb-false}
 use Rattle.lists.proofs.Bools.{by_cases}
-use Rattle.answers.specs.declared.Answer.{Answer}
+use Rattle.answers.specs.declared.Refusal.{Refusal}
+use Rattle.marks.specs.declared.Mark.{Mark}
+use Rattle.drafting.specs.declared.Draft.{Draft}
 use Rattle.formats.specs.Tokens.{lex}
 use Rattle.formats.specs.Kinds.{section_of}
 use Rattle.formats.specs.Accept.{placed_of, semicolons, parts_in, sections_in, fine, refused, token_verdict, verdict, Span, empty_start, span_from, span_by, section_span, section_part}
@@ -99,27 +101,27 @@ module _ (code : List ℕ) (sound : token_verdict (lex code) ≡ fine) where
       (λ t. rw t (place_inside n h))
 
 -- ---- from the tokens
-module _ (code tokens : List ℕ) (count last n : ℕ) (b : Buffered code tokens count)
+module _ (code : List ℕ) (tokens : List Mark) (last n : ℕ) (b : Buffered code tokens)
     (many : last ≡ length (semicolons (placed_of (lex code)))) (within : n ≤ last) where
   there : n ≤ length (semicolons (placed_of (lex code)))
   there = omega arith
 
-  pub last-counted : last ≡ length (semicolons_in (take (3 * count) tokens))
-  last-counted = rw (places_same code tokens count b) many
+  pub last-counted : last ≡ length (semicolons_in tokens)
+  last-counted = rw (places_same code tokens b) many
 
-  pub start_small : start_behind 0 n (semicolons_in (take (3 * count) tokens)) ≤ 254
-  start_small = rw (places_same code tokens count b) (omega (arith, start-inside code (token-fine code tokens count b) n there, b.small))
+  pub start_small : start_behind 0 n (semicolons_in tokens) ≤ 254
+  start_small = rw (places_same code tokens b) (omega (arith, start-inside code (token-fine code tokens b) n there, b.small))
 
-  module _ (start end : ℕ) (s : start ≡ start_behind 0 n (semicolons_in (take (3 * count) tokens)))
-      (e : end ≡ end_before (length code) n (semicolons_in (take (3 * count) tokens))) where
+  module _ (start end : ℕ) (s : start ≡ start_behind 0 n (semicolons_in tokens))
+      (e : end ≡ end_before (length code) n (semicolons_in tokens)) where
     begins : start ≡ start_behind 0 n (semicolons (placed_of (lex code)))
-    begins = s ∙ ap (start_behind 0 n) (places_same code tokens count b)
+    begins = s ∙ ap (start_behind 0 n) (places_same code tokens b)
 
     closes : end ≡ end_before (length code) n (semicolons (placed_of (lex code)))
-    closes = e ∙ ap (end_before (length code) n) (places_same code tokens count b)
+    closes = e ∙ ap (end_before (length code) n) (places_same code tokens b)
 
     pub start-end : start ≤ end
-    start-end = omega (arith, begins, closes, start-before code (token-fine code tokens count b) n there)
+    start-end = omega (arith, begins, closes, start-before code (token-fine code tokens b) n there)
 
     pub span-is : SpanIs code (span_by fine n code) (record { start = start; size = end - start })
     unfolding span_by
@@ -129,12 +131,12 @@ module _ (code tokens : List ℕ) (count last n : ℕ) (b : Buffered code tokens
         record {
           start = begins ∙ sym (ap (λ (p : Span). p.start) t);
           size = rw (begins, closes) (sym (ap (λ (p : Span). p.size) t));
-          inside = omega (arith, start-end, closes, end-inside code (token-fine code tokens count b) n);
+          inside = omega (arith, start-end, closes, end-inside code (token-fine code tokens b) n);
         }
 
 -- ---- by the verdict
 module _ (code : List ℕ) (n : ℕ) where
-  pub section-refused : (a : Answer) (k : ℕ) → verdict code ≡ refused a k → SpanIs code (section_span n code) (record { start = 0; size = 0 })
+  pub section-refused : (a : Refusal) (k : ℕ) → verdict code ≡ refused a k → SpanIs code (section_span n code) (record { start = 0; size = 0 })
   unfolding section_span span_by
   section-refused a k v = record { start = rw v; size = rw v; inside = omega arith }
 
@@ -142,7 +144,7 @@ module _ (code : List ℕ) (n : ℕ) where
   unfolding section_span
   section-fine v r s = rw v s
 
-  module _ (tokens : List ℕ) (r : Examined) (out drafts : List ℕ) (s : Sound code tokens r out drafts) where
+  module _ (tokens : List Mark) (r : Examined) (out : List ℕ) (drafts : List Draft) (s : Sound code tokens r out drafts) where
     many-sections : r.sections ≡ 1 + length (semicolons (placed_of (lex code)))
     unfolding sections_in
     many-sections = omega (arith, s.many, section-count code, length-map (parts_in code) section_of)

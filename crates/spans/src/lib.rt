@@ -1,16 +1,16 @@
 // Where the sections of a code stand in it.
 #![tactic(auto)]
 
-ghost use Rattle.std.specs.Prelude.{◌≡◌, ◌+◌, ◌*◌, ◌≤◌, length, take};
+ghost use Rattle.std.specs.Prelude.{◌≡◌, ◌+◌, ◌≤◌, length};
 ghost use Rattle.formats.specs.Tokens.{lex};
 ghost use Rattle.formats.specs.Accept.{fine, placed_of, semicolons, span_by, section_span, section_part};
 ghost use Rattle.lexing.specs.Buffer.{semicolons_in};
 ghost use Rattle.examining.specs.Examine.{Buffered};
 ghost use Rattle.spans.specs.Span.{SpanIs, start_behind, end_before, unit_place};
 
-use answers::number;
-use examining::examine;
+use examining::{Room, examine};
 use lexing::buffer::semicolon_place;
+use marks::Mark;
 
 // A section of a code: the place of its first unit, and how many units it has.
 #[derive(Clone, Copy)]
@@ -20,43 +20,38 @@ pub struct SectionSpan {
 }
 
 // The empty part at the start.
-fn empty_start() -> SectionSpan
-    ensures { result ≡ record { start = 0; size = 0 } }
-{
-    SectionSpan { start: 0, size: 0 }
-}
+const EMPTY_START: SectionSpan = SectionSpan { start: 0, size: 0 };
 
 // The place behind the semicolon before section n, or the start of the code.
-fn start_behind(tokens: &[u16], count: usize, n: usize) -> usize
-    requires { (3 * count ≤ length tokens.now) × (count ≤ 254) × (start_behind 0 n (semicolons_in (take (3 * count) tokens.now)) ≤ 254) }
-    ensures { result ≡ start_behind 0 n (semicolons_in (take (3 * count) tokens.now)) }
+fn start_behind(tokens: &[Mark], n: usize) -> usize
+    requires { start_behind 0 n (semicolons_in tokens.now) ≤ 254 }
+    ensures { result ≡ start_behind 0 n (semicolons_in tokens.now) }
 {
     if n == 0 {
         return 0;
     }
-    semicolon_place(tokens, count, n - 1) + 1
+    semicolon_place(tokens, n - 1) + 1
 }
 
 // The place of the semicolon behind section n, or behind the last section the end of the code.
-fn end_before(tokens: &[u16], count: usize, last: usize, n: usize, end: usize) -> usize
-    requires count_in_bounds { (3 * count ≤ length tokens.now) × (count ≤ 254) }
-    requires last_value { last ≡ length (semicolons_in (take (3 * count) tokens.now)) }
-    ensures { result ≡ end_before end n (semicolons_in (take (3 * count) tokens.now)) }
+fn end_before(tokens: &[Mark], last: usize, n: usize, end: usize) -> usize
+    requires { last ≡ length (semicolons_in tokens.now) }
+    ensures { result ≡ end_before end n (semicolons_in tokens.now) }
 {
     if n < last {
-        return semicolon_place(tokens, count, n);
+        return semicolon_place(tokens, n);
     }
     end
 }
 
 // Where section n stands, of a code whose tokens these are and whose last section is `last`.
-fn span_between(code: &[u16], tokens: &[u16], count: usize, last: usize, n: usize) -> SectionSpan
-    requires buffered { Buffered code.now tokens.now count }
+fn span_between(code: &[u16], tokens: &[Mark], last: usize, n: usize) -> SectionSpan
+    requires buffered { Buffered code.now tokens.now }
     requires last_value { (last ≡ length (semicolons (placed_of (lex code.now)))) × (n ≤ last) }
     ensures { SpanIs code.now (span_by fine n code.now) result }
 {
-    let start = start_behind(tokens, count, n);
-    let end = end_before(tokens, count, last, n, code.len());
+    let start = start_behind(tokens, n);
+    let end = end_before(tokens, last, n, code.len());
     SectionSpan {
         start,
         size: end - start,
@@ -69,19 +64,14 @@ pub fn section_span(code: &[u16], n: usize) -> SectionSpan
     ensures size { result.size ≡ (section_span n code.now).size }
     ensures inside { result.start + result.size ≤ length code.now }
 {
-    let mut tokens = [0u16; 762];
-    let mut items = [0u16; 508];
-    let mut drafts = [0u16; 64];
-    let e = examine(code, &mut tokens, &mut items, &mut drafts);
-    let answer = e.answer;
-    if number(answer) != 0 {
-        return empty_start();
-    }
+    let mut room = Room::new();
+    let Ok(e) = examine(code, &mut room) else {
+        return EMPTY_START;
+    };
     if e.sections <= n {
-        return empty_start();
+        return EMPTY_START;
     }
-    let end = 3 * e.tokens;
-    span_between(code, &tokens[..end], e.tokens, e.sections - 1, n)
+    span_between(code, &room.tokens[..e.tokens], e.sections - 1, n)
 }
 
 // Section n of a code, as a part of it; of a refused code or a missing section the empty part at the start.
