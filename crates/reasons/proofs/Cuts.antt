@@ -20,7 +20,7 @@ use Rattle.exponents.specs.Exponent.{decimal}
 use Rattle.cuts.specs.Cut.{decimals_cut, general_cut, mantissa_cut}
 use Rattle.cuts.proofs.Counting.{cut-net}
 use Rattle.formats.specs.Choice.{number_exact}
-use Rattle.formats.specs.Items.{Section, decimal_places, number_kind, scientific_kind, kind_of, is_percent}
+use Rattle.formats.specs.Items.{Section, decimal_places, general_kind, text_kind, number_kind, scientific_kind, kind_of, is_percent}
 use Rattle.formats.specs.Reading.{shows_general, section_rounded, standing_rounded}
 use Rattle.planning.proofs.Numbers.{exact}
 use Rattle.planning.proofs.Sections.{NumberWords}
@@ -79,7 +79,15 @@ pub mantissa-cuts : {integers decimals r : ℕ} {s : Section} (v : Signed) (x : 
     → v ≡ signed_of x → r ≡ mantissa_cut (decimal v.magnitude v.scale) integers decimals → r ≡ number_cut s x
 mantissa-cuts v x w k ev er = er ∙ rw (exact v x ev, w.places, w.decimals-are) (sym (cut-scientific _ x k))
 
--- of General
+-- of General, which a General section shows, and a text section
+pub general-named : (s : Section) → kind_of s ≡ general_kind → T (shows_general (kind_of s))
+unfolding shows_general
+general-named s k = rw k tt
+
+pub text-named : (s : Section) → kind_of s ≡ text_kind → T (shows_general (kind_of s))
+unfolding shows_general
+text-named s k = rw k tt
+
 exact-is : (v : Signed) (x : Number) → v ≡ signed_of x → powered v.magnitude 0 v.scale ≡ (number_exact x).size
 unfolding powered
 exact-is v x ev = ap (λ (a : ℕ). decimal a v.scale) (mul-one v.magnitude) ∙ exact v x ev

@@ -7,7 +7,7 @@ use native.Mathlib.Omega.{arith}
 use mathlib.Core.Bool.{Bool, true, false, cond, not, ◌&&◌, ◌||◌}
 use mathlib.Core.List.{List, [], ◌∷◌}
 use lib.Dec.{T, eqb}
-use lib.ListN.{length, get_or}
+use lib.ListN.{length}
 use borrow.Author.Tests.{eq-eqb, ne_eqb}
 use Rattle.values.specs.declared.Number.{Number}
 use Rattle.lists.specs.Lists.{is_empty}
@@ -28,14 +28,14 @@ use Rattle.formats.proofs.Cutting.{scientific-some}
 use Rattle.tables.specs.Words.{Head}
 use Rattle.tables.specs.Encode.{head_of}
 use Rattle.tables.specs.Decode.{decode}
-use Rattle.tables.specs.Rules.{passes}
-use Rattle.table_words.specs.Sections.{section_in, head_in}
+use Rattle.table_words.specs.declared.TableSection.{TableSection}
+use Rattle.table_words.specs.Tabled.{sections_of, section_of}
+use Rattle.table_words.specs.Sections.{head_in}
 use Rattle.table_words.proofs.Bodies.{section-limits, section-exponent}
 use Rattle.choosing.proofs.Choosing.{below-zero}
 use Rattle.choosing.proofs.Finding.{chosen-exception}
 use Rattle.planning.proofs.Numbers.{exact}
 use Rattle.grounds.specs.declared.Minus.{Minus}
-use Rattle.grounds.specs.declared.Minus.TheVariants as held
 use Rattle.grounds.specs.Why.{minus_of}
 use Rattle.reasons.specs.Told.{minus_told}
 
@@ -98,14 +98,16 @@ mantissa-zero m s n d small scale one most =
     eq-eqb m 0 z ∙ sym (eq-eqb (mantissa_of (decimal m s) n d) 0 (mantissa-nought (decimal m s) n d z (ten-pos s))))
     (lt-or-le 0 m)
 
-pub scientific-nought : (ws : List ℕ) (i : ℕ) (v : Signed) (x : Number) → T (passes ws) → i < get_or ws 0 0 → kind_of (section_in ws i) ≡ scientific_kind
-    → v ≡ signed_of x → v.magnitude < 10 ^ 15 → v.scale ≤ 15 → eqb v.magnitude 0 ≡ shows_nought (section_in ws i) x
+pub scientific-nought : (z : TableSection) (v : Signed) (x : Number) → kind_of (section_of z) ≡ scientific_kind
+    → v ≡ signed_of x → v.magnitude < 10 ^ 15 → v.scale ≤ 15 → eqb v.magnitude 0 ≡ shows_nought (section_of z) x
 unfolding section_rounded kind_of
-scientific-nought ws i v x t l k ev small scale =
-    let s : Section = section_in ws i in
+scientific-nought z v x k ev small scale =
+    let t = z.table.passes in
+    let l = z.there in
+    let s : Section = section_of z in
     let n : ℕ = integer_places s.items in
     let d : ℕ = decimal_places s.items in
-    mantissa-zero v.magnitude v.scale n d small scale (section-exponent ws i t l (scientific-some s.items k)).integer (section-limits ws i t l).decimals-most
+    mantissa-zero v.magnitude v.scale n d small scale (section-exponent _ _ t l (scientific-some s.items k)).integer (section-limits _ _ t l).decimals-most
     ∙ ap (λ m. eqb (mantissa_of m n d) 0) (exact v x ev)
     ∙ rw k at (nought-scientific s x k)
 
@@ -119,30 +121,6 @@ four true false true held = refl
 four true false false true = refl
 four true false false false = refl
 
--- the first that applies
-module _ (negative excepted zero-shown : Bool) (items : ℕ) where
-  pub told-not-below : negative ≡ false → held.NotBelow ≡ minus_told negative (eqb items 0) excepted zero-shown
-  unfolding minus_told
-  told-not-below h = rw h
-
-  module _ (below : negative ≡ true) where
-    pub told-empty : items ≡ 0 → held.NoItem ≡ minus_told negative (eqb items 0) excepted zero-shown
-    unfolding minus_told
-    told-empty e = rw (below, eq-eqb items 0 e)
-
-    module _ (some : items ≡ 0 → ⊥) where
-      pub told-excepted : excepted ≡ true → held.ForNegatives ≡ minus_told negative (eqb items 0) excepted zero-shown
-      unfolding minus_told
-      told-excepted a = rw (below, ne_eqb items 0 some, a)
-
-      pub told-nought : excepted ≡ false → zero-shown ≡ true → held.Nought ≡ minus_told negative (eqb items 0) excepted zero-shown
-      unfolding minus_told
-      told-nought a b = rw (below, ne_eqb items 0 some, a, b)
-
-      pub told-added : excepted ≡ false → zero-shown ≡ false → held.Added ≡ minus_told negative (eqb items 0) excepted zero-shown
-      unfolding minus_told
-      told-added a b = rw (below, ne_eqb items 0 some, a, b)
-
 no-item : (is : List Item) → is_empty is ≡ eqb (length is) 0
 unfolding is_empty
 no-item [] = refl
@@ -152,13 +130,17 @@ negative-is : (v : Signed) (x : Number) → v ≡ signed_of x → v.negative ≡
 unfolding number_exact signed_of
 negative-is v x ev = ap (λ (u : Signed). u.negative) ev ∙ sym (below-zero (number_exact x))
 
-pub number-minus : (ws : List ℕ) (i : ℕ) (v : Signed) (x : Number) (why : Reason) → v ≡ signed_of x
-    → choose (decode ws) (number_exact x) ≡ chosen i (section_in ws i) why → {h : Head} {excepted held : Bool} {r : Minus} → h ≡ head_in ws i
-    → excepted ≡ exception_a (counted (decode ws)) i (has_condition (section_in ws i)) (first_has_condition (decode ws)) → held ≡ shows_nought (section_in ws i) x
-    → r ≡ minus_told v.negative (eqb h.items 0) excepted held → r ≡ minus_of (number_sign (decode ws) i (section_in ws i) why x)
+pub number-minus : (z : TableSection) (v : Signed) (x : Number) (why : Reason) → v ≡ signed_of x
+    → choose (sections_of z.table) (number_exact x) ≡ chosen z.place (section_of z) why → {h : Head} {excepted held : Bool} {r : Minus}
+    → h ≡ head_in z.table.words.now z.place
+    → excepted ≡ exception_a (counted (sections_of z.table)) z.place (has_condition (section_of z)) (first_has_condition (sections_of z.table))
+    → held ≡ shows_nought (section_of z) x → r ≡ minus_told v.negative (eqb h.items 0) excepted held
+    → r ≡ minus_of (number_sign (sections_of z.table) z.place (section_of z) why x)
 unfolding number_sign sign_for head_of
-number-minus ws i v x why ev eo {h} {excepted} {held} eh ee en er =
-    let s : Section = section_in ws i in
+number-minus z v x why ev eo {h} {excepted} {held} eh ee en er =
+    let ws : List ℕ = z.table.words.now in
+    let i : ℕ = z.place in
+    let s : Section = section_of z in
     let first : Bool = first_has_condition (decode ws) in
     let items : h.items ≡ length s.items = ap (λ (y : Head). y.items) eh in
     let a : excepted ≡ exception_a (counted (decode ws)) i (is_own why) first = ee ∙ chosen-exception (decode ws) (number_exact x) i s why first eo in

@@ -7,10 +7,10 @@ use Rattle.reasons.proofs.mantissa_cut.Goals as goal
 pub scientific_cut-requires : goal.scientific_cut-requires
 scientific_cut-requires c =
     let p = c.requires in
-    let w = scientific-words _ _ p.0 p.1 p.4 c.head_of-h.ensures.words c.integer_places-integers.ensures in
-    (p.2, p.3, w.least, w.most, w.decimals_most)
+    let w = scientific-words c.args.section p.2 c.head-decimals.ensures.words c.from.ensures c.integer_places-integers.ensures in
+    (p.0, p.1, w.least, w.most, w.decimals_most)
 
 pub returns : goal.returns
 returns c =
     let p = c.requires in
-    λ x ev. mantissa-cuts _ x (scientific-words _ _ p.0 p.1 p.4 c.head_of-h.ensures.words c.integer_places-integers.ensures) p.4 ev c.scientific_cut.ensures
+    λ x ev. mantissa-cuts _ x (scientific-words c.args.section p.2 c.head-decimals.ensures.words c.from.ensures c.integer_places-integers.ensures) p.2 ev c.scientific_cut.ensures

@@ -5,4 +5,5 @@ use Rattle.reasons.proofs.minus_in.Goals as goal
 
 pub returns : goal.returns
 returns c =
-    λ x why ev e. number-minus _ _ _ x why ev e c.head_of-h.ensures.words c.no_minus-excepted.ensures (c.shows_nought-nought.ensures x ev) c.minus_told.ensures
+    λ x why ev e.
+    number-minus c.args.section _ x why ev e c.head-items.ensures.words c.no_minus-excepted.ensures (c.shows_nought-nought.ensures x ev) c.minus_told.ensures

@@ -6,14 +6,10 @@ use Rattle.planning.proofs.Values.{taken-small}
 use Rattle.reasons.proofs.number_grounds.Goals as goal
 
 pub in_range-requires : goal.in_range-requires
-in_range-requires c =
-    let l = taken-small _ _ (sym c.take_number.ensures ∙ c.in-In.is) in
-    (c.requires.0, l.0, l.1)
+in_range-requires c = taken-small _ _ (sym c.take_number.ensures ∙ c.in-Some.is)
 
-pub returns-in-OutOfRange : goal.returns-in-OutOfRange
-returns-in-OutOfRange c =
-    absurd (rw (out-says _ (sym c.take_number.ensures ∙ c.in-OutOfRange.is)) at c.requires.1)
+pub returns-in-None : goal.returns-in-None
+returns-in-None c = absurd (rw (out-says _ (sym c.take_number.ensures ∙ c.in-None.is)) at c.requires)
 
-pub returns-in-In : goal.returns-in-In
-returns-in-In c =
-    c.in_range.ensures _ (in-says _ _ (sym c.take_number.ensures ∙ c.in-In.is)).1
+pub returns-in-Some : goal.returns-in-Some
+returns-in-Some c = c.in_range.ensures _ (in-says _ _ (sym c.take_number.ensures ∙ c.in-Some.is)).1

@@ -1,6 +1,6 @@
 -- `reasons::scaling_of` meets its contract.
 -- Assumes nothing.
-use native.Mathlib.Omega.{arith}
+use Rattle.std.proofs.Common.{rules}
 use Rattle.table_words.proofs.Bodies.{section-limits}
 use Rattle.planning.proofs.Sections.{number-words}
 use Rattle.reasons.proofs.Cuts.{scaling-is}
@@ -9,5 +9,5 @@ use Rattle.reasons.proofs.scaling_of.Goals as goal
 pub returns : goal.returns
 returns c =
     let p = c.requires in
-    scaling-is (number-words _ _ p.0 p.1 p.3 c.head_of-h.ensures.words) (section-limits _ _ p.0 p.1).thousands-most p.2 (omega (arith, c.excess-up.ensures))
-    c.excess.ensures
+    let z = c.args.section in
+    scaling-is (number-words z p.1 c.head-h.ensures.words) (section-limits _ _ z.table.passes z.there).thousands-most p.0 (search rules) (search rules)

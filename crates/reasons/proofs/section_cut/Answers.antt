@@ -1,32 +1,35 @@
 -- `reasons::section_cut` meets its contract.
 -- Assumes nothing.
-use mathlib.Core.Path.{sym}
-use Rattle.planning.proofs.KindWords.{kind-with, told-general}
+use Rattle.std.proofs.Common.{sym, ap, ◌∙◌, inl, inr}
+use Rattle.table_words.specs.Tabled.{kind_named}
 use Rattle.grounds.proofs.Holding.{cut-literal, cut-date, cut-fraction}
-use Rattle.reasons.proofs.Cuts.{general-cuts}
+use Rattle.reasons.proofs.Cuts.{general-cuts, general-named, text-named}
 use Rattle.reasons.proofs.section_cut.Goals as goal
 
 pub number_cut-requires : goal.number_cut-requires
-number_cut-requires c =
-    let p = c.requires in
-    (p.0, p.1, p.3, kind-with _ _ c.head_of-h.ensures.words 2 c.in-2.is)
+number_cut-requires c = (c.requires.1, sym c.in-Number.ensures)
 
 pub mantissa_cut-requires : goal.mantissa_cut-requires
-mantissa_cut-requires c =
-    let p = c.requires in
-    (p.0, p.1, p.2, p.3, kind-with _ _ c.head_of-h.ensures.words 5 c.in-5.is)
+mantissa_cut-requires c = (c.requires.0, c.requires.1, sym c.in-Scientific.ensures)
 
-pub returns-in-0 : goal.returns-in-0
-returns-in-0 c = λ x ev. sym (cut-literal _ x (kind-with _ _ c.head_of-h.ensures.words 0 c.in-0.is))
-
-pub returns-in-4 : goal.returns-in-4
-returns-in-4 c = λ x ev. sym (cut-date _ x (kind-with _ _ c.head_of-h.ensures.words 4 c.in-4.is))
-
-pub returns-in-6 : goal.returns-in-6
-returns-in-6 c = λ x ev. sym (cut-fraction _ x (kind-with _ _ c.head_of-h.ensures.words 6 c.in-6.is))
-
-pub returns-in_default : goal.returns-in_default
-returns-in_default c =
-    let o = c.in_default.in_default-own.rest in
+pub returns-in-Literal : goal.returns-in-Literal
+returns-in-Literal c =
     λ x ev.
-    general-cuts _ _ x (told-general _ _ c.head_of-h.ensures.words (o.0.0.0.0.1, o.0.0.0.1, o.0.0.1, o.0.1, o.1)) ev c.general_cut.ensures
+    sym
+    (elim c.in-Literal.is [
+      | inl e ↦ cut-literal _ x (sym c.kind.ensures ∙ ap kind_named e)
+      | inr h ↦ elim h [
+        | inl e ↦ cut-date _ x (sym c.kind.ensures ∙ ap kind_named e)
+        | inr e ↦ cut-fraction _ x (sym c.kind.ensures ∙ ap kind_named e)
+      ]
+    ])
+
+pub returns-in-General : goal.returns-in-General
+returns-in-General c =
+    λ x ev.
+    general-cuts _ _ x
+    (elim c.in-General.is [
+      | inl e ↦ general-named _ (sym c.kind.ensures ∙ ap kind_named e)
+      | inr e ↦ text-named _ (sym c.kind.ensures ∙ ap kind_named e)
+    ])
+    ev c.general_cut.ensures
