@@ -10,16 +10,20 @@ use lib.Dec.{T, eqb, ltb}
 use lib.ListN.{get_or, set, length-set, get_or-replicate}
 use lib.Seq.{get_or-set_same, get_or-set_other, set-get_or}
 use borrow.Author.Tests.{lt-ltb, ltb-true, ltb-false, eq-eqb, ne_eqb, eqb-true, eqb-false, not-true}
-use Rattle.answers.specs.declared.Answer.TheVariants as answer
+use Rattle.std.specs.Prelude.{Result, Ok, Err}
+use Rattle.answers.specs.declared.Refusal.{Refusal}
+use Rattle.answers.specs.declared.Refusal.TheVariants as answer
 use Rattle.answers.specs.declared.Shown.{Shown}
-use Rattle.answers.specs.Number.{number_of, refused_shown}
+use Rattle.answers.specs.Number.{answer_number}
+use Rattle.answers.proofs.Above.{refusal-above}
 use Rattle.lists.specs.Lists.{every, is_some}
 use Rattle.lists.proofs.Bools.{no, true-T, not_so, by_cases, cond_both, cond-case, every-head, every-tail}
 use Rattle.tables.specs.Calls.{showing}
 use Rattle.boards.specs.declared.Board.{Board}
+use Rattle.boards.specs.declared.Row.{Row}
 use Rattle.boards.specs.declared.PutRow.{PutRow}
 use Rattle.boards.specs.declared.ClearedRow.{ClearedRow}
-use Rattle.boards.specs.Boards.{row_count, Row, empty_row, shown_row, row_at, empty_board, length_in, widest_from, widest_of, righted, with_row, shown_in, put_row, clear_row}
+use Rattle.boards.specs.Boards.{row_count, empty_row, row_at, empty_board, length_in, widest_from, widest_of, righted, with_row, shown_in, put_row, clear_row}
 use Rattle.boards.specs.Runs.{Call, put, clear, row_named, handed_back, answered, after, shown_left, leaves, or_else, left_in, last_left, is_filled, Reached, Greatest, Whole, Run, OneCall}
 use Rattle.boards.proofs.Widths.{none-longer, found_from}
 
@@ -78,19 +82,18 @@ abbrev landed : Board → ℕ → Option Row → Board
 landed b k none = b
 landed b k (some row) = with_row b k row
 
-shown-landed : (b : Board) (k : ℕ) (s : Shown) (t : Bool)
-    → cond t (with_row b k (shown_row s)) b ≡ landed b k (cond t (some (shown_row s)) none)
-shown-landed b k s true = refl
-shown-landed b k s false = refl
-
-put-landed : (t : Bool) (b : Board) (k : ℕ) (s r : Shown)
-    → (cond {A = PutRow} t (record { board = shown_in b k s; shown = s }) (record { board = b; shown = r })).board ≡ landed b k (cond t (shown_left s) none)
+shown-landed : (b : Board) (k : ℕ) (s : Result Shown Refusal) → shown_in b k s ≡ landed b k (shown_left s)
 unfolding shown_in shown_left
-put-landed true b k s r = shown-landed b k s (eqb (number_of s.answer) 0)
+shown-landed b k (Ok s) = refl
+shown-landed b k (Err a) = refl
+
+put-landed : (t : Bool) (b : Board) (k : ℕ) (s r : Result Shown Refusal)
+    → (cond {A = PutRow} t (record { board = shown_in b k s; shown = s }) (record { board = b; shown = r })).board ≡ landed b k (cond t (shown_left s) none)
+put-landed true b k s r = shown-landed b k s
 put-landed false b k s r = refl
 
 clear-landed : (t : Bool) (b : Board) (k : ℕ)
-    → (cond {A = ClearedRow} t (record { board = with_row b k empty_row; answer = answer.Done }) (record { board = b; answer = answer.Row })).board
+    → (cond {A = ClearedRow} t (record { board = with_row b k empty_row; cleared = Ok tt }) (record { board = b; cleared = Err answer.Row })).board
     ≡ landed b k (cond t (some empty_row) none)
 clear-landed true b k = refl
 clear-landed false b k = refl
@@ -139,21 +142,21 @@ row-handed b w c i =
 
 -- ---- the answer
 -- a call that leaves something is answered 0, and one that leaves nothing is not
-shown-answered : (s : Shown) (t : Bool) → t ≡ eqb (number_of s.answer) 0 → is_some (cond t (some (shown_row s)) none) ≡ eqb (number_of s.answer) 0
-unfolding is_some
-shown-answered s true e = e
-shown-answered s false e = e
-
-put-answered : (t : Bool) (b : Board) (k : ℕ) (s : Shown)
-    → is_some (cond t (shown_left s) none)
-    ≡ eqb (number_of (cond {A = PutRow} t (record { board = shown_in b k s; shown = s }) (record { board = b; shown = refused_shown answer.Row })).shown.answer) 0
+shown-answered : (s : Result Shown Refusal) → is_some (shown_left s) ≡ eqb (answer_number s) 0
 unfolding is_some shown_left
-put-answered true b k s = shown-answered s (eqb (number_of s.answer) 0) refl
+shown-answered (Ok s) = refl
+shown-answered (Err a) = sym (refusal-above a)
+
+put-answered : (t : Bool) (b : Board) (k : ℕ) (s : Result Shown Refusal)
+    → is_some (cond t (shown_left s) none)
+    ≡ eqb (answer_number (cond {A = PutRow} t (record { board = shown_in b k s; shown = s }) (record { board = b; shown = Err answer.Row })).shown) 0
+unfolding is_some
+put-answered true b k s = shown-answered s
 put-answered false b k s = refl
 
 clear-answered : (t : Bool) (b : Board) (k : ℕ)
     → is_some (cond t (some empty_row) none)
-    ≡ eqb (number_of (cond {A = ClearedRow} t (record { board = with_row b k empty_row; answer = answer.Done }) (record { board = b; answer = answer.Row })).answer) 0
+    ≡ eqb (answer_number (cond {A = ClearedRow} t (record { board = with_row b k empty_row; cleared = Ok tt }) (record { board = b; cleared = Err answer.Row })).cleared) 0
 unfolding is_some
 clear-answered true b k = refl
 clear-answered false b k = refl
@@ -213,9 +216,10 @@ other_after b (c ∷ cs) i t =
 abbrev Spelled : Row → Type 0
 Spelled row = is_filled row ≡ false → row ≡ empty_row
 
-shown-spelled : (row : Row) → Spelled row → (s : Shown) → Spelled (or_else (shown_left s) row)
+shown-spelled : (row : Row) → Spelled row → (s : Result Shown Refusal) → Spelled (or_else (shown_left s) row)
 unfolding shown_left or_else is_filled
-shown-spelled row p s = cond_both (λ (o : Option Row). Spelled (or_else o row)) (eqb (number_of s.answer) 0) (λ e. no (sym e)) p
+shown-spelled row p (Ok s) = λ e. no (sym e)
+shown-spelled row p (Err a) = p
 
 left-spelled : (row : Row) → Spelled row → (c : Call) → Spelled (or_else (leaves c) row)
 unfolding leaves or_else
@@ -253,7 +257,7 @@ kept b e k r =
     ∙ (λ j. record { filled = b.filled; length = b.length; colour = b.colour; widest = sym e j })
 
 clear_kept : (b : Board) → Counted b → (k : ℕ) → k < row_count → row_at b k ≡ empty_row
-    → clear_row b k ≡ record { board = b; answer = answer.Done }
+    → clear_row b k ≡ record { board = b; cleared = Ok tt }
 unfolding clear_row
 clear_kept b e k h r = rw (lt-ltb k row_count h, kept b e k r)
 

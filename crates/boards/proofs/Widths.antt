@@ -1,15 +1,14 @@
 -- The widest of the rows: none of those filled is longer, and one of them has it.
 -- Assumes nothing.
-use Prim.Native.Nat.{ℕ, zero, suc, ◌≤◌, ◌<◌, ◌+◌, min, max}
-use native.Mathlib.Numerals.{add-one}
+use Prim.Native.Nat.{ℕ, zero, suc, ◌≤◌, ◌<◌, max}
 use native.Mathlib.Omega.{arith}
 use mathlib.Core.Path.{◌≡◌, refl, sym, ◌∙◌}
 use mathlib.Core.Bool.{false}
 use mathlib.Core.List.{List, [], ◌∷◌}
-use lib.Dec.{eqb, ltb, leb}
-use lib.ListN.{length, get_or, drop, drop_of_length-le}
-use lib.Seq.{drop-cons}
-use borrow.Author.Tests.{ltb-true, ltb-false, leb-true, leb-false}
+use lib.Dec.{eqb, ltb}
+use lib.ListN.{length, get_or}
+use borrow.Author.Tests.{ltb-true, ltb-false}
+use Rattle.std.proofs.Common.{fold, zip}
 use Rattle.lists.proofs.Bools.{no, by_cases, cond-case}
 use Rattle.boards.specs.Boards.{length_in, widest_from}
 
@@ -63,23 +62,8 @@ pub found_from : {w : ℕ} (fs ns : List ℕ) {x : ℕ} → x ≡ widest_from w 
 found_from {w} fs ns e z h = rw e (found w fs ns (omega (arith, e)))
 
 -- ---- the walk over the rows
--- the next row, where both lists have it
-pub widest-next : (w : ℕ) (fs ns : List ℕ) (k : ℕ) → k < length fs → k < length ns
-    → widest_from (max w (length_in (get_or fs k 0) (get_or ns k 0))) (drop (k + 1) fs) (drop (k + 1) ns) ≡ widest_from w (drop k fs) (drop k ns)
+pub fold-widest : (w : ℕ) (fs ns : List ℕ) → fold (λ (x : ℕ) (row : ℕ × ℕ). max x (length_in row.0 row.1)) w (zip fs ns) ≡ widest_from w fs ns
 unfolding widest_from
-widest-next w fs ns k f n = rw (drop-cons fs k 0 f, drop-cons ns k 0 n, add-one)
-
-none_left : (w : ℕ) (fs : List ℕ) → widest_from w fs [] ≡ w
-unfolding widest_from
-none_left w [] = refl
-none_left w (f ∷ fs) = refl
-
--- the end of the shorter list
-pub widest-end : (w : ℕ) (fs ns : List ℕ) (k : ℕ) → min (length fs) (length ns) ≤ k → widest_from w (drop k fs) (drop k ns) ≡ w
-unfolding widest_from
-widest-end w fs ns k h =
-    by_cases (leb (length fs) k)
-    (λ e. rw (drop_of_length-le fs (leb-true (length fs) k e)))
-    (λ e.
-    let d : length ns ≤ k = omega (arith, leb-false (length fs) k e) in
-    rw (drop_of_length-le ns d) (none_left w (drop k fs)))
+fold-widest w [] ns = refl
+fold-widest w (f ∷ fs) [] = refl
+fold-widest w (f ∷ fs) (n ∷ ns) = fold-widest (max w (length_in f n)) fs ns

@@ -1,12 +1,13 @@
 -- "One board, sixty-four rows" (R148 to R151): a board, and what putting and clearing a row hand back.
 -- Assumes nothing.
-use Rattle.std.specs.Prelude.{ℕ, max, cond, List, [], ◌∷◌, eqb, ltb, length, get_or, set, replicate}
-use Rattle.answers.specs.declared.Answer.TheVariants as answer
+use Rattle.std.specs.Prelude.{ℕ, max, cond, List, [], ◌∷◌, eqb, ltb, length, get_or, set, replicate, Result, Ok, Err}
+use Rattle.answers.specs.declared.Refusal.{Refusal}
+use Rattle.answers.specs.declared.Refusal.TheVariants as answer
 use Rattle.answers.specs.declared.Shown.{Shown}
-use Rattle.answers.specs.Number.{number_of, refused_shown}
 use Rattle.values.specs.declared.Ask.{Ask}
 use Rattle.tables.specs.Calls.{showing, room_after}
 use Rattle.boards.specs.declared.Board.{Board}
+use Rattle.boards.specs.declared.Row.{Row}
 use Rattle.boards.specs.declared.PutRow.{PutRow}
 use Rattle.boards.specs.declared.ClearedRow.{ClearedRow}
 
@@ -15,11 +16,6 @@ abbrev pub row_count : ℕ
 row_count = 64
 
 -- "each empty or with the last text length and colour shown there" (R148): 0 is empty, another number filled
-pub record Row : Type 0 where
-  pub filled : ℕ
-  pub length : ℕ
-  pub colour : ℕ
-
 abbrev pub empty_row : Row
 empty_row = record { filled = 0; length = 0; colour = 0 }
 
@@ -65,8 +61,9 @@ with_row b k row =
     })
 
 -- "A refused show leaves the board as it stood." (R150)
-unfoldable pub shown_in : Board → ℕ → Shown → Board
-shown_in b k s = cond (eqb (number_of s.answer) 0) (with_row b k (shown_row s)) b
+unfoldable pub shown_in : Board → ℕ → Result Shown Refusal → Board
+shown_in b k (Ok s) = with_row b k (shown_row s)
+shown_in b k (Err a) = b
 
 -- "Putting a row hands back the whole board, with that show's length and colour in the row"; "row 64 or above, clearing too, is 16, before
 -- 8" (R150)
@@ -74,7 +71,7 @@ unfoldable pub put_row : Board → ℕ → List ℕ → Ask → List ℕ → ℕ
 put_row b k table ask text size =
     cond (ltb k row_count)
     (record { board = shown_in b k (showing table ask text size); shown = showing table ask text size })
-    (record { board = b; shown = refused_shown answer.Row })
+    (record { board = b; shown = Err answer.Row })
 
 -- what putting a row leaves in the text room: what its show does; of a refused row, what stood there
 unfoldable pub room_put : ℕ → List ℕ → Ask → List ℕ → List ℕ → List ℕ
@@ -84,5 +81,5 @@ room_put k table ask text old = cond (ltb k row_count) (room_after table ask tex
 unfoldable pub clear_row : Board → ℕ → ClearedRow
 clear_row b k =
     cond (ltb k row_count)
-    (record { board = with_row b k empty_row; answer = answer.Done })
-    (record { board = b; answer = answer.Row })
+    (record { board = with_row b k empty_row; cleared = Ok tt })
+    (record { board = b; cleared = Err answer.Row })

@@ -1,16 +1,17 @@
 -- "After any run of such calls from an empty board the kept width is the greatest of the row lengths, or 0 when all are empty, and other
 -- rows are as they were." (R152)
 -- Assumes nothing.
-use Rattle.std.specs.Prelude.{ℕ, ◌≤◌, ◌<◌, ◌≡◌, Bool, true, false, not, cond, List, [], ◌∷◌, eqb, ltb, length}
+use Rattle.std.specs.Prelude.{ℕ, ◌≤◌, ◌<◌, ◌≡◌, Bool, true, false, not, cond, List, [], ◌∷◌, eqb, ltb, length, Result, Ok, Err}
 use Rattle.std.proofs.Math.Option.{Option, none, some}
-use Rattle.answers.specs.declared.Answer.TheVariants as answer
+use Rattle.answers.specs.declared.Refusal.{Refusal}
 use Rattle.answers.specs.declared.Shown.{Shown}
-use Rattle.answers.specs.Number.{number_of}
+use Rattle.answers.specs.Number.{answer_number}
 use Rattle.values.specs.declared.Ask.{Ask}
 use Rattle.lists.specs.Lists.{every, is_some}
 use Rattle.tables.specs.Calls.{showing}
 use Rattle.boards.specs.declared.Board.{Board}
-use Rattle.boards.specs.Boards.{row_count, Row, empty_row, shown_row, row_at, empty_board, put_row, clear_row}
+use Rattle.boards.specs.declared.Row.{Row}
+use Rattle.boards.specs.Boards.{row_count, empty_row, shown_row, row_at, empty_board, put_row, clear_row}
 
 -- a call: putting a row, with the table, what is asked for, the text and the length of the room; or clearing one
 pub data Call : Type 0 where
@@ -28,8 +29,8 @@ handed_back b (clear k) = (clear_row b k).board
 
 -- the number of the answer that a call hands back
 unfoldable pub answered : Board → Call → ℕ
-answered b (put k table ask text size) = number_of (put_row b k table ask text size).shown.answer
-answered b (clear k) = number_of (clear_row b k).answer
+answered b (put k table ask text size) = answer_number (put_row b k table ask text size).shown
+answered b (clear k) = answer_number (clear_row b k).cleared
 
 -- the board after a run of calls
 unfoldable pub after : Board → List Call → Board
@@ -37,8 +38,9 @@ after b [] = b
 after b (c ∷ cs) = after (handed_back b c) cs
 
 -- what a show leaves in the row that it is put in; refused, nothing
-unfoldable pub shown_left : Shown → Option Row
-shown_left s = cond (eqb (number_of s.answer) 0) (some (shown_row s)) none
+unfoldable pub shown_left : Result Shown Refusal → Option Row
+shown_left (Ok s) = some (shown_row s)
+shown_left (Err a) = none
 
 -- what a call leaves in the row that it names, where it is accepted
 unfoldable pub leaves : Call → Option Row
@@ -89,7 +91,7 @@ pub record Run (cs : List Call) : Type 0 where
   pub others : (b : Board) (k : ℕ) → every (λ c. not (eqb (row_named c) k)) cs ≡ true → row_at (after b cs) k ≡ row_at b k
   pub spelled : (k : ℕ) → k < row_count → is_filled (row_at (after empty_board cs) k) ≡ false → row_at (after empty_board cs) k ≡ empty_row
   pub cleared : (k : ℕ) → k < row_count → is_filled (row_at (after empty_board cs) k) ≡ false
-      → clear_row (after empty_board cs) k ≡ record { board = after empty_board cs; answer = answer.Done }
+      → clear_row (after empty_board cs) k ≡ record { board = after empty_board cs; cleared = Ok tt }
 
 -- one call on any board, made by hand too: what it leaves, it leaves exactly where it is answered 0; then the width is right, whatever it
 -- was; else nothing is changed; and a row has what the call left there, or what it had

@@ -1,13 +1,12 @@
 // A board of sixty-four rows, each empty or with the length and colour last shown there, and the width kept beside them.
 #![tactic(auto)]
 
-ghost use Rattle.std.specs.Prelude.{◌≡◌, max, length};
-ghost use Rattle.boards.specs.Boards.{empty_board, length_in, widest_of, put_row, room_put, clear_row};
+ghost use Rattle.std.specs.Prelude.{◌≡◌, ◌<◌, max, length, fold, zip};
+ghost use Rattle.boards.specs.Boards.{row_count, empty_board, length_in, with_row, put_row, room_put, clear_row};
 
-use answers::{Answer, Shown, number, refused_shown};
+use answers::{Refusal, Shown};
 use showing::show;
 use values::Ask;
-use values::integers::least;
 
 // A row is filled where its number in `filled` is not 0, and empty where it is 0; an empty row has length 0 and colour 0. (A number and
 // no bool: C lends boards too, and there a byte may be any.) `widest` is the greatest length of the filled rows, 0 where all are empty.
@@ -20,48 +19,42 @@ pub struct Board {
     pub widest: u32,
 }
 
-// What putting a row hands back: the whole board, and all that showing returned.
+// What is in a row of a board.
+#[derive(Clone, Copy)]
+pub struct Row {
+    pub filled: u8,
+    pub length: u32,
+    pub colour: u16,
+}
+
+// What putting a row hands back: the whole board, and what showing returned.
 #[derive(Clone, Copy)]
 pub struct PutRow {
     pub board: Board,
-    pub shown: Shown,
+    pub shown: Result<Shown, Refusal>,
 }
 
 // What clearing a row hands back.
 #[derive(Clone, Copy)]
 pub struct ClearedRow {
     pub board: Board,
-    pub answer: Answer,
+    pub cleared: Result<(), Refusal>,
 }
 
 const ROWS: u32 = 64;
 
+const EMPTY: Row = Row {
+    filled: 0,
+    length: 0,
+    colour: 0,
+};
+
 // The length of what is shown in a row.
+#[tactic(auto, unfolding(crate::specs::Boards::length_in))]
 fn length_in(filled: u8, length: u32) -> u32
     ensures { result ≡ length_in filled length }
 {
     if filled == 0 { 0 } else { length }
-}
-
-fn wider(a: u32, b: u32) -> u32
-    ensures { result ≡ max a b }
-{
-    if a < b { b } else { a }
-}
-
-// The greatest length of the rows that are filled. (Each row's length is told first and then compared, so that several rows are compared at
-// once.)
-fn widest_of<'a>(filled: &'a [u8], lengths: &'a [u32]) -> u32
-    ensures { result ≡ widest_of filled.now lengths.now }
-{
-    let rows = least(filled.len(), lengths.len());
-    let mut w: u32 = 0;
-    let mut k: usize = 0;
-    while k < rows {
-        w = wider(w, length_in(filled[k], lengths[k]));
-        k += 1;
-    }
-    w
 }
 
 impl Board {
@@ -74,6 +67,28 @@ impl Board {
             colour: [0; 64],
             widest: 0,
         }
+    }
+
+    // The greatest length of the rows that are filled. (Each row's length is told first and then compared, so that several rows are
+    // compared at once.)
+    fn widest_row(&self) -> u32
+        ensures { result ≡ fold (λ widest row. max widest (length_in row.0 row.1)) 0 (zip self.now.filled self.now.length) }
+    {
+        self.filled.iter().zip(&self.length).fold(
+            0,
+            |widest, (filled, length)| widest.max(length_in(*filled, *length)),
+        )
+    }
+
+    // Puts this into row k, and the width right.
+    fn store(&mut self, k: usize, row: Row)
+        requires { k < row_count }
+        ensures { self.new ≡ with_row self.old k row }
+    {
+        self.filled[k] = row.filled;
+        self.length[k] = row.length;
+        self.colour[k] = row.colour;
+        self.widest = self.widest_row();
     }
 
     // Shows a value through the words lent as a table, as `show` does, and puts the row's length and colour into the board. A row above 63
@@ -92,20 +107,20 @@ impl Board {
         if ROWS <= row {
             return PutRow {
                 board: self,
-                shown: refused_shown(Answer::Row),
+                shown: Err(Refusal::Row),
             };
         }
         let shown = show(table, ask, text, room);
-        let answer = shown.answer;
-        if number(answer) != 0 {
-            return PutRow { board: self, shown };
+        if let Ok(s) = shown {
+            self.store(
+                row as usize,
+                Row {
+                    filled: 1,
+                    length: s.length,
+                    colour: s.colour,
+                },
+            );
         }
-        let k = row as usize;
-        self.filled[k] = 1;
-        self.length[k] = shown.length;
-        self.colour[k] = shown.colour;
-        let widest = widest_of(&self.filled, &self.length);
-        self.widest = widest;
         PutRow { board: self, shown }
     }
 
@@ -116,18 +131,13 @@ impl Board {
         if ROWS <= row {
             return ClearedRow {
                 board: self,
-                answer: Answer::Row,
+                cleared: Err(Refusal::Row),
             };
         }
-        let k = row as usize;
-        self.filled[k] = 0;
-        self.length[k] = 0;
-        self.colour[k] = 0;
-        let widest = widest_of(&self.filled, &self.length);
-        self.widest = widest;
+        self.store(row as usize, EMPTY);
         ClearedRow {
             board: self,
-            answer: Answer::Done,
+            cleared: Ok(()),
         }
     }
 }

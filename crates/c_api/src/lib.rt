@@ -14,9 +14,7 @@ ghost use Rattle.c_numbers.specs.Numbers.{prepared_numbers, fed_numbers, finishe
 use boards::Board;
 use c_numbers::{
     ClearedNumbers, FedNumbers, FinishedNumbers, PartNumbers, PreparedNumbers, PutNumbers,
-    ShownNumbers, WhyNumbers, check_number, cleared_numbers, fed_numbers, finished_numbers,
-    instant_ask, number_ask, part_numbers, prepared_numbers, put_numbers, shown_numbers,
-    why_numbers,
+    ShownNumbers, WhyNumbers, check_number, instant_ask, number_ask, part_numbers,
 };
 use checking::check;
 use preparing::prepare;
@@ -30,7 +28,7 @@ pub fn numfmt_prepare(code: &[u16], table: &mut [u16]) -> PreparedNumbers
     ensures answer { result ≡ prepared_numbers (prepared code.now (length table.old)) }
     ensures table { table.new ≡ table_after code.now table.old }
 {
-    prepared_numbers(prepare(code, table))
+    prepare(code, table).into()
 }
 
 // A stream to which nothing has come.
@@ -44,7 +42,7 @@ pub fn numfmt_stream_start() -> Stream
 pub fn numfmt_stream_feed(stream: Stream, part: &[u16]) -> FedNumbers
     ensures { result ≡ fed_numbers (feeding stream part.now) }
 {
-    fed_numbers(stream.feed(part))
+    stream.feed(part).into()
 }
 
 // The stream when it has ended, and its code prepared.
@@ -52,7 +50,7 @@ pub fn numfmt_stream_end(stream: Stream, table: &mut [u16]) -> FinishedNumbers
     ensures result { result ≡ finished_numbers (ending stream (length table.old)) }
     ensures table { table.new ≡ ending_room stream table.old }
 {
-    finished_numbers(stream.end(table))
+    stream.end(table).into()
 }
 
 // Section n of a code: where it stands in it.
@@ -79,7 +77,7 @@ pub fn numfmt_show_number(
     ensures result { result ≡ shown_numbers (showing table.now (number_ask coefficient scale) [] (length room.old)) }
     ensures room { room.new ≡ room_after table.now (number_ask coefficient scale) [] room.old }
 {
-    shown_numbers(show(table, number_ask(coefficient, scale), &table[..0], room))
+    show(table, number_ask(coefficient, scale), &table[..0], room).into()
 }
 
 pub fn numfmt_show_instant(
@@ -91,32 +89,32 @@ pub fn numfmt_show_instant(
     ensures result { result ≡ shown_numbers (showing table.now (instant_ask day millisecond) [] (length room.old)) }
     ensures room { room.new ≡ room_after table.now (instant_ask day millisecond) [] room.old }
 {
-    shown_numbers(show(table, instant_ask(day, millisecond), &table[..0], room))
+    show(table, instant_ask(day, millisecond), &table[..0], room).into()
 }
 
 pub fn numfmt_show_text(table: &[u16], text: &[u16], room: &mut [u16]) -> ShownNumbers
     ensures result { result ≡ shown_numbers (showing table.now text_ask text.now (length room.old)) }
     ensures room { room.new ≡ room_after table.now text_ask text.now room.old }
 {
-    shown_numbers(show(table, asked(Value::Text), text, room))
+    show(table, asked(Value::Text), text, room).into()
 }
 
 pub fn numfmt_why_number(table: &[u16], coefficient: i64, scale: u32, size: usize) -> WhyNumbers
     ensures { result ≡ why_numbers (table_why table.now (number_ask coefficient scale) [] size) }
 {
-    why_numbers(why(table, number_ask(coefficient, scale), &table[..0], size))
+    why(table, number_ask(coefficient, scale), &table[..0], size).into()
 }
 
 pub fn numfmt_why_instant(table: &[u16], day: u32, millisecond: u32, size: usize) -> WhyNumbers
     ensures { result ≡ why_numbers (table_why table.now (instant_ask day millisecond) [] size) }
 {
-    why_numbers(why(table, instant_ask(day, millisecond), &table[..0], size))
+    why(table, instant_ask(day, millisecond), &table[..0], size).into()
 }
 
 pub fn numfmt_why_text(table: &[u16], text: &[u16], size: usize) -> WhyNumbers
     ensures { result ≡ why_numbers (table_why table.now text_ask text.now size) }
 {
-    why_numbers(why(table, asked(Value::Text), text, size))
+    why(table, asked(Value::Text), text, size).into()
 }
 
 pub fn numfmt_board_empty() -> Board
@@ -137,7 +135,7 @@ pub fn numfmt_board_put_number(
     ensures room { room.new ≡ room_put row table.now (number_ask coefficient scale) [] room.old }
 {
     let ask = number_ask(coefficient, scale);
-    put_numbers(board.put(row, table, ask, &table[..0], room))
+    board.put(row, table, ask, &table[..0], room).into()
 }
 
 pub fn numfmt_board_put_instant(
@@ -152,7 +150,7 @@ pub fn numfmt_board_put_instant(
     ensures room { room.new ≡ room_put row table.now (instant_ask day millisecond) [] room.old }
 {
     let ask = instant_ask(day, millisecond);
-    put_numbers(board.put(row, table, ask, &table[..0], room))
+    board.put(row, table, ask, &table[..0], room).into()
 }
 
 pub fn numfmt_board_put_text(
@@ -165,11 +163,11 @@ pub fn numfmt_board_put_text(
     ensures result { result ≡ put_numbers (put_row board row table.now text_ask text.now (length room.old)) }
     ensures room { room.new ≡ room_put row table.now text_ask text.now room.old }
 {
-    put_numbers(board.put(row, table, asked(Value::Text), text, room))
+    board.put(row, table, asked(Value::Text), text, room).into()
 }
 
 pub fn numfmt_board_clear(board: Board, row: u32) -> ClearedNumbers
     ensures { result ≡ cleared_numbers (clear_row board row) }
 {
-    cleared_numbers(board.clear(row))
+    board.clear(row).into()
 }

@@ -3,12 +3,11 @@
 #![tactic(auto)]
 
 ghost use Rattle.std.specs.Prelude.{◌≡◌, ◌+◌, ◌≤◌};
-ghost use Rattle.grounds.specs.declared.Why.TheVariants as why;
 ghost use Rattle.c_numbers.specs.Numbers.{prepared_numbers, part_numbers, check_number, shown_numbers, why_numbers, put_numbers, cleared_numbers, fed_numbers, finished_numbers, number_ask, instant_ask};
 
-use answers::{Answer, Prepared, Shown, number};
+use answers::{DONE, Refusal, Refused, Shown, number};
 use boards::{Board, ClearedRow, PutRow};
-use grounds::{Grounds, Why, choice_number, minus_number, tried_number};
+use grounds::{Grounds, choice_number, minus_number, tried_number};
 use streams::{Fed, Finished, Stream};
 use values::{Ask, Day, Millisecond, Number, Value, asked};
 
@@ -86,14 +85,22 @@ pub struct FinishedNumbers {
     pub prepared: PreparedNumbers,
 }
 
-pub fn prepared_numbers(p: Prepared) -> PreparedNumbers
-    ensures { result ≡ prepared_numbers p }
-{
-    let answer = p.answer;
-    PreparedNumbers {
-        answer: number(answer),
-        place: p.place,
-        words: p.words,
+impl From<Result<u32, Refused>> for PreparedNumbers {
+    ghost from_gives = { λ p n. n ≡ prepared_numbers p };
+
+    fn from(prepared: Result<u32, Refused>) -> PreparedNumbers {
+        match prepared {
+            Ok(words) => PreparedNumbers {
+                answer: DONE,
+                place: 0,
+                words,
+            },
+            Err(refused) => PreparedNumbers {
+                answer: number(refused.refusal),
+                place: refused.place,
+                words: 0,
+            },
+        }
     }
 }
 
@@ -111,23 +118,29 @@ pub fn part_numbers(start: usize, size: usize) -> PartNumbers
 pub fn check_number(passed: bool) -> u16
     ensures { result ≡ check_number passed }
 {
-    if passed {
-        number(Answer::Done)
-    } else {
-        number(Answer::Table)
-    }
+    if passed { DONE } else { number(Refusal::Table) }
 }
 
-pub fn shown_numbers(s: Shown) -> ShownNumbers
-    ensures { result ≡ shown_numbers s }
-{
-    let answer = s.answer;
-    ShownNumbers {
-        answer: number(answer),
-        length: s.length,
-        colour: s.colour,
-        section: s.section,
-        exact: s.exact as u16,
+impl From<Result<Shown, Refusal>> for ShownNumbers {
+    ghost from_gives = { λ s n. n ≡ shown_numbers s };
+
+    fn from(shown: Result<Shown, Refusal>) -> ShownNumbers {
+        match shown {
+            Ok(shown) => ShownNumbers {
+                answer: DONE,
+                length: shown.length,
+                colour: shown.colour,
+                section: shown.section,
+                exact: u16::from(shown.exact),
+            },
+            Err(refusal) => ShownNumbers {
+                answer: number(refusal),
+                length: 0,
+                colour: 0,
+                section: 0,
+                exact: 0,
+            },
+        }
     }
 }
 
@@ -143,89 +156,81 @@ pub fn instant_ask(day: u32, millisecond: u32) -> Ask
     asked(Value::Instant(Day(day), Millisecond(millisecond)))
 }
 
-// Of a refused show the answer alone is told.
-fn refused_numbers(answer: Answer) -> WhyNumbers
-    ensures { result ≡ why_numbers (why.Refused answer) }
-{
-    WhyNumbers {
-        answer: number(answer),
-        section: 0,
-        choice: 0,
-        first: 0,
-        second: 0,
-        minus: 0,
-        cut: 0,
+impl From<Result<Grounds, Refusal>> for WhyNumbers {
+    ghost from_gives = { λ w n. n ≡ why_numbers w };
+
+    fn from(why: Result<Grounds, Refusal>) -> WhyNumbers {
+        match why {
+            Ok(grounds) => WhyNumbers {
+                answer: DONE,
+                section: grounds.section,
+                choice: choice_number(grounds.choice),
+                first: tried_number(grounds.first),
+                second: tried_number(grounds.second),
+                minus: minus_number(grounds.minus),
+                cut: grounds.cut,
+            },
+            Err(refusal) => WhyNumbers {
+                answer: number(refusal),
+                section: 0,
+                choice: 0,
+                first: 0,
+                second: 0,
+                minus: 0,
+                cut: 0,
+            },
+        }
     }
 }
 
-fn because_numbers(g: Grounds) -> WhyNumbers
-    ensures { result ≡ why_numbers (why.Because g) }
-{
-    let choice = g.choice;
-    let first = g.first;
-    let second = g.second;
-    let minus = g.minus;
-    WhyNumbers {
-        answer: number(Answer::Done),
-        section: g.section,
-        choice: choice_number(choice),
-        first: tried_number(first),
-        second: tried_number(second),
-        minus: minus_number(minus),
-        cut: g.cut,
+impl From<PutRow> for PutNumbers {
+    ghost from_gives = { λ p n. n ≡ put_numbers p };
+
+    fn from(put: PutRow) -> PutNumbers {
+        PutNumbers {
+            board: put.board,
+            shown: put.shown.into(),
+        }
     }
 }
 
-pub fn why_numbers(w: Why) -> WhyNumbers
-    ensures { result ≡ why_numbers w }
-{
-    match w {
-        Why::Refused(answer) => refused_numbers(answer),
-        Why::Because(g) => because_numbers(g),
+impl From<ClearedRow> for ClearedNumbers {
+    ghost from_gives = { λ c n. n ≡ cleared_numbers c };
+
+    fn from(row: ClearedRow) -> ClearedNumbers {
+        ClearedNumbers {
+            board: row.board,
+            answer: match row.cleared {
+                Ok(()) => DONE,
+                Err(refusal) => number(refusal),
+            },
+        }
     }
 }
 
-pub fn put_numbers(p: PutRow) -> PutNumbers
-    ensures { result ≡ put_numbers p }
-{
-    let board = p.board;
-    let shown = p.shown;
-    PutNumbers {
-        board,
-        shown: shown_numbers(shown),
+impl From<Fed> for FedNumbers {
+    ghost from_gives = { λ f n. n ≡ fed_numbers f };
+
+    fn from(fed: Fed) -> FedNumbers {
+        let (answer, place) = match fed.fed {
+            Ok(()) => (DONE, 0),
+            Err(refused) => (number(refused.refusal), refused.place),
+        };
+        FedNumbers {
+            stream: fed.stream,
+            answer,
+            place,
+        }
     }
 }
 
-pub fn cleared_numbers(c: ClearedRow) -> ClearedNumbers
-    ensures { result ≡ cleared_numbers c }
-{
-    let board = c.board;
-    let answer = c.answer;
-    ClearedNumbers {
-        board,
-        answer: number(answer),
-    }
-}
+impl From<Finished> for FinishedNumbers {
+    ghost from_gives = { λ f n. n ≡ finished_numbers f };
 
-pub fn fed_numbers(f: Fed) -> FedNumbers
-    ensures { result ≡ fed_numbers f }
-{
-    let stream = f.stream;
-    let answer = f.answer;
-    FedNumbers {
-        stream,
-        answer: number(answer),
-        place: f.place,
-    }
-}
-
-pub fn finished_numbers(f: Finished) -> FinishedNumbers
-    ensures { result ≡ finished_numbers f }
-{
-    let stream = f.stream;
-    let p = f.prepared;
-    FinishedNumbers {
-        stream,
-        prepared: prepared_numbers(p),
+    fn from(finished: Finished) -> FinishedNumbers {
+        FinishedNumbers {
+            stream: finished.stream,
+            prepared: finished.prepared.into(),
+        }
     }
 }

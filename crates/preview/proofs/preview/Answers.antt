@@ -1,27 +1,37 @@
 -- `preview::preview` meets its contract.
 -- Assumes nothing.
 use native.Mathlib.Omega.{arith}
-use mathlib.Core.Path.{refl, sym, ◌∙◌}
+use mathlib.Core.Path.{◌≡◌, refl, sym, ◌∙◌}
 use lib.Seq.{length-take-le}
-use Rattle.preview.proofs.Previewing.{units-known, words-within, refused-shows, made, made-shows}
+use Rattle.std.specs.Prelude.{Err}
+use Rattle.std.proofs.Common.{rules}
+use Rattle.preview.specs.Preview.{refused_at}
+use Rattle.preview.proofs.Previewing.{units-known, refused-shows, made, made-shows}
 use Rattle.preview.proofs.preview.Goals as goal
 
-pub returns-then-number-ne0 : goal.returns-then-number-ne0
-returns-then-number-ne0 c =
+pub returns-in_err-words : goal.returns-in_err-words
+returns-in_err-words c =
     let u = units-known c.args.code.now (λ i. omega (arith, c.type_inv.code i)) in
-    let r = refused-shows _ u _ c.prepare-p.ensures.answer c.number.ensures c.table_room-table.ensures c.if-number-ne0.true _ _ _ in
-    record { result = c.refused.ensures ∙ r.0; room = r.1 }
+    let e : c.from_residual.result ≡ Err c.in_err-words.field-0.0 = search rules in
+    let r = refused-shows _ u c.table_room-table.ensures _ c.in_err-words.ensures.answer _ _ c.args.room.now in
+    record { result = e ∙ r.0; room = r.1 }
 
 pub slice_bounds-table-end : goal.slice_bounds-table-end
-slice_bounds-table-end c = omega (arith, words-within _ _ c.prepare-p.ensures.answer)
+slice_bounds-table-end c =
+    let u = units-known c.args.code.now (λ i. omega (arith, c.type_inv.code i)) in
+    let d = made _ u c.table_room-table.ensures _ c.in_ok-words.ensures.answer in
+    omega (arith, d.within)
 
 pub slice_bounds-show-end : goal.slice_bounds-show-end
-slice_bounds-show-end c = sym (length-take-le _ _ (omega (arith, words-within _ _ c.prepare-p.ensures.answer)))
+slice_bounds-show-end c =
+    let u = units-known c.args.code.now (λ i. omega (arith, c.type_inv.code i)) in
+    let d = made _ u c.table_room-table.ensures _ c.in_ok-words.ensures.answer in
+    sym (length-take-le _ _ (omega (arith, d.within)))
 
 pub returns : goal.returns
 returns c =
     let u = units-known c.args.code.now (λ i. omega (arith, c.type_inv.code i)) in
-    let d = made _ u _ c.prepare-p.ensures.answer c.number.ensures c.table_room-table.ensures c.if-number-ne0.false in
-    let r = made-shows _ u _ c.prepare-p.ensures.answer c.number.ensures c.table_room-table.ensures d _ refl c.prepare-p.ensures.table
-    _ _ c.args.room.now _ c.show.ensures.result c.show.ensures.room in
-    record { result = r.0; room = r.1 }
+    let d = made _ u c.table_room-table.ensures _ c.in_ok-words.ensures.answer in
+    let r = made-shows _ u c.table_room-table.ensures d _ refl c.prepare.ensures.table _ _ c.args.room.now _ c.show.ensures.answer c.show.ensures.room in
+    let e : c.map_err.result ≡ refused_at 0 c.show.result = search rules in
+    record { result = e ∙ r.0; room = r.1 }

@@ -1,37 +1,26 @@
--- `boards::Board::put` meets its contract.
+-- `Board::put` meets its contract.
 -- Assumes nothing.
 use native.Mathlib.Omega.{arith}
-use Rattle.boards.specs.Boards.{shown_row}
-use Rattle.boards.proofs.Putting.{with-width, room-kept, row-refused, room-shown, show-refused, show-done}
+use mathlib.Core.Path.{refl}
+use Rattle.boards.specs.Boards.{shown_in}
+use Rattle.boards.proofs.Putting.{row-refused, row-put}
 use Rattle.boards.proofs.Board.put.Goals as goal
 
-pub returns-then-row-ge-ROWS-clause-result : goal.returns-then-row-ge-ROWS-clause-result
-returns-then-row-ge-ROWS-clause-result c = row-refused _ _ _ _ _ _ (omega arith) c.refused_shown.ensures
+pub returns-then-row-ge-ROWS : goal.returns-then-row-ge-ROWS
+returns-then-row-ge-ROWS c =
+    let r = row-refused c.args.self c.args.row _ _ _ c.args.room.now (omega arith) in
+    record { result = r.0; room = r.1 }
 
-pub returns-then-row-ge-ROWS-clause-room : goal.returns-then-row-ge-ROWS-clause-room
-returns-then-row-ge-ROWS-clause-room c = room-kept _ _ _ _ _ (omega arith)
-
-pub returns-then-number-ne0-clause-result : goal.returns-then-number-ne0-clause-result
-returns-then-number-ne0-clause-result c =
+pub returns-in-Ok : goal.returns-in-Ok
+unfolding shown_in
+returns-in-Ok c =
     let a = c.args in
-    let shows = c.show-shown.ensures in
-    let m = c.number.ensures in show-refused a.self a.row _ _ _ (omega arith) a.room.now shows.result m (λ z. absurd (omega (arith, z)))
+    let r = row-put a.self a.row _ _ _ a.room.now (omega arith) _ c.in-Ok.ensures.answer c.show-shown.ensures.room c.store.ensures in
+    record { result = r.0; room = r.1 }
 
-pub returns-then-number-ne0-clause-room : goal.returns-then-number-ne0-clause-room
-returns-then-number-ne0-clause-room c =
+pub returns-in_default : goal.returns-in_default
+unfolding shown_in
+returns-in_default c =
     let a = c.args in
-    let shows = c.show-shown.ensures in
-    let m = c.number.ensures in room-shown a.self a.row _ _ _ (omega arith) a.room.now shows.result m shows.room
-
-pub returns-clause-result : goal.returns-clause-result
-returns-clause-result c =
-    let a = c.args in
-    let shows = c.show-shown.ensures in
-    let m = c.number.ensures in show-done a.self a.row _ _ _ (omega arith) a.room.now shows.result m (omega arith)
-    (with-width a.self a.row (shown_row c.show-shown.result) c.widest_of-widest.ensures)
-
-pub returns-clause-room : goal.returns-clause-room
-returns-clause-room c =
-    let a = c.args in
-    let shows = c.show-shown.ensures in
-    let m = c.number.ensures in room-shown a.self a.row _ _ _ (omega arith) a.room.now shows.result m shows.room
+    let r = row-put a.self a.row _ _ _ a.room.now (omega arith) _ c.show-shown.ensures.answer c.show-shown.ensures.room (rw c.in_default.is refl) in
+    record { result = r.0; room = r.1 }
