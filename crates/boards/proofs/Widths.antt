@@ -4,7 +4,7 @@ use Prim.Native.Nat.{ℕ, zero, suc, ◌≤◌, ◌<◌, max}
 use native.Mathlib.Omega.{arith}
 use mathlib.Core.Path.{◌≡◌, refl, sym, ◌∙◌}
 use mathlib.Core.Bool.{false}
-use mathlib.Core.List.{List, [], ◌∷◌}
+use mathlib.Core.List.{List, [], ◌∷◌, map}
 use lib.Dec.{eqb, ltb}
 use lib.ListN.{length, get_or}
 use borrow.Author.Tests.{ltb-true, ltb-false}
@@ -62,7 +62,7 @@ pub found_from : {w : ℕ} (fs ns : List ℕ) {x : ℕ} → x ≡ widest_from w 
 found_from {w} fs ns e z h = rw e (found w fs ns (omega (arith, e)))
 
 -- ---- the walk over the rows
-pub fold-widest : (w : ℕ) (fs ns : List ℕ) → fold (λ (x : ℕ) (row : ℕ × ℕ). max x (length_in row.0 row.1)) w (zip fs ns) ≡ widest_from w fs ns
+pub fold-widest : (w : ℕ) (fs ns : List ℕ) → fold max w (map (λ (row : ℕ × ℕ). length_in row.0 row.1) (zip fs ns)) ≡ widest_from w fs ns
 unfolding widest_from
 fold-widest w [] ns = refl
 fold-widest w (f ∷ fs) [] = refl

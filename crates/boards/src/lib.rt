@@ -1,7 +1,7 @@
 // A board of sixty-four rows, each empty or with the length and colour last shown there, and the width kept beside them.
 #![tactic(auto)]
 
-ghost use Rattle.std.specs.Prelude.{◌≡◌, ◌<◌, max, length, fold, zip};
+ghost use Rattle.std.specs.Prelude.{◌≡◌, ◌<◌, max, map, length, fold, zip};
 ghost use Rattle.boards.specs.Boards.{row_count, empty_board, length_in, with_row, put_row, room_put, clear_row};
 
 use answers::{Refusal, Shown};
@@ -72,12 +72,13 @@ impl Board {
     // The greatest length of the rows that are filled. (Each row's length is told first and then compared, so that several rows are
     // compared at once.)
     fn widest_row(&self) -> u32
-        ensures { result ≡ fold (λ widest row. max widest (length_in row.0 row.1)) 0 (zip self.now.filled self.now.length) }
+        ensures { result ≡ fold max 0 (map (λ row. length_in row.0 row.1) (zip self.now.filled self.now.length)) }
     {
-        self.filled.iter().zip(&self.length).fold(
-            0,
-            |widest, (filled, length)| widest.max(length_in(*filled, *length)),
-        )
+        self.filled
+            .iter()
+            .zip(&self.length)
+            .map(|(filled, length)| length_in(*filled, *length))
+            .fold(0, u32::max)
     }
 
     // Puts this into row k, and the width right.
