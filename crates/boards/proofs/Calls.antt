@@ -5,18 +5,17 @@ use native.Mathlib.Omega.{arith}
 use mathlib.Core.Path.{◌≡◌, refl, sym, ap, ◌∙◌}
 use mathlib.Core.Bool.{Bool, true, false, not, cond}
 use mathlib.Core.List.{List, [], ◌∷◌}
-use mathlib.Core.Option.{Option, none, some}
 use lib.Dec.{T, eqb, ltb}
 use lib.ListN.{get_or, set, length-set, get_or-replicate}
 use lib.Seq.{get_or-set_same, get_or-set_other, set-get_or}
 use borrow.Author.Tests.{lt-ltb, ltb-true, ltb-false, eq-eqb, ne_eqb, eqb-true, eqb-false, not-true}
-use Rattle.std.specs.Prelude.{Result, Ok, Err}
+use Rattle.std.specs.Prelude.{Option, Some, None, is_some, unwrap_or, Result, Ok, Err}
 use Rattle.answers.specs.declared.Refusal.{Refusal}
 use Rattle.answers.specs.declared.Refusal.TheVariants as answer
 use Rattle.answers.specs.declared.Shown.{Shown}
 use Rattle.answers.specs.Number.{answer_number}
 use Rattle.answers.proofs.Above.{refusal-above}
-use Rattle.lists.specs.Lists.{every, is_some}
+use Rattle.lists.specs.Lists.{every}
 use Rattle.lists.proofs.Bools.{no, true-T, not_so, by_cases, cond_both, cond-case, every-head, every-tail}
 use Rattle.tables.specs.Calls.{showing}
 use Rattle.boards.specs.declared.Board.{Board}
@@ -24,7 +23,7 @@ use Rattle.boards.specs.declared.Row.{Row}
 use Rattle.boards.specs.declared.PutRow.{PutRow}
 use Rattle.boards.specs.declared.ClearedRow.{ClearedRow}
 use Rattle.boards.specs.Boards.{row_count, empty_row, row_at, empty_board, length_in, widest_from, widest_of, righted, with_row, shown_in, put_row, clear_row}
-use Rattle.boards.specs.Runs.{Call, put, clear, row_named, handed_back, answered, after, shown_left, leaves, or_else, left_in, last_left, is_filled, Reached, Greatest, Whole, Run, OneCall}
+use Rattle.boards.specs.Runs.{Call, put, clear, row_named, handed_back, answered, after, shown_left, leaves, left_in, last_left, is_filled, Reached, Greatest, Whole, Run, OneCall}
 use Rattle.boards.proofs.Widths.{none-longer, found_from}
 
 -- a width that is not 0 is that of a row that is filled, so with none of them it is 0
@@ -79,8 +78,8 @@ other-with b k row i d =
 
 -- a call puts what it leaves into the row that it names
 abbrev landed : Board → ℕ → Option Row → Board
-landed b k none = b
-landed b k (some row) = with_row b k row
+landed b k None = b
+landed b k (Some row) = with_row b k row
 
 shown-landed : (b : Board) (k : ℕ) (s : Result Shown Refusal) → shown_in b k s ≡ landed b k (shown_left s)
 unfolding shown_in shown_left
@@ -88,13 +87,13 @@ shown-landed b k (Ok s) = refl
 shown-landed b k (Err a) = refl
 
 put-landed : (t : Bool) (b : Board) (k : ℕ) (s r : Result Shown Refusal)
-    → (cond {A = PutRow} t (record { board = shown_in b k s; shown = s }) (record { board = b; shown = r })).board ≡ landed b k (cond t (shown_left s) none)
+    → (cond {A = PutRow} t (record { board = shown_in b k s; shown = s }) (record { board = b; shown = r })).board ≡ landed b k (cond t (shown_left s) None)
 put-landed true b k s r = shown-landed b k s
 put-landed false b k s r = refl
 
 clear-landed : (t : Bool) (b : Board) (k : ℕ)
     → (cond {A = ClearedRow} t (record { board = with_row b k empty_row; cleared = Ok tt }) (record { board = b; cleared = Err answer.Row })).board
-    ≡ landed b k (cond t (some empty_row) none)
+    ≡ landed b k (cond t (Some empty_row) None)
 clear-landed true b k = refl
 clear-landed false b k = refl
 
@@ -104,33 +103,32 @@ handed-landed b (put k table ask text size) = put-landed (ltb k row_count) b k (
 handed-landed b (clear k) = clear-landed (ltb k row_count) b k
 
 -- what a call leaves, it leaves in one of the sixty-four rows
-there : (t : Bool) (o : Option Row) (row : Row) → cond t o none ≡ some row → t ≡ true
+there : (t : Bool) (o : Option Row) (row : Row) → cond t o None ≡ Some row → t ≡ true
 there true o row e = refl
 there false o row e = let z : ◌≡◌ {A = ℕ} 0 1 = cc in absurd (omega arith)
 
-left_there : (c : Call) (row : Row) → leaves c ≡ some row → row_named c < row_count
+left_there : (c : Call) (row : Row) → leaves c ≡ Some row → row_named c < row_count
 unfolding leaves row_named
 left_there (put k table ask text size) row e = ltb-true k row_count (there (ltb k row_count) _ row e)
 left_there (clear k) row e = ltb-true k row_count (there (ltb k row_count) _ row e)
 
 -- ---- one call on a board
 whole-landed : (b : Board) → Whole b → (k : ℕ) (o : Option Row) → Whole (landed b k o)
-whole-landed b w k none = w
-whole-landed b w k (some row) = whole_with b w k row
+whole-landed b w k None = w
+whole-landed b w k (Some row) = whole_with b w k row
 
 greatest-landed : (b : Board) → Whole b → Greatest b → (k : ℕ) (o : Option Row) → Greatest (landed b k o)
-greatest-landed b w g k none = g
-greatest-landed b w g k (some row) = greatest-with b w k row
+greatest-landed b w g k None = g
+greatest-landed b w g k (Some row) = greatest-with b w k row
 
 other-landed : (b : Board) (k : ℕ) (o : Option Row) (i : ℕ) → (i ≡ k → ⊥) → row_at (landed b k o) i ≡ row_at b i
-other-landed b k none i d = refl
-other-landed b k (some row) i d = other-with b k row i d
+other-landed b k None i d = refl
+other-landed b k (Some row) i d = other-with b k row i d
 
-named-landed : (b : Board) → Whole b → (k : ℕ) (o : Option Row) → ((row : Row) → o ≡ some row → k < row_count)
-    → row_at (landed b k o) k ≡ or_else o (row_at b k)
-unfolding or_else
-named-landed b w k none f = refl
-named-landed b w k (some row) f = row-with b w k row (f row refl)
+named-landed : (b : Board) → Whole b → (k : ℕ) (o : Option Row) → ((row : Row) → o ≡ Some row → k < row_count)
+    → row_at (landed b k o) k ≡ unwrap_or o (row_at b k)
+named-landed b w k None f = refl
+named-landed b w k (Some row) f = row-with b w k row (f row refl)
 
 row-handed : (b : Board) → Whole b → (c : Call) (i : ℕ) → row_at (handed_back b c) i ≡ left_in i (row_at b i) c
 unfolding left_in
@@ -143,21 +141,19 @@ row-handed b w c i =
 -- ---- the answer
 -- a call that leaves something is answered 0, and one that leaves nothing is not
 shown-answered : (s : Result Shown Refusal) → is_some (shown_left s) ≡ eqb (answer_number s) 0
-unfolding is_some shown_left
+unfolding shown_left
 shown-answered (Ok s) = refl
 shown-answered (Err a) = sym (refusal-above a)
 
 put-answered : (t : Bool) (b : Board) (k : ℕ) (s : Result Shown Refusal)
-    → is_some (cond t (shown_left s) none)
+    → is_some (cond t (shown_left s) None)
     ≡ eqb (answer_number (cond {A = PutRow} t (record { board = shown_in b k s; shown = s }) (record { board = b; shown = Err answer.Row })).shown) 0
-unfolding is_some
 put-answered true b k s = shown-answered s
 put-answered false b k s = refl
 
 clear-answered : (t : Bool) (b : Board) (k : ℕ)
-    → is_some (cond t (some empty_row) none)
+    → is_some (cond t (Some empty_row) None)
     ≡ eqb (answer_number (cond {A = ClearedRow} t (record { board = with_row b k empty_row; cleared = Ok tt }) (record { board = b; cleared = Err answer.Row })).cleared) 0
-unfolding is_some
 clear-answered true b k = refl
 clear-answered false b k = refl
 
@@ -168,9 +164,8 @@ left-answered b (clear k) = clear-answered (ltb k row_count) b k
 
 one-landed : (b : Board) → Whole b → (k : ℕ) (o : Option Row)
     → (is_some o ≡ true → Greatest (landed b k o)) × (is_some o ≡ false → landed b k o ≡ b)
-unfolding is_some
-one-landed b w k none = ((λ e. no e), (λ e. refl))
-one-landed b w k (some row) = ((λ e. greatest-with b w k row), (λ e. no (sym e)))
+one-landed b w k None = ((λ e. no e), (λ e. refl))
+one-landed b w k (Some row) = ((λ e. greatest-with b w k row), (λ e. no (sym e)))
 
 pub one-call : (b : Board) → Whole b → (c : Call) → OneCall b c
 one-call b w c =
@@ -216,16 +211,16 @@ other_after b (c ∷ cs) i t =
 abbrev Spelled : Row → Type 0
 Spelled row = is_filled row ≡ false → row ≡ empty_row
 
-shown-spelled : (row : Row) → Spelled row → (s : Result Shown Refusal) → Spelled (or_else (shown_left s) row)
-unfolding shown_left or_else is_filled
+shown-spelled : (row : Row) → Spelled row → (s : Result Shown Refusal) → Spelled (unwrap_or (shown_left s) row)
+unfolding shown_left is_filled
 shown-spelled row p (Ok s) = λ e. no (sym e)
 shown-spelled row p (Err a) = p
 
-left-spelled : (row : Row) → Spelled row → (c : Call) → Spelled (or_else (leaves c) row)
-unfolding leaves or_else
+left-spelled : (row : Row) → Spelled row → (c : Call) → Spelled (unwrap_or (leaves c) row)
+unfolding leaves
 left-spelled row p (put k table ask text size) =
-    cond_both (λ (o : Option Row). Spelled (or_else o row)) (ltb k row_count) (shown-spelled row p (showing table ask text size)) p
-left-spelled row p (clear k) = cond_both (λ (o : Option Row). Spelled (or_else o row)) (ltb k row_count) (λ e. refl) p
+    cond_both (λ (o : Option Row). Spelled (unwrap_or o row)) (ltb k row_count) (shown-spelled row p (showing table ask text size)) p
+left-spelled row p (clear k) = cond_both (λ (o : Option Row). Spelled (unwrap_or o row)) (ltb k row_count) (λ e. refl) p
 
 last-spelled : (k : ℕ) (row : Row) → Spelled row → (cs : List Call) → Spelled (last_left k row cs)
 unfolding last_left left_in
@@ -238,8 +233,8 @@ Counted b = b.widest ≡ widest_of b.filled b.length
 
 counted-landed : (b : Board) → Counted b → (k : ℕ) (o : Option Row) → Counted (landed b k o)
 unfolding with_row righted
-counted-landed b e k none = e
-counted-landed b e k (some row) = refl
+counted-landed b e k None = e
+counted-landed b e k (Some row) = refl
 
 counted-after : (b : Board) → Counted b → (cs : List Call) → Counted (after b cs)
 unfolding after

@@ -1,13 +1,12 @@
 -- "After any run of such calls from an empty board the kept width is the greatest of the row lengths, or 0 when all are empty, and other
 -- rows are as they were." (R152)
 -- Assumes nothing.
-use Rattle.std.specs.Prelude.{ℕ, ◌≤◌, ◌<◌, ◌≡◌, Bool, true, false, not, cond, List, [], ◌∷◌, eqb, ltb, length, Result, Ok, Err}
-use Rattle.std.proofs.Math.Option.{Option, none, some}
+use Rattle.std.specs.Prelude.{ℕ, ◌≤◌, ◌<◌, ◌≡◌, Bool, true, false, not, cond, List, [], ◌∷◌, eqb, ltb, length, Option, Some, None, is_some, unwrap_or, Result, Ok, Err}
 use Rattle.answers.specs.declared.Refusal.{Refusal}
 use Rattle.answers.specs.declared.Shown.{Shown}
 use Rattle.answers.specs.Number.{answer_number}
 use Rattle.values.specs.declared.Ask.{Ask}
-use Rattle.lists.specs.Lists.{every, is_some}
+use Rattle.lists.specs.Lists.{every}
 use Rattle.tables.specs.Calls.{showing}
 use Rattle.boards.specs.declared.Board.{Board}
 use Rattle.boards.specs.declared.Row.{Row}
@@ -39,21 +38,17 @@ after b (c ∷ cs) = after (handed_back b c) cs
 
 -- what a show leaves in the row that it is put in; refused, nothing
 unfoldable pub shown_left : Result Shown Refusal → Option Row
-shown_left (Ok s) = some (shown_row s)
-shown_left (Err a) = none
+shown_left (Ok s) = Some (shown_row s)
+shown_left (Err a) = None
 
 -- what a call leaves in the row that it names, where it is accepted
 unfoldable pub leaves : Call → Option Row
-leaves (put k table ask text size) = cond (ltb k row_count) (shown_left (showing table ask text size)) none
-leaves (clear k) = cond (ltb k row_count) (some empty_row) none
-
-unfoldable pub or_else : Option Row → Row → Row
-or_else none row = row
-or_else (some new) row = new
+leaves (put k table ask text size) = cond (ltb k row_count) (shown_left (showing table ask text size)) None
+leaves (clear k) = cond (ltb k row_count) (Some empty_row) None
 
 -- what is in row k after a call: what the call left there, else what was there
 unfoldable pub left_in : ℕ → Row → Call → Row
-left_in k row c = cond (eqb (row_named c) k) (or_else (leaves c) row) row
+left_in k row c = cond (eqb (row_named c) k) (unwrap_or (leaves c) row) row
 
 -- what the last accepted call on row k left there
 unfoldable pub last_left : ℕ → Row → List Call → Row
