@@ -10,6 +10,7 @@ use values::Ask;
 
 // A row is filled where its number in `filled` is not 0, and empty where it is 0; an empty row has length 0 and colour 0. (A number and
 // no bool: C lends boards too, and there a byte may be any.) `widest` is the greatest length of the filled rows, 0 where all are empty.
+// The rows stand in three arrays, as include/numfmt.h has them.
 #[repr(C)]
 #[derive(Clone, Copy)]
 pub struct Board {

@@ -104,7 +104,7 @@ impl From<Result<u32, Refused>> for PreparedNumbers {
     }
 }
 
-// A section stands among the 254 units that a code may have.
+// A section stands among the 254 units that a code may have. (That is asked of the caller, as `From` can't.)
 pub fn part_numbers(start: usize, size: usize) -> PartNumbers
     requires { start + size ≤ 254 }
     ensures { result ≡ part_numbers (record { start = start; size = size }) }
