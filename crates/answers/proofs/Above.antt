@@ -1,15 +1,15 @@
--- No refusal has the number of a call that is done.
+-- No refusal has the number 0.
 -- Assumes nothing.
 use mathlib.Core.Path.{◌≡◌, refl}
 use mathlib.Core.Bool.{false}
 use lib.Dec.{eqb}
 use Rattle.answers.specs.declared.Refusal.{Refusal}
 use Rattle.answers.specs.declared.Refusal.TheVariants as answer
-use Rattle.answers.specs.Number.{done_number, number_of}
+use Rattle.answers.specs.Number.{number_of}
 
-pub refusal-above : (a : Refusal) → eqb (number_of a) done_number ≡ false
+pub refusal-above : (a : Refusal) → eqb (number_of a) 0 ≡ false
 refusal-above a =
-    elim a as (λ (k : Refusal). eqb (number_of k) done_number ≡ false) [
+    elim a as (λ (k : Refusal). eqb (number_of k) 0 ≡ false) [
       | answer.CodeLength ↦ refl
       | answer.Token ↦ refl
       | answer.SectionCount ↦ refl
