@@ -36,6 +36,6 @@ returns c =
     let u = units-known c.args.code.now (λ i. omega (arith, c.type_inv.code i)) in
     let p : Ok c.in_ok-words.words ≡ prepared c.args.code.now (length c.table_room-table.result) = search rules in
     let d = made _ u c.table_room-table.ensures _ p in
-    let r = made-shows _ u c.table_room-table.ensures d _ refl c.prepare.ensures.table _ _ c.args.room.now _ c.show.ensures.answer c.show.ensures.room in
+    let r = made-shows _ u c.table_room-table.ensures d _ refl c.prepare.ensures.table _ _ c.args.room.now _ c.show.ensures.result c.show.ensures.room in
     let e : c.map_err.result ≡ refused_at 0 c.show.result = search rules in
     record { result = e ∙ r.0; room = r.1 }

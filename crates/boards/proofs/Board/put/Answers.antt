@@ -15,12 +15,12 @@ pub returns-in-Ok : goal.returns-in-Ok
 unfolding shown_in
 returns-in-Ok c =
     let a = c.args in
-    let r = row-put a.self a.row _ _ _ a.room.now (omega arith) _ c.in-Ok.ensures.answer c.show-shown.ensures.room c.store.ensures in
+    let r = row-put a.self a.row _ _ _ a.room.now (omega arith) _ c.in-Ok.ensures.result c.show-shown.ensures.room c.store.ensures in
     record { result = r.0; room = r.1 }
 
 pub returns-in_default : goal.returns-in_default
 unfolding shown_in
 returns-in_default c =
     let a = c.args in
-    let r = row-put a.self a.row _ _ _ a.room.now (omega arith) _ c.show-shown.ensures.answer c.show-shown.ensures.room (rw c.in_default.is refl) in
+    let r = row-put a.self a.row _ _ _ a.room.now (omega arith) _ c.show-shown.ensures.result c.show-shown.ensures.room (rw c.in_default.is refl) in
     record { result = r.0; room = r.1 }
