@@ -22,20 +22,21 @@ const NO_MARK: Mark = Mark {
     start: 0,
 };
 
-// What is written while a code is examined: its tokens, the words of its items, the drafts of its sections.
+// What is written while a code is examined: its tokens, the drafts of its sections, the words of its items. (`EMPTY` is not all
+// zeros, and the drafts stand between the other two: 2,048 bytes of zeros in one piece would be cleared byte by byte.)
 #[derive(Clone, Copy)]
 pub struct Room {
     pub tokens: [Mark; 254],
-    pub items: [u16; 508],
     pub drafts: [Draft; 4],
+    pub items: [u16; 508],
 }
 
 impl Room {
     pub fn new() -> Self {
         Room {
             tokens: [NO_MARK; 254],
-            items: [0; 508],
             drafts: [EMPTY; 4],
+            items: [0; 508],
         }
     }
 }
