@@ -4,7 +4,7 @@ use Prim.Native.Nat.{ℕ, ◌*◌}
 use native.Mathlib.Omega.{arith}
 use native.Mathlib.Nat.{zero-mul, mul-one}
 use mathlib.Core.Path.{◌≡◌, refl}
-use mathlib.Core.Bool.{Bool, true, false, cond, not}
+use mathlib.Core.Bool.{Bool, true, false, cond, not, ◌&&◌, ◌||◌}
 use lib.Dec.{ltb, eqb}
 use borrow.Author.Tests.{le-ltb, eq-eqb, ne_eqb}
 use Rattle.lists.proofs.Bools.{by_cases}
@@ -24,9 +24,13 @@ below-zero x = signed x.negative (le-ltb (x.size.above * 1) (0 * x.size.below) (
     signed true e = refl
     signed false e = e
 
-pub above_zero_lem : (v : Sought) → less_than zero_exact (exact_of v) ≡ cond v.negative false (ltb 0 v.above)
+pub above_zero_lem : (v : Sought) → not v.negative && ltb 0 v.above ≡ less_than zero_exact (exact_of v)
 unfolding less_than exact_of smaller
-above_zero_lem v = rw (zero-mul (parts_of_one v), mul-one v.above)
+above_zero_lem v = rw (zero-mul (parts_of_one v), mul-one v.above) (signed v.negative)
+  where
+    signed : (b : Bool) → not b && ltb 0 v.above ≡ cond b false (ltb 0 v.above)
+    signed true = refl
+    signed false = refl
 
 -- only a condition of its own makes a reason the section's own
 fallback-own : (n i : ℕ) → is_own (fallback n i) ≡ false
@@ -46,13 +50,13 @@ module _ (n i : ℕ) (v : Sought) (s : Section) where
   unfolding fallback reason_holds
   fallback-only a = rw (eq-eqb n 1 a)
 
-  pub fallback-first-of-two : (n ≡ 1 → ⊥) → n ≡ 2 → i ≡ 0 → not v.negative ≡ reason_holds (fallback n i) s (exact_of v)
+  pub fallback-of-two : n ≡ 2 → not (eqb i 0) || not v.negative ≡ reason_holds (fallback n i) s (exact_of v)
   unfolding fallback reason_holds exact_of
-  fallback-first-of-two a b c = rw (ne_eqb n 1 a, eq-eqb n 2 b, eq-eqb i 0 c, below-zero (exact_of v))
-
-  pub fallback-second-of-two : (n ≡ 1 → ⊥) → n ≡ 2 → (i ≡ 0 → ⊥) → true ≡ reason_holds (fallback n i) s (exact_of v)
-  unfolding fallback reason_holds
-  fallback-second-of-two a b c = rw (ne_eqb n 1 a, eq-eqb n 2 b, ne_eqb i 0 c)
+  fallback-of-two b =
+      let apart : n ≡ 1 → ⊥ = λ e. absurd (omega arith) in
+      by_cases (eqb i 0)
+      (λ c. rw (c, ne_eqb n 1 apart, eq-eqb n 2 b, below-zero (exact_of v)))
+      (λ c. rw (c, ne_eqb n 1 apart, eq-eqb n 2 b))
 
   pub fallback-first : (r : Bool) → (n ≡ 1 → ⊥) → (n ≡ 2 → ⊥) → i ≡ 0 → r ≡ less_than zero_exact (exact_of v)
       → r ≡ reason_holds (fallback n i) s (exact_of v)

@@ -86,7 +86,8 @@ fn signed(negative: bool, other: bool, order: Ordering) -> Ordering
     }
 }
 
-// Whether the comparison of an operator word holds: 1 to 6 are `= < > <= >= <>`.
+// Whether the comparison of an operator word holds: 1 to 6 are `= < > <= >= <>`. (An enum would be made of the word here and matched here, by
+// the same six arms.)
 fn holds(operator: u16, order: Ordering) -> bool
     ensures { result ≡ holds_for (comparison_at operator) order }
 {
@@ -116,32 +117,22 @@ fn condition_holds(section: TableSection, v: Sought) -> bool
 fn is_positive(v: Sought) -> bool
     ensures { result ≡ less_than zero_exact (exact_of v) }
 {
-    if v.negative {
-        return false;
-    }
-    0 < v.above
+    !v.negative & (0 < v.above)
 }
 
 // Whether section i of N, which has no condition, takes the value.
 fn fallback_holds(counted: u16, i: u16, v: Sought) -> bool
     ensures { (s : Section) → result ≡ reason_holds (fallback counted i) s (exact_of v) }
 {
-    if counted == 1 {
-        return true;
+    match counted {
+        1 => true,
+        2 => (i != 0) | !v.negative,
+        _ => match i {
+            0 => is_positive(v),
+            1 => v.negative,
+            _ => true,
+        },
     }
-    if counted == 2 {
-        if i == 0 {
-            return !v.negative;
-        }
-        return true;
-    }
-    if i == 0 {
-        return is_positive(v);
-    }
-    if i == 1 {
-        return v.negative;
-    }
-    true
 }
 
 // Whether the section takes the value, where N sections count.

@@ -3,7 +3,7 @@
 use Prim.Native.Nat.{ℕ}
 use native.Mathlib.Omega.{arith}
 use mathlib.Core.Path.{◌≡◌, refl, sym}
-use mathlib.Core.Bool.{Bool, true, false, cond, not}
+use mathlib.Core.Bool.{Bool, true, false, cond, not, ◌&&◌}
 use mathlib.Core.List.{List, [], ◌∷◌}
 use lib.Dec.{eqb}
 use lib.IntN.{pos}
@@ -43,3 +43,11 @@ pub sign-told : (x : Number) (s : Section) (excepted held : Bool) (n : ℕ) → 
 unfolding sign_for number_exact
 sign-told x s a b n e =
     rw (below-zero (number_exact x), empty-told s.items n e) (four (lt_z x.coefficient (pos 0)) (eqb n 0) a b)
+
+-- as the code says it
+pub minus-said : (empty excepted held negative : Bool) → not empty && not excepted && not held && negative ≡ minus_told negative empty excepted held
+unfolding minus_told
+minus-said true excepted held negative = refl
+minus-said false true held negative = refl
+minus-said false false true negative = refl
+minus-said false false false negative = refl

@@ -134,16 +134,7 @@ fn text_plan<'a>(table: Table<'a>, text: &[u16]) -> Result<Plan<'a>, Refusal>
 fn has_minus(negative: bool, items: u16, excepted: bool, nought: bool) -> bool
     ensures { result ≡ minus_told negative (eqb items 0) excepted nought }
 {
-    if items == 0 {
-        return false;
-    }
-    if excepted {
-        return false;
-    }
-    if nought {
-        return false;
-    }
-    negative
+    (items != 0) & !excepted & !nought & negative
 }
 
 // The added minus of a number in a section; `nought`: the figures that it shows are nought.
@@ -181,7 +172,8 @@ fn with_digits<'a>(
     }
 }
 
-// The plan of a number in a section that shows General.
+// The plan of a number in a section that shows General. (That a number is in range is required of it here and below: as a ghost field of
+// Signed it could not be, since `signed_of` makes a Signed of any number.)
 fn general_plan<'a>(section: TableSection<'a>, v: Signed) -> Result<Planned<'a>, Refusal>
     requires { (v.magnitude < 10 ^ 15) × T (shows_general (kind_of (section_of section))) }
     ensures { PlansNumber section.entry v result }
@@ -211,7 +203,8 @@ pub fn integer_places(section: TableSection) -> u32
     first_argument(section.items()) as u32 - 15
 }
 
-// A number rounded as a number section shows it: a shift above 15 multiplies, one below 15 divides.
+// A number rounded as a number section shows it: a shift above 15 multiplies, one below 15 divides. (`exact` is lent, as `round` does: a struct
+// that held the digits would be copied, and slower.)
 fn number_digits(section: TableSection, v: Signed, exact: &mut bool) -> [u8; 40]
     requires { (v.magnitude < 10 ^ 15) × (v.scale ≤ 15) × (kind_of (section_of section) ≡ number_kind) }
     ensures digits { (x : Number) → v ≡ signed_of x → result ≡ figures (section_rounded (section_of section.entry) x) }
