@@ -1,26 +1,25 @@
 -- Items by their tags, and the words before and behind one of them.
 -- Assumes nothing.
-use Prim.Native.Nat.{ℕ, zero, suc, ◌+◌, ◌-◌, ◌*◌, ◌/◌, ◌<◌}
+use Prim.Native.Nat.{ℕ, suc, ◌+◌, ◌-◌, ◌*◌, ◌/◌, ◌≤◌, ◌<◌}
 use native.Mathlib.Omega.{arith}
 use mathlib.Core.Path.{◌≡◌, refl, sym, ◌∙◌}
-use mathlib.Core.Bool.{Bool, false, not}
+use mathlib.Core.Bool.{Bool, false}
 use mathlib.Core.List.{List, [], ◌∷◌, ◌++◌, map}
 use lib.ListN.{length, get_or, take, drop, length-drop}
 use lib.Seq.{take_all, drop-drop, get_or-drop}
-use lib.Dec.{eqb, ltb}
-use borrow.Author.Tests.{ne_eqb, lt-ltb, le-ltb, ltb-true, ltb-false, eqb-true}
+use lib.Dec.{eqb}
+use borrow.Author.Tests.{eq-eqb, ne_eqb, lt-ltb, le-ltb}
 use Rattle.lists.specs.Lists.{any, count}
 use Rattle.lists.proofs.Counts.{any-map, any_same}
+use Rattle.lists.proofs.Bools.{by_cases}
+use Rattle.std.specs.List.{list_any}
 use Rattle.formats.specs.Items.{Item, half}
 use Rattle.formats.proofs.ByNumber.{numbered, by_number}
 use Rattle.tables.specs.Words.{Entry, entries_at, entries_in}
 use Rattle.tables.specs.Encode.{entry}
 use Rattle.tables.specs.Decode.{half_at, item_at, items_at, items_by_tag}
-use Rattle.tables.proofs.Words.{entries_at-length, entries-part}
-use Rattle.std.specs.List.{list_any}
-use Rattle.std.proofs.lemmas.List.Sums.{prefix_len-le-length}
-use Rattle.table_words.proofs.Cuts.{entries-joined, passing_len}
-use Rattle.lists.proofs.Bools.{by_cases}
+use Rattle.tables.proofs.Words.{Seeking, seeking-front, seeking-end, entries-part}
+use Rattle.table_words.proofs.Cuts.{entries-joined}
 use Rattle.scans.specs.Scans.{tagged, has_tag, FoundAt}
 
 -- ---- a test that only one tag passes
@@ -41,44 +40,31 @@ module _ (p : Item → Bool) (m : ℕ) (f : (e : Entry) → p (item_at e) ≡ eq
   count-tagged [] = refl
   count-tagged (e ∷ es) = rw (f e, count-tagged es)
 
--- ---- the search for a tag: how many entries stand before the first that has it
-abbrev pub before_tag : ℕ → List Entry → ℕ
-before_tag tag es = passing_len (λ (t : ℕ). not (eqb t tag)) es
+-- ---- the search for a tag
+module _ {words : List ℕ} {tag n k : ℕ} (s : Seeking (λ es. has_tag es tag) words n k) where
+  pub found_here : k < n → get_or words (2 * k) 0 ≡ tag → FoundAt words tag k
+  unfolding any
+  found_here h e =
+      let i = s.items in
+      record {
+        inside = omega arith;
+        told = seeking-front s h ∙ rw (eq-eqb (get_or words (2 * k) 0) tag e, lt-ltb k (length words / 2) (omega arith));
+        here = λ l. e;
+      }
 
-below_more_one : (b n : ℕ) → ltb (1 + b) (suc n) ≡ ltb b n
-below_more_one b n =
-    by_cases (ltb b n) (λ t. rw t (lt-ltb (1 + b) (suc n) (omega (arith, ltb-true b n t)))) (λ t. rw t (le-ltb (1 + b) (suc n) (omega (arith, ltb-false b n t))))
+  pub found-later : k < n → (get_or words (2 * k) 0 ≡ tag → ⊥) → has_tag (entries_in words) tag ≡ has_tag (entries_at (n - (k + 1)) (drop (2 * (k + 1)) words)) tag
+  unfolding any
+  found-later h f = seeking-front s h ∙ rw (ne_eqb (get_or words (2 * k) 0) tag f)
 
-met-told : (tag : ℕ) (es : List Entry) → has_tag es tag ≡ ltb (before_tag tag es) (length es)
-unfolding any
-met-told tag [] = refl
-met-told tag (e ∷ es) =
-    by_cases (eqb e.tag tag)
-    (λ t. rw (t) (sym (lt-ltb 0 (suc (length es)) (omega arith))))
-    (λ t. rw (t) (met-told tag es ∙ sym (below_more_one (before_tag tag es) (length es))))
-
-met-here : (tag : ℕ) (n : ℕ) (ws : List ℕ) → before_tag tag (entries_at n ws) < n → get_or ws (2 * before_tag tag (entries_at n ws)) 0 ≡ tag
-unfolding entries_at
-met-here tag zero ws h = absurd (omega arith)
-met-here tag (suc n) ws h =
-    let k = before_tag tag (entries_at n (drop 2 ws)) in
-    let two : 2 * (1 + k) ≡ 2 + 2 * k = omega arith in
-    by_cases (eqb (get_or ws 0 0) tag)
-    (λ t. rw t (eqb-true (get_or ws 0 0) tag t))
-    (λ t. rw (t, two, ← get_or-drop 2 ws (2 * k) 0) (met-here tag n (drop 2 ws) (omega (arith, rw t at h))))
-
--- as many entries as stand before it are where it stands
-pub found : (words : List ℕ) (tag k : ℕ) → k ≡ before_tag tag (entries_in words) → FoundAt words tag k
-unfolding entries_in
-found words tag k e =
-    let n = length words / 2 in
-    let es = entries_at n words in
-    let size = entries_at-length n words in
-    record {
-      inside = omega (arith, e, size, prefix_len-le-length (λ (x : Entry). not (eqb x.tag tag)) es);
-      told = met-told tag es ∙ rw (e, size);
-      here = λ l. rw e (met-here tag n words (rw e at l));
-    }
+  pub found_none : n ≤ k → FoundAt words tag n
+  unfolding any
+  found_none h =
+      let i = s.items in
+      record {
+        inside = omega arith;
+        told = seeking-end s h ∙ rw (le-ltb n (length words / 2) (omega arith));
+        here = λ l. absurd (omega arith);
+      }
 
 -- a test of tags and its list of answers
 pub any-listed : (tag : ℕ) (es : List Entry) → list_any (λ (e : Entry). eqb e.tag tag) es ≡ has_tag es tag

@@ -1,4 +1,5 @@
-// Items among a section's item words, by their tags: where one stands, where the items are cut, how many there are.
+// Items among a section's item words, by their tags: where one stands, where the items are cut, how many there are. (By the items' numbers:
+// chains over `chunks_exact(2)`, and over the numbers, proved too, and took up to 5 in 100 more instructions to show a fraction.)
 #![tactic(auto)]
 
 ghost use Rattle.std.specs.Prelude.{◌≡◌, Bool, ℕ};
@@ -18,7 +19,12 @@ pub fn find_tag(words: &[u16], tag: u16) -> usize
     ensures { FoundAt words.now tag result }
 {
     let n = words.len() / 2;
-    (0..n).find(|&k| words[2 * k] == tag).unwrap_or(n)
+    for k in 0..n {
+        if words[2 * k] == tag {
+            return k;
+        }
+    }
+    n
 }
 
 pub fn has_tag(words: &[u16], tag: u16) -> bool
@@ -32,15 +38,22 @@ pub fn cut_start(items: &[u16]) -> usize
     ensures { CutAt items.now result (before_cut (items_in items.now)) (from_cut (items_in items.now)) }
 {
     let n = items.len() / 2;
-    let cut = (0..n).find(|&k| (tags::EXPONENT_PLUS..=tags::SOLIDUS).contains(&items[2 * k]));
-    2 * cut.unwrap_or(n)
+    for k in 0..n {
+        if (tags::EXPONENT_PLUS..=tags::SOLIDUS).contains(&items[2 * k]) {
+            return 2 * k;
+        }
+    }
+    2 * n
 }
 
 // How many items there are among item words with a tag from `low` to `high`.
 pub fn count_between(items: &[u16], low: u16, high: u16) -> usize
     ensures { (f : Item → Bool) → ((t a : ℕ) → f (item_at (entry t a)) ≡ between low high t) → result ≡ count f (items_in items.now) }
 {
-    (0..items.len() / 2)
-        .filter(|&k| (low..=high).contains(&items[2 * k]))
-        .count()
+    let n = items.len() / 2;
+    let mut met = 0;
+    for k in 0..n {
+        met += (low..=high).contains(&items[2 * k]) as usize;
+    }
+    met
 }

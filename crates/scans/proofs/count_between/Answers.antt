@@ -1,15 +1,18 @@
--- `scans::count_between` meets its contract.
+-- `scans::count_between` meets its contract. The invariant, `Counting`: those so far and those that are left are all.
 -- Assumes nothing.
-use Rattle.std.proofs.Common.{arith, rules, tests, ◌∙◌, get_or, ◌*◌, ℕ, length, ◌/◌}
+use mathlib.Core.Path.{refl}
+use Rattle.std.proofs.Common.{rules, tests, ◌≡◌, ◌*◌, get_or}
 use Rattle.values.specs.Ranges.{between}
-use Rattle.std.proofs.lemmas.Iterator.{YieldsList-from_range}
-use Rattle.std.proofs.lemmas.Iterator.Consumers.{count_from_yields_List, YieldsList-from_filter}
-use Rattle.scans.proofs.Cutting.{all-counted}
+use Rattle.scans.proofs.Cutting.{counting-start, counting-step, counting-end}
 use Rattle.scans.proofs.count_between.Goals as goal
 
+pub loop-k-init : goal.loop-k-init
+loop-k-init c = counting-start _ _ _ _ refl
+
+pub loop-k-preserved : goal.loop-k-preserved
+loop-k-preserved c =
+    let e : c.contains.result ≡ between c.args.low c.args.high (get_or c.args.items.now (2 * c.loop-k.k) 0) = search (rules, tests) in
+    rw e (counting-step c.loop-k.invariant c.loop-k-test.true)
+
 pub returns : goal.returns
-returns c f h =
-    let items = c.args.items.now in
-    count_from_yields_List c.filter.result _ c.count.ensures.ran
-    (YieldsList-from_filter _ (λ (k : ℕ). between c.args.low c.args.high (get_or items (2 * k) 0)) (YieldsList-from_range 0 (length items / 2) (length items / 2) (cc) (omega arith)) c.filter.ensures.closure (λ x b q k. search (rules, tests)))
-    ∙ all-counted _ _ f h items
+returns c = counting-end c.loop-k.invariant c.loop-k-test.false

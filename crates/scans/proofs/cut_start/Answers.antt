@@ -1,21 +1,26 @@
--- `scans::cut_start` meets its contract.
+-- `scans::cut_start` meets its contract. The invariant, `Seeking`: no entry so far is an E or a solidus.
 -- Assumes nothing.
-use native.Mathlib.Omega.{arith}
-use Rattle.std.proofs.Common.{rules, tests, not, ◌≡◌, ◌∙◌}
+use mathlib.Core.Path.{refl, ap}
+use mathlib.Core.Bool.{not}
+use Rattle.std.proofs.Common.{rules, tests, ◌≡◌, ◌*◌, true, false, get_or}
 use Rattle.values.specs.Ranges.{between}
-use Rattle.tables.specs.Words.{entries_in}
-use Rattle.table_words.proofs.Cuts.{passing_len, passing-found, passing-most, cut-passing}
+use Rattle.tables.proofs.Words.{seeking-start}
+use Rattle.table_words.proofs.Cuts.{part-met, part-passed, part_none}
 use Rattle.scans.proofs.Cutting.{finds-cut}
 use Rattle.scans.proofs.cut_start.Goals as goal
-use Rattle.scans.proofs.cut_start.Goals.{After-unwrap_or}
 
-before : (c : After-unwrap_or) → c.unwrap_or.result ≡ passing_len (λ t. not (between 22 24 t)) (entries_in c.args.items.now)
-before c =
-    c.unwrap_or.ensures
-    ∙ passing-found _ (λ t. not (between 22 24 t)) c.args.items.now _ _ c.find-cut.result c.find-cut.ensures.ran (λ x q k. search (rules, tests)) (λ x q k. search (rules, tests))
+pub loop-k-init : goal.loop-k-init
+loop-k-init c = seeking-start _ _ _ refl
 
-pub overflow_mul-result : goal.overflow_mul-result
-overflow_mul-result c = omega (arith, before (goal.at.overflow_mul-result c).After-unwrap_or, passing-most (λ t. not (between 22 24 t)) c.args.items.now)
+pub returns-then-contains : goal.returns-then-contains
+returns-then-contains c =
+    let t : between 22 24 (get_or c.args.items.now (2 * c.loop-k.k) 0) ≡ true = search (rules, tests) in
+    part-met finds-cut c.loop-k.invariant c.loop-k-test.true (ap not t)
+
+pub loop-k-preserved : goal.loop-k-preserved
+loop-k-preserved c =
+    let t : between 22 24 (get_or c.args.items.now (2 * c.loop-k.k) 0) ≡ false = search (rules, tests) in
+    part-passed finds-cut c.loop-k.invariant c.loop-k-test.true (ap not t)
 
 pub returns : goal.returns
-returns c = cut-passing finds-cut _ _ (before (goal.at.returns c).After-unwrap_or)
+returns c = part_none finds-cut c.loop-k.invariant c.loop-k-test.false
