@@ -6,7 +6,7 @@ use mathlib.Core.Path.{◌≡◌, refl, sym, ◌∙◌, ap}
 use mathlib.Core.Bool.{Bool, true, false, ◌&&◌, ◌||◌, true≢false}
 use mathlib.Core.List.{List, [], ◌++◌}
 use mathlib.Core.Option.{none, some}
-use lib.ListN.{length, take, drop, length-take, length-drop}
+use lib.ListN.{length, take, drop, length-drop}
 use lib.Seq.{take_all}
 use lib.Dec.{T, leb→le, ltb, eqb}
 use Rattle.lists.specs.Lists.{every, any}
@@ -201,10 +201,6 @@ module _ (ts : List Token) {old out : List ℕ} {at end : ℕ} (put : Put old at
 
   pub bare-put : (b : Body) → Drafts ts b × (settled_words ts ≡ body_words ts) → Drafts ts b × Put old at (body_words ts) (at + 2 * b.items) out
   bare-put b (d, e) = (d, rw (body_end d, ← e) put)
-
--- a part of a list is no longer
-pub part-short : (ms : List Mark) (n k : ℕ) → length ms ≤ 254 → length (take n (drop k ms)) ≤ 254
-part-short ms n k h = rw (length-take n (drop k ms), length-drop k ms) (omega arith)
 
 -- ---- the section
 abbrev pub draft_by : ℕ → Compared → Amount → Body → Draft

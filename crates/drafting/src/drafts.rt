@@ -12,9 +12,11 @@ ghost use Rattle.bodies.specs.Bodies.{facts_of};
 ghost use Rattle.bodies.specs.Fraction.{has_units};
 ghost use Rattle.bodies.specs.Sections.{condition_marked};
 ghost use Rattle.emitting.specs.Emit.{ToldOf};
+ghost use Rattle.drafting.specs.Parts.{tokens_of};
 ghost use Rattle.drafting.specs.Draft.{body_words, settled_words, ConditionAs, thousands_by, shift_told, commas_fit_by, body_by, bare_body, kept_by, Parted, BodyRead, Drafts, DraftOf, is_read};
 ghost use Rattle.tallies.specs.Tally.{tally_of, Uncut, Cut, items_fit_told, within_told};
 
+use super::parts::Part;
 use super::places::told_of;
 use super::{Body, Draft};
 use bodies::commas::{Commas, commas_of};
@@ -184,26 +186,27 @@ fn draft_cut(body: &[Mark], read: Read, words: &mut [u16]) -> Body
 }
 
 // Puts the words of a body's items at `at`, all places being of one run, and settles the runs of m among them.
-fn put_settled(code: &[u16], body: &[Mark], told: Told, items: &mut [u16], at: usize) -> usize
-    requires code_len_bound { (length code.now ≤ 254) × (length body.now ≤ 254) × (length items.old ≤ 508) × (at + length (settled_words (tokens_in code.now body.now)) ≤ length items.old) }
-    requires told { ToldOf (tokens_in code.now body.now) told }
-    ensures { Put items.old at (settled_words (tokens_in code.now body.now)) result items.new }
+fn put_settled(body: Part, told: Told, items: &mut [u16], at: usize) -> usize
+    requires room { (length items.old ≤ 508) × (at + length (settled_words (tokens_of body)) ≤ length items.old) }
+    requires told { ToldOf (tokens_of body) told }
+    ensures { Put items.old at (settled_words (tokens_of body.entry)) result items.new }
 {
-    let end = put_items(code, body, told, items, at);
+    let end = put_items(body.code, body.marks, told, items, at);
     settle(&mut items[at..end]);
     end
 }
 
 // Drafts a body, and puts the words of its items at `at`. (Most have neither E nor solidus, and pay for this test alone.)
-fn draft_body(code: &[u16], body: &[Mark], items: &mut [u16], at: usize) -> Body
-    requires code_len_bound { (length code.now ≤ 254) × (length body.now ≤ 254) × (length items.old ≤ 508) × (at + length (body_words (tokens_in code.now body.now)) ≤ length items.old) }
-    requires t { T (every has_units (tokens_in code.now body.now)) }
-    ensures draft { Drafts (tokens_in code.now body.now) result }
-    ensures put { Put items.old at (body_words (tokens_in code.now body.now)) (at + 2 * result.items) items.new }
+fn draft_body(body: Part, items: &mut [u16], at: usize) -> Body
+    requires room { (length items.old ≤ 508) × (at + length (body_words (tokens_of body)) ≤ length items.old) }
+    requires units { T (every has_units (tokens_of body)) }
+    ensures draft { Drafts (tokens_of body.entry) result }
+    ensures put { Put items.old at (body_words (tokens_of body.entry)) (at + 2 * result.items) items.new }
 {
-    let facts = facts_of(body);
-    let commas = commas_of(body, facts);
-    let end = put_settled(code, body, told_of(body, facts), items, at);
+    let marks = body.marks;
+    let facts = facts_of(marks);
+    let commas = commas_of(marks, facts);
+    let end = put_settled(body, told_of(marks, facts), items, at);
     let tally = tally_words(&items[at..end]);
     let size = end - at;
     let read = Read {
@@ -213,23 +216,26 @@ fn draft_body(code: &[u16], body: &[Mark], items: &mut [u16], at: usize) -> Body
         items: (size / 2) as u16,
     };
     if (0 < tally.exponents) | (0 < tally.solidi) {
-        return draft_cut(body, read, &mut items[at..end]);
+        return draft_cut(marks, read, &mut items[at..end]);
     }
     read.bare_body()
 }
 
 // Drafts the section of these tokens, and puts the words of its items at `at`.
-pub fn draft_section(code: &[u16], part: &[Mark], items: &mut [u16], at: usize) -> Draft
-    requires code_len_bound { (length code.now ≤ 254) × (length part.now ≤ 254) × (length items.old ≤ 508) }
-    requires part_in_bounds { at + length (body_words (parts_of (tokens_in code.now part.now)).body) ≤ length items.old }
-    requires t { T (every is_read (tokens_in code.now part.now)) }
-    ensures draft { DraftOf (parts_of (tokens_in code.now part.now)) result }
-    ensures put { Put items.old at (body_words (parts_of (tokens_in code.now part.now)).body) (at + 2 * result.body.items) items.new }
+pub fn draft_section(part: Part, items: &mut [u16], at: usize) -> Draft
+    requires room { (length items.old ≤ 508) × (at + length (body_words (parts_of (tokens_of part)).body) ≤ length items.old) }
+    requires read { T (every is_read (tokens_of part)) }
+    ensures draft { DraftOf (parts_of (tokens_of part.entry)) result }
+    ensures put { Put items.old at (body_words (parts_of (tokens_of part.entry)).body) (at + 2 * result.body.items) items.new }
 {
-    let h = heading_of(part);
-    let condition = heading_condition(code, h);
+    let h = heading_of(part.marks);
+    let condition = heading_condition(part.code, h);
     let amount = condition.amount.unwrap_or(NOTHING);
-    let body = draft_body(code, &part[h.tokens..], items, at);
+    let body = Part {
+        code: part.code,
+        marks: &part.marks[h.tokens..],
+    };
+    let body = draft_body(body, items, at);
     Draft {
         colour: h.colour,
         operator: condition.operator,

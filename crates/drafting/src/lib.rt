@@ -2,6 +2,7 @@
 #![tactic(auto)]
 
 mod drafts;
+mod parts;
 mod places;
 pub mod sections;
 

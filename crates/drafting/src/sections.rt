@@ -5,6 +5,7 @@ ghost use Rattle.drafting.specs.Draft.{AllDrafted, Lexes};
 
 use super::Draft;
 use super::drafts::draft_section;
+use super::parts::Part;
 use bodies::sections::section_end;
 use marks::Mark;
 
@@ -25,7 +26,11 @@ pub fn draft_all(
     for k in 0..n {
         let rest = &tokens[first..];
         let size = section_end(rest);
-        let draft = draft_section(code, &rest[..size], items, at);
+        let part = Part {
+            code,
+            marks: &rest[..size],
+        };
+        let draft = draft_section(part, items, at);
         drafts[k] = draft;
         at += 2 * usize::from(draft.body.items);
         first += size + 1;

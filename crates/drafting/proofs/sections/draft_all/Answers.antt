@@ -7,11 +7,11 @@ use Rattle.drafting.proofs.sections.draft_all.Goals as goal
 pub loop-k-init : goal.loop-k-init
 loop-k-init c = sectioning-start _ _ _ _ _ c.requires.code_len_bound c.requires.lexes
 
-pub draft_section-draft-requires-clause-part_in_bounds : goal.draft_section-draft-requires-clause-part_in_bounds
-draft_section-draft-requires-clause-part_in_bounds c = (next-asks c.loop-k.invariant c.loop-k-test.true _ c.section_end-size.ensures).1.0
+pub draft_section-draft-requires-clause-room : goal.draft_section-draft-requires-clause-room
+draft_section-draft-requires-clause-room c = let a = next-asks c.loop-k.invariant c.loop-k-test.true _ c.section_end-size.ensures in (a.0.2, a.1.0)
 
-pub draft_section-draft-requires-clause-t : goal.draft_section-draft-requires-clause-t
-draft_section-draft-requires-clause-t c = (next-asks c.loop-k.invariant c.loop-k-test.true _ c.section_end-size.ensures).1.1
+pub draft_section-draft-requires-clause-read : goal.draft_section-draft-requires-clause-read
+draft_section-draft-requires-clause-read c = (next-asks c.loop-k.invariant c.loop-k-test.true _ c.section_end-size.ensures).1.1
 
 pub overflow_add-at : goal.overflow_add-at
 overflow_add-at c =
