@@ -1,21 +1,24 @@
 -- Laws of the figures of a context, and of what one place shows.
 -- Assumes nothing.
 use mathlib.Core.Path.{◌≡◌, refl, sym, ap, ◌∙◌}
-use mathlib.Core.Bool.{Bool, true, false, cond, not, ◌&&◌}
+use mathlib.Core.Bool.{Bool, true, false, cond, not, ◌&&◌, and-true}
 use mathlib.Core.List.{List, [], ◌∷◌}
-use Prim.Native.Nat.{ℕ, suc, ◌+◌, ◌/◌, ◌%◌, ◌^◌, ◌≤◌, ◌<◌}
-use native.Mathlib.Numerals.{add-one}
+use Prim.Native.Nat.{ℕ, zero, suc, ◌+◌, ◌/◌, ◌%◌, ◌^◌, ◌≤◌, ◌<◌}
+use native.Mathlib.Nat.{mod-one}
+use Rattle.std.specs.List.{list_all}
+use Rattle.std.proofs.lemmas.List.Folds.{list_all-append}
+use lib.Seq.{take-suc}
 use native.Mathlib.Omega.{arith}
-use borrow.Author.Tests.{le-leb, lt-leb, eq-eqb, ne_eqb, eqb-true}
+use borrow.Author.Tests.{le-leb, lt-leb, eq-eqb, ne_eqb, eqb-true, eqb-false}
 use lib.Dec.{leb, eqb}
-use lib.ListN.{get_or}
+use lib.ListN.{get_or, length, take}
 use Rattle.lists.specs.Lists.{any}
 use Rattle.lists.proofs.Apart.{Apart, none_of}
 use Rattle.lists.proofs.Bools.{by_cases, cond_both, cond-case}
 use Rattle.lists.proofs.Tables.{value-at}
 use Rattle.figures.specs.Digits.{digit, digit_unit, figures}
 use Rattle.figures.specs.Places.{places_used}
-use Rattle.figures.proofs.Digits.{figures-at}
+use Rattle.figures.proofs.Digits.{figures-at, figures-length}
 use Rattle.figures.proofs.Places.{div-zero-digit, mod-lower, mod-zero-next, mod-zero-digit, used-test, used-most}
 use Rattle.formats.specs.Tokens.{zero_place, hash_place, space_place}
 use Rattle.formats.specs.Text.{Context, insignificant, idle_units, ends_group, with_separator, figure_units}
@@ -46,17 +49,24 @@ figures-are digits c e d h p = record {
 pub digit-is : {digits : List ℕ} (n : ℕ) → digits ≡ figures n → (q : ℕ) → q < 40 → get_or digits q 0 ≡ digit n q
 digit-is n e q h = ap (λ (l : List ℕ). get_or l q 0) e ∙ figures-at n q h
 
--- digits from the lowest up: one more that is 0, one that is not, and all that are asked for
+-- the digits from the lowest up are 0 where the number is whole at 10^k
 module _ {digits : List ℕ} (n : ℕ) (e : digits ≡ figures n) where
-  pub spent-next : (k : ℕ) → k < 40 → get_or digits k 0 ≡ 0 → n % 10 ^ k ≡ 0 → n % 10 ^ (k + 1) ≡ 0
-  spent-next k h d z = rw (add-one k) (mod-zero-next n k (sym (digit-is n e k h) ∙ d) z)
+  both_zero : (k : ℕ) → (eqb (n % 10 ^ k) 0 && eqb (digit n k) 0) ≡ eqb (n % 10 ^ suc k) 0
+  both_zero k =
+      by_cases (eqb (n % 10 ^ suc k) 0)
+      (λ t.
+      let z = eqb-true (n % 10 ^ suc k) 0 t in
+      rw (t, eq-eqb (n % 10 ^ k) 0 (mod-lower n k (suc k) (omega arith) z), eq-eqb (digit n k) 0 (mod-zero-digit n k z)) refl)
+      (λ f.
+      by_cases (eqb (n % 10 ^ k) 0)
+      (λ t. rw (f, t) (ne_eqb (digit n k) 0 (λ z. eqb-false (n % 10 ^ suc k) 0 f (mod-zero-next n k z (eqb-true (n % 10 ^ k) 0 t)))))
+      (λ g. rw (f, g) refl))
 
-  pub unspent : (k q : ℕ) → k ≤ q → q < 40 → (get_or digits k 0 ≡ 0 → ⊥) → false ≡ eqb (n % 10 ^ suc q) 0
-  unspent k q h l d =
-      sym (ne_eqb (n % 10 ^ suc q) 0 (λ z. d (digit-is n e k (omega arith) ∙ mod-zero-digit n k (mod-lower n (suc k) (suc q) (omega arith) z))))
-
-  pub spent : (k q : ℕ) → k ≡ q + 1 → n % 10 ^ k ≡ 0 → true ≡ eqb (n % 10 ^ suc q) 0
-  spent k q h z = sym (eq-eqb (n % 10 ^ suc q) 0 (rw (h, add-one q) at z))
+  pub spent_all : (k : ℕ) → k ≤ 40 → list_all (λ (d : ℕ). eqb d 0) (take k digits) ≡ eqb (n % 10 ^ k) 0
+  spent_all zero h = sym (eq-eqb (n % 10 ^ 0) 0 (mod-one n))
+  spent_all (suc k) h =
+      let long : k < length digits = omega (arith, ap length e, figures-length n) in
+      rw (take-suc digits k 0 long, list_all-append, digit-is n e k (omega arith), spent_all k (omega arith), and-true) (both_zero k)
 
 -- an insignificant zero is 0
 idle-digit : (n q : ℕ) → insignificant n q ≡ true → digit n q ≡ 0

@@ -9,13 +9,12 @@ ghost use Rattle.writing.specs.Put.{Put};
 ghost use Rattle.figure_text.specs.Shown.{FiguresAre, place_of_tag, separated, first_place, figures_with, units_before};
 
 use tables::tags;
-use values::integers;
 use writing::{digit_unit, put_unit, units};
 
 // The place of 10^0 among the forty digits: the decimals stand below it.
 const UNITS_PLACE: usize = 15;
 
-// No digit has this place.
+// No digit has this place. (A number and no `Option`: each place shown is compared with it, at once.)
 const NO_PLACE: usize = 40;
 
 // How a rounded number's digits, that of 10^-15 first, are shown: how many places are used, the place of the digit that the
@@ -33,9 +32,10 @@ fn first_place(integers: u32) -> usize
     ensures { result ≡ first_place integers }
 {
     if integers == 0 {
-        return NO_PLACE;
+        NO_PLACE
+    } else {
+        14 + integers as usize
     }
-    14 + integers as usize
 }
 
 // The figures of a section: those of every context with this number, these integer places and this grouping (`figures-are`).
@@ -55,14 +55,7 @@ fn is_spent(digits: &[u8; 40], q: usize) -> bool
     requires { q < 40 }
     ensures { (n : ℕ) → digits.now ≡ figures n → result ≡ eqb (n % 10 ^ suc q) 0 }
 {
-    let mut k = 0;
-    while k <= q {
-        if digits[k] != 0 {
-            return false;
-        }
-        k += 1;
-    }
-    true
+    digits[..=q].iter().all(|d| *d == 0)
 }
 
 // Whether a place, told by its tag, shows the digit at q as an insignificant zero; `0` shows each digit as it is.
@@ -80,6 +73,7 @@ fn is_idle(digits: &[u8; 40], f: Figures, place: u16, q: usize) -> bool
 }
 
 // Whether the digit at q is that of 10^3, 10^6 and so on. (An arm for each: the test is then of one bit.)
+#[tactic(auto, unfolding(formats::specs::Text::ends_group))]
 fn ends_group(q: usize) -> bool
     requires { q < 40 }
     ensures { result ≡ ends_group q }
@@ -102,9 +96,10 @@ fn separator(u: u16) -> u16
     ensures { result ≡ cond (eqb u 32) 32 44 }
 {
     if u == units::SPACE {
-        return units::SPACE;
+        units::SPACE
+    } else {
+        units::COMMA
     }
-    units::COMMA
 }
 
 // Puts a unit of the digit at q, with the separator behind it where one is due.
@@ -159,10 +154,8 @@ fn put_extra(room: &mut [u16], at: usize, digits: &[u8; 40], f: Figures, q: usiz
     ensures put { (c : Context) → FiguresAre digits.now f c → 15 ≤ q → q ≤ 40
         → Put room.old at (extra_units c.figures c.grouped q (40 - q)) result room.new }
 {
-    let mut k = f.used;
     let mut o = at;
-    while q < k {
-        k -= 1;
+    for k in (q..f.used).rev() {
         o = put_shown(room, o, digit_unit(digits[k]), f.grouped, k);
     }
     o
@@ -218,10 +211,8 @@ fn put_run(room: &mut [u16], at: usize, digits: &[u8; 40], high: usize, low: usi
     ensures put { (n : ℕ) → digits.now ≡ figures n
         → Put room.old at (digit_units (high - low) (n / 10 ^ low)) result room.new }
 {
-    let mut k = high;
     let mut o = at;
-    while low < k {
-        k -= 1;
+    for k in (low..high).rev() {
         o = put_unit(room, o, digit_unit(digits[k]));
     }
     o
@@ -247,12 +238,6 @@ pub fn put_general(room: &mut [u16], at: usize, digits: &[u8; 40], f: Figures) -
     ensures within { result ≤ at + 81 }
     ensures put { (c : Context) → FiguresAre digits.now f c → Put room.old at (general_units c.figures) result room.new }
 {
-    let a = put_run(
-        room,
-        at,
-        digits,
-        integers::greatest(16, f.used),
-        UNITS_PLACE,
-    );
+    let a = put_run(room, at, digits, f.used.max(16), UNITS_PLACE);
     put_decimals(room, a, digits, figures::lowest_place(*digits))
 }

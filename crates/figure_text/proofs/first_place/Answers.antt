@@ -9,6 +9,6 @@ pub returns-then-integers-eq0 : goal.returns-then-integers-eq0
 unfolding first_place
 returns-then-integers-eq0 c = rw (eq-eqb c.args.integers 0 (omega arith))
 
-pub returns : goal.returns
+pub returns-else-integers-eq0 : goal.returns-else-integers-eq0
 unfolding first_place
-returns c = rw (ne_eqb c.args.integers 0 (λ e. omega arith))
+returns-else-integers-eq0 c = rw (ne_eqb c.args.integers 0 (λ e. omega arith))

@@ -1,14 +1,20 @@
--- `figure_text::is_spent` meets its contract. The invariant: the digits below k are 0.
+-- `figure_text::is_spent` meets its contract.
 -- Assumes nothing.
+use mathlib.Core.Path.{◌≡◌, ◌∙◌}
+use Prim.Native.Nat.{ℕ, suc, ◌+◌}
+use native.Mathlib.Numerals.{add-one}
 use native.Mathlib.Omega.{arith}
-use Rattle.figure_text.proofs.Digits.{spent-next, unspent}
+use lib.Dec.{eqb}
+use lib.ListN.{take}
+use Rattle.std.specs.List.{list_all}
+use Rattle.std.proofs.Common.{rules, tests}
+use Rattle.std.proofs.lemmas.Iterator.{YieldsList-from_slice}
+use Rattle.std.proofs.lemmas.Iterator.Search.{all_from_yields_List}
+use Rattle.figure_text.proofs.Digits.{spent_all}
 use Rattle.figure_text.proofs.is_spent.Goals as goal
 
-pub returns-then-digits-k-ne0 : goal.returns-then-digits-k-ne0
-returns-then-digits-k-ne0 c =
-    λ n e. unspent n e c.loop-k.k c.args.q (omega arith) (omega arith) c.if-digits-k-ne0.true
-
-pub loop-k-preserved : goal.loop-k-preserved
-loop-k-preserved c =
-    let l = c.loop-k in
-    (omega arith, λ n e. spent-next n e l.k (omega arith) c.if-digits-k-ne0.false (l.invariant.1 n e))
+pub returns : goal.returns
+returns c n e =
+    let low = take (c.args.q + 1) c.args.digits.now in
+    all_from_yields_List (λ (d : ℕ). eqb d 0) c.all.new.self _ c.all.result c.all.ensures.ran (YieldsList-from_slice low cc) (λ x b q k. search (rules, tests))
+    ∙ rw add-one (spent_all n e (suc c.args.q) (omega arith))

@@ -15,6 +15,3 @@ invariant-loop-k l =
     × (length l.room ≡ length l.initial.room)
     × ((c : Context) → FiguresAre l.digits l.f c → 15 ≤ l.q → l.q ≤ 40
     → Rest l.initial.room l.at (extra_units c.figures c.grouped l.q (40 - l.q)) l.room l.o (extra_units c.figures c.grouped l.q (l.k - l.q)))
-
-abbrev pub decreases-loop-k : goal.decreases-loop-k
-decreases-loop-k l = l.k

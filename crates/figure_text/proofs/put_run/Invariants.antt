@@ -14,6 +14,3 @@ invariant-loop-k l =
     × (length l.room ≡ length l.initial.room)
     × ((n : ℕ) → l.digits ≡ figures n
     → Rest l.initial.room l.at (digit_units (l.high - l.low) (n / 10 ^ l.low)) l.room l.o (digit_units (l.k - l.low) (n / 10 ^ l.low)))
-
-abbrev pub decreases-loop-k : goal.decreases-loop-k
-decreases-loop-k l = l.k
