@@ -125,22 +125,24 @@ fn told(whole: u64, part: Fraction, parted: bool) -> Mixed
     ensures { result ≡ told_of parted whole part }
 {
     let Fraction { above, below } = part;
-    if !parted {
-        Mixed {
-            whole: 0,
-            above: above + whole * below,
-            below,
-        }
-    } else if above == below {
-        Mixed {
-            whole: whole + 1,
-            above: 0,
-            below,
+    if parted {
+        if above == below {
+            Mixed {
+                whole: whole + 1,
+                above: 0,
+                below,
+            }
+        } else {
+            Mixed {
+                whole,
+                above,
+                below,
+            }
         }
     } else {
         Mixed {
-            whole,
-            above,
+            whole: 0,
+            above: above + whole * below,
             below,
         }
     }
