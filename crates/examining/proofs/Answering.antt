@@ -21,7 +21,6 @@ use Rattle.formats.proofs.Lexing.{step-inside}
 use Rattle.formats.proofs.ItemCount.{section-count}
 use Rattle.marks.specs.declared.Mark.{Mark}
 use Rattle.marks.proofs.Buffer.{tokens-placed}
-use Rattle.marks.specs.Marks.{tokens_in}
 use Rattle.lexing.specs.declared.buffer.Filled.{Filled}
 use Rattle.lexing.specs.Buffer.{lex_meant, count_of, semicolons_of, Fills, semicolons_in}
 use Rattle.lexing.proofs.Semicolons.{semicolons-in}

@@ -11,8 +11,7 @@ use Rattle.lists.specs.Lists.{first_failing}
 use Rattle.formats.specs.Kinds.{Parts, fits, condition_of, section_of}
 use Rattle.formats.specs.Where.{has_condition, stands_at}
 use Rattle.formats.specs.Limits.{within_limits}
-use Rattle.formats.specs.Accept.{or_else, section_verdict, kind_verdict, where_verdict, limit_verdict}
-use Rattle.tables.specs.Standing.{head_stands}
+use Rattle.formats.specs.Accept.{or_else, kind_verdict, where_verdict, limit_verdict}
 use Rattle.tables.proofs.MadeHeads.{operator-some}
 use Rattle.tables.proofs.Standing.{head-stands}
 use Rattle.drafting.specs.declared.Draft.{Draft}

@@ -1,12 +1,10 @@
 -- The searches for the first draft that fails a test.
 -- Assumes nothing.
 use Prim.Native.Nat.{ℕ, suc, ◌+◌, ◌≤◌, ◌<◌}
-use native.Mathlib.Omega.{arith}
 use native.Mathlib.Numerals.{add-one}
 use mathlib.Core.Path.{◌≡◌, refl, sym, ◌∙◌}
 use mathlib.Core.Bool.{Bool, true, false, not}
 use mathlib.Core.List.{List, [], ◌∷◌}
-use mathlib.Core.Option.{none, some}
 use lib.ListN.{length, drop, get_or, drop_of_length-le}
 use lib.Seq.{drop-cons}
 use Rattle.std.proofs.Common.{Option as Found, Some, None}
@@ -14,7 +12,7 @@ use Rattle.std.proofs.lemmas.Iterator.Adapters.{position_from-zero}
 use Rattle.std.specs.List.{position, position_from}
 use Rattle.lists.specs.Lists.{first_failing}
 use Rattle.lists.proofs.Bools.{by_cases}
-use Rattle.lists.proofs.First.{FirstFailing, first-exactly}
+use Rattle.lists.proofs.First.{first-exactly}
 use Rattle.examining.specs.Examine.{found}
 
 -- ---- by a chain

@@ -1,27 +1,27 @@
 -- Laws of what stands in brackets: colours, elapsed runs and conditions, and the bracket around them.
 -- Assumes nothing.
-use Prim.Native.Nat.{ℕ, zero, suc, ◌+◌, ◌-◌, ◌≤◌, ◌<◌, min}
+use Prim.Native.Nat.{ℕ, suc, ◌+◌, ◌≤◌, ◌<◌}
 use Prim.Native.String.{String}
 use mathlib.Core.Path.{◌≡◌, refl, sym, ap, ◌∙◌}
-use mathlib.Core.Bool.{Bool, true, false, cond, not, ◌&&◌, ◌||◌, true≢false}
+use mathlib.Core.Bool.{Bool, true, false, cond, not, ◌&&◌, true≢false}
 use mathlib.Core.List.{List, [], ◌∷◌, ◌++◌, map}
 use mathlib.Core.Option.{Option, none, some}
 use native.Mathlib.Omega.{arith}
 use native.Mathlib.Numerals.{add-one}
 use borrow.Author.Tests.{eq-eqb, ne_eqb, le-leb, lt-leb, leb-true, leb-false, eqb-true, eqb-false}
-use lib.Dec.{T, leb, ltb, eqb}
+use lib.Dec.{leb, eqb}
 use lib.ListN.{length, take, drop, get_or, drop_of_length-le, length-drop}
 use Rattle.std.proofs.Common.{Option as Found, Some, None}
 use Rattle.std.proofs.Math.Bool.{and-false}
 use Rattle.std.proofs.Math.Seq.{take-append_seam}
 use Rattle.std.proofs.lemmas.List.{take-append-drop}
 use Rattle.std.proofs.lemmas.Iterator.Adapters.{position_from-zero}
-use Rattle.std.specs.List.{prefix_len, list_all, list_any, position, position_from, slice_get}
+use Rattle.std.specs.List.{list_all, position, position_from, slice_get}
 use Rattle.std.specs.Option.{MatchOption, option_map}
 use Rattle.lists.specs.Lists.{every, is_empty, is_some}
 use Rattle.lists.proofs.Bools.{no, by_cases, cond_both, or-false}
 use Rattle.calendar.specs.Names.{units}
-use Rattle.formats.specs.Tokens.{Comparison, equal, less, greater, at_most, at_least, unequal, Token, colour, condition, before, leading, starts_with, same, is_digit, digit_of, number_from, fixed_number, colour_names, named_from, no_leading_zero, colour_digits, numbered, elapsed_inside, decimals_of, whole_of, signed_of, condition_inside, first_form, inside_of, closed, bracketed}
+use Rattle.formats.specs.Tokens.{Comparison, equal, less, greater, at_most, at_least, unequal, Token, condition, before, leading, starts_with, same, is_digit, digit_of, number_from, fixed_number, colour_names, named_from, no_leading_zero, colour_digits, numbered, elapsed_inside, decimals_of, whole_of, signed_of, condition_inside, first_form, inside_of, closed, bracketed}
 use Rattle.formats.specs.Kinds.{condition_in}
 use Rattle.lexing.specs.declared.brackets.Inside.{Inside}
 use Rattle.marks.specs.Marks.{written_or, written_in, condition_of, mark_token, mark_rows}

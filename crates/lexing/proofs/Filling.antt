@@ -1,15 +1,15 @@
 -- Laws of the buffer of tokens: a token put, and what the loop that fills it keeps.
 -- Assumes nothing.
-use Prim.Native.Nat.{ℕ, zero, suc, ◌+◌, ◌≤◌, ◌<◌}
+use Prim.Native.Nat.{ℕ, suc, ◌+◌, ◌≤◌, ◌<◌}
 use mathlib.Core.Path.{◌≡◌, refl, sym, ap, ◌∙◌}
-use mathlib.Core.List.{List, [], ◌∷◌, ◌++◌, append_assoc, append-nil, map}
+use mathlib.Core.List.{List, [], ◌∷◌, ◌++◌, append_assoc, append-nil}
 use native.Mathlib.Omega.{arith}
 use native.Mathlib.Numerals.{add-one}
 use lib.ListN.{length, take, drop, get_or, set, length-set, drop_of_length-le}
 use lib.Seq.{take-suc-set, drop-cons}
 use Rattle.std.proofs.Common.{Ok, Err, Some, None}
 use Rattle.std.proofs.lemmas.List.{map-append}
-use Rattle.formats.specs.Tokens.{Token, read, broken, step_at, Placed, Lexed, good, bad, onto, lex_from, lex}
+use Rattle.formats.specs.Tokens.{read, broken, step_at, Placed, Lexed, good, bad, onto, lex_from, lex}
 use Rattle.formats.specs.Starts.{StepIs}
 use Rattle.formats.proofs.Lexing.{lex-front, lex-front-broken, read-inside}
 use Rattle.lexing.specs.declared.Step.{Step}

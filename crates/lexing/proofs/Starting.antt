@@ -14,7 +14,7 @@ use Rattle.lists.specs.Lists.{every, any}
 use Rattle.lists.proofs.Apart.{Apart, known}
 use Rattle.lists.proofs.Bools.{every-head, every-tail}
 use Rattle.calendar.specs.Names.{units}
-use Rattle.formats.specs.Tokens.{bare, Step, read, broken, FirstRow, other, first_rows, first_in, bare_literals, step_by, step_at}
+use Rattle.formats.specs.Tokens.{bare, read, broken, FirstRow, other, first_rows, first_in, bare_literals, step_by, step_at}
 use Rattle.marks.specs.Marks.{mark_token, mark_rows}
 use Rattle.lexing.specs.declared.Step.{Step as FoundStep}
 use Rattle.lexing.specs.Marks.{step_behind, step_meant}

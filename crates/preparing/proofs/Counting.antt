@@ -12,7 +12,7 @@ use lib.Dec.{eqb}
 use Rattle.lists.proofs.Bools.{no}
 use Rattle.tables.specs.Standing.{counted_one, counted_kinds}
 use Rattle.drafting.specs.declared.Draft.{Draft}
-use Rattle.preparing.specs.Table.{draft_kind, counted_by}
+use Rattle.preparing.specs.Table.{counted_by}
 
 -- one where neither test holds
 neither : (a b : Bool) → (not a && not b) ≡ true → ◌≡◌ {A = ℕ} (cond (a || b) 0 1) 1
