@@ -11,7 +11,7 @@ use tables::tags;
 pub fn is_place(tag: u16) -> bool
     ensures { result ≡ between 4 6 tag }
 {
-    (tags::ZERO_PLACE <= tag) & (tag <= tags::SPACE_PLACE)
+    (tags::ZERO_PLACE..=tags::SPACE_PLACE).contains(&tag)
 }
 
 // Where the run of places at the end of item words begins.
