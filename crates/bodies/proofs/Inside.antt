@@ -2,7 +2,7 @@
 -- Assumes nothing.
 use Prim.Native.Nat.{ℕ, zero, suc, ◌+◌, ◌-◌, ◌≤◌, min}
 use mathlib.Core.Path.{◌≡◌, refl, sym, ◌∙◌}
-use mathlib.Core.Bool.{Bool, true, false, cond, not, ◌&&◌, true≢false}
+use mathlib.Core.Bool.{Bool, true, false, cond, not, ◌&&◌, and-false, true≢false}
 use mathlib.Core.List.{List, [], ◌∷◌, map}
 use mathlib.Core.Option.{Option, none, some}
 use native.Mathlib.Omega.{arith}
@@ -119,10 +119,6 @@ operator-most u v =
 width-most : (n : ℕ) → operator_width n ≤ 2
 width-most n = by_cases (leb n 3) (λ e. rw e (omega arith)) (λ e. rw e (omega arith))
 
-and_none : (b : Bool) → (b && false) ≡ false
-and_none true = refl
-and_none false = refl
-
 one_unit : (a b c : Bool) → operator_width (cond a 1 (cond b 2 (cond c 3 0))) ≤ 1
 one_unit true b c = omega arith
 one_unit false true c = omega arith
@@ -133,7 +129,7 @@ one_unit false false false = omega arith
 operator-room : (us : List ℕ) → eqb (operator_in us) 0 ≡ false → operator_width (operator_in us) ≤ length us
 unfolding operator_in
 operator-room [] e = absurd (true≢false e)
-operator-room (u ∷ []) e = rw (and_none (eqb 60 u), and_none (eqb 62 u)) (one_unit (eqb 61 u) (eqb 60 u) (eqb 62 u))
+operator-room (u ∷ []) e = rw (and-false (eqb 60 u), and-false (eqb 62 u)) (one_unit (eqb 61 u) (eqb 60 u) (eqb 62 u))
 operator-room (u ∷ v ∷ us) e = let w = width-most (operator_by u v) in omega arith
 
 -- the units of a condition in their parts: its comparison, whether a minus stands behind that, and the place of its number

@@ -2,7 +2,8 @@
 -- Assumes nothing.
 use Prim.Native.Nat.{ℕ, ◌+◌, ◌≤◌}
 use mathlib.Core.Path.{◌≡◌, refl, sym, ap, ◌∙◌}
-use mathlib.Core.Bool.{Bool, true, false, cond, ◌&&◌, ◌||◌, true≢false}
+use mathlib.Core.Bool.{Bool, true, false, cond, ◌&&◌, ◌||◌, or-true, true≢false}
+use mathlib.Core.Bool as bool
 use mathlib.Core.List.{List, [], ◌∷◌, ◌++◌}
 use native.Mathlib.Omega.{arith}
 use lib.Dec.{leb, ltb, eqb}
@@ -44,14 +45,6 @@ unfolding mark_rows condition_of
 scan-form s f a us = by_form (scan_token s) (scan_form s) a us refl
     (λ n h. rw (ne_eqb n 8 (omega arith), ne_eqb n 7 (omega arith), lt-leb n 6 (omega arith), le-leb 4 n (omega arith))) f
 
-or-none : (b : Bool) → (b || false) ≡ b
-or-none true = refl
-or-none false = refl
-
-or-any : (b : Bool) → (b || true) ≡ true
-or-any true = refl
-or-any false = refl
-
 -- ---- one token more
 module _ (f : CommaUse → Bool) where
   -- n commas of one use, where the test counts it
@@ -82,26 +75,26 @@ module _ (f : CommaUse → Bool) where
     unfolding total comma_uses_from comma_use integer_place_in any
     total-comma k = by_cases s.place
         (λ q. let u = comma_use s.point true ts in
-        rw (k, q, or-none s.point) (omega (arith, weigh-add u s.held 1, weigh-cons u (comma_uses_from s.point true ts))))
-        (λ q. rw (k, q, or-none s.point) (omega (arith, weigh-add misplaced s.misplaced 1, weigh-cons misplaced (comma_uses_from s.point false ts))))
+        rw (k, q, bool.or-false s.point) (omega (arith, weigh-add u s.held 1, weigh-cons u (comma_uses_from s.point true ts))))
+        (λ q. rw (k, q, bool.or-false s.point) (omega (arith, weigh-add misplaced s.misplaced 1, weigh-cons misplaced (comma_uses_from s.point false ts))))
 
     -- the first point ends the integer places
     total-point : form_of t ≡ 7 → total s (t ∷ ts) ≡ total (scan_token s t) ts
     unfolding total comma_uses_from comma_use integer_place_in any
     total-point k = by_cases s.point
-        (λ p. rw (k, p, or-none s.place))
-        (λ p. rw (k, p, or-none s.place) (omega (arith, weigh-add divides s.dividing s.held, weigh-none (comma_use true true ts))))
+        (λ p. rw (k, p, bool.or-false s.place))
+        (λ p. rw (k, p, bool.or-false s.place) (omega (arith, weigh-add divides s.dividing s.held, weigh-none (comma_use true true ts))))
 
     -- a place tells the use of the commas held
     total-place : form_of t ≡ 4 → total s (t ∷ ts) ≡ total (scan_token s t) ts
     unfolding total comma_uses_from comma_use integer_place_in any
     total-place k = by_cases s.point
-        (λ p. rw (k, p, or-any s.place) (omega (arith, weigh-add misplaced s.misplaced s.held, weigh-none (comma_use true true ts))))
-        (λ p. rw (k, p, or-any s.place) (omega (arith, weigh-add groups s.grouping s.held, weigh-none (comma_use false true ts))))
+        (λ p. rw (k, p, or-true s.place) (omega (arith, weigh-add misplaced s.misplaced s.held, weigh-none (comma_use true true ts))))
+        (λ p. rw (k, p, or-true s.place) (omega (arith, weigh-add groups s.grouping s.held, weigh-none (comma_use false true ts))))
 
     total-other : is_comma t ≡ false → is_point t ≡ false → is_place t ≡ false → total s (t ∷ ts) ≡ total (scan_token s t) ts
     unfolding total comma_uses_from comma_use integer_place_in any
-    total-other a b c = rw (a, b, c, or-none s.point, or-none s.place)
+    total-other a b c = rw (a, b, c, bool.or-false s.point, bool.or-false s.place)
 
     total-step : total s (t ∷ ts) ≡ total (scan_token s t) ts
     total-step = by_cases (is_comma t) (λ a. total-comma (eqb-true (form_of t) 8 a))

@@ -3,7 +3,7 @@
 use Prim.Native.Nat.{ℕ, suc, ◌+◌, ◌-◌, ◌*◌, ◌/◌, ◌%◌, ◌≤◌}
 use native.Mathlib.Omega.{arith}
 use mathlib.Core.Path.{◌≡◌, refl, sym, ◌∙◌, ap}
-use mathlib.Core.Bool.{Bool, true, false, ◌&&◌, ◌||◌, true≢false}
+use mathlib.Core.Bool.{Bool, true, false, ◌&&◌, ◌||◌, and_assoc, true≢false}
 use mathlib.Core.List.{List, [], ◌++◌}
 use mathlib.Core.Option.{none, some}
 use lib.ListN.{length, take, drop, length-drop}
@@ -86,10 +86,6 @@ pub body-length : (ts : List Token) → length (body_words ts) ≡ 2 * length (i
 body-length ts = omega (arith, length-entries (entries_of (items ts)) [], made-length (items ts))
 
 -- ---- the body
-and_last : (a b c : Bool) → (a && (b && c)) ≡ (a && b && c)
-and_last true b c = refl
-and_last false b c = refl
-
 pub within-bounds : (t : Tally) (thousands : ℕ) → within_told t thousands ≡ true → (t.percents ≤ 5) × (thousands ≤ 5)
 within-bounds t thousands e =
     let w : T (within_told t thousands) = true-T e in
@@ -117,7 +113,7 @@ module _ (p : Parts) where
   fits-same : (fit : Bool) → fit ≡ (fraction_fits (body_items p.body) && items_fit (items p.body))
       → ((facts_of p.body).plain && commas_fit_by (facts_of p.body) (commas_of p.body) && fit) ≡ fits p
   unfolding fits commas_fit facts_of commas_of section_of
-  fits-same fit e = rw e (and_last (every no_bracket p.body && commas_fit p.body) (fraction_fits (body_items p.body)) (items_fit (items p.body)))
+  fits-same fit e = rw e (sym (and_assoc (every no_bracket p.body && commas_fit p.body) (fraction_fits (body_items p.body)) (items_fit (items p.body))))
 
   kind-same : kind_told (tally_of (entries p.body)) ≡ section_kind (section_of p)
   kind-same = section-kind-told (entries p.body) (section_of p) section-items
