@@ -2,12 +2,12 @@
 -- Assumes nothing.
 use Prim.Native.Nat.{ℕ, ◌+◌, ◌-◌, ◌*◌, ◌/◌, ◌%◌, ◌^◌, ◌≤◌, ◌<◌}
 use native.Mathlib.Omega.{arith}
-use native.Mathlib.Nat.{zero-add, div-one, sub-zero}
+use native.Mathlib.Nat.{zero-add, div-one}
 use mathlib.Core.Path.{◌≡◌, refl, sym, ◌∙◌, ap}
 use mathlib.Core.Bool.{Bool, true, false, cond, ◌&&◌, ◌||◌}
-use mathlib.Core.List.{List, [], ◌∷◌}
+use mathlib.Core.List.{List, [], ◌∷◌, ◌++◌}
 use lib.Dec.{ltb, eqb, eqb-suc-zero}
-use lib.ListN.{length, get_or}
+use lib.ListN.{length, get_or, length-append}
 use borrow.Author.Tests.{eqb-true}
 use Rattle.lists.specs.Lists.{every, any, count}
 use Rattle.lists.proofs.Bools.{by_cases}
@@ -16,17 +16,17 @@ use Rattle.formats.specs.Tokens.{hours, minutes, seconds}
 use Rattle.formats.specs.Items.{Item, elapsed, is_place, is_point, is_percent, is_hour, is_minute, is_second, is_part, is_elapsed_of, is_half, is_exponent, is_solidus, is_cut, is_space, item_row, item_makes, item_number, before_cut, from_cut, integer_places, decimal_places, places_behind}
 use Rattle.formats.specs.Limits.{elapsed_short, fixed_small}
 use Rattle.formats.proofs.Each.{by-item, by-elapsed}
-use Rattle.tables.specs.Words.{Entry, entries_at, entries_in}
-use Rattle.tables.specs.Encode.{entry, bit}
+use Rattle.tables.specs.Words.{Entry, entries_in}
+use Rattle.tables.specs.Encode.{bit}
 use Rattle.tables.specs.Decode.{item_at, items_at}
-use Rattle.tables.proofs.Words.{entries_at-length, entries_left, entries-front}
+use Rattle.tables.proofs.Words.{entries_at-length}
 use Rattle.tables.proofs.BackEntries.{items-length}
 use Rattle.tallies.specs.declared.Walk.{Walk}
-use Rattle.tallies.specs.declared.Tally.{Tally}
 use Rattle.tallies.specs.Tally.{makes_text, makes_date, belongs_date, tally_of}
 use Rattle.tallies.specs.Walk.{packed, tallies, weight, is_long, is_misplaced, other_tests, date_tests, figure_tests, behind_unit, number_weight, unit_after, step_of, walk_from, start_of, finished_of, Few}
 use Rattle.tallies.proofs.Packed.{tallies-none, tallies-turn, ones, weight-most, Small, digits_from, digit_at_lem, tallies-small, packed-positive}
 use Rattle.tallies.proofs.Places.{places-counted}
+use Rattle.tallies.proofs.Pairs.{pair_entry, entries-pair, entries-none}
 
 -- ---- sums of weights
 module _ (f : Walk → ℕ) (ps : List (Item → Bool)) (turn : (w : Walk) (e : Entry) → f (step_of w e) ≡ f w + weight ps (item_at e)) where
@@ -246,35 +246,41 @@ few-step w e n h =
 few-most : (w : Walk) (n : ℕ) → Few n w → n ≤ 253 → Few 253 w
 few-most w n h g = omega arith
 
--- ---- the loop, before the k-th of n items: what was kept, and the entries that are left
-pub record Walking (words : List ℕ) (n k : ℕ) (w : Walk) : Type 0 where
+-- ---- the loop, with these words left: what was kept of as many items as were passed
+pub record Walking (words left : List ℕ) (w : Walk) : Type 0 where
   pub small : length words ≤ 508
-  pub items : n ≡ length words / 2
-  pub inside : k ≤ n
-  pub few : Few k w
-  pub same : walk_from start_of (entries_in words) ≡ walk_from w (entries_left words n k)
+  pub inside : length left ≤ length words
+  pub few : Few (length words / 2 - length left / 2) w
+  pub same : walk_from start_of (entries_in words) ≡ walk_from w (entries_in left)
 
-pub walking_start : (words : List ℕ) (n : ℕ) (w : Walk) → length words ≤ 508 → n ≡ length words / 2 → w ≡ start_of → Walking words n 0 w
-unfolding entries_in
-walking_start words n w h e s = rw s (record { small = h; items = e; inside = omega arith; few = omega arith; same = rw (sub-zero n, e) })
+pub walking_start : (words : List ℕ) → length words ≤ 508 → Walking words words start_of
+walking_start words h =
+    let none : length words / 2 - length words / 2 ≡ 0 = omega arith in
+    record { small = h; inside = omega arith; few = rw none (record { numbers = omega arith; others = omega arith; dates = omega arith; unit = omega arith }); same = refl }
 
-module _ (words : List ℕ) (n k : ℕ) (w : Walk) (inv : Walking words n k w) where
-  pub walking-step : (v : Walk) → k < n → v ≡ step_of w (entry (get_or words (2 * k) 0) (get_or words (2 * k + 1) 0)) → Walking words n (k + 1) v
-  unfolding walk_from
-  walking-step v h e =
-      let f = few-step w (entry (get_or words (2 * k) 0) (get_or words (2 * k + 1) 0)) k inv.few in
-      rw e (record { small = inv.small; items = inv.items; inside = omega arith; few = f; same = inv.same ∙ ap (walk_from w) (entries-front words n k h) })
+module _ {words left : List ℕ} {w : Walk} (inv : Walking words left w) where
+  module _ (pair rest : List ℕ) (front : left ≡ pair ++ rest) (two : length pair ≡ 2) where
+    more : length left ≡ 2 + length rest
+    more = ap length front ∙ length-append pair rest ∙ ap (λ (n : ℕ). n + length rest) two
 
-  pub walking-few : k < n → Few 253 w
-  walking-few h =
+    pub walking-few : Few 253 w
+    walking-few = let s = inv.small in few-most w (length words / 2 - length left / 2) inv.few (omega (arith, more))
+
+    pub walking-step : Walking words rest (step_of w (pair_entry pair))
+    unfolding walk_from
+    walking-step =
+        let i = inv.inside in
+        let one : length words / 2 - length rest / 2 ≡ length words / 2 - length left / 2 + 1 = omega (arith, more) in
+        record {
+          small = inv.small;
+          inside = omega (arith, more);
+          few = rw one (few-step w (pair_entry pair) _ inv.few);
+          same = inv.same ∙ ap (walk_from w) (entries-pair left pair rest front two);
+        }
+
+  pub walking-end : length left < 2 → finished_of w ≡ tally_of (entries_in words)
+  unfolding walk_from entries_in
+  walking-end h =
       let s = inv.small in
-      let i = inv.items in
-      few-most w k inv.few (omega arith)
-
-  pub walking-end : n ≤ k → (t : Tally) → t ≡ finished_of w → t ≡ tally_of (entries_in words)
-  unfolding walk_from entries_at entries_in
-  walking-end h t e =
-      let none : n - k ≡ 0 = omega arith in
-      let s = inv.small in
-      let same : walk_from start_of (entries_in words) ≡ w = inv.same ∙ rw none in
-      e ∙ ap finished_of (sym same) ∙ finished-is (entries_in words) (omega (arith, entries_at-length (length words / 2) words))
+      let same : walk_from start_of (entries_in words) ≡ w = inv.same ∙ ap (walk_from w) (entries-none left h) in
+      ap finished_of (sym same) ∙ finished-is (entries_in words) (omega (arith, entries_at-length (length words / 2) words))

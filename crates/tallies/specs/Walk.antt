@@ -113,6 +113,10 @@ abbrev pub counted_of : Walk → ℕ → ℕ → ℕ → Walk
 counted_of w number other date =
     record { numbers = w.numbers + number; others = w.others + other; dates = w.dates + date; unit = w.unit }
 
+-- an E or a solidus
+abbrev pub cut_of : Walk → ℕ → ℕ → Walk
+cut_of w number other = record (counted_of w number other 0) { unit = behind_unit }
+
 -- a place with this tag
 abbrev pub placed_of : Walk → ℕ → Walk
 placed_of w tag = counted_of w (cond (eqb tag 6 && eqb w.unit behind_unit) 282574488338432 w.unit) 0 0

@@ -5,10 +5,9 @@ ghost use Rattle.std.specs.Prelude.{◌≡◌, ◌≤◌, ◌<◌, length};
 ghost use Rattle.tables.specs.Words.{entries_in};
 ghost use Rattle.tables.specs.Encode.{entry};
 ghost use Rattle.tallies.specs.Tally.{tally_of, has_places, has_number_items, Uncut, Cut, kind_told, allowed_told, no_plain_told, exponent_told, items_fit_told, within_told, fraction_told, decimals_told};
-ghost use Rattle.tallies.specs.Walk.{counted_of, placed_of, elapsed_of, fixed_of, step_of, start_of, finished_of, Few, Weights};
+ghost use Rattle.tallies.specs.Walk.{counted_of, placed_of, elapsed_of, fixed_of, cut_of, step_of, finished_of, Few, Weights};
 
 use tables::{kinds, tags};
-use values::integers::is_between;
 
 // What the items of a section tell together.
 #[derive(Clone, Copy)]
@@ -110,17 +109,6 @@ struct Walk {
     unit: u64,
 }
 
-fn start() -> Walk
-    ensures { result ≡ start_of }
-{
-    Walk {
-        numbers: 0,
-        others: 0,
-        dates: 0,
-        unit: INTEGERS,
-    }
-}
-
 fn counted(w: Walk, number: u64, other: u64, date: u64) -> Walk
     requires { Few 253 w × Weights number other date }
     ensures { result ≡ counted_of w number other date }
@@ -144,14 +132,16 @@ fn place(w: Walk, tag: u16) -> Walk
 }
 
 // Behind the first point stand the decimal places.
+#[tactic(auto, using(std::proofs::lemmas::Bool::Decides::nat_tests), unfolding(crate::proofs::Steps::computed))]
 fn point(w: Walk) -> Walk
     requires { Few 253 w }
     ensures { result ≡ step_of w (entry 7 0) }
 {
     if w.unit == INTEGERS {
-        let mut p = counted(w, POINTS, 0, 0);
-        p.unit = DECIMALS;
-        return p;
+        return Walk {
+            unit: DECIMALS,
+            ..counted(w, POINTS, 0, 0)
+        };
     }
     if w.unit == PLACES_BEHIND {
         return counted(w, MISPLACED_POINTS, 0, 0);
@@ -159,24 +149,15 @@ fn point(w: Walk) -> Walk
     counted(w, POINTS, 0, 0)
 }
 
-// Behind an E stand the exponent places.
-fn exponent(w: Walk) -> Walk
-    requires { Few 253 w }
-    ensures { result ≡ step_of w (entry 22 0) }
+// Behind an E stand the exponent places, behind a solidus the denominator's.
+fn cut(w: Walk, number: u64, other: u64) -> Walk
+    requires { Few 253 w × Weights number other 0 }
+    ensures { result ≡ cut_of w number other }
 {
-    let mut e = counted(w, EXPONENTS, 0, 0);
-    e.unit = PLACES_BEHIND;
-    e
-}
-
-// Behind a solidus stand the denominator's places.
-fn solidus(w: Walk) -> Walk
-    requires { Few 253 w }
-    ensures { result ≡ step_of w (entry 24 0) }
-{
-    let mut s = counted(w, 0, SOLIDI, 0);
-    s.unit = PLACES_BEHIND;
-    s
+    Walk {
+        unit: PLACES_BEHIND,
+        ..counted(w, number, other, 0)
+    }
 }
 
 fn fixed(w: Walk, a: u16) -> Walk
@@ -201,11 +182,12 @@ fn elapsed(w: Walk, date: u64, a: u16) -> Walk
 
 // The pass by one item, with its tag and its argument. Places are most items, so they are told first. An unknown tag is
 // read as a half-day mark.
+#[tactic(auto, using(std::proofs::lemmas::Bool::Decides::nat_tests), unfolding(crate::proofs::Steps::computed))]
 fn step(w: Walk, tag: u16, a: u16) -> Walk
     requires { Few 253 w }
     ensures { result ≡ step_of w (entry tag a) }
 {
-    if is_between(tags::ZERO_PLACE, tags::SPACE_PLACE, tag) {
+    if (tags::ZERO_PLACE..=tags::SPACE_PLACE).contains(&tag) {
         return place(w, tag);
     }
     match tag {
@@ -227,9 +209,9 @@ fn step(w: Walk, tag: u16, a: u16) -> Walk
         tags::ELAPSED_MINUTES => elapsed(w, ELAPSED_MINUTES, a),
         tags::ELAPSED_SECONDS => elapsed(w, ELAPSED_SECONDS, a),
         tags::HALF_DAY => counted(w, 0, HALVES, 0),
-        tags::EXPONENT_PLUS => exponent(w),
-        tags::EXPONENT_MINUS => exponent(w),
-        tags::SOLIDUS => solidus(w),
+        tags::EXPONENT_PLUS => cut(w, EXPONENTS, 0),
+        tags::EXPONENT_MINUS => cut(w, EXPONENTS, 0),
+        tags::SOLIDUS => cut(w, 0, SOLIDI),
         tags::FIXED => fixed(w, a),
         _ => counted(w, 0, HALVES, 0),
     }
@@ -269,14 +251,14 @@ pub fn tally_words(words: &[u16]) -> Tally
     requires { length words.now ≤ 508 }
     ensures { result ≡ tally_of (entries_in words.now) }
 {
-    let n = words.len() / 2;
-    let mut w = start();
-    let mut k: usize = 0;
-    while k < n {
-        let i = 2 * k;
-        let j = i + 1;
-        w = step(w, words[i], words[j]);
-        k += 1;
+    let mut w = Walk {
+        numbers: 0,
+        others: 0,
+        dates: 0,
+        unit: INTEGERS,
+    };
+    for pair in words.chunks_exact(2) {
+        w = step(w, pair[0], pair[1]);
     }
     tally_of(w)
 }
