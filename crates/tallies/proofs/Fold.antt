@@ -1,13 +1,13 @@
 -- What the pass has kept at its end, field by field: it is the tally. The loop over the words.
 -- Assumes nothing.
-use Prim.Native.Nat.{ℕ, ◌+◌, ◌-◌, ◌*◌, ◌/◌, ◌%◌, ◌^◌, ◌≤◌, ◌<◌}
+use Prim.Native.Nat.{ℕ, ◌+◌, ◌*◌, ◌/◌, ◌%◌, ◌^◌, ◌≤◌}
 use native.Mathlib.Omega.{arith}
 use native.Mathlib.Nat.{zero-add, div-one}
 use mathlib.Core.Path.{◌≡◌, refl, sym, ◌∙◌, ap}
 use mathlib.Core.Bool.{Bool, true, false, cond, ◌&&◌, ◌||◌}
-use mathlib.Core.List.{List, [], ◌∷◌, ◌++◌}
+use mathlib.Core.List.{List, [], ◌∷◌}
 use lib.Dec.{ltb, eqb, eqb-suc-zero}
-use lib.ListN.{length, get_or, length-append}
+use lib.ListN.{length, get_or}
 use borrow.Author.Tests.{eqb-true}
 use Rattle.lists.specs.Lists.{every, any, count}
 use Rattle.lists.proofs.Bools.{by_cases}
@@ -26,7 +26,6 @@ use Rattle.tallies.specs.Tally.{makes_text, makes_date, belongs_date, tally_of}
 use Rattle.tallies.specs.Walk.{packed, tallies, weight, is_long, is_misplaced, other_tests, date_tests, figure_tests, behind_unit, number_weight, unit_after, step_of, walk_from, start_of, finished_of, Few}
 use Rattle.tallies.proofs.Packed.{tallies-none, tallies-turn, ones, weight-most, Small, digits_from, digit_at_lem, tallies-small, packed-positive}
 use Rattle.tallies.proofs.Places.{places-counted}
-use Rattle.tallies.proofs.Pairs.{pair_entry, entries-pair, entries-none}
 
 -- ---- sums of weights
 module _ (f : Walk → ℕ) (ps : List (Item → Bool)) (turn : (w : Walk) (e : Entry) → f (step_of w e) ≡ f w + weight ps (item_at e)) where
@@ -246,41 +245,24 @@ few-step w e n h =
 few-most : (w : Walk) (n : ℕ) → Few n w → n ≤ 253 → Few 253 w
 few-most w n h g = omega arith
 
--- ---- the loop, with these words left: what was kept of as many items as were passed
-pub record Walking (words left : List ℕ) (w : Walk) : Type 0 where
-  pub small : length words ≤ 508
-  pub inside : length left ≤ length words
-  pub few : Few (length words / 2 - length left / 2) w
-  pub same : walk_from start_of (entries_in words) ≡ walk_from w (entries_in left)
+-- ---- the loop, behind k items with these left
+pub record Walking (words : List ℕ) (k : ℕ) (left : List Entry) (w : Walk) : Type 0 where
+  pub few : Few k w
+  pub same : walk_from start_of (entries_in words) ≡ walk_from w left
 
-pub walking_start : (words : List ℕ) → length words ≤ 508 → Walking words words start_of
-walking_start words h =
-    let none : length words / 2 - length words / 2 ≡ 0 = omega arith in
-    record { small = h; inside = omega arith; few = rw none (record { numbers = omega arith; others = omega arith; dates = omega arith; unit = omega arith }); same = refl }
+pub walking_start : (words : List ℕ) → Walking words 0 (entries_in words) start_of
+walking_start words = record { few = record { numbers = omega arith; others = omega arith; dates = omega arith; unit = omega arith }; same = refl }
 
-module _ {words left : List ℕ} {w : Walk} (inv : Walking words left w) where
-  module _ (pair rest : List ℕ) (front : left ≡ pair ++ rest) (two : length pair ≡ 2) where
-    more : length left ≡ 2 + length rest
-    more = ap length front ∙ length-append pair rest ∙ ap (λ (n : ℕ). n + length rest) two
+module _ {words : List ℕ} {k : ℕ} {left : List Entry} {w : Walk} (inv : Walking words k left w) where
+  pub walking-few : k ≤ 253 → Few 253 w
+  walking-few h = few-most w k inv.few h
 
-    pub walking-few : Few 253 w
-    walking-few = let s = inv.small in few-most w (length words / 2 - length left / 2) inv.few (omega (arith, more))
+  pub walking-step : (e : Entry) (rest : List Entry) → left ≡ e ∷ rest → Walking words (k + 1) rest (step_of w e)
+  unfolding walk_from
+  walking-step e rest front = record { few = few-step w e k inv.few; same = inv.same ∙ ap (walk_from w) front }
 
-    pub walking-step : Walking words rest (step_of w (pair_entry pair))
-    unfolding walk_from
-    walking-step =
-        let i = inv.inside in
-        let one : length words / 2 - length rest / 2 ≡ length words / 2 - length left / 2 + 1 = omega (arith, more) in
-        record {
-          small = inv.small;
-          inside = omega (arith, more);
-          few = rw one (few-step w (pair_entry pair) _ inv.few);
-          same = inv.same ∙ ap (walk_from w) (entries-pair left pair rest front two);
-        }
-
-  pub walking-end : length left < 2 → finished_of w ≡ tally_of (entries_in words)
+  pub walking-end : length words ≤ 508 → left ≡ [] → finished_of w ≡ tally_of (entries_in words)
   unfolding walk_from entries_in
-  walking-end h =
-      let s = inv.small in
-      let same : walk_from start_of (entries_in words) ≡ w = inv.same ∙ ap (walk_from w) (entries-none left h) in
+  walking-end h none =
+      let same : walk_from start_of (entries_in words) ≡ w = inv.same ∙ ap (walk_from w) none in
       ap finished_of (sym same) ∙ finished-is (entries_in words) (omega (arith, entries_at-length (length words / 2) words))

@@ -3,9 +3,9 @@
 use Prim.Native.Nat.{ℕ, zero, suc, ◌+◌, ◌<◌}
 use mathlib.Core.Path.{◌≡◌, refl, sym, ◌∙◌}
 use mathlib.Core.Bool.{true, false, true≢false}
-use lib.Dec.{leb, ltb, eqb}
+use lib.Dec.{leb, eqb}
 use native.Mathlib.Omega.{arith}
-use borrow.Author.Tests.{eqb-true, le-leb, leb-false, lt-leb, ltb-true, ltb-false}
+use borrow.Author.Tests.{eqb-true, le-leb, leb-false}
 use Rattle.values.specs.Ranges.{between}
 use Rattle.tables.specs.Encode.{entry, bit}
 use Rattle.formats.specs.Items.{item_makes}
@@ -13,7 +13,7 @@ use Rattle.formats.specs.Limits.{elapsed_short, fixed_small}
 use Rattle.tables.specs.Words.{Entry}
 use Rattle.tables.specs.Decode.{item_at}
 use Rattle.tallies.specs.declared.Walk.{Walk}
-use Rattle.tallies.specs.Walk.{weight, behind_unit, number_weight, unit_after, counted_of, placed_of, elapsed_of, fixed_of, step_of}
+use Rattle.tallies.specs.Walk.{weight, behind_unit, number_weight, unit_after, counted_of, placed_of, step_of}
 use Rattle.lists.proofs.Bools.{by_cases, true-T}
 use Rattle.tables.proofs.BackEntries.{between-facts, span-at, late-tag}
 
@@ -33,18 +33,6 @@ module _ (w : Walk) (a : ℕ) where
   place-step t h =
       let f = between-facts 4 6 t (true-T h) in
       span-at (λ (k : ℕ). placed_of w k ≡ step_of w (entry k a)) 4 3 t (refl, (refl, (space-step, tt))) f.0 (omega arith)
-
-  abbrev Elapsed : ℕ → ℕ → Type 0
-  Elapsed t date = elapsed_of w date a ≡ step_of w (entry t a)
-
-  pub elapsed-steps : Elapsed 18 4294967296 × Elapsed 19 1099511627776 × Elapsed 20 281474976710656
-  unfolding computed
-  elapsed-steps =
-      by_cases (ltb 9 a) (λ h. rw (h, lt-leb a 9 (ltb-true 9 a h)) (refl, refl, refl)) (λ h. rw (h, le-leb a 9 (ltb-false 9 a h)) (refl, refl, refl))
-
-  pub fixed-step : fixed_of w a ≡ step_of w (entry 25 a)
-  unfolding computed
-  fixed-step = by_cases (ltb 999 a) (λ h. rw (h, lt-leb a 999 (ltb-true 999 a h))) (λ h. rw (h, le-leb a 999 (ltb-false 999 a h)))
 
   pub unknown-step : (t : ℕ) → 25 < t → counted_of w 0 1099511627776 0 ≡ step_of w (entry t a)
   unfolding computed

@@ -257,8 +257,8 @@ pub fn tally_words(words: &[u16]) -> Tally
         dates: 0,
         unit: INTEGERS,
     };
-    for pair in words.chunks_exact(2) {
-        w = step(w, pair[0], pair[1]);
+    for &[tag, a] in words.as_chunks::<2>().0 {
+        w = step(w, tag, a);
     }
     tally_of(w)
 }
