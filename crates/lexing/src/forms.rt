@@ -1,4 +1,6 @@
 // The forms of a token without brackets, each read from the units behind its first one.
+#![tactic(auto, unfolding(crate::specs::Marks::step_behind, crate::specs::Marks::letter_at, calendar::specs::Names::units, formats::specs::Tokens::starts_with, formats::specs::Tokens::marked, formats::specs::Tokens::general_word, formats::specs::Tokens::half_day_word, formats::specs::Tokens::exponent_word, formats::specs::Tokens::run_allowed, marks::specs::Marks::mark_token, marks::specs::Marks::mark_rows))]
+
 ghost use Rattle.std.specs.Prelude.{◌≡◌, List, [], ◌∷◌, ℕ, ◌≤◌, length};
 ghost use Rattle.formats.specs.Tokens.{literal, quoted, marked, general_word, half_day_word, exponent_word, run_allowed, run_step, read, over_step, place_step};
 ghost use Rattle.marks.specs.Marks.{mark_token};
