@@ -6,153 +6,104 @@
 
 mod lines;
 
-ghost use Rattle.std.specs.Prelude.{◌≡◌, ◌≤◌, ◌<◌, length};
+ghost use Rattle.std.specs.Prelude.{◌≡◌};
 ghost use Rattle.calendar.specs.Names.{units};
 ghost use Rattle.grounds.specs.Why.{code_why};
 ghost use Rattle.requests.specs.Lines.{field_of};
 ghost use Rattle.requests.specs.Request.{request_of};
 ghost use Rattle.reasons_check.specs.Asked.{request_why, room_why, block_why};
 
-use answers::{Answer, number};
-use c_numbers::why_numbers;
-use grounds::Why;
-use input::read_full;
-use lexing::scan::{Set, scan};
+use answers::Refusal;
+use c_numbers::WhyNumbers;
+use grounds::Grounds;
+use input::{line_end, read_full, room};
 use lines::put_line;
 use preparing::prepare;
 use reasons::why;
 use requests::bytes::{narrow, put_bytes};
 use requests::digits::{is_digits, number_behind};
-use requests::lines::{Line, line_at};
-use requests::{RequestRead, part_of, read_request};
+use requests::lines::line_at;
+use requests::{part_of, read_request};
 use std::io;
 use values::Ask;
 
-const LINE_FEED: u16 = 10;
+const LINE_FEED: u16 = b'\n' as u16;
 
 // A room's length from which on every room takes every text: any larger one is read as it.
 const LARGE: u64 = 1000000;
 
-// Rooms are made by functions of their own: only their lengths matter to the proofs.
-fn table_room() -> [u16; 557]
-    ensures { 557 ≡ length result }
-{
-    [0; 557]
-}
-
-fn line_room() -> [u16; 239]
-    ensures { 239 ≡ length result }
-{
-    [0; 239]
-}
-
-fn line_bytes() -> [u8; 239]
-    ensures { 239 ≡ length result }
-{
-    [0; 239]
-}
-
-// One byte more than is taken, to see that there is no more.
-fn input_bytes() -> [u8; 65537]
-    ensures { 65537 ≡ length result }
-{
-    [0; 65537]
-}
-
-fn input_room() -> [u16; 65536]
-    ensures { 65536 ≡ length result }
-{
-    [0; 65536]
-}
-
 // The reason that the table of a code gives, which is the code's own; or the refusal of the code.
-fn code_why(code: &[u16], ask: Ask, text: &[u16], size: usize) -> Why
+fn code_why(code: &[u16], ask: Ask, text: &[u16], size: usize) -> Result<Grounds, Refusal>
     ensures { result ≡ code_why code.now ask text.now size }
 {
-    let mut table = table_room();
-    let p = prepare(code, &mut table);
-    let answer = p.answer;
-    if number(answer) != 0 {
-        return Why::Refused(answer);
+    let mut table: [u16; 557] = room(0);
+    match prepare(code, &mut table) {
+        Ok(words) => why(&table[..words as usize], ask, text, size),
+        Err(r) => Err(r.refusal),
     }
-    let words = p.words as usize;
-    why(&table[..words], ask, text, size)
 }
 
 // What three lines are answered in a room of this length.
-fn request_why(request: &[u16], size: usize) -> Why
-    ensures { result ≡ request_why (request_of request.now) size }
+fn request_why(lines: &[u16], size: usize) -> Result<Grounds, Refusal>
+    ensures { result ≡ request_why (request_of lines.now) size }
 {
-    match read_request(request) {
-        RequestRead::Request(code, ask, text) => {
-            code_why(part_of(request, code), ask, part_of(request, text), size)
-        }
-        RequestRead::Malformed(_) => Why::Refused(Answer::Line),
+    match read_request(lines) {
+        Ok(r) => code_why(part_of(lines, r.code), r.ask, part_of(lines, r.text), size),
+        Err(_) => Err(Refusal::Line),
     }
 }
 
 // The same, where the length is written in digits.
-fn room_why(request: &[u16], room: &[u16]) -> Why
-    ensures { result ≡ room_why request.now room.now }
+fn room_why(lines: &[u16], digits: &[u16]) -> Result<Grounds, Refusal>
+    ensures { result ≡ room_why lines.now digits.now }
 {
-    if is_digits(room) {
-        return request_why(request, number_behind(0, room, LARGE) as usize);
+    if !is_digits(digits) {
+        return Err(Refusal::Line);
     }
-    Why::Refused(Answer::Line)
+    request_why(lines, number_behind(0, digits, LARGE) as usize)
 }
 
 // What three lines and a fourth are answered.
-fn block_why(request: &[u16], fourth: &[u16]) -> Why
-    ensures { result ≡ block_why request.now (field_of (units "room=") fourth.now) }
+fn block_why(lines: &[u16], fourth: &[u16]) -> Result<Grounds, Refusal>
+    ensures { result ≡ block_why lines.now (field_of (units "room=") fourth.now) }
 {
     match line_at(fourth, 0, b"room=") {
-        Line::Content(room) => room_why(request, part_of(fourth, room)),
-        Line::Malformed => Why::Refused(Answer::Line),
+        Some(digits) => room_why(lines, part_of(fourth, digits)),
+        None => Err(Refusal::Line),
     }
 }
 
-fn write_why(rt: &impl Print, w: Why) -> io::Result<()> {
-    let mut line = line_room();
-    let n = put_line(&mut line, why_numbers(w));
-    let mut bytes = line_bytes();
+fn write_why(rt: &impl Print, w: WhyNumbers) -> io::Result<()> {
+    let mut line: [u16; 239] = room(0);
+    let n = put_line(&mut line, w);
+    let mut bytes: [u8; 239] = room(0);
     narrow(&line[..n], &mut bytes);
     rt.write_all(&bytes[..n])
-}
-
-// The place behind the line that starts at `at`, with its line feed where it has one.
-fn line_end(input: &[u16], at: usize) -> usize
-    requires { at ≤ length input.now }
-    ensures within { (at ≤ result) × (result ≤ length input.now) }
-    ensures further { at < length input.now → at < result }
-{
-    let end = at + scan(&input[at..], Set::But(LINE_FEED));
-    if end < input.len() {
-        return end + 1;
-    }
-    end
 }
 
 // Each four lines are a request.
 fn answer_blocks(rt: &impl Print, input: &[u16]) -> io::Result<()> {
     let mut at = 0;
     while at < input.len() {
-        let second = line_end(input, at);
-        let third = line_end(input, second);
-        let fourth = line_end(input, third);
-        let end = line_end(input, fourth);
-        write_why(rt, block_why(&input[at..fourth], &input[fourth..end]))?;
+        let second = line_end(input, at, LINE_FEED);
+        let third = line_end(input, second, LINE_FEED);
+        let fourth = line_end(input, third, LINE_FEED);
+        let end = line_end(input, fourth, LINE_FEED);
+        let why = block_why(&input[at..fourth], &input[fourth..end]);
+        write_why(rt, WhyNumbers::from(why))?;
         at = end;
     }
     Ok(())
 }
 
 fn main(rt: HostRuntime) -> io::Result<()> {
-    let mut bytes = input_bytes();
+    // one byte more than is taken, to see that there is no more
+    let mut bytes: [u8; 65537] = room(0);
     let got = read_full(&mut rt.stdin(), &mut bytes)?;
     if 65536 < got {
-        return rt.write_all(b"input too long\n");
+        return println!(rt; "input too long");
     }
-    let mut input = input_room();
+    let mut input: [u16; 65536] = room(0);
     put_bytes(&mut input, 0, &bytes[..got]);
     answer_blocks(&rt, &input[..got])
 }

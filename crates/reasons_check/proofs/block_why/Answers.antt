@@ -1,15 +1,13 @@
 -- `reasons_check::block_why` meets its contract.
 -- Assumes nothing.
 use Rattle.calendar.specs.Names.{units}
-use Rattle.requests.proofs.Requesting.{line-told}
 use Rattle.reasons_check.specs.Asked.{block_why}
 use Rattle.reasons_check.proofs.block_why.Goals as goal
 
-pub returns-in-Content : goal.returns-in-Content
+pub returns-in-Some : goal.returns-in-Some
 unfolding units block_why
-returns-in-Content c =
-    rw (line-told _ _ _ _ c.line_at.ensures _ c.in-Content.is).found (rw c.part_of.ensures.units at c.room_why.ensures)
+returns-in-Some c = rw c.in-Some.ensures.found (rw c.part_of.ensures.units at c.room_why.ensures)
 
-pub returns-in-Malformed : goal.returns-in-Malformed
+pub returns-in-None : goal.returns-in-None
 unfolding units block_why
-returns-in-Malformed c = rw (line-told _ _ _ _ c.line_at.ensures _ c.in-Malformed.is)
+returns-in-None c = rw c.in-None.ensures

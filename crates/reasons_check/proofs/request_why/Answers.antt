@@ -3,10 +3,9 @@
 use Rattle.reasons_check.proofs.Asking.{request-asked, request-malformed}
 use Rattle.reasons_check.proofs.request_why.Goals as goal
 
-pub returns-in-Request : goal.returns-in-Request
-returns-in-Request c =
-    request-asked _ _ c.read_request.ensures _ _ _ _ c.in-Request.is
-    (rw (c.part_of.ensures.units, c.part_of-in-Request.ensures.units) at c.code_why.ensures)
+pub returns-in-Ok : goal.returns-in-Ok
+returns-in-Ok c =
+    request-asked _ c.read_request.ensures _ _ c.in-Ok.is (rw (c.part_of.ensures.units, c.part_of-in-Ok.ensures.units) at c.code_why.ensures)
 
-pub returns-in-Malformed : goal.returns-in-Malformed
-returns-in-Malformed c = request-malformed _ _ c.read_request.ensures _ _ c.in-Malformed.is
+pub returns-in-Err : goal.returns-in-Err
+returns-in-Err c = request-malformed _ c.read_request.ensures _ _ c.in-Err.is
