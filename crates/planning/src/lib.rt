@@ -2,6 +2,8 @@
 // minus. No room is needed to make it.
 #![tactic(auto)]
 
+pub mod in_range;
+
 ghost use Rattle.std.specs.Prelude.{◌≡◌, true, false, List, Ok, ◌≤◌, ◌<◌, ◌^◌, ℕ, T, eqb};
 ghost use Rattle.formats.specs.Items.{number_kind, fraction_kind, same_kind, kind_of, integer_places};
 ghost use Rattle.formats.specs.Choice.{instant_exact, Reason, chosen, choose};
@@ -22,6 +24,7 @@ use answers::Refusal;
 use choosing::Sought;
 use figure_text::{Figures, figures_of};
 use figures::Signed;
+pub use in_range::InRange;
 use section_text::Subject;
 use table_words::runs::is_place;
 use table_words::{Kind, Table, TableSection};
@@ -255,15 +258,15 @@ fn number_in<'a>(section: TableSection<'a>, v: Signed) -> Result<Planned<'a>, Re
 }
 
 // A number as the chooser is asked for it.
-pub fn number_sought(v: Signed) -> Sought
-    requires { v.scale ≤ 15 }
-    ensures { AsksNumber v result }
+pub fn number_sought(v: InRange) -> Sought
+    ensures { AsksNumber v.signed result }
 {
+    let signed = v.signed;
     Sought {
-        negative: v.negative,
+        negative: signed.negative,
         instant: false,
-        above: v.magnitude,
-        scale: v.scale,
+        above: signed.magnitude,
+        scale: signed.scale,
     }
 }
 
@@ -273,7 +276,7 @@ fn number_in_range<'a>(table: Table<'a>, v: Signed) -> Result<Planned<'a>, Refus
     ensures { (text : List ℕ) (x : Number) → v ≡ signed_of x
         → PlannedIs result text (read_value (sections_of table.entry) (value.Number x) text) }
 {
-    match choosing::choose(table, number_sought(v)) {
+    match choosing::choose(table, number_sought(InRange { signed: v })) {
         None => Err(Refusal::NoSection),
         Some(i) => number_in(table.section(i), v),
     }

@@ -19,7 +19,7 @@ use answers::Refusal;
 use cuts::{decimals_cut, general_cut, general_nought, rounds_to_nought, scientific_cut};
 use figures::Signed;
 use grounds::{ChosenBy, Grounds, Minus, Tried};
-use planning::{instant_sought, integer_places, number_sought};
+use planning::{InRange, instant_sought, integer_places, number_sought};
 use showing::{answer_of, section_fraction};
 use table_words::{Kind, Table, TableSection};
 use values::{Ask, Day, Millisecond, Number, Value};
@@ -231,7 +231,7 @@ fn in_range(table: Table, v: Signed) -> Grounds
     requires { (v.magnitude < 10 ^ 15) × (v.scale ≤ 15) }
     ensures { (x : Number) → v ≡ signed_of x → result ≡ grounds_of (sections_of table.entry) (value.Number x) }
 {
-    match choosing::choose(table, number_sought(v)) {
+    match choosing::choose(table, number_sought(InRange { signed: v })) {
         None => no_grounds(),
         Some(i) => number_in(table.section(i), v),
     }
