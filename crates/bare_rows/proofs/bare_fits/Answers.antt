@@ -25,8 +25,7 @@ loop-pair-preserved c =
     let i = c.loop-pair.invariant in
     let two = turn.1.1 ∙ i.0 in
     let more = ap length turn.1.0 ∙ length-append c.in-Some.pair.now _ in
-    rw (c.from-fills.ensures, c.from-owns.ensures)
-    (
+    rw (c.from-fills.ensures, c.from-owns.ensures) (
       turn.0 ∙ i.0,
       omega (arith, i.1, two, more, bool-most),
       omega (arith, i.2, two, more, bool-most),
