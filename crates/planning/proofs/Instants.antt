@@ -51,10 +51,11 @@ module _ (z : TableSection) (d : Day) (m : Millisecond) where
     instant-reads e size = rw (eo, e.0)
 
     pub instant-literal : {digits text : List ℕ} {f : Figures} → f.used ≤ 40 → kind_of (section_of z) ≡ literal_kind
-        → SectionIs z false (record { figures = f; lent = false }) digits true text (λ size. read_instant d m size (choose (sections_of z.table) (instant_exact d m)))
+        → SectionIs z false (record { figures = f; lent = false }) digits true z.table text (λ size. read_instant d m size (choose (sections_of z.table) (instant_exact d m)))
     instant-literal u e =
         let k = literal-takes (kind_of (section_of z)) e in
         record {
+          table = refl;
           used = u;
           short = λ l. absurd (true≢false (sym l));
           known = record { context = instant_context (section_of z) d m; is = literal-subject (instant_context (section_of z) d m) e };

@@ -81,10 +81,11 @@ module _ (z : TableSection) (v : Signed) (x : Number) (why : Reason) (ev : v ≡
 
   pub number-section : {digits text : List ℕ} {f : Figures} {exact : Bool} → exact ≡ number_exactly (section_of z) x → f.used ≤ 40
       → SubjectIs (kind_of (section_of z)) digits (record { figures = f; lent = false }) text (number_context (section_of z) x)
-      → SectionIs z (minus_in z v.negative held) (record { figures = f; lent = false }) digits exact text
+      → SectionIs z (minus_in z v.negative held) (record { figures = f; lent = false }) digits exact z.table text
       (λ size. read_number (sections_of z.table) x size (choose (sections_of z.table) (number_exact x)))
   unfolding number_context
   number-section ee u is = record {
+    table = refl;
     used = u;
     short = λ e. absurd (true≢false (sym e));
     known = record { context = number_context (section_of z) x; is = is };

@@ -80,11 +80,12 @@ module _ (z : TableSection) (e : Some z.place ≡ text_found_of (choose_text (se
   text-reads text h size = rw (le-leb (length text) 1024 h, (text_at _ _ e).0)
 
   pub text-section : {digits text : List ℕ} {f : Figures} → f.used ≤ 40 → length text ≤ 1024
-      → SectionIs z false (record { figures = f; lent = true }) digits true text (value_reading z.table.words.now value.Text text)
+      → SectionIs z false (record { figures = f; lent = true }) digits true z.table text (value_reading z.table.words.now value.Text text)
   unfolding text_context
   text-section {digits} {text} u h =
       let k = plain-kind (kind_of (section_of z)) section-plain in
       record {
+        table = refl;
         used = u;
         short = λ l. h;
         known = record { context = text_context text; is = standing-subject (text_context text) k refl };

@@ -83,7 +83,7 @@ fn bare<'a>(section: TableSection<'a>, minus: bool, lent: bool) -> Plan<'a>
 fn instant_in<'a>(section: TableSection<'a>, d: Day, m: Millisecond) -> Result<Plan<'a>, Refusal>
     ensures { (text : List ℕ) (why : Reason)
         → choose (sections_of section.entry.table) (instant_exact d m) ≡ chosen section.entry.place (section_of section.entry) why
-        → BareIs result text (λ size. read_instant d m size (choose (sections_of section.entry.table) (instant_exact d m))) }
+        → BareIs result section.entry.table text (λ size. read_instant d m size (choose (sections_of section.entry.table) (instant_exact d m))) }
 {
     match section.kind() {
         Kind::DateTime => Ok(Plan::Dated(section, d, m)),
@@ -106,7 +106,7 @@ pub fn instant_sought(d: Day, m: Millisecond) -> Sought
 
 // The plan of an instant; one out of range is refused.
 fn instant_plan<'a>(table: Table<'a>, d: Day, m: Millisecond) -> Result<Plan<'a>, Refusal>
-    ensures { (text : List ℕ) → BareIs result text (value_reading table.entry.words.now (value.Instant d m) text) }
+    ensures { (text : List ℕ) → BareIs result table.entry text (value_reading table.entry.words.now (value.Instant d m) text) }
 {
     if Day::GREATEST < d.0 {
         return Err(Refusal::Range);
@@ -122,7 +122,7 @@ fn instant_plan<'a>(table: Table<'a>, d: Day, m: Millisecond) -> Result<Plan<'a>
 
 // The plan of a text; one that is too long is refused.
 fn text_plan<'a>(table: Table<'a>, text: &[u16]) -> Result<Plan<'a>, Refusal>
-    ensures { BareIs result text.now (value_reading table.entry.words.now value.Text text.now) }
+    ensures { BareIs result table.entry text.now (value_reading table.entry.words.now value.Text text.now) }
 {
     if 1024 < text.len() {
         return Err(Refusal::Range);
@@ -274,7 +274,7 @@ pub fn number_sought(v: InRange) -> Sought
 fn number_in_range<'a>(table: Table<'a>, v: Signed) -> Result<Planned<'a>, Refusal>
     requires { (v.magnitude < 10 ^ 15) × (v.scale ≤ 15) }
     ensures { (text : List ℕ) (x : Number) → v ≡ signed_of x
-        → PlannedIs result text (read_value (sections_of table.entry) (value.Number x) text) }
+        → PlannedIs result table.entry text (read_value (sections_of table.entry) (value.Number x) text) }
 {
     match choosing::choose(table, number_sought(InRange { signed: v })) {
         None => Err(Refusal::NoSection),
@@ -284,7 +284,7 @@ fn number_in_range<'a>(table: Table<'a>, v: Signed) -> Result<Planned<'a>, Refus
 
 // The plan of a number; one out of range is refused.
 fn number_plan<'a>(table: Table<'a>, x: Number) -> Result<Planned<'a>, Refusal>
-    ensures { (text : List ℕ) → PlannedIs result text (value_reading table.entry.words.now (value.Number x) text) }
+    ensures { (text : List ℕ) → PlannedIs result table.entry text (value_reading table.entry.words.now (value.Number x) text) }
 {
     match figures::take_number(x) {
         None => Err(Refusal::Range),
@@ -294,7 +294,7 @@ fn number_plan<'a>(table: Table<'a>, x: Number) -> Result<Planned<'a>, Refusal>
 
 // The plan of what is asked for: no room is needed to make it.
 pub fn plan_of<'a>(table: Table<'a>, ask: Ask, text: &[u16]) -> Result<Planned<'a>, Refusal>
-    ensures { PlannedIs result text.now (reading (sections_of table.entry) ask text.now) }
+    ensures { PlannedIs result table.entry text.now (reading (sections_of table.entry) ask text.now) }
 {
     match ask.value {
         Value::Number(x) => number_plan(table, x),

@@ -1,7 +1,7 @@
 -- `planning::instant_in` meets its contract.
 -- Assumes nothing.
 use native.Mathlib.Omega.{arith}
-use mathlib.Core.Path.{sym}
+use mathlib.Core.Path.{refl, sym}
 use Rattle.planning.proofs.Sorts.{other-sort}
 use Rattle.planning.proofs.Instants.{date-takes, instant-reads, instant-literal, instant-refused}
 use Rattle.planning.proofs.instant_in.Goals as goal
@@ -9,7 +9,7 @@ use Rattle.planning.proofs.instant_in.Goals as goal
 pub returns-in-DateTime : goal.returns-in-DateTime
 returns-in-DateTime c =
     let e = sym c.in-DateTime.ensures in
-    λ text why eo digits. (e, instant-reads c.args.section _ _ why eo (date-takes _ e))
+    λ text why eo digits. (refl, e, instant-reads c.args.section _ _ why eo (date-takes _ e))
 
 pub returns-in-Literal : goal.returns-in-Literal
 returns-in-Literal c =

@@ -2,7 +2,7 @@
 -- Assumes nothing.
 use native.Mathlib.Omega.{arith}
 use Rattle.std.proofs.Common.{rules}
-use mathlib.Core.Path.{sym}
+use mathlib.Core.Path.{refl, sym}
 use Rattle.formats.proofs.Exactness.{exactly-literal}
 use Rattle.planning.proofs.Subjects.{literal-subject}
 use Rattle.planning.proofs.Numbers.{literal-takes, number-section, scientific-reads, fraction-reads}
@@ -31,6 +31,7 @@ returns-in-Scientific c =
     λ text x why ev eo.
     rw c.without_digits-in-Scientific.ensures.0
     (record {
+      table = refl;
       kind = e;
       small = p.0;
       scale = p.1;
@@ -45,6 +46,7 @@ returns-in-Fraction c =
     λ text x why ev eo.
     rw c.without_digits-in-Fraction.ensures.0
     (record {
+      table = refl;
       kind = e;
       small = p.0;
       scale = p.1;
