@@ -175,10 +175,10 @@ fn show_in(
 ) -> Result<Shown, Refusal>
     ensures { Shows (table_reading words.now ask text.now size) room.old result room.new }
 {
-    if checking::check(words) {
-        return show_value(room, size, Table { words }, ask, text);
-    }
-    Err(Refusal::Table)
+    let Some(table) = checking::table_of(words) else {
+        return Err(Refusal::Table);
+    };
+    show_value(room, size, table, ask, text)
 }
 
 // What `show` answers in a room of so many units: no room is lent, and nothing is written.
