@@ -44,7 +44,7 @@ module _ (code : List ℕ) (u : T (every is_unit code)) {size : ℕ} (room : 557
 
   -- the code is, and so is what is read off it
   module _ (r : Refused) (e : Err r ≡ prepared code size) where
-    refused-code : accept code ≡ refusal r.refusal r.place
+    pub refused-code : accept code ≡ refusal r.refusal r.place
     unfolding prepared
     refused-code = refused-by (accept code) refl r e
 
