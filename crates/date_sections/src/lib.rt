@@ -88,12 +88,13 @@ pub fn show_dated_section(
     let colour = section.head().colour;
     let items = section.items();
     let roomy = is_roomy(size, items.len(), false);
-    show_whole(room, size, roomy, |room| {
+    let place = section.place;
+    show_whole(room, size, roomy, move |room| {
         let written = put_dated_items(room, items, m);
         Shown {
             length: written.end as u32,
             colour,
-            section: section.place,
+            section: place,
             exact: ms.0 % written.finest == 0,
         }
     })

@@ -215,12 +215,13 @@ pub fn show_fraction_section(
     let (before, from) = items.split_at(cut_start(items));
     let (whole, numerator) = before.split_at(run_start(before));
     let roomy = is_roomy(size, items.len(), false);
-    show_whole(room, size, roomy, |room| {
+    let place = section.place;
+    show_whole(room, size, roomy, move |room| {
         let length = put_mixed(room, minus, whole, numerator, from, f) as u32;
         Shown {
             length,
             colour,
-            section: section.place,
+            section: place,
             exact,
         }
     })

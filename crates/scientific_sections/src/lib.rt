@@ -174,12 +174,13 @@ pub fn show_scientific_section(
         places: count_between(from, tags::ZERO_PLACE, tags::SPACE_PLACE),
     };
     let roomy = is_roomy(size, items.len(), false);
-    show_whole(room, size, roomy, |room| {
+    let place = section.place;
+    show_whole(room, size, roomy, move |room| {
         let length = put_scientific(room, minus, before, from, mantissa, power) as u32;
         Shown {
             length,
             colour,
-            section: section.place,
+            section: place,
             exact,
         }
     })

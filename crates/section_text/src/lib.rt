@@ -178,12 +178,13 @@ pub fn show_section(
     let colour = section.head().colour;
     let items = section.items();
     let roomy = is_roomy(size, items.len(), source.subject.lent);
-    show_whole(room, size, roomy, |room| {
+    let place = section.place;
+    show_whole(room, size, roomy, move |room| {
         let length = put_text(room, minus, items, source) as u32;
         Shown {
             length,
             colour,
-            section: section.place,
+            section: place,
             exact,
         }
     })
