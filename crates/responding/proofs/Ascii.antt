@@ -23,8 +23,9 @@ use Rattle.formats.specs.Accept.{parts_in, sections_in, Verdict, fine, refused a
 use Rattle.formats.specs.Where.{is_text}
 use Rattle.formats.specs.Choice.{number_exact, instant_exact, Choice, nothing, chosen, choose, TextChoice, itself, text_in, fourth_from, text_from, choose_text}
 use Rattle.formats.specs.Reading.{Look, Reading, refused, within, takes_number, takes_instant, shows_general, standing_rounded, number_context, instant_context, text_context, number_units, read_number, read_instant, read_text, read_value, reading, read_accepted, code_reading, section_text, section_fraction, whole_context, exponent_context, whole_text, is_parted, spare_places, spaceless, denominator_units, below_units, blanked, fraction_units}
-use Rattle.answers.specs.declared.Answer.{Answer}
-use Rattle.answers.specs.declared.Answer.TheVariants as answer
+use Rattle.std.proofs.Common.{Option, Some, None, Result, Ok, Err}
+use Rattle.answers.specs.declared.Refusal.{Refusal}
+use Rattle.answers.specs.declared.Refusal.TheVariants as answer
 use Rattle.fractions.specs.declared.Mixed.{Mixed}
 use Rattle.values.specs.declared.Number.{Number}
 use Rattle.values.specs.declared.Day.{Day}
@@ -40,14 +41,11 @@ use Rattle.tables.specs.Calls.{text_as}
 use Rattle.preview.specs.Preview.{preview_text}
 use Rattle.requests.specs.declared.written.Sort.{Sort}
 use Rattle.requests.specs.declared.written.Sort.TheVariants as sort
-use Rattle.requests.specs.declared.written.SortRead.{SortRead}
-use Rattle.requests.specs.declared.written.SortRead.TheVariants.{Known, Unknown}
-use Rattle.requests.specs.declared.written.ValueRead.{ValueRead}
-use Rattle.requests.specs.declared.written.ValueRead.TheVariants as read
 use Rattle.requests.specs.Bytes.{low_byte}
 use Rattle.requests.specs.Lines.{is_ascii, is_line, Field, field, missing, field_of}
 use Rattle.requests.specs.Written.{sort_of, value_of, text_of}
 use Rattle.requests.specs.Request.{Request, request, refused as unasked, from_end, from_value, from_third, from_kind, from_second, from_first, request_of}
+use Rattle.responding.specs.declared.lines.Numbers.{Numbers}
 use Rattle.responding.specs.Respond.{line_of, five_lines, lines_of, response_of}
 use Rattle.formats.specs.Minus.{Sign, minus, not_negative, no_item, for_negatives, nought, sign_units}
 use Rattle.formats.specs.Text.{Context, insignificant, idle_units, ends_group, with_separator, figure_units, extra_units, place_units, point_units, year_units, named_units, part_units, half_units, item_units, digit_after, items_units, section_units, along, exponent_units, first_of}
@@ -248,7 +246,7 @@ unfolding within text_as every
 fine-within room look t =
     cond-case (Fine room) (leb (length look.text) room) (λ e. (leb-true (length look.text) room e, t)) (λ e. (omega arith, tt))
 
-fine-refused : (room : ℕ) (a : Answer) → Fine room (refused a)
+fine-refused : (room : ℕ) (a : Refusal) → Fine room (refused a)
 unfolding text_as every
 fine-refused room a = (omega arith, tt)
 
@@ -385,10 +383,10 @@ abbrev AsciiRequest : Request → Type 0
 AsciiRequest (unasked a k) = Unit {0}
 AsciiRequest (request code ask text) = Ascii code × Ascii text
 
-value-ascii : (code : List ℕ) (v : ValueRead) (text rest : List ℕ) → Ascii code → Ascii text → AsciiRequest (from_value code v text rest)
+value-ascii : (code : List ℕ) (v : Option Value) (text rest : List ℕ) → Ascii code → Ascii text → AsciiRequest (from_value code v text rest)
 unfolding from_value from_end
-value-ascii code read.Malformed text rest c t = tt
-value-ascii code (read.Known v) text rest c t = cond_both AsciiRequest (is_empty rest) (c, t) tt
+value-ascii code None text rest c t = tt
+value-ascii code (Some v) text rest c t = cond_both AsciiRequest (is_empty rest) (c, t) tt
 
 text-ascii : (s : Sort) (us : List ℕ) → Ascii us → Ascii (text_of s us)
 unfolding text_of every
@@ -396,10 +394,10 @@ text-ascii sort.Number us t = tt
 text-ascii sort.Instant us t = tt
 text-ascii sort.Text us t = t
 
-kind-ascii : (code : List ℕ) (k : SortRead) (rest : List ℕ) → Ascii code → AsciiRequest (from_kind code k rest)
+kind-ascii : (code : List ℕ) (k : Option Sort) (rest : List ℕ) → Ascii code → AsciiRequest (from_kind code k rest)
 unfolding from_kind from_third
-kind-ascii code Unknown rest c = tt
-kind-ascii code (Known s) rest c =
+kind-ascii code None rest c = tt
+kind-ascii code (Some s) rest c =
     by_field AsciiRequest (from_third code s) (units "value=") rest tt
     (λ us more t. value-ascii code (value_of s us) (text_of s us) more c (text-ascii s us t))
 
@@ -414,14 +412,14 @@ line-ascii : (name content : List ℕ) → Ascii name → Ascii content → Asci
 unfolding line_of every is_ascii
 line-ascii name content n c = every_append is_ascii (name ++ content) (10 ∷ []) (every_append is_ascii name content n c) tt
 
-five-ascii : (a : Answer) (k colour : ℕ) (exact : Bool) (text : List ℕ) → Ascii text → Ascii (five_lines a k colour exact text)
+five-ascii : (n : Numbers) (text : List ℕ) → Ascii text → Ascii (five_lines n text)
 unfolding five_lines units every is_ascii
-five-ascii a k colour exact text t = search (every_append is_ascii, line-ascii, numeral-ascii) depth 16
+five-ascii n text t = search (every_append is_ascii, line-ascii, numeral-ascii) depth 16
 
 lines-ascii : (q : Request) → AsciiRequest q → Ascii (lines_of q)
 unfolding lines_of preview_text every
-lines-ascii (unasked a k) t = five-ascii a k 0 false [] tt
-lines-ascii (request code ask text) t = five-ascii _ _ _ _ _ (code-fine code ask text 4096 t.0 t.1).1
+lines-ascii (unasked a k) t = five-ascii _ [] tt
+lines-ascii (request code ask text) t = five-ascii _ _ (code-fine code ask text 4096 t.0 t.1).1
 
 response-ascii : (input : List ℕ) → Ascii (response_of input)
 unfolding response_of

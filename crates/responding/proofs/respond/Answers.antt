@@ -1,8 +1,11 @@
 -- `responding::respond` meets its contract.
 -- Assumes nothing.
-use Rattle.responding.proofs.Answering.{malformed-answered}
+use Rattle.responding.proofs.Answering.{request-answered, malformed-answered}
 use Rattle.responding.proofs.respond.Goals as goal
 
-pub returns-in-Malformed : goal.returns-in-Malformed
-returns-in-Malformed c =
-    malformed-answered _ _ c.read_request.ensures _ c.in-Malformed.is c.put_lines-length.ensures.within c.put_lines-length.ensures.put
+pub returns-in-Ok : goal.returns-in-Ok
+returns-in-Ok c =
+    request-answered _ c.read_request.ensures _ c.in-Ok.is (rw (c.part_of.ensures.units, c.part_of-in-Ok.ensures.units) at c.respond_to.ensures)
+
+pub returns-in-Err : goal.returns-in-Err
+returns-in-Err c = malformed-answered _ c.read_request.ensures _ c.in-Err.is c.respond_refused.ensures

@@ -15,6 +15,8 @@ as_number false = refl
 pub returns-clause-put : goal.returns-clause-put
 unfolding five_lines units
 returns-clause-put c =
-    let first = rw c.number.ensures at c.put_number-a.ensures.put in
-    let last = rw (as_number c.args.exact) at c.put_number-d.ensures.put in
-    put-put (put-put (put-put (put-put first c.put_number-b.ensures.put) c.put_number-c.ensures.put) last) c.put_text.ensures.put
+    let first = rw c.from.ensures at c.put_number-a.ensures.put in
+    let second = rw c.from-2.ensures at c.put_number-b.ensures.put in
+    let third = rw c.from-3.ensures at c.put_number-c.ensures.put in
+    let last = rw (c.from-4.ensures, as_number c.args.numbers.exact) at c.put_number-d.ensures.put in
+    put-put (put-put (put-put (put-put first second) third) last) c.put_text.ensures.put
