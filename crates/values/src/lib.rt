@@ -1,8 +1,6 @@
 // Values: a day number, a millisecond of the day, a number, and all that showing is told.
 #![tactic(auto)]
 
-pub mod integers;
-
 ghost use Rattle.std.specs.Prelude.{◌≡◌};
 ghost use Rattle.values.specs.Ranges.{day_least, day_greatest, day_of, millisecond_least, millisecond_greatest, millisecond_of, within, made_answer, range_answer, IsDayOf, IsMillisecondOf, asked};
 
