@@ -1,9 +1,7 @@
 -- What a code, a request and a fourth line are answered.
 -- Assumes nothing.
-use Prim.Native.Nat.{ℕ, ◌≤◌}
-use native.Mathlib.Omega.{arith}
-use borrow.Author.Tests.{le-leb}
-use mathlib.Core.Path.{◌≡◌, refl, sym, ap, ◌∙◌}
+use Prim.Native.Nat.{ℕ}
+use mathlib.Core.Path.{◌≡◌, sym, ap, ◌∙◌}
 use mathlib.Core.Bool.{Bool, true, false}
 use mathlib.Core.List.{List}
 use lib.ListN.{length, take}
@@ -15,15 +13,12 @@ use Rattle.answers.specs.declared.Refused.{Refused}
 use Rattle.values.specs.declared.Ask.{Ask}
 use Rattle.lists.specs.Lists.{every}
 use Rattle.formats.specs.Items.{is_unit}
-use Rattle.formats.specs.Accept.{Accepted, sections, refusal, accept}
-use Rattle.tables.specs.Encode.{encode}
-use Rattle.tables.specs.Calls.{words_of, table_of, prepared_as, prepared, table_after}
+use Rattle.tables.specs.Calls.{prepared, table_after}
 use Rattle.grounds.specs.declared.Grounds.{Grounds}
 use Rattle.grounds.specs.Why.{why_accepted, code_why}
 use Rattle.reasons.specs.Table.{table_why}
 use Rattle.reasons.proofs.Holding.{table-code-why}
-use Rattle.tables.proofs.Promise.{table-of-code}
-use Rattle.preview.proofs.Previewing.{made, table_taken}
+use Rattle.preview.proofs.Previewing.{refused-code, made, table_taken}
 use Rattle.requests.specs.declared.Request.{Request as Parts}
 use Rattle.requests.specs.declared.Malformed.{Malformed}
 use Rattle.requests.specs.Written.{is_digits, numeral_up_to}
@@ -33,20 +28,9 @@ use Rattle.reasons_check.specs.Asked.{request_why, room_why}
 
 -- ---- a code, prepared in a table room of 557 words
 module _ (code : List ℕ) (u : T (every is_unit code)) {size : ℕ} (room : 557 ≡ size) (ask : Ask) (text : List ℕ) (k : ℕ) where
-  refused-by : (x : Accepted) → accept code ≡ x → (r : Refused) → Err r ≡ prepared_as x size → x ≡ refusal r.refusal r.place
-  unfolding prepared_as table_of words_of
-  refused-by (refusal a n) c r e = cc
-  refused-by (sections ss) c r e =
-      let l : length (encode ss) ≤ size = omega (arith, room, rw c at (table-of-code code ss u c).most_words) in
-      let h = rw (le-leb (length (encode ss)) size l) at e in cc
-
-  refused-code : (r : Refused) → Err r ≡ prepared code size → accept code ≡ refusal r.refusal r.place
-  unfolding prepared
-  refused-code r e = refused-by (accept code) refl r e
-
   pub code-refused : (r : Refused) → Err r ≡ prepared code size → Err r.refusal ≡ code_why code ask text k
   unfolding code_why why_accepted
-  code-refused r e = rw (refused-code r e)
+  code-refused r e = rw (refused-code code u room r e)
 
   -- the words in front of the room give the code's reason
   pub code-because : (words : ℕ) → Ok words ≡ prepared code size → (before : List ℕ) {after : List ℕ} {w : Result Grounds Refusal} → size ≡ length before

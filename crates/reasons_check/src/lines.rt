@@ -16,7 +16,7 @@ fn put_named(room: &mut [u16], at: usize, name: &[u8], n: u16) -> usize
     ensures put { Put room.old at (named name.now n) result room.new }
 {
     let a = put_bytes(room, at, name);
-    put_numeral(room, a, 1, u64::from(n))
+    put_numeral(room, a, 1, n as u64)
 }
 
 // Puts the section, by what it was chosen, and those tried earlier.

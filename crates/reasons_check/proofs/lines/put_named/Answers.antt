@@ -9,9 +9,9 @@ use Rattle.reasons_check.proofs.lines.put_named.Goals as goal
 pub returns-clause-within : goal.returns-clause-within
 unfolding named
 returns-clause-within c =
-    let n = rw c.from.ensures at c.put_numeral.ensures in
-    omega (arith, numeral-short 1 c.args.n (omega arith), n.next, c.put_bytes-a.ensures.next)
+    omega (arith, numeral-short 1 c.args.n (omega arith), c.put_numeral.ensures.next, c.put_bytes-a.ensures.next)
 
 pub returns-clause-put : goal.returns-clause-put
 unfolding named
-returns-clause-put c = put-put c.put_bytes-a.ensures (rw c.from.ensures at c.put_numeral.ensures)
+returns-clause-put c =
+    put-put c.put_bytes-a.ensures c.put_numeral.ensures
