@@ -1,14 +1,15 @@
 -- The walk over a date-time section's items: what is left to be asked of the entries behind each, and what was met in all.
 -- Assumes nothing.
-use Prim.Native.Nat.{ℕ, suc, ◌+◌, ◌-◌, ◌≤◌, ◌<◌}
-use Rattle.std.specs.Prelude.{None, Some}
+use Prim.Native.Nat.{ℕ, suc, ◌+◌, ◌-◌, ◌≤◌}
+use Rattle.std.specs.Prelude.{Option, None, Some, MatchOption}
+use Rattle.std.specs.Option.{is_some}
 use Rattle.std.proofs.lemmas.Option.{cond_some}
 use native.Mathlib.Omega.{arith}
 use mathlib.Core.Path.{◌≡◌, refl, sym, ◌∙◌, ap}
 use mathlib.Core.Bool.{Bool, true, false, true≢false, cond, not, ◌&&◌, ◌||◌, and-true}
 use mathlib.Core.List.{List, [], ◌∷◌}
 use lib.Dec.{T, leb, eqb}
-use borrow.Author.Tests.{eqb-true, eqb-false, eq-eqb, ne_eqb, le-leb, lt-leb, lt-ltb, ltb-false, not-true}
+use borrow.Author.Tests.{eqb-true, eqb-false, eq-eqb, ne_eqb, le-leb, lt-leb, not-true}
 use Rattle.values.specs.Ranges.{between}
 use Rattle.lists.specs.Lists.{every, any, count}
 use Rattle.lists.proofs.Bools.{no, and_left, and_right, and_in, by_cases, true-T, T_true, or-cond, or-false, carry, every-head, every-tail, every-cons}
@@ -28,7 +29,7 @@ use Rattle.date_rows.specs.declared.earlier_runs.Earlier.{Earlier}
 use Rattle.date_rows.specs.declared.earlier_runs.Earlier.TheVariants.{Nothing}
 use Rattle.tallies.specs.Tally.{makes_date, items_of}
 use Rattle.date_rows.specs.Runs.{is_nothing, is_hours, minutes_wait, run_after, earlier_after, may_stand, answers}
-use Rattle.date_rows.specs.DateRows.{DateTold, is_met, date_sound, date_after, date_next, plain_told}
+use Rattle.date_rows.specs.DateRows.{DateTold, date_sound, date_after, date_next, plain_told}
 use Rattle.date_rows.proofs.Runs.{runs_from, runs-front, runs-end, runs-start}
 use Rattle.tallies.proofs.Told.{no-plain-every}
 use Rattle.tallies.proofs.Held.{holds, holds-back}
@@ -40,7 +41,7 @@ pub record Left (s : DateWalk) (es : List Entry) : Type 0 where
   pub items : T (every (item_allowed date_kind) (items_at es))
   pub ranges : T (every entry_in_range es)
   pub fill : count is_fill (items_at es) ≤ cond s.filled 0 1
-  pub elapsed : count is_elapsed (items_at es) ≤ cond (is_met s.plain) 0 1
+  pub elapsed : count is_elapsed (items_at es) ≤ cond (is_some s.plain) 0 1
   pub runs : T (runs_from s.earlier (items_at es))
   pub parts : T (parts_from s.behind_seconds (items_at es))
 
@@ -56,9 +57,9 @@ once-back true false r t h = omega arith
 once-back false met r t h = h
 
 -- whether an elapsed item was met, behind an item
-plain-met : (b : Bool) (t plain : ℕ) → (b ≡ true → 0 < t) → is_met (cond b t plain) ≡ (b || is_met plain)
-plain-met true t plain h = lt-ltb 0 t (h refl)
-plain-met false t plain h = refl
+plain-met : (b : Bool) (t : ℕ) (plain : Option ℕ) → is_some (cond b (Some t) plain) ≡ (b || is_some plain)
+plain-met true t plain = refl
+plain-met false t plain = refl
 
 -- an elapsed item by its tag
 elapsed-number : (t a : ℕ) → is_elapsed (item_at (entry t a)) ≡ between 18 20 t
@@ -76,9 +77,6 @@ elapsed-tag d t a =
     (by_number (is_elapsed_of seconds) (λ (n : ℕ). eqb n 20) (items_by_tag a) 26 (half (half_at a)) refl (λ n h. sym (ne_eqb n 20 (λ e. absurd (omega arith)))) t)
     d
 
-elapsed-some : (t a : ℕ) → is_elapsed (item_at (entry t a)) ≡ true → 0 < t - 4
-elapsed-some t a e = let f = between-facts 18 20 t (true-T (sym (elapsed-number t a) ∙ e)) in omega arith
-
 module _ (s : DateWalk) (e : Entry) (es : List Entry) where
   abbrev front : Item
   front = item_at e
@@ -93,11 +91,11 @@ module _ (s : DateWalk) (e : Entry) (es : List Entry) where
   unfolding items_at count date_sound date_after parts_from
   left_out l =
       let filled = once-front (is_fill front) s.filled (count is_fill rest) l.fill in
-      let elapsed = once-front (is_elapsed front) (is_met s.plain) (count is_elapsed rest) l.elapsed in
+      let elapsed = once-front (is_elapsed front) (is_some s.plain) (count is_elapsed rest) l.elapsed in
       let runs = carry (runs-front s.earlier front rest) l.runs in
       let allowed : T (item_allowed date_kind front) = every-head (item_allowed date_kind) front rest l.items in
       let first : T (implies (is_fill front) (not s.filled)) = filled.0 in
-      let once : T (implies (is_elapsed front) (not (is_met s.plain))) = elapsed.0 in
+      let once : T (implies (is_elapsed front) (not (is_some s.plain))) = elapsed.0 in
       let part : T (implies (is_part front) s.behind_seconds) = and_left (implies (is_part front) s.behind_seconds) _ l.parts in
       let ranged : T (entry_in_range e) = every-head entry_in_range e es l.ranges in
       let run : T run_test = and_left run_test _ runs in
@@ -107,7 +105,7 @@ module _ (s : DateWalk) (e : Entry) (es : List Entry) where
           items = every-tail (item_allowed date_kind) front rest l.items;
           ranges = every-tail entry_in_range e es l.ranges;
           fill = filled.1;
-          elapsed = rw (plain-met (is_elapsed front) (e.tag - 4) s.plain (elapsed-some e.tag e.argument)) elapsed.1;
+          elapsed = rw (plain-met (is_elapsed front) (e.tag - 4) s.plain) elapsed.1;
           runs = and_right run_test _ runs;
           parts = and_right (implies (is_part front) s.behind_seconds) _ l.parts;
         },
@@ -118,7 +116,7 @@ module _ (s : DateWalk) (e : Entry) (es : List Entry) where
   left_back t l =
       let allowed : T (item_allowed date_kind front) = search and_left in
       let filled : T (implies (is_fill front) (not s.filled)) = search (and_left, and_right) depth 8 in
-      let once : T (implies (is_elapsed front) (not (is_met s.plain))) = search (and_left, and_right) depth 8 in
+      let once : T (implies (is_elapsed front) (not (is_some s.plain))) = search (and_left, and_right) depth 8 in
       let part : T (implies (is_part front) s.behind_seconds) = search (and_left, and_right) depth 8 in
       let ranged : T (entry_in_range e) = search (and_left, and_right) depth 8 in
       let run : T run_test = search and_right depth 8 in
@@ -126,17 +124,22 @@ module _ (s : DateWalk) (e : Entry) (es : List Entry) where
         items = every-cons (item_allowed date_kind) front rest allowed l.items;
         ranges = every-cons entry_in_range e es ranged l.ranges;
         fill = once-back (is_fill front) s.filled (count is_fill rest) filled l.fill;
-        elapsed = once-back (is_elapsed front) (is_met s.plain) (count is_elapsed rest) once (rw (plain-met (is_elapsed front) (e.tag - 4) s.plain (elapsed-some e.tag e.argument)) at l.elapsed);
+        elapsed = once-back (is_elapsed front) (is_some s.plain) (count is_elapsed rest) once (rw (plain-met (is_elapsed front) (e.tag - 4) s.plain) at l.elapsed);
         runs = carry (sym (runs-front s.earlier front rest)) (and_in run_test _ run l.runs);
         parts = and_in (implies (is_part front) s.behind_seconds) (parts_from (is_seconds front) rest) part l.parts;
       }
 
 -- ---- what is known of all items by what was met of them
+-- the tag kept is that of the plain equivalent of an elapsed item
+abbrev is_plain : Option ℕ → ℕ → Bool
+is_plain None tag = false
+is_plain (Some t) tag = eqb t tag
+
 pub record Known (all : List Item) (s : DateWalk) (es : List Entry) : Type 0 where
   pub dating : any makes_date all ≡ (not (is_nothing s.earlier) || any makes_date (items_at es))
   pub halves : any is_half all ≡ (s.halves || any is_half (items_at es))
-  pub elapsed : (d : Elapsed) → any (is_elapsed_of d) all ≡ (eqb s.plain (14 + elapsed_index d) || any (is_elapsed_of d) (items_at es))
-  pub tag : is_met s.plain ≡ true → T (between 14 16 s.plain)
+  pub elapsed : (d : Elapsed) → any (is_elapsed_of d) all ≡ (is_plain s.plain (14 + elapsed_index d) || any (is_elapsed_of d) (items_at es))
+  pub tag : MatchOption s.plain (Unit {0}) (λ t. T (between 14 16 t))
 
 -- an item that makes a date-time section leaves a run
 run-left : (n : Earlier) (i : Item) → not (is_nothing (earlier_after n i)) ≡ (makes_date i || not (is_nothing n))
@@ -154,32 +157,31 @@ met-front false true r = refl
 met-front false false r = refl
 
 module _ (s : DateWalk) (e : Entry) (sound : T (date_sound s e)) where
-  once : is_elapsed (item_at e) ≡ true → is_met s.plain ≡ false
+  once : is_elapsed (item_at e) ≡ true → is_some s.plain ≡ false
   unfolding date_sound
   once h =
-      let t : T (implies (is_elapsed (item_at e)) (not (is_met s.plain))) = search (and_left, and_right) depth 8 in
-      not-true (is_met s.plain) (T_true (not (is_met s.plain)) (rw h at t))
+      let t : T (implies (is_elapsed (item_at e)) (not (is_some s.plain))) = search (and_left, and_right) depth 8 in
+      not-true (is_some s.plain) (T_true (not (is_some s.plain)) (rw h at t))
 
-  tag-known : (is_met s.plain ≡ true → T (between 14 16 s.plain)) → is_met (date_after s e).plain ≡ true → T (between 14 16 (date_after s e).plain)
+  tag-known : MatchOption s.plain (Unit {0}) (λ t. T (between 14 16 t)) → MatchOption (date_after s e).plain (Unit {0}) (λ t. T (between 14 16 t))
   unfolding date_after
-  tag-known t m =
+  tag-known t =
       by_cases (is_elapsed (item_at e))
       (λ h. let f = between-facts 18 20 e.tag (true-T (sym (elapsed-number e.tag e.argument) ∙ h)) in
-      let low : 14 ≤ e.tag - 4 = omega arith in
-      let high : e.tag - 4 ≤ 16 = omega arith in
-      rw (h, le-leb 14 (e.tag - 4) low, le-leb (e.tag - 4) 16 high) tt)
-      (λ h. rw h (t (rw h at m)))
+      rw h (let low : 14 ≤ e.tag - 4 = omega arith in let high : e.tag - 4 ≤ 16 = omega arith in rw (le-leb 14 (e.tag - 4) low, le-leb (e.tag - 4) 16 high) tt))
+      (λ h. rw h t)
 
-  none-plain : (plain n : ℕ) → is_met plain ≡ false → eqb plain (14 + n) ≡ false
-  none-plain plain n e = let z = ltb-false 0 plain e in ne_eqb plain (14 + n) (λ x. absurd (omega (arith, x)))
+  none-plain : (plain : Option ℕ) (tag : ℕ) → is_some plain ≡ false → is_plain plain tag ≡ false
+  none-plain None tag n = refl
+  none-plain (Some t) tag n = absurd (true≢false n)
 
   elapsed-met : (d : Elapsed) (r : Bool)
-      → (eqb s.plain (14 + elapsed_index d) || cond (is_elapsed_of d (item_at e)) true r) ≡ (eqb (date_after s e).plain (14 + elapsed_index d) || r)
+      → (is_plain s.plain (14 + elapsed_index d) || cond (is_elapsed_of d (item_at e)) true r) ≡ (is_plain (date_after s e).plain (14 + elapsed_index d) || r)
   unfolding date_after
   elapsed-met d r =
       by_cases (is_elapsed (item_at e))
       (λ h. let f = between-facts 18 20 e.tag (true-T (sym (elapsed-number e.tag e.argument) ∙ h)) in
-      rw (none-plain s.plain (elapsed_index d) (once h), elapsed-tag d e.tag e.argument, h, four-below e.tag (elapsed_index d) (omega arith)) (sym (or-cond (eqb e.tag (18 + elapsed_index d)) r)))
+      rw (none-plain s.plain (14 + elapsed_index d) (once h), elapsed-tag d e.tag e.argument, h, four-below e.tag (elapsed_index d) (omega arith)) (sym (or-cond (eqb e.tag (18 + elapsed_index d)) r)))
       (λ h. rw h)
     where
       four-below : (t n : ℕ) → 4 ≤ t → eqb (t - 4) (14 + n) ≡ eqb t (18 + n)
@@ -204,10 +206,10 @@ module _ (es : List Entry) where
   is = items_at es
 
   abbrev begun : DateWalk
-  begun = record { earlier = Nothing; behind_seconds = false; filled = false; plain = 0; halves = false }
+  begun = record { earlier = Nothing; behind_seconds = false; filled = false; plain = None; halves = false }
 
   known_start : Known is begun es
-  known_start = record { dating = refl; halves = refl; elapsed = λ d. rw (ne_eqb 0 (14 + elapsed_index d) (λ e. absurd (omega arith))); tag = λ m. no m }
+  known_start = record { dating = refl; halves = refl; elapsed = λ d. refl; tag = tt }
 
   -- a date item, and no elapsed item beside its plain equivalent
   abbrev Rules : Type 0
@@ -241,18 +243,17 @@ module _ (es : List Entry) where
   refused-told f = by_cases (items_of 4 es) (λ e. absurd (f (true-T e))) (λ e. e)
 
   -- the plain equivalent of the elapsed item, whose tag is kept
-  abbrev Beside : ℕ → Type 0
+  abbrev Beside : Option ℕ → Type 0
   Beside x =
-      (not (eqb x 14 && has_tag es 14) && (not (eqb x 15 && has_tag es 15) && not (eqb x 16 && has_tag es 16))) ≡ not (plain_told es x)
+      (not (is_plain x 14 && has_tag es 14) && (not (is_plain x 15 && has_tag es 15) && not (is_plain x 16 && has_tag es 16))) ≡ not (plain_told es x)
 
-  beside-told : (x : ℕ) → (is_met x ≡ true → T (between 14 16 x)) → Beside x
-  beside-told x t =
-      by_cases (is_met x)
-      (λ m. let f = between-facts 14 16 x (t m) in
-      span-at Beside 14 3 x (and-true (not (has_tag es 14)), (and-true (not (has_tag es 15)), (refl, tt))) f.0 (omega arith))
-      (λ m. let z = ltb-false 0 x m in let none : x ≡ 0 = omega arith in rw none)
+  beside-told : (x : Option ℕ) → MatchOption x (Unit {0}) (λ t. T (between 14 16 t)) → Beside x
+  beside-told None t = refl
+  beside-told (Some x) t =
+      let f = between-facts 14 16 x t in
+      span-at (λ (n : ℕ). Beside (Some n)) 14 3 x (and-true (not (has_tag es 14)), (and-true (not (has_tag es 15)), (refl, tt))) f.0 (omega arith)
 
-  plain-told : (x : ℕ) → (is_met x ≡ true → T (between 14 16 x)) → ((d : Elapsed) → any (is_elapsed_of d) is ≡ eqb x (14 + elapsed_index d))
+  plain-told : (x : Option ℕ) → MatchOption x (Unit {0}) (λ t. T (between 14 16 t)) → ((d : Elapsed) → any (is_elapsed_of d) is ≡ is_plain x (14 + elapsed_index d))
       → every (no_plain is) is ≡ not (plain_told es x)
   plain-told x t f =
       no-plain-every is
@@ -335,7 +336,7 @@ module _ {words : List ℕ} {left : List Entry} {s : DateWalk} (inv : Dating wor
 
       plain : every (no_plain (items_at whole)) (items_at whole) ≡ not (plain_told whole s.plain)
       unfolding items_at any
-      plain = plain-told whole s.plain last.tag (λ d. last.elapsed d ∙ or_nothing (eqb s.plain (14 + elapsed_index d)))
+      plain = plain-told whole s.plain last.tag (λ d. last.elapsed d ∙ or_nothing (is_plain s.plain (14 + elapsed_index d)))
 
       pub dating-beside : plain_told whole s.plain ≡ true → DateTold whole None
       dating-beside p = refused-told whole (λ t. carry (plain ∙ ap not p) (inv.out t).0.1)

@@ -1,6 +1,7 @@
 -- The items of a date-time section: what is kept of them from one to the next.
 -- Assumes nothing.
-use Rattle.std.specs.Prelude.{ℕ, ◌-◌, ◌≡◌, Bool, true, false, cond, not, ◌&&◌, ◌||◌, List, Option, None, Some, MatchOption, ltb}
+use Rattle.std.specs.Prelude.{ℕ, ◌-◌, ◌≡◌, Bool, true, false, cond, not, ◌&&◌, ◌||◌, List, Option, None, Some, MatchOption}
+use Rattle.std.specs.Option.{is_some}
 use Rattle.values.specs.Ranges.{between}
 use Rattle.formats.specs.Items.{date_kind, item_allowed, is_fill, is_part, is_elapsed, is_half, run_of}
 use Rattle.formats.specs.Where.{implies}
@@ -26,17 +27,13 @@ abbrev pub DateTold : List Entry → Option DatedRow → Type 0
 DateTold es r = MatchOption r (items_of 4 es ≡ false) (DateCounts es)
 
 -- ---- one item
--- whether an elapsed item was met, by what is kept as the tag of its plain equivalent
-abbrev pub is_met : ℕ → Bool
-is_met plain = ltb 0 plain
-
 -- its own tests, beside what the earlier ones left
 unfoldable pub date_sound : DateWalk → Entry → Bool
 date_sound s e =
     let i = item_at e in
     item_allowed date_kind i
     && (implies (is_fill i) (not s.filled)
-    && (implies (is_elapsed i) (not (is_met s.plain))
+    && (implies (is_elapsed i) (not (is_some s.plain))
     && (implies (is_part i) s.behind_seconds
     && (entry_in_range e && (may_stand s.earlier i && answers s.earlier (run_of i))))))
 
@@ -48,7 +45,7 @@ date_after s e =
       earlier = earlier_after s.earlier i;
       behind_seconds = is_seconds i;
       filled = is_fill i || s.filled;
-      plain = cond (is_elapsed i) (e.tag - 4) s.plain;
+      plain = cond (is_elapsed i) (Some (e.tag - 4)) s.plain;
       halves = is_half i || s.halves;
     }
 
@@ -64,9 +61,10 @@ ran s sound run is_seconds = cond (sound && answered s.earlier run) (Some (passe
 
 abbrev pub elapsed_taken : DateWalk → ℕ → ℕ → Earlier → Bool → Option DateWalk
 elapsed_taken s plain a run is_seconds =
-    cond (not (is_met s.plain) && (between 1 9 a && answered s.earlier run))
-    (Some (record s { earlier = run; behind_seconds = is_seconds; plain = plain })) None
+    cond (not (is_some s.plain) && (between 1 9 a && answered s.earlier run))
+    (Some (record s { earlier = run; behind_seconds = is_seconds; plain = Some plain })) None
 
 -- ---- the plain equivalent of the elapsed item that was met
-abbrev pub plain_told : List Entry → ℕ → Bool
-plain_told es tag = is_met tag && has_tag es tag
+abbrev pub plain_told : List Entry → Option ℕ → Bool
+plain_told es None = false
+plain_told es (Some tag) = has_tag es tag

@@ -27,9 +27,8 @@ struct DateWalk {
     behind_seconds: bool,
     // a fill was met
     filled: bool,
-    // the tag of the plain equivalent of the elapsed item that was met; 0 where none was: one register, where an Option takes two, and
-    // this walk has none to spare
-    plain: u16,
+    // the tag of the plain equivalent of the elapsed item that was met
+    plain: Option<u16>,
     // a half-day mark was met
     halves: bool,
 }
@@ -113,16 +112,15 @@ fn part(s: DateWalk, a: u16) -> Option<DateWalk>
 }
 
 // The one elapsed item, with the tag of its plain equivalent.
-#[tactic(auto, using(std::proofs::lemmas::Bool::Decides::nat_tests))]
 fn elapsed(s: DateWalk, plain: u16, a: u16, run: Earlier, is_seconds: bool) -> Option<DateWalk>
     ensures { result ≡ elapsed_taken s plain a run is_seconds }
 {
     let right = s.earlier.answers(run);
-    if (s.plain == 0) & ((1..=9).contains(&a) & right) {
+    if s.plain.is_none() & ((1..=9).contains(&a) & right) {
         return Some(DateWalk {
             earlier: run,
             behind_seconds: is_seconds,
-            plain: plain,
+            plain: Some(plain),
             ..s
         });
     }
@@ -168,10 +166,13 @@ fn step(s: DateWalk, tag: u16, a: u16) -> Option<DateWalk>
 }
 
 // Whether the plain equivalent of the elapsed item is there. Few sections have an elapsed item: it is looked for then.
-fn has_plain(words: &[u16], plain: u16) -> bool
+fn has_plain(words: &[u16], plain: Option<u16>) -> bool
     ensures { result ≡ plain_told (entries_in words.now) plain }
 {
-    0 < plain && has_tag(words, plain)
+    match plain {
+        Some(tag) => has_tag(words, tag),
+        None => false,
+    }
 }
 
 // What the items of a date-time section tell, whose words these are.
@@ -182,7 +183,7 @@ pub fn dated_row(words: &[u16]) -> Option<DatedRow>
         earlier: Earlier::Nothing,
         behind_seconds: false,
         filled: false,
-        plain: 0,
+        plain: None,
         halves: false,
     };
     // of `chunks_exact` the walk takes an instruction an item more
