@@ -147,8 +147,10 @@ fn show_value(
 ) -> Result<Shown, Refusal>
     ensures { Shows (reading (sections_of table.entry) ask text.now size) room.old result room.new }
 {
-    let planned = plan_of(table, ask, text)?;
-    let digits = planned.digits;
+    let planned = match plan_of(table, ask, text) {
+        Ok(planned) => planned,
+        Err(refusal) => return Err(refusal),
+    };
     match planned.plan {
         Plan::Itself => show_plain(room, size, text),
         Plan::Dated(section, d, m) => show_dated(room, size, section, d, m),
@@ -157,7 +159,7 @@ fn show_value(
         Plan::Section(section, minus, subject) => {
             let source = Source {
                 subject,
-                digits: &digits,
+                digits: &planned.digits,
                 text,
             };
             show_section(room, size, section, minus, source, planned.exact)
