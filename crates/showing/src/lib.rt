@@ -147,10 +147,8 @@ fn show_value(
 ) -> Result<Shown, Refusal>
     ensures { Shows (reading (sections_of table.entry) ask text.now size) room.old result room.new }
 {
-    let planned = match plan_of(table, ask, text) {
-        Ok(planned) => planned,
-        Err(refusal) => return Err(refusal),
-    };
+    let planned = plan_of(table, ask, text)?;
+    let digits = planned.digits;
     match planned.plan {
         Plan::Itself => show_plain(room, size, text),
         Plan::Dated(section, d, m) => show_dated(room, size, section, d, m),
@@ -159,7 +157,7 @@ fn show_value(
         Plan::Section(section, minus, subject) => {
             let source = Source {
                 subject,
-                digits: &planned.digits,
+                digits: &digits,
                 text,
             };
             show_section(room, size, section, minus, source, planned.exact)
