@@ -67,16 +67,11 @@ unfolding heads_by head_words
 heads-size n first_has i [] = refl
 heads-size n first_has i (d ∷ ds) = omega (arith, heads-size n first_has (i + 1) ds)
 
-first_is : (ds : List Draft) (d : Draft) → 1 ≤ length ds → first_has_by ds ≡ has_condition_by (get_or ds 0 d)
-unfolding first_has_by
-first_is [] d h = absurd (omega arith)
-first_is (e ∷ ds) d h = refl
-
-pub table-put : (many : ℕ) (first : Bool) (ds : List Draft) (words : List ℕ) (d : Draft) {l m o q : List ℕ} {at a b r : ℕ}
-    → many ≡ counted_by 0 ds → 1 ≤ length ds → first ≡ has_condition_by (get_or ds 0 d)
+pub table-put : (many : ℕ) (first : Bool) (ds : List Draft) (words : List ℕ) {l m o q : List ℕ} {at a b r : ℕ}
+    → many ≡ counted_by 0 ds → first ≡ first_has_by ds
     → Put l at (length ds ∷ []) a m → Put m a (heads_by many first 0 ds) b o → Put o b words r q → Put l at (table_by ds words) r q
 unfolding table_by
-table-put many first ds words d e h f x y z = rw (← e, first_is ds d h, ← f) (put-put (put-put x y) z)
+table-put many first ds words e f x y z = rw (← e, ← f) (put-put (put-put x y) z)
 
 -- ---- the rows
 module _ (p : Parts) (d : Draft) (x : DraftOf p d) (within : T (within_limits p)) where

@@ -4,7 +4,7 @@ ghost use Rattle.formats.specs.Minus.{exception_a};
 ghost use Rattle.tables.specs.Words.{head_words};
 ghost use Rattle.tables.specs.Encode.{flags_word};
 ghost use Rattle.writing.specs.Put.{Put};
-ghost use Rattle.preparing.specs.Table.{counted_by, head_by, heads_by, table_by};
+ghost use Rattle.preparing.specs.Table.{counted_by, first_has_by, head_by, heads_by, table_by};
 
 use drafting::{Draft, has_condition};
 use tables::{flags, kinds};
@@ -74,12 +74,23 @@ fn put_heads(room: &mut [u16], at: usize, drafts: &[Draft], counted: usize, firs
     o
 }
 
-// Puts the table of the sections, at least one, whose items have these words.
+// Whether the first section has a condition.
+#[tactic(auto, unfolding(crate::specs::Table::first_has_by))]
+fn first_has(drafts: &[Draft]) -> bool
+    ensures { result ≡ first_has_by drafts.now }
+{
+    match drafts {
+        [first, ..] => has_condition(*first),
+        [] => false,
+    }
+}
+
+// Puts the table of the sections whose items have these words.
 pub fn put_table(table: &mut [u16], drafts: &[Draft], items: &[u16]) -> usize
-    requires { (1 ≤ length drafts.now) × (length drafts.now ≤ 4) × (length items.now ≤ 508) }
+    requires { (length drafts.now ≤ 4) × (length items.now ≤ 508) }
     ensures { Put table.old 0 (table_by drafts.now items.now) result table.new }
 {
-    let first = has_condition(drafts[0]);
+    let first = first_has(drafts);
     let counted = counted_of(drafts);
     let o = put_unit(table, 0, drafts.len() as u16);
     let p = put_heads(table, o, drafts, counted, first);

@@ -5,7 +5,7 @@ use mathlib.Core.Path.{refl, sym}
 use lib.Seq.{length-take-le}
 use Rattle.std.proofs.lemmas.Result.{err_from_is_err_and}
 use Rattle.examining.proofs.Answering.{examined-no, examined-fine}
-use Rattle.preparing.proofs.Finishing.{one-least, refused-prepared, refused-table, room-prepared, room-table, done-prepared, done-table}
+use Rattle.preparing.proofs.Finishing.{refused-prepared, refused-table, room-prepared, room-table, done-prepared, done-table}
 use Rattle.preparing.proofs.prepare.Goals as goal
 
 pub returns-in_err-e : goal.returns-in_err-e
@@ -43,9 +43,7 @@ put_table-requires c =
     let s = c.in_ok-e.ensures.sound _ refl in
     let sections = length-take-le c.in_ok-e.e.sections c.examine.new.room.drafts s.enough in
     let words = length-take-le c.in_ok-e.e.words c.examine.new.room.items s.room in
-    let accepted = examined-fine _ _ _ _ _ c.in_ok-e.ensures in
-    let least = one-least c.args.code.now accepted c.in_ok-e.e _ _ s in
-    (omega (arith, s.few), omega (arith, s.few), omega (arith, s.short))
+    (omega (arith, s.few), omega (arith, s.short))
 
 pub returns : goal.returns
 returns c =

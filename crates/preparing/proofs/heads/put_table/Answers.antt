@@ -9,12 +9,12 @@ put_units-requires c =
     omega (
       arith,
       c.put_heads-p.ensures.next,
-      heads-size c.counted_of-counted.result c.has_condition-first.result 0 c.args.drafts.now,
+      heads-size c.counted_of-counted.result c.first_has-first.result 0 c.args.drafts.now,
       c.put_unit-o.ensures.next,
+      c.requires.0,
       c.requires.1,
-      c.requires.2,
     )
 
 pub returns : goal.returns
 returns c =
-    table-put _ _ _ _ _ c.counted_of-counted.ensures c.requires.0 c.has_condition-first.ensures c.put_unit-o.ensures c.put_heads-p.ensures c.put_units.ensures
+    table-put _ _ _ _ c.counted_of-counted.ensures c.first_has-first.ensures c.put_unit-o.ensures c.put_heads-p.ensures c.put_units.ensures
