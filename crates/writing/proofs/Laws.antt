@@ -2,16 +2,12 @@
 -- Assumes nothing.
 use mathlib.Core.Path.{◌≡◌, refl, sym, ap, ◌∙◌}
 use mathlib.Core.List.{List, [], ◌∷◌, ◌++◌}
-use Prim.Native.Nat.{ℕ, suc, ◌+◌, ◌-◌, ◌<◌, ◌≤◌, min}
+use Prim.Native.Nat.{ℕ, suc, ◌+◌, ◌<◌, ◌≤◌, min}
 use native.Mathlib.Nat.{add-zero, zero-add, add-suc, suc-add}
 use native.Mathlib.Numerals.{add-one}
 use native.Mathlib.Omega.{arith}
-use lib.ListN.{length, get_or, take, drop, set, length-append}
-use lib.Seq.{set_out, set_comm, sets, sets-eq, length-sets, drop-cons, take-length}
-use Rattle.std.proofs.Common.{append_assoc}
-use Rattle.std.proofs.lemmas.List.{length-take-le, take-append-drop}
-use Rattle.figures.proofs.Filling.{lt-or-le}
-use mathlib.Core.Logic.{◌⊎◌, inl, inr, ⊎_elim}
+use lib.ListN.{length, get_or, drop, set, length-append}
+use lib.Seq.{set_out, set_comm, sets, sets-eq, length-sets, drop-cons}
 use Rattle.lists.specs.Lists.{overlay}
 use Rattle.writing.specs.Put.{Put, Rest}
 
@@ -72,30 +68,14 @@ rest-done {l} {m} {t} {s} {at} x = record { next = omega (arith, x.ends, add-zer
 pub drop-first : (s : List ℕ) (j : ℕ) → j < length s → drop j s ≡ (get_or s j 0 ∷ []) ++ drop (j + 1) s
 drop-first s j h = rw (add-one, drop-cons s j 0)
 
--- as much of a piece as the room holds is copied
-sets-cut : (l : List ℕ) (at k : ℕ) (t : List ℕ) → length l ≤ at + k → k ≤ length t → sets l at t ≡ sets l at (take k t)
-sets-cut l at k t h g =
-    ap (sets l at) (sym (take-append-drop k t))
-    ∙ sets-append l at (take k t) (drop k t)
-    ∙ sets-out (sets l at (take k t)) (at + length (take k t)) (drop k t) (omega (arith, length-sets l at (take k t), length-take-le k t g))
+-- a copy: the next unit of a run is stored, and the copy stops where the run or the room ends
+pub rest-copy : {l m t : List ℕ} {s at : ℕ} (u : List ℕ) (j : ℕ)
+    → Rest l s t m at (drop j u) → j < length u → Rest l s t (set m at (get_or u j 0)) (at + 1) (drop (j + 1) u)
+rest-copy u j x h = rest_put {p = get_or u j 0 ∷ []} (rw (drop-first u j h) at x) (record { next = refl; room = refl })
 
-pub put-copied : (l : List ℕ) (at stop : ℕ) (t : List ℕ) → at < length l → stop ≡ min (at + length t) (length l)
-    → Put l at t (at + length t) (take at l ++ (take (stop - at) t ++ drop stop l))
-put-copied l at stop t h e =
-    let k : ℕ = stop - at in
-    let few : k ≤ length t = omega arith in
-    let long : length (take k t) ≡ k = length-take-le k t few in
-    let fits : at + length (take k t) ≤ length l = omega arith in
-    let end : at + length (take k t) ≡ stop = omega arith in
-    record {
-      next = refl;
-      room = sym (cut few ∙ sets-eq (take k t) l at fits ∙ append_assoc (take at l) (take k t) (drop (at + length (take k t)) l)
-          ∙ ap (λ (x : ℕ). take at l ++ (take k t ++ drop x l)) end);
-    }
-  where
-    cut : stop - at ≤ length t → sets l at t ≡ sets l at (take (stop - at) t)
-    cut few =
-        ⊎_elim
-        (λ (b : at + length t < length l). let all : stop - at ≡ length t = omega arith in rw (all, take-length) refl)
-        (λ (a : length l ≤ at + length t). sets-cut l at (stop - at) t (omega arith) few)
-        (lt-or-le (at + length t) (length l))
+pub rest-stop : {l m t q : List ℕ} {s at stop : ℕ}
+    → Rest l s t m at q → stop ≤ at → stop ≡ min (s + length t) (length l) → Put l s t (s + length t) m
+rest-stop {l} {m} {t} {q = []} {s} {at} {stop} x h f = record { next = refl; room = x.same }
+rest-stop {l} {m} {t} {q = y ∷ q} {s} {at} {stop} x h f =
+    let past : length m ≤ at = omega (arith, x.size, x.ends) in
+    record { next = refl; room = sym (sets-out m at (y ∷ q) past) ∙ x.same }

@@ -20,17 +20,17 @@ pub fn put_unit(room: &mut [u16], at: usize, u: u16) -> usize
     next
 }
 
-// Puts a run at `at`: as much of it as the room holds is copied with no test for each unit.
+// Puts a run at `at`: as much of it as the room holds is copied with no test for each unit. (By number: with `copy_from_slice` the archive
+// needs `memmove` from outside.)
 pub fn put_units(room: &mut [u16], at: usize, text: &[u16]) -> usize
     requires { at + length text.now < 2 ^ 63 }
     ensures { Put room.old at text.now result room.new }
 {
     let end = at + text.len();
-    if room.len() <= at {
-        return end;
-    }
     let stop = end.min(room.len());
-    room[at..stop].copy_from_slice(&text[..stop - at]);
+    for o in at..stop {
+        room[o] = text[o - at];
+    }
     end
 }
 
