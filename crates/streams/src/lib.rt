@@ -58,7 +58,8 @@ impl Stream {
         }
     }
 
-    // A part comes. Units past the longest code are counted and not kept.
+    // A part comes. Units past the longest code are counted and not kept. (The units go by a run of their own here and in `end`: lent
+    // from within the stream, the whole of it would be copied once more.)
     pub fn feed(mut self, part: &[u16]) -> Fed
         ensures { result ≡ feeding self part.now }
     {
@@ -68,8 +69,9 @@ impl Stream {
                 fed: Err(AFTER_THE_END),
             };
         }
-        let count = usize::from(self.count);
-        let next = put_units(&mut self.units, count, part);
+        let mut units = self.units;
+        let next = put_units(&mut units, usize::from(self.count), part);
+        self.units = units;
         self.count = next.min(MOST + 1) as u16;
         Fed {
             stream: self,
@@ -96,7 +98,8 @@ impl Stream {
                 prepared: Err(TOO_LONG),
             };
         }
-        let prepared = prepare(&self.units[..count], table);
+        let units = self.units;
+        let prepared = prepare(&units[..count], table);
         Finished {
             stream: self,
             prepared,
