@@ -5,7 +5,7 @@ ghost use Rattle.std.specs.Prelude.{◌≡◌, ◌≤◌, ◌<◌, IfOk, length,
 ghost use Rattle.std.specs.Io.KnownBytes.{Consumes, IsAtEnd};
 
 use std::io;
-use std::io::{ErrorKind, Read};
+use std::io::Read;
 
 // A room for N values. Only its length matters to proofs, and they would compute a literal of this size out.
 pub fn room<T: Copy, const N: usize>(value: T) -> [T; N]
@@ -28,25 +28,19 @@ pub fn line_end<T: Copy + PartialEq>(input: &[T], at: usize, line_feed: T) -> us
     input.len()
 }
 
-// Reads until `buf` is full or the input ends, and returns how many bytes stand in front of `buf`. A read that was interrupted is
-// tried again.
+// Reads until `buf` is full or the input ends, and returns how many bytes stand in front of `buf`.
 pub fn read_full<R: Read>(from: &mut R, buf: &mut [u8]) -> io::Result<usize>
     ensures bound { IfOk result (λ n. n ≤ length buf.new) }
     ensures bytes { IfOk result (λ n. Consumes (R.remaining from.old) (R.remaining from.new) (take n buf.new)) }
     ensures end { IfOk result (λ n. n < length buf.new → IsAtEnd (R.remaining from.new)) }
 {
     let mut done = 0;
-    // reads may be interrupted without end, so that the tries are counted
-    for _ in 0..u64::MAX {
-        if done == buf.len() {
-            return Ok(done);
+    while done < buf.len() {
+        let n = from.read(&mut buf[done..])?;
+        if n == 0 {
+            break;
         }
-        match from.read(&mut buf[done..]) {
-            Ok(0) => return Ok(done),
-            Ok(n) => done += n,
-            Err(e) if e.kind() == ErrorKind::Interrupted => {}
-            Err(e) => return Err(e),
-        }
+        done += n;
     }
-    Err(io::Error::from(ErrorKind::Interrupted))
+    Ok(done)
 }
