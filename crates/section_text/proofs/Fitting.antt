@@ -68,6 +68,11 @@ module _ (size : ℕ) (look : Look) where
   unfolding within
   shows-within h x = rw (le-leb (length look.text) size h) x
 
+-- a text that a room takes is shown by being put
+pub shows-all : {old out : List ℕ} {n : ℕ} (size : ℕ) (text : List ℕ) (colour i : ℕ) (exact : Bool) → length text ≤ size → Put old 0 text n out
+    → Shows (within size (look_of text colour i exact)) old (Ok (record { length = n; colour = colour; section = i; exact = exact })) out
+shows-all size text colour i exact h p = shows-within size (look_of text colour i exact) h (shows-put p refl refl refl)
+
 -- no minus is no text
 pub unsigned : {old out : List ℕ} {r : Result Shown Refusal} (size : ℕ) (text : List ℕ) (colour i : ℕ) (exact : Bool)
     → Shows (within size (look_of text colour i exact)) old r out
