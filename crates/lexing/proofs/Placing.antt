@@ -7,7 +7,7 @@ use mathlib.Core.List.{List, [], ◌∷◌}
 use native.Mathlib.Omega.{arith}
 use borrow.Author.Tests.{eqb-true, eqb-false, ne_eqb}
 use lib.Dec.{eqb}
-use lib.ListN.{take, drop}
+use lib.ListN.{length, take, drop}
 use Rattle.std.proofs.Common.{Option as Found, Some}
 use Rattle.std.specs.List.{list_any}
 use Rattle.lists.specs.Lists.{any}
@@ -95,3 +95,20 @@ module _ (f : ℕ) (least : 4 ≤ f) (most : f ≤ 6) where
   place-alone (u ∷ us) t s e =
       by_cases (eqb 47 u) (λ a. no (sym (rw a at t)))
       (λ a. rw (turned u 47 a) (e (u ∷ us) ∙ rw (rows 0 (u ∷ us)).0))
+
+  -- the same of the unit in front
+  pub first-over : (us vs : List ℕ) (u : ℕ) → us ≡ u ∷ vs → u ≡ 47 → (s : Found Step)
+      → ((ws : List ℕ) → step_behind ws s ≡ over_step (place_at f) vs) → step_behind us s ≡ place_step (place_at f) us
+  unfolding starts_with units
+  first-over us vs u e z s g = place-over us (rw (e, z) refl) s (rw e g)
+
+  pub first-alone : (us vs : List ℕ) (u : ℕ) → us ≡ u ∷ vs → (u ≡ 47 → ⊥) → (s : Found Step)
+      → ((ws : List ℕ) → step_behind ws s ≡ read (mark_token f 0 ws) 0) → step_behind us s ≡ place_step (place_at f) us
+  unfolding starts_with units
+  first-alone us vs u e z s g = place-alone us (rw (e, ne_eqb 47 u (λ p. z (sym p))) refl) s g
+
+  pub last-alone : (us : List ℕ) → length us ≡ 0 → (s : Found Step)
+      → ((ws : List ℕ) → step_behind ws s ≡ read (mark_token f 0 ws) 0) → step_behind us s ≡ place_step (place_at f) us
+  unfolding starts_with units
+  last-alone [] z s g = place-alone [] refl s g
+  last-alone (u ∷ us) z s g = absurd (omega arith)

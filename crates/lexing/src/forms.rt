@@ -15,6 +15,8 @@ use marks::forms::{
 
 const QUOTE: u16 = b'"' as u16;
 
+const SOLIDUS: u16 = b'/' as u16;
+
 // From the form of a place to those of the same place over another one and over a fixed number.
 const TO_OVER: u16 = ZERO_OVER - ZERO_PLACE;
 
@@ -188,8 +190,8 @@ pub fn place_token(us: &[u16], form: u16) -> Option<Step>
     requires { (length us.now ≤ 254) × (4 ≤ form) × (form ≤ 6) }
     ensures { step_behind us.now result ≡ place_step (place_at form) us.now }
 {
-    if starts_with(us, b"/") {
-        return over_token(&us[1..], form);
+    match us.split_first() {
+        Some((unit, behind)) if *unit == SOLIDUS => over_token(behind, form),
+        _ => single_unit(form, 0),
     }
-    single_unit(form, 0)
 }

@@ -1,26 +1,19 @@
 -- `lexing::forms::place_token` meets its contract.
 -- Assumes nothing.
-use mathlib.Core.Path.{sym, ◌∙◌}
-use Rattle.calendar.specs.Names.{units}
-use Rattle.formats.proofs.Lexing.{word-most}
-use Rattle.lexing.proofs.Scanning.{rest_all}
-use Rattle.lexing.proofs.Placing.{place-over, place-alone}
+use native.Mathlib.Omega.{arith}
+use Rattle.lexing.proofs.Placing.{first-over, first-alone, last-alone}
 use Rattle.lexing.proofs.forms.place_token.Goals as goal
+use Rattle.lexing.proofs.forms.place_token.Goals.{in_default-via-in-Some+else-unit-eq-SOLIDUS, in_default-via-in_default}
 
-pub slice_bounds-over_token-count : goal.slice_bounds-over_token-count
-unfolding units
-slice_bounds-over_token-count c = word-most (units "/") c.args.us.now (sym c.starts_with.ensures ∙ c.if-starts_with.true)
+pub returns-in-Some : goal.returns-in-Some
+returns-in-Some c =
+    first-over c.args.form c.requires.1 c.requires.2 c.args.us.now c.in-Some.behind.now c.in-Some.unit.now c.in-Some.ensures.cases.0 (omega arith) _ c.over_token.ensures
 
-pub slice_bounds-over_token-start : goal.slice_bounds-over_token-start
-unfolding units
-slice_bounds-over_token-start c = word-most (units "/") c.args.us.now (sym c.starts_with.ensures ∙ c.if-starts_with.true)
-
-pub returns-then-starts_with : goal.returns-then-starts_with
-unfolding units
-returns-then-starts_with c =
+pub returns-in_default : goal.returns-in_default
+returns-in_default c =
     let us = c.args.us.now in
-    place-over c.args.form c.requires.1 c.requires.2 us (sym c.starts_with.ensures ∙ c.if-starts_with.true) _ (rw (rest_all us 1) at c.over_token.ensures)
-
-pub returns : goal.returns
-unfolding units
-returns c = place-alone c.args.form c.requires.1 c.requires.2 c.args.us.now (sym c.starts_with.ensures ∙ c.if-starts_with.false) _ c.single_unit.ensures
+    elim c.in_default.branch [
+      | in_default-via-in-Some+else-unit-eq-SOLIDUS w ↦
+          first-alone c.args.form c.requires.1 c.requires.2 us w.in-Some.behind.now w.in-Some.unit.now w.in-Some.ensures.cases.0 (λ p. omega arith) _ c.single_unit.ensures
+      | in_default-via-in_default w ↦ last-alone c.args.form c.requires.1 c.requires.2 us w.in_default.ensures.cases _ c.single_unit.ensures
+    ]
