@@ -1,8 +1,9 @@
 // What programs need: rooms, their input read into a lent buffer, and its lines.
 #![tactic(auto)]
 
-ghost use Rattle.std.specs.Prelude.{◌≡◌, ◌≤◌, ◌<◌, IfOk, length, take};
+ghost use Rattle.std.specs.Prelude.{◌≡◌, ◌+◌, ◌≤◌, ◌<◌, IfOk, drop, length, min, take};
 ghost use Rattle.std.specs.Io.KnownBytes.{Consumes, IsAtEnd};
+ghost use Rattle.std.specs.List.{position_or_len};
 
 use std::io;
 use std::io::Read;
@@ -19,6 +20,7 @@ pub fn line_end<T: Copy + PartialEq>(input: &[T], at: usize, line_feed: T) -> us
     requires { at ≤ length input.now }
     ensures within { (at ≤ result) × (result ≤ length input.now) }
     ensures further { at < length input.now → at < result }
+    ensures first { result ≡ min (at + position_or_len (λ x. T.eq x line_feed) (drop at input.now) + 1) (length input.now) }
 {
     for (k, x) in input[at..].iter().enumerate() {
         if *x == line_feed {
